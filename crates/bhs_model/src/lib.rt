@@ -1,0 +1,17 @@
+//! The model of black hole search that every agent plays under: what an agent may say, what may happen
+//! in a match, and what is answered.
+#![tactic(auto)]
+
+mod commands;
+mod events;
+mod limits;
+mod replies;
+mod setups;
+mod texts;
+
+pub use commands::Command;
+pub use events::Event;
+pub use limits::{MAX_AGENTS, MAX_BOARD, MAX_QUOTA};
+pub use replies::{Reply, Why};
+pub use setups::Setup;
+pub use texts::Text;

@@ -1,0 +1,4 @@
+//! Networks.
+#![tactic(auto)]
+
+pub use std::alloc::AllocError as Memory;
