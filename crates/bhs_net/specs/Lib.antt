@@ -1,1 +1,5 @@
-pub mod Net
+pub mod Links
+pub mod Paths
+pub mod Network
+pub mod Faults
+pub mod Listing

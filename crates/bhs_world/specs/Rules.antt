@@ -1,7 +1,7 @@
 -- The rules of a match of one agent: what each event changes, and what is answered.
 use Rattle.std.specs.Prelude.{ℕ, ◌==◌, nat_lt, Bool, true, false, List, [], Option, None, Some, option_map, if◌then◌else◌}
 use Rattle.std.specs.Option.{option_map_or}
-use Rattle.bhs_net.specs.Net.{degree_of, far_of}
+use Rattle.bhs_net.specs.Network.{degree_of, far_of}
 use Rattle.bhs_model.specs.declared.commands.Command.{Command}
 use Rattle.bhs_model.specs.declared.commands.Command.TheVariants.{Enter, Look, Depart}
 use Rattle.bhs_model.specs.declared.events.Event.{Event}

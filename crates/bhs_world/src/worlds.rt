@@ -1,6 +1,6 @@
 ghost use Rattle.std.specs.Prelude.{◌≡◌, ◌<◌, MatchOption, IfSome};
 ghost use Rattle.bhs_world.specs.Setting.{setup_fault};
-ghost use Rattle.bhs_net.specs.Net.{nodes_of};
+ghost use Rattle.bhs_net.specs.Network.{nodes_of};
 ghost use Rattle.bhs_world.specs.Playing.{fresh, IsPlace};
 ghost use Rattle.bhs_world.specs.Rules.{answer, after, sight, answer_to, led_to, arrival_of};
 

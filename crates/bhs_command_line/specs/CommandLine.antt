@@ -1,0 +1,92 @@
+-- The command line of the program, and what its words give.
+use Rattle.std.specs.Prelude.{◌≡◌, ◌⊎◌, IsTrue, Bool, true, false, not, List, [], ◌∷◌, Option}
+use Rattle.std.specs.Prelude.{Some, None, codes, if◌then◌else◌, option_and_then}
+use Rattle.std.specs.List.{list_any}
+use Rattle.std.specs.Str.{bytes_eq}
+use Rattle.clap.specs.Words.{App, Kinds, Row, Shape, Text, fault_of, new_app, subcommand_of}
+use Rattle.clap.specs.Words.{with_subcommand}
+use Rattle.clap.specs.Simple.{new_shape, on_top}
+use Rattle.clap.specs.Walk.{is_empty}
+use Rattle.clap.specs.declared.error.kind.ErrorKind.{ErrorKind}
+use Rattle.clap.specs.declared.error.kind.ErrorKind.TheVariants.{DisplayHelp, DisplayVersion}
+use Rattle.bhs_command_line.specs.declared.Order.{Order}
+use Rattle.bhs_command_line.specs.declared.Order.TheVariants.{Rehearse}
+use Rattle.bhs_command_line.specs.declared.Answer.{Answer}
+use Rattle.bhs_command_line.specs.declared.Answer.TheVariants.{Ordered, Shown, Refused}
+
+-- ---- the command line
+
+-- a program that wants a command, and answers with its help where it gets no word at all
+abbrev pub program : Text → App
+program name = on_top (λ s. record s {
+  no_binary_name = true;
+  arg_required_else_help = true;
+  subcommand_required = true;
+}) (new_app name)
+
+-- a command that takes no word of its own
+abbrev pub rehearse : Shape
+rehearse = new_shape (codes "rehearse")
+
+abbrev pub arena : App
+arena = with_subcommand (program (codes "arena")) rehearse
+
+-- ---- what clap makes of the words that stand after the program's name
+
+-- why the words are no use of the command line; empty where they are one
+abbrev pub faults : List Text → Kinds
+faults words = fault_of arena words
+
+-- the command that the words name, with the values of its own words
+abbrev pub command_in : List Text → Option (Text × List Row)
+command_in words = subcommand_of arena words
+
+-- ---- orders
+
+-- the order that a command gives
+abbrev pub order_by : Text × List Row → Option Order
+order_by command = if bytes_eq command.0 (codes "rehearse") then Some Rehearse else None
+
+-- the order that the words give, and None where they give none
+abbrev pub order_in : List Text → Option Order
+order_in words =
+    if is_empty (faults words) then option_and_then order_by (command_in words) else None
+
+-- the words that give the order to rehearse: the command alone, or with the mark `--` that ends
+-- the options
+abbrev pub Rehearses : List Text → Type 0
+Rehearses words = (words ≡ codes "rehearse" ∷ []) ⊎ (words ≡ codes "rehearse" ∷ codes "--" ∷ [])
+
+-- ---- answers
+
+-- clap says this where help or the version is asked for
+abbrev pub is_asked : ErrorKind → Bool
+is_asked DisplayHelp = true
+is_asked DisplayVersion = true
+is_asked _ = false
+
+-- the words get this answer
+abbrev pub Answers : List Text → Answer → Type 0
+Answers words (Ordered order) = order_in words ≡ Some order
+Answers words (Shown text) = IsTrue (list_any is_asked (faults words))
+Answers words (Refused text) = IsTrue (list_any (λ kind. not (is_asked kind)) (faults words))
+
+-- the words that ask for help and do nothing else
+abbrev pub AsksHelp : List Text → Type 0
+AsksHelp words = ((words ≡ codes "--help" ∷ []) ⊎ (words ≡ codes "-h" ∷ []))
+    ⊎ ((words ≡ codes "rehearse" ∷ codes "--help" ∷ [])
+    ⊎ (words ≡ codes "rehearse" ∷ codes "-h" ∷ []))
+
+abbrev pub is_shown : Answer → Bool
+is_shown (Shown text) = true
+is_shown _ = false
+
+abbrev pub is_refused : Answer → Bool
+is_refused (Refused text) = true
+is_refused _ = false
+
+-- the answer tells an error of this kind
+abbrev pub Tells : ErrorKind → Answer → Type 0
+Tells kind (Ordered order) = ⊥
+Tells kind (Shown text) = is_asked kind ≡ true
+Tells kind (Refused text) = is_asked kind ≡ false

@@ -1,0 +1,5 @@
+pub mod NumberLemmas
+pub mod LineLemmas
+pub mod PlayLemmas
+pub mod TriangleLemmas
+pub mod EventLemmas

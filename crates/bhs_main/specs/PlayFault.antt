@@ -1,0 +1,36 @@
+-- Why a script was not played to its end.
+use Rattle.std.specs.Prelude.{◌≡◌, ℕ, List, Result, Err}
+use Rattle.bhs_model.specs.declared.events.Event.{Event}
+use Rattle.bhs_stream.specs.declared.reading.ReadFault.{ReadFault}
+use Rattle.bhs_stream.specs.declared.reading.ReadFault.TheVariants as reads
+use Rattle.bhs_main.specs.declared.faults.PlayFault.{PlayFault}
+use Rattle.bhs_main.specs.declared.faults.PlayFault.TheVariants.{Read, Text, Line, Write, Memory, Turns}
+use Rattle.bhs_main.specs.declared.run.TheConstants.{REFUSED_SCRIPT, NO_MEMORY, FAILED_STREAM}
+
+-- a fault of reading, as a fault of playing
+abbrev pub read_as : ReadFault → PlayFault
+read_as reads.Read = Read
+read_as reads.Text = Text
+read_as reads.Memory = Memory
+read_as reads.Turns = Turns
+
+-- why a script is refused: memory ran out, or this line of it is none of a script
+abbrev pub Refuses : Result (List Event) ℕ → PlayFault → Type 0
+Refuses events Memory = Unit {0}
+Refuses events (Line line) = events ≡ Err line
+Refuses events fault = ⊥
+
+-- the faults that end the playing of events
+abbrev pub IsOfPlaying : PlayFault → Type 0
+IsOfPlaying Write = Unit {0}
+IsOfPlaying Memory = Unit {0}
+IsOfPlaying fault = ⊥
+
+-- the exit status that tells a fault
+abbrev pub status : PlayFault → ℕ
+status Read = FAILED_STREAM
+status Text = REFUSED_SCRIPT
+status (Line line) = REFUSED_SCRIPT
+status Write = FAILED_STREAM
+status Memory = NO_MEMORY
+status Turns = FAILED_STREAM

@@ -1,0 +1,60 @@
+use Rattle.std.specs.Prelude.{◌≡◌, ◌≢◌, ℕ, ◌<◌, ◌≤◌, List, [], length, slice_index_or, sum_by}
+use Rattle.bhs_net.specs.declared.faults.TheConstants.{MIN_NODES, MAX_NODES}
+use Rattle.bhs_net.specs.declared.links.Link.{Link}
+use Rattle.bhs_net.specs.Links.{End, near_end, far_end, link_at, AreJoined, SharesEnd}
+use Rattle.bhs_net.specs.Paths.{IsPath, Without}
+
+-- per node the far ends of its ports, port 0 first
+abbrev pub Network : Type 0
+Network = List (List End)
+
+abbrev pub nodes_of : Network → ℕ
+nodes_of net = length net
+
+abbrev pub row_of : Network → ℕ → List End
+row_of net node = slice_index_or net node []
+
+-- how many ports the node has: none where it is no node
+abbrev pub degree_of : Network → ℕ → ℕ
+degree_of net node = length (row_of net node)
+
+-- the end that a port of the node leads to
+abbrev pub far_of : Network → ℕ → ℕ → End
+far_of net node port = slice_index_or (row_of net node) port (0, 0)
+
+-- how many ports the nodes have together: each link has two
+abbrev pub ports_of : Network → ℕ
+ports_of net = sum_by length net
+
+-- the node has this port
+abbrev pub HasPort : Network → End → Type 0
+HasPort net end = end.1 < degree_of net end.0
+
+-- some port of the one node leads to the other
+abbrev pub Leads : Network → ℕ → ℕ → Type 0
+Leads net node other = (port : ℕ) × (port < degree_of net node) × ((far_of net node port).0 ≡ other)
+
+-- a simple graph with port labels: from 3 to 256 nodes, ports that lead back, no link from a node to itself,
+-- and no two links between the same nodes
+pub record IsPortLabelled (net : Network) : Type 0 where
+  pub few : MIN_NODES ≤ nodes_of net
+  pub many : nodes_of net ≤ MAX_NODES
+  pub within : (node port : ℕ) → port < degree_of net node → HasPort net (far_of net node port)
+  pub back : (node port : ℕ) → port < degree_of net node → far_of net (far_of net node port).0 (far_of net node port).1 ≡ (node, port)
+  pub no_loop : (node port : ℕ) → port < degree_of net node → (far_of net node port).0 ≢ node
+  pub simple : (node port other : ℕ) → port < degree_of net node → other < degree_of net node → (far_of net node port).0 ≡ (far_of net node other).0 → port ≡ other
+
+-- any two nodes are joined by a path
+abbrev pub IsConnected : Network → Type 0
+IsConnected net = (node other : ℕ) → node < nodes_of net → other < nodes_of net → IsPath (Leads net) node other
+
+-- any two nodes are joined by a path that keeps off any third node
+abbrev pub HasNoCut : Network → Type 0
+HasNoCut net = (cut node other : ℕ) → node < nodes_of net → other < nodes_of net → node ≢ cut → other ≢ cut → IsPath (Without cut (Leads net)) node other
+
+-- the list has the links of the network, each of them once
+pub record HasLinks (net : Network) (links : List Link) : Type 0 where
+  pub near : (place : ℕ) → place < length links → HasPort net (near_end (link_at links place)) × (far_of net (link_at links place).v (link_at links place).p ≡ far_end (link_at links place))
+  pub far : (place : ℕ) → place < length links → HasPort net (far_end (link_at links place)) × (far_of net (link_at links place).w (link_at links place).q ≡ near_end (link_at links place))
+  pub all : (node port : ℕ) → port < degree_of net node → AreJoined links (node, port) (far_of net node port)
+  pub once : (early late : ℕ) → early < late → late < length links → ¬ SharesEnd (link_at links early) (link_at links late)

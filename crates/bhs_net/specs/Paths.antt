@@ -1,0 +1,14 @@
+use Rattle.std.specs.Prelude.{◌≡◌, ◌≢◌, ℕ, zero, suc}
+
+-- a path of so many steps leads from the one node to the other; `Step` says from which node one step leads to which
+abbrev pub Path : (ℕ → ℕ → Type 0) → ℕ → ℕ → ℕ → Type 0
+Path Step node other zero = node ≡ other
+Path Step node other (suc steps) = (before : ℕ) × Path Step node before steps × Step before other
+
+-- some path leads from the one node to the other
+abbrev pub IsPath : (ℕ → ℕ → Type 0) → ℕ → ℕ → Type 0
+IsPath Step node other = (steps : ℕ) × Path Step node other steps
+
+-- the steps that keep off a node
+abbrev pub Without : ℕ → (ℕ → ℕ → Type 0) → ℕ → ℕ → Type 0
+Without removed Step node other = Step node other × (node ≢ removed) × (other ≢ removed)

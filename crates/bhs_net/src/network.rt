@@ -1,0 +1,91 @@
+ghost use Rattle.std.specs.Prelude.{◌≡◌, ◌<◌, ◌/◌, IfOk, IfErr};
+ghost use Rattle.bhs_net.specs.Network.{nodes_of, degree_of, far_of, ports_of, IsPortLabelled};
+ghost use Rattle.bhs_net.specs.Faults.{Lists, Refuses};
+
+use crate::faults::NetFault;
+use crate::links::Link;
+use crate::listing::{End, listed};
+use std::alloc::{AllocError, Global};
+use std::marker::Model;
+
+/// A network: a simple graph of nodes 0 to `nodes() - 1`. At each node the links carry distinct labels, the ports 0 to
+/// `degree(v) - 1`; the two labels of one link need not agree.
+#[derive(Debug, Drop)]
+pub struct Net {
+    rows: Vec<Vec<End>>,
+}
+
+impl Model for Net {
+    ghost use Rattle.std.specs.Prelude.{map};
+    ghost use Rattle.bhs_net.specs.Network.{Network, IsPortLabelled};
+
+    ghost Value = { Network };
+
+    ghost view = { λ net. map (λ row. row.items) net.rows.items };
+
+    ghost invariant = { λ net. IsPortLabelled (map (λ row. row.items) net.rows.items) };
+}
+
+impl Net {
+    /// The network of `nodes` nodes that the links make. Ports may be listed in any order, and a link from either of
+    /// its ends. Refused with the first fault, or with `NetFault::Memory` in place of any answer.
+    pub fn try_new(alloc: Global, nodes: u16, links: &[Link]) -> Result<Net, NetFault>
+        ensures made { IfOk result (λ net. Lists nodes links.now net) }
+        ensures refused { IfErr result (Refuses nodes links.now) }
+    {
+        let rows = listed(alloc, nodes, links)?;
+        Ok(Net { rows })
+    }
+
+    /// How many nodes there are, from `MIN_NODES` to `MAX_NODES`.
+    pub fn nodes(&self) -> u16
+        ensures count { result ≡ nodes_of self.now }
+        ensures network { IsPortLabelled self.now }
+    {
+        self.rows.len() as u16
+    }
+
+    /// How many links there are: half as many as ports.
+    pub fn links(&self) -> usize
+        ensures { result ≡ ports_of self.now / 2 }
+    {
+        let mut ports = 0;
+        for row in &self.rows {
+            ports += row.len();
+        }
+        ports / 2
+    }
+
+    /// How many ports the node has.
+    pub fn degree(&self, v: u16) -> u16
+        requires { v < nodes_of self.now }
+        ensures count { result ≡ degree_of self.now v }
+        ensures network { IsPortLabelled self.now }
+    {
+        self.rows[usize::from(v)].len() as u16
+    }
+
+    /// The far end of the link at port `p` of node `v`: its node, and its port there.
+    pub fn far(&self, v: u16, p: u16) -> (u16, u16)
+        requires node { v < nodes_of self.now }
+        requires port { p < degree_of self.now v }
+        ensures end { result ≡ far_of self.now v p }
+        ensures network { IsPortLabelled self.now }
+    {
+        self.rows[usize::from(v)][usize::from(p)]
+    }
+
+    /// An equal network of its own.
+    pub fn try_clone(&self, alloc: Global) -> Result<Net, AllocError>
+        ensures { IfOk result (λ net. net ≡ self.now) }
+    {
+        let mut rows = Vec::new(alloc);
+        for row in &self.rows {
+            rows.push(Vec::from_slice(alloc, row)?)?;
+        }
+        Ok(Net { rows })
+    }
+}
+
+#[cfg(test)]
+mod tests;

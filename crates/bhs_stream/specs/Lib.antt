@@ -1,0 +1,2 @@
+pub mod ReadFault
+pub mod Known

@@ -1,0 +1,26 @@
+-- What was read when the reading of a text ended.
+use Rattle.std.specs.Prelude.{ℕ, ◌+◌, ◌*◌, ◌<◌, ◌≤◌, List, length}
+use Rattle.bhs_stream.specs.declared.reading.TheConstants.{BUFFER}
+use Rattle.bhs_stream.specs.declared.reading.ReadFault.{ReadFault}
+use Rattle.bhs_stream.specs.declared.reading.ReadFault.TheVariants.{Read, Text, Memory, Turns}
+
+-- so many reads can have given the bytes: each gives at least one byte, and at most a full buffer
+abbrev pub GivenBy : ℕ → List ℕ → Type 0
+GivenBy reads bytes = (reads ≤ length bytes) × (length bytes ≤ reads * BUFFER)
+
+-- no more than `turns` reads gave the bytes
+abbrev pub GivenWithin : ℕ → List ℕ → Type 0
+GivenWithin turns bytes = (reads : ℕ) × (reads ≤ turns) × GivenBy reads bytes
+
+-- fewer than `turns` reads gave the bytes, so that a turn was left for the read that ended the reading
+abbrev pub GivenBefore : ℕ → List ℕ → Type 0
+GivenBefore turns bytes = (reads : ℕ) × (reads < turns) × GivenBy reads bytes
+
+-- the bytes that were read when a fault ended the reading, under a limit and a number of turns.
+-- A read that failed gave none. The read that brought more than the limit is the last. Memory was wanted
+-- for bytes that had come. And the turns ran out where each of them had given bytes.
+abbrev pub StoppedBy : ReadFault → ℕ → ℕ → List ℕ → Type 0
+StoppedBy Read limit turns bytes = (length bytes ≤ limit) × GivenBefore turns bytes
+StoppedBy Text limit turns bytes = (limit < length bytes) × (length bytes ≤ limit + BUFFER) × GivenWithin turns bytes
+StoppedBy Memory limit turns bytes = (0 < length bytes) × (length bytes ≤ limit) × GivenWithin turns bytes
+StoppedBy Turns limit turns bytes = (length bytes ≤ limit) × GivenBy turns bytes

@@ -1,0 +1,8 @@
+//! Bytes in and bytes out: a whole text read from a reader, and bytes sent to a writer.
+#![tactic(auto)]
+
+mod reading;
+mod sending;
+
+pub use reading::{BUFFER, ReadFault, read_text};
+pub use sending::{WriteFault, finish, send};

@@ -1,0 +1,121 @@
+// Texts read from memory and from readers that fail.
+use super::*;
+use std::io;
+use std::test::Fail;
+
+/// A reader that gives its bytes `piece` at a time, counts its reads, and then ends or fails.
+#[derive(Drop)]
+struct Pieces<'a> {
+    left: &'a [u8],
+    piece: usize,
+    fails: bool,
+    reads: u64,
+}
+
+impl Read for Pieces<'_> {
+    fn read(&mut self, buf: &mut [u8]) -> io::Result<usize> {
+        self.reads = self.reads.saturating_add(1);
+        if self.left.is_empty() && self.fails {
+            return Err(io::Error::other("the line went dead"));
+        }
+        let count = self.left.len().min(self.piece).min(buf.len());
+        buf[..count].copy_from_slice(&self.left[..count]);
+        self.left = &self.left[count..];
+        Ok(count)
+    }
+}
+
+const LONG: [u8; 20_000] = [b'x'; 20_000];
+
+#[test]
+fn reads_a_text_up_to_its_limit(rt: HostRuntime) -> Result<(), Fail> {
+    let text = read_text(rt.alloc(), &mut b"look\n".as_slice(), 5, 2)?;
+    assert_eq!(rt; text.as_slice(), b"look\n".as_slice());
+    assert_eq!(rt;
+        read_text(rt.alloc(), &mut b"look\n".as_slice(), 4, 2),
+        Err(ReadFault::Text)
+    );
+    let text = read_text(rt.alloc(), &mut b"".as_slice(), 0, 1)?;
+    assert!(rt; text.is_empty());
+    Ok(())
+}
+
+#[test]
+fn reads_a_buffer_at_a_time(rt: HostRuntime) -> Result<(), Fail> {
+    let text = read_text(rt.alloc(), &mut LONG.as_slice(), 20_000, 4)?;
+    assert_eq!(rt; text.as_slice(), LONG.as_slice());
+    assert_eq!(rt;
+        read_text(rt.alloc(), &mut LONG.as_slice(), 20_000, 3),
+        Err(ReadFault::Turns)
+    );
+    assert_eq!(rt;
+        read_text(rt.alloc(), &mut LONG.as_slice(), 19_999, 4),
+        Err(ReadFault::Text)
+    );
+    Ok(())
+}
+
+#[test]
+fn a_read_that_ends_or_fails_takes_a_turn(rt: HostRuntime) -> Result<(), Fail> {
+    for (fails, turns, want) in [
+        (false, 0, Some(ReadFault::Turns)),
+        (false, 5, Some(ReadFault::Turns)),
+        (false, 6, None),
+        (false, 7, None),
+        (true, 0, Some(ReadFault::Turns)),
+        (true, 5, Some(ReadFault::Turns)),
+        (true, 6, Some(ReadFault::Read)),
+        (true, 7, Some(ReadFault::Read)),
+    ] {
+        let mut reader = Pieces {
+            left: b"look\n",
+            piece: 1,
+            fails,
+            reads: 0,
+        };
+        let got = read_text(rt.alloc(), &mut reader, 100, turns);
+        assert_eq!(rt; got.err(), want, "at {turns} turns");
+        assert_eq!(rt; reader.reads, u64::from(turns.min(6)), "at {turns} turns");
+    }
+    Ok(())
+}
+
+#[test]
+fn only_a_failing_read_is_the_fault_read(rt: HostRuntime) -> Result<(), Fail> {
+    let input = b"0123456789";
+    for end in 0..=input.len() {
+        for limit in 0..12 {
+            for fails in [false, true] {
+                let mut reader = Pieces {
+                    left: &input[..end],
+                    piece: 1,
+                    fails,
+                    reads: 0,
+                };
+                let got = read_text(rt.alloc(), &mut reader, limit, 20);
+                if end > limit {
+                    assert_eq!(rt; got, Err(ReadFault::Text));
+                    assert_eq!(rt; reader.reads, limit as u64 + 1);
+                } else if fails {
+                    assert_eq!(rt; got, Err(ReadFault::Read));
+                } else {
+                    assert_eq!(rt; got?.as_slice(), &input[..end]);
+                }
+            }
+        }
+    }
+    Ok(())
+}
+
+#[test]
+fn faults_have_texts(rt: HostRuntime) -> Result<(), Fail> {
+    for (fault, want) in [
+        (ReadFault::Read, "read"),
+        (ReadFault::Text, "text"),
+        (ReadFault::Memory, "memory"),
+        (ReadFault::Turns, "turns"),
+    ] {
+        assert_eq!(rt; fault.to_string(rt.alloc())?.as_str(), want);
+    }
+    Ok(())
+}

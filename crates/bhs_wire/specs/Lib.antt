@@ -1,0 +1,5 @@
+pub mod LineKind
+pub mod First
+pub mod Why
+pub mod Reply
+pub mod Denial
