@@ -5,8 +5,8 @@ use Rattle.bhs_net.specs.declared.faults.NetFault.TheVariants.{Nodes, Node, Loop
 use Rattle.bhs_net.specs.declared.links.Link.{Link}
 use Rattle.bhs_net.specs.Links.{End, near_end, far_end, link_at, HasEnd, Joins, SameNodes, SharesEnd, IsListed, AreJoined, AreLinked}
 use Rattle.bhs_net.specs.Paths.{Path, IsPath, Without}
-use Rattle.bhs_net.specs.Network.{Network, nodes_of, row_of, degree_of, far_of, HasPort}
-use Rattle.bhs_net.specs.Faults.{IsStray, IsLoop, IsDouble, IsPortTwice, IsGap, IsApart, IsCut, Holds, Lists, Refuses}
+use Rattle.bhs_net.specs.Network.{Network, nodes_of, row_of, degree_of, far_of, HasPort, Makes}
+use Rattle.bhs_net.specs.Faults.{IsStray, IsLoop, IsDouble, IsPortTwice, IsGap, IsApart, IsCut, Holds, Refuses}
 use Rattle.bhs_main.specs.Triangle.{triangle}
 
 abbrev pub links : List Link
@@ -168,12 +168,12 @@ exactly_two (suc zero) above below = omega arith
 exactly_two (suc (suc zero)) above below = refl
 exactly_two (suc (suc (suc more))) above below = let bad : 2 ≤ 1 = below (omega arith) in absurd (omega arith)
 
-two_ports : (net : Network) (node : ℕ) → Lists 3 links net → 1 < degree_of net node → degree_of net node ≡ 2
+two_ports : (net : Network) (node : ℕ) → Makes 3 links net → 1 < degree_of net node → degree_of net node ≡ 2
 two_ports net node lists second =
     let no_third : 2 < degree_of net node → 2 ≤ 1 = λ third. (listed_low node 2 (listed_from_joined (node, 2) (far_of net node 2) (lists.made_of.all node 2 third))).1 in
     exactly_two (degree_of net node) second no_third
 
-pub is_triangle : (net : Network) → Lists 3 links net → net ≡ triangle
+pub is_triangle : (net : Network) → Makes 3 links net → net ≡ triangle
 is_triangle net lists =
     let near = lists.made_of.near in
     let far = lists.made_of.far in

@@ -3,7 +3,6 @@ use Rattle.std.specs.Prelude.{ℕ, List, [], ◌∷◌, Option, Some}
 use Rattle.bhs_net.specs.Network.{Network}
 use Rattle.bhs_model.specs.declared.setups.Setup.{Setup}
 use Rattle.bhs_world.specs.Playing.{Playing, fresh}
-use Rattle.bhs_main.specs.declared.triangle.TheConstants.{SETUP}
 
 -- per node the far ends of its ports
 abbrev pub triangle : Network
@@ -13,6 +12,10 @@ triangle =
     ∷ ((1, 1) ∷ (0, 1) ∷ [])
     ∷ []
 
+-- one agent, which enters at node 0
+abbrev pub setup : Setup
+setup = record { home = 0; hole = Some 2; agents = 1; quota = 10; board = 8 }
+
 -- the built-in match before anything happens
 abbrev pub built_in : Playing
-built_in = fresh triangle SETUP
+built_in = fresh triangle setup

@@ -38,3 +38,6 @@ fn started(rt: &HostRuntime) -> io::Result<u8> {
         &mut errors,
     ))
 }
+
+#[cfg(test)]
+mod tests;

@@ -30,7 +30,7 @@ const LINKS: [Link; 3] = [
 ];
 
 /// How the built-in match is set up.
-pub const SETUP: Setup = Setup {
+const SETUP: Setup = Setup {
     home: 0,
     hole: Some(2),
     agents: 1,

@@ -6,3 +6,6 @@ pub mod Gaps
 pub mod Order
 pub mod Listed
 pub mod Degrees
+pub mod Walks
+pub mod Marks
+pub mod Made

@@ -3,3 +3,5 @@ pub mod Paths
 pub mod Network
 pub mod Faults
 pub mod Listing
+pub mod Search
+pub mod Laws

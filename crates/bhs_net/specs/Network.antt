@@ -48,9 +48,15 @@ pub record IsPortLabelled (net : Network) : Type 0 where
 abbrev pub IsConnected : Network → Type 0
 IsConnected net = (node other : ℕ) → node < nodes_of net → other < nodes_of net → IsPath (Leads net) node other
 
--- any two nodes are joined by a path that keeps off any third node
-abbrev pub HasNoCut : Network → Type 0
-HasNoCut net = (cut node other : ℕ) → node < nodes_of net → other < nodes_of net → node ≢ cut → other ≢ cut → IsPath (Without cut (Leads net)) node other
+-- any two other nodes are joined by a path that keeps off this one
+abbrev pub AreJoinedWithout : Network → ℕ → Type 0
+AreJoinedWithout net cut = (node other : ℕ) → node < nodes_of net → other < nodes_of net → node ≢ cut → other ≢ cut → IsPath (Without cut (Leads net)) node other
+
+-- a network: a simple graph with port labels that is connected, and still so when any one node is removed
+pub record IsNetwork (net : Network) : Type 0 where
+  pub labelled : IsPortLabelled net
+  pub connected : IsConnected net
+  pub biconnected : (cut : ℕ) → cut < nodes_of net → AreJoinedWithout net cut
 
 -- the list has the links of the network, each of them once
 pub record HasLinks (net : Network) (links : List Link) : Type 0 where
@@ -58,3 +64,9 @@ pub record HasLinks (net : Network) (links : List Link) : Type 0 where
   pub far : (place : ℕ) → place < length links → HasPort net (far_end (link_at links place)) × (far_of net (link_at links place).w (link_at links place).q ≡ near_end (link_at links place))
   pub all : (node port : ℕ) → port < degree_of net node → AreJoined links (node, port) (far_of net node port)
   pub once : (early late : ℕ) → early < late → late < length links → ¬ SharesEnd (link_at links early) (link_at links late)
+
+-- the links make this network: it has so many nodes and just these links
+pub record Makes (nodes : ℕ) (links : List Link) (net : Network) : Type 0 where
+  pub size : nodes_of net ≡ nodes
+  pub network : IsNetwork net
+  pub made_of : HasLinks net links

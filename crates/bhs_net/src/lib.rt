@@ -2,11 +2,14 @@
 #![tactic(auto)]
 
 mod faults;
+mod laws;
 mod links;
 mod listing;
 mod network;
+mod search;
 
 pub use faults::{MAX_NODES, MIN_NODES, NetFault};
+pub use laws::no_network_with_fault;
 pub use links::Link;
 pub use network::Net;
 pub use std::alloc::AllocError as Memory;

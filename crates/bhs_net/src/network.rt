@@ -1,14 +1,16 @@
 ghost use Rattle.std.specs.Prelude.{◌≡◌, ◌<◌, ◌/◌, IfOk, IfErr};
-ghost use Rattle.bhs_net.specs.Network.{nodes_of, degree_of, far_of, ports_of, IsPortLabelled};
-ghost use Rattle.bhs_net.specs.Faults.{Lists, Refuses};
+ghost use Rattle.bhs_net.specs.Network.{nodes_of, degree_of, far_of, ports_of, IsNetwork, Makes};
+ghost use Rattle.bhs_net.specs.Faults.{Refuses};
 
 use crate::faults::NetFault;
 use crate::links::Link;
 use crate::listing::{End, listed};
+use crate::search::check_paths;
 use std::alloc::{AllocError, Global};
 use std::marker::Model;
 
-/// A network: a simple graph of nodes 0 to `nodes() - 1`. At each node the links carry distinct labels, the ports 0 to
+/// A network: a simple graph of nodes 0 to `nodes() - 1`, connected, and still connected when any one node is removed.
+/// At each node the links carry distinct labels, the ports 0 to
 /// `degree(v) - 1`; the two labels of one link need not agree.
 #[derive(Debug, Drop)]
 pub struct Net {
@@ -17,30 +19,31 @@ pub struct Net {
 
 impl Model for Net {
     ghost use Rattle.std.specs.Prelude.{map};
-    ghost use Rattle.bhs_net.specs.Network.{Network, IsPortLabelled};
+    ghost use Rattle.bhs_net.specs.Network.{Network, IsNetwork};
 
     ghost Value = { Network };
 
     ghost view = { λ net. map (λ row. row.items) net.rows.items };
 
-    ghost invariant = { λ net. IsPortLabelled (map (λ row. row.items) net.rows.items) };
+    ghost invariant = { λ net. IsNetwork (map (λ row. row.items) net.rows.items) };
 }
 
 impl Net {
     /// The network of `nodes` nodes that the links make. Ports may be listed in any order, and a link from either of
     /// its ends. Refused with the first fault, or with `NetFault::Memory` in place of any answer.
     pub fn try_new(alloc: Global, nodes: u16, links: &[Link]) -> Result<Net, NetFault>
-        ensures made { IfOk result (λ net. Lists nodes links.now net) }
+        ensures made { IfOk result (Makes nodes links.now) }
         ensures refused { IfErr result (Refuses nodes links.now) }
     {
         let rows = listed(alloc, nodes, links)?;
+        check_paths(alloc, &rows)?;
         Ok(Net { rows })
     }
 
     /// How many nodes there are, from `MIN_NODES` to `MAX_NODES`.
     pub fn nodes(&self) -> u16
         ensures count { result ≡ nodes_of self.now }
-        ensures network { IsPortLabelled self.now }
+        ensures network { IsNetwork self.now }
     {
         self.rows.len() as u16
     }
@@ -60,7 +63,7 @@ impl Net {
     pub fn degree(&self, v: u16) -> u16
         requires { v < nodes_of self.now }
         ensures count { result ≡ degree_of self.now v }
-        ensures network { IsPortLabelled self.now }
+        ensures network { IsNetwork self.now }
     {
         self.rows[usize::from(v)].len() as u16
     }
@@ -70,7 +73,7 @@ impl Net {
         requires node { v < nodes_of self.now }
         requires port { p < degree_of self.now v }
         ensures end { result ≡ far_of self.now v p }
-        ensures network { IsPortLabelled self.now }
+        ensures network { IsNetwork self.now }
     {
         self.rows[usize::from(v)][usize::from(p)]
     }

@@ -8,3 +8,6 @@ mod worlds;
 pub use faults::SetupFault;
 pub use standings::Standing;
 pub use worlds::World;
+
+#[cfg(test)]
+mod tests;

@@ -1,4 +1,5 @@
 use super::*;
+use crate::faults::MAX_NODES;
 use std::process::Abort;
 use std::test::Fail;
 
@@ -80,6 +81,57 @@ fn links_are_refused_by_the_first_fault(rt: HostRuntime) {
         fault_of(&rt, 3, &gaps),
         Some(NetFault::PortGap { node: 1 })
     );
+}
+
+#[test]
+fn nodes_without_a_path_are_refused(rt: HostRuntime) {
+    let path = [link(0, 0, 1, 0), link(1, 1, 2, 0)];
+    assert_eq!(rt;
+        fault_of(&rt, 3, &path),
+        Some(NetFault::CutNode { node: 1 })
+    );
+    let two_triangles = [
+        link(0, 0, 1, 0),
+        link(1, 1, 2, 0),
+        link(2, 1, 0, 1),
+        link(3, 0, 4, 0),
+        link(4, 1, 5, 0),
+        link(5, 1, 3, 1),
+    ];
+    assert_eq!(rt; fault_of(&rt, 6, &two_triangles), Some(NetFault::Apart));
+    assert_eq!(rt; fault_of(&rt, 4, &triangle()), Some(NetFault::Apart));
+    let star = [link(1, 0, 0, 0), link(1, 1, 2, 0), link(1, 2, 3, 0)];
+    assert_eq!(rt;
+        fault_of(&rt, 4, &star),
+        Some(NetFault::CutNode { node: 1 })
+    );
+    let bow_tie = [
+        link(1, 0, 0, 0),
+        link(1, 1, 2, 0),
+        link(0, 1, 2, 1),
+        link(0, 2, 3, 0),
+        link(0, 3, 4, 0),
+        link(3, 1, 4, 1),
+    ];
+    assert_eq!(rt;
+        fault_of(&rt, 5, &bow_tie),
+        Some(NetFault::CutNode { node: 0 })
+    );
+}
+
+#[test]
+fn each_two_of_the_most_nodes_are_linked(rt: HostRuntime) -> Result<(), Fail> {
+    let mut links = Vec::new(rt.alloc());
+    for v in 0..MAX_NODES {
+        for w in v + 1..MAX_NODES {
+            links.push(link(v, w - 1, w, v))?;
+        }
+    }
+    let net = Net::try_new(rt.alloc(), MAX_NODES, &links)?;
+    assert_eq!(rt; net.nodes(), MAX_NODES);
+    assert_eq!(rt; net.links(), 32_640);
+    assert_eq!(rt; far(&rt, &net, 7, 200), (201, 7));
+    Ok(())
 }
 
 #[test]

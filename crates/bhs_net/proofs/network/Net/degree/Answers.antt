@@ -14,5 +14,5 @@ overflow_cast-result c =
     let asked : c.args.v < length c.args.self.now = c.requires in
     let from : c.from.result ≡ c.args.v = c.from.ensures in
     omega arith in
-    let most = vec_len-le rows c.from.result c.index.result.now at c.index.ensures c.self.invariant in
+    let most = vec_len-le rows c.from.result c.index.result.now at c.index.ensures c.self.invariant.labelled in
     omega arith

@@ -1,0 +1,9 @@
+use Rattle.std.specs.Prelude.{ℕ, List}
+use Rattle.bhs_net.specs.declared.faults.NetFault.{NetFault}
+use Rattle.bhs_net.specs.declared.links.Link.{Link}
+use Rattle.bhs_net.specs.Network.{Network, Makes}
+use Rattle.bhs_net.specs.Faults.{Holds}
+
+-- links that have a fault make no network
+abbrev pub NoNetworkWithFault : Type 0
+NoNetworkWithFault = (nodes : ℕ) (links : List Link) (fault : NetFault) → Holds nodes links fault → (net : Network) → ¬ Makes nodes links net

@@ -1,0 +1,88 @@
+//! Whether rows are connected, and still so when any one node is removed. One search takes time in the number of ports;
+//! with n nodes and m links there are n + 1 searches, so the cost is O(n * m).
+
+ghost use Rattle.std.specs.Prelude.{◌≡◌, ◌≢◌, ◌<◌, ◌≤◌, ◌⊎◌, map, length, vec_len, IfOk, IfErr, OnOk, MatchBool};
+ghost use Rattle.bhs_net.specs.Network.{IsPortLabelled, IsNetwork, IsConnected};
+ghost use Rattle.bhs_net.specs.Search.{MarksReached, ReachesAll, MissesSome, IsApartIn, IsCutIn};
+ghost use Rattle.bhs_net.specs.Listing.{TellsLeast};
+
+use crate::faults::NetFault;
+use crate::listing::End;
+use std::alloc::{AllocError, Global};
+
+/// Marks the nodes to which paths lead from `start` that keep off the node `removed`.
+fn reached(
+    alloc: Global,
+    rows: &[Vec<End>],
+    start: usize,
+    removed: usize,
+) -> Result<Vec<bool>, AllocError>
+    requires labelled { IsPortLabelled (map (λ row. row.items) rows.now) }
+    requires node { start < length rows.now }
+    requires kept { start ≢ removed }
+    ensures { IfOk result
+        (λ marks. MarksReached (map (λ row. row.items) rows.now) start removed marks.items) }
+{
+    let mut marks = vec![in alloc; false; rows.len()]?;
+    let mut found = Vec::new(alloc);
+    marks[start] = true;
+    found.push(start)?;
+    for next in 0..rows.len() {
+        if next == found.len() {
+            break;
+        }
+        let node = found[next];
+        for end in &rows[node] {
+            let other = usize::from(end.0);
+            if other != removed && !marks[other] {
+                marks[other] = true;
+                found.push(other)?;
+            }
+        }
+    }
+    Ok(marks)
+}
+
+/// Whether paths that keep off `removed` lead from `start` to every other node.
+fn reaches_all(
+    alloc: Global,
+    rows: &[Vec<End>],
+    start: usize,
+    removed: usize,
+) -> Result<bool, AllocError>
+    requires labelled { IsPortLabelled (map (λ row. row.items) rows.now) }
+    requires node { start < length rows.now }
+    requires kept { start ≢ removed }
+    ensures { IfOk result
+        (λ all. MatchBool all (ReachesAll (map (λ row. row.items) rows.now) start removed) (MissesSome (map (λ row. row.items) rows.now) start removed)) }
+{
+    let marks = reached(alloc, rows, start, removed)?;
+    for (node, is_marked) in marks.iter().enumerate() {
+        if !*is_marked && node != removed {
+            return Ok(false);
+        }
+    }
+    Ok(true)
+}
+
+/// Looks for two nodes that no path joins, and then for the least node without which no path joins some two others.
+pub fn check_paths(alloc: Global, rows: &[Vec<End>]) -> Result<(), NetFault>
+    requires { IsPortLabelled (map (λ row. row.items) rows.now) }
+    ensures ok { OnOk result (IsNetwork (map (λ row. row.items) rows.now)) }
+    ensures err { IfErr result (λ fault. (fault ≡ NetFault.Memory)
+        ⊎ (((fault ≡ NetFault.Apart) × IsApartIn (map (λ row. row.items) rows.now))
+        ⊎ (IsConnected (map (λ row. row.items) rows.now)
+        × TellsLeast NetFault.CutNode (IsCutIn (map (λ row. row.items) rows.now)) fault))) }
+{
+    let nodes = rows.len();
+    if !reaches_all(alloc, rows, 0, nodes)? {
+        return Err(NetFault::Apart);
+    }
+    for node in 0..nodes {
+        let start = if node == 0 { 1 } else { 0 };
+        if !reaches_all(alloc, rows, start, node)? {
+            return Err(NetFault::CutNode { node: node as u16 });
+        }
+    }
+    Ok(())
+}
