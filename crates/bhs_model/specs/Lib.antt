@@ -1,0 +1,13 @@
+pub mod Views
+pub mod Replying
+pub mod Worlds
+pub mod Runs
+pub mod Kept
+pub mod Twins
+pub mod Cuts
+pub mod Draws
+pub mod Laws
+pub mod Arenas
+pub mod Examples
+pub mod Marks
+pub mod Setups

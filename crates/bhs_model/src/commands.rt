@@ -8,18 +8,11 @@ pub enum Command {
     /// See the node again.
     Look,
     /// Put a text on the whiteboard of the node if it shows the expected one.
-    Write {
-        expect: Text,
-        put: Text,
-    },
+    Write { expect: Text, put: Text },
     /// Leave the node by a port.
-    Depart {
-        port: u16,
-    },
+    Depart { port: u16 },
     /// Say that the link at a port leads to the black hole, and end.
-    Accuse {
-        port: u16,
-    },
+    Accuse { port: u16 },
     /// End.
     Leave,
     /// A line that is no command.

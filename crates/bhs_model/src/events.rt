@@ -4,14 +4,9 @@ use crate::commands::Command;
 #[derive(Clone, Debug, PartialEq, Eq, Drop)]
 pub enum Event {
     /// An agent says a command.
-    Tell {
-        agent: u16,
-        command: Command,
-    },
+    Tell { agent: u16, command: Command },
     /// The link that an agent travels on lets it arrive.
-    Deliver {
-        agent: u16,
-    },
+    Deliver { agent: u16 },
     /// The match ends.
     Close,
 }

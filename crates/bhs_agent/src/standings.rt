@@ -1,0 +1,12 @@
+/// What an agent is doing.
+#[derive(Clone, Copy, Debug, PartialEq, Eq)]
+pub enum Standing {
+    /// It has not entered.
+    Outside,
+    /// It is at a node, and came by the link with this label there; None where it entered there.
+    Present { node: u16, came: Option<u16> },
+    /// It is on the link that leaves the node by the port, destroyed or not.
+    Away { node: u16, port: u16 },
+    /// It has ended.
+    Ended,
+}

@@ -1,0 +1,2 @@
+pub mod Dealer
+pub mod Pool

@@ -1,0 +1,46 @@
+ghost use Rattle.std.specs.Prelude.{◌≡◌};
+
+use rand_chacha::ChaCha8Rng;
+use rand_core::SeedableRng;
+use rand_core::utils::NextWord;
+use std::marker::Model;
+
+/// The words that pick a match's deliveries, one after the other: the ChaCha8 words of the tournament's
+/// seed, on a stream of the match's own.
+///
+/// Two dealers of one seed and stream give the same words. A stream starts again after 2^68 words.
+#[derive(Debug, Drop)]
+pub struct Dealer {
+    words: ChaCha8Rng,
+}
+
+// A dealer is seen as its key, its stream and the place of its next word.
+impl Model for Dealer {
+    ghost use Rattle.rand_chacha.specs.ChaCha.{ChaCha};
+
+    ghost Value = { ChaCha };
+
+    ghost view = { λ dealer. dealer.words };
+}
+
+impl Dealer {
+    ghost use Rattle.bhs_deal.specs.Dealer.{dealer_at, next_word, moved_on};
+
+    /// The dealer at the start of a stream of the seed.
+    pub fn new(seed: [u8; 32], stream: u64) -> Dealer
+        ensures { result ≡ dealer_at seed stream 0 }
+    {
+        let mut words = ChaCha8Rng::from_seed(seed);
+        words.set_stream(stream);
+        Dealer { words }
+    }
+
+    /// The word at the dealer's place. The dealer then stands at the next place, which after the stream's
+    /// last one is its first.
+    pub fn next(&mut self) -> u32
+        ensures word { result ≡ next_word self.old }
+        ensures moved { self.new ≡ moved_on self.old }
+    {
+        self.words.next_word()
+    }
+}

@@ -1,0 +1,12 @@
+pub mod StepLemmas
+pub mod PastLemmas
+pub mod KeptLemmas
+pub mod TwinLemmas
+pub mod CutLemmas
+pub mod LeastCutLemmas
+pub mod SlowLemmas
+pub mod FitLemmas
+pub mod ArenaLemmas
+pub mod ClosedLemmas
+pub mod SufficeLemmas
+pub mod AddLemmas

@@ -1,0 +1,104 @@
+-- Parts of a list of events that can stand alone. A set of places is a list of Bool beside the events:
+-- true where the place is chosen; past its end no place is.
+use Rattle.std.specs.Prelude.{ℕ, zero, suc, ◌≡◌, Bool, true, false, not, ◌&&◌, ◌||◌, Option, Some, None, List, [], ◌∷◌, if◌then◌else◌, ◌==◌, option_and_then, slice_get}
+use Rattle.std.specs.List.{list_any}
+use Rattle.bhs_model.specs.declared.commands.Command.{Command}
+use Rattle.bhs_model.specs.declared.commands.Command.TheVariants.{Enter, Look, Write}
+use Rattle.bhs_model.specs.declared.events.Event.{Event}
+use Rattle.bhs_model.specs.declared.events.Event.TheVariants.{Tell, Deliver, Close}
+use Rattle.bhs_model.specs.Worlds.{World}
+use Rattle.bhs_model.specs.Runs.{Position, At, Bound, State, initial, heard, arrives, next}
+
+-- the elements at the chosen places
+abbrev pub at_places : {A : Type 0} → List A → List Bool → List A
+at_places [] places = []
+at_places (x ∷ xs) [] = []
+at_places (x ∷ xs) (chosen ∷ places) = if chosen then x ∷ at_places xs places else at_places xs places
+
+-- what an event has to do with others: whose it is, the node that is seen, the node that is written (also
+-- by a write that fails), and whether it ends the match
+pub record Note : Type 0 where
+  pub who : Option ℕ
+  pub seen : Option ℕ
+  pub written : Option ℕ
+  pub closes : Bool
+
+-- the node that a heard command sees
+abbrev pub node_seen : World → Position → Command → Option ℕ
+node_seen world position Enter = Some world.home
+node_seen world (At node came) Look = Some node
+node_seen world (At node came) (Write expect put) = Some node
+node_seen world position command = None
+
+-- the node that a heard command writes
+abbrev pub node_written : Position → Command → Option ℕ
+node_written (At node came) (Write expect put) = Some node
+node_written position command = None
+
+-- the node at which an agent arrives from this position
+abbrev pub node_reached : World → Position → Option ℕ
+node_reached world (Bound node port) = Some (world.net.far node port).0
+node_reached world position = None
+
+abbrev pub note : World → State → Event → Note
+note world state (Tell agent command) = record {
+  who = Some agent;
+  seen = if heard world state agent command then node_seen world (state.position agent) command else None;
+  written = if heard world state agent command then node_written (state.position agent) command else None;
+  closes = false;
+}
+note world state (Deliver agent) = record {
+  who = Some agent;
+  seen = if arrives world state agent then node_reached world (state.position agent) else None;
+  written = None;
+  closes = false;
+}
+note world state Close = record { who = None; seen = None; written = None; closes = true }
+
+abbrev pub notes_from : World → State → List Event → List Note
+notes_from world state [] = []
+notes_from world state (event ∷ events) =
+    note world state event ∷ notes_from world (next world state event) events
+
+abbrev pub notes : World → List Event → List Note
+notes world events = notes_from world initial events
+
+-- whether both are there and equal
+abbrev pub meet : Option ℕ → Option ℕ → Bool
+meet (Some one) (Some two) = one == two
+meet one two = false
+
+-- whether a later place needs an earlier one: the earlier one is a Close, or of the same agent, or it
+-- writes the node that the later one sees
+abbrev pub asks : (early late : Note) → Bool
+asks early late = early.closes || (meet late.who early.who || meet late.seen early.written)
+
+-- whether a set of places is closed: with a place it has each earlier one that this place needs
+abbrev pub is_closed : List Note → List Bool → Bool
+is_closed [] places = true
+is_closed (early ∷ notes) [] = true
+is_closed (early ∷ notes) (chosen ∷ places) =
+    (chosen || not (list_any (asks early) (at_places notes places))) && is_closed notes places
+
+-- whether a place is chosen
+abbrev pub has_place : List Bool → (place : ℕ) → Bool
+has_place [] place = false
+has_place (chosen ∷ places) zero = chosen
+has_place (chosen ∷ places) (suc place) = has_place places place
+
+-- each place of the one set is a place of the other
+abbrev pub IsWithin : (places others : List Bool) → Type 0
+IsWithin places others = (place : ℕ) → has_place places place ≡ true → has_place others place ≡ true
+
+-- the set has all places of the agent
+abbrev pub HasAllOf : (agent : ℕ) → List Note → List Bool → Type 0
+HasAllOf agent notes places = (place : ℕ) →
+    option_and_then (λ one. one.who) (slice_get notes place) ≡ Some agent → has_place places place ≡ true
+
+-- the cut of an agent: walking back from the end, its own places, and each place that a chosen later one
+-- needs
+abbrev pub cut : (agent : ℕ) → List Note → List Bool
+cut agent [] = []
+cut agent (early ∷ notes) =
+    let places = cut agent notes in
+    (meet (Some agent) early.who || list_any (asks early) (at_places notes places)) ∷ places

@@ -1,0 +1,79 @@
+-- What an agent has met: its causal past, a tree of commands. It names no node and no agent, and holds no
+-- text of a whiteboard.
+use Rattle.std.specs.Prelude.{ℕ, ◌+◌, Bool, true, false, Option, if◌then◌else◌, nat_lt}
+use Rattle.bhs_model.specs.declared.commands.Command.{Command}
+use Rattle.bhs_model.specs.declared.commands.Command.TheVariants.{Enter, Depart, Accuse, Leave}
+
+mutual
+  -- the past of an agent, its newest step outermost
+  pub data View : Type 0 where
+    -- nothing has happened to it
+    Start : View
+    -- it said a command that was heard, and caught a glance of its node
+    Told : View → Command → Glance → View
+    -- it arrived at a node
+    Arrived : View → Sight → View
+
+  -- what a command shows of the node
+  pub data Glance : Type 0 where
+    Nothing : Glance
+    Saw : Sight → Glance
+
+  -- a node as an agent sees it: how many ports it has, the label of the link by which the agent came
+  -- (None where it entered there), and what the whiteboard shows
+  pub data Sight : Type 0 where
+    Seen : ℕ → Option ℕ → Trace → Sight
+
+  -- who wrote on a whiteboard last: nobody, or an agent whose past, up to and with that write, is this
+  -- one. A write that failed counts.
+  pub data Trace : Type 0 where
+    Blank : Trace
+    Last : View → Trace
+
+-- what an agent may be doing
+pub data Standing : Type 0 where
+  -- it has not entered
+  Outside : Standing
+  -- it is at a node
+  Present : Standing
+  -- it is on a link
+  Away : Standing
+  -- it has said that it ends
+  Ended : Standing
+
+-- how many ports the node has that is seen
+abbrev pub ports_seen : Sight → ℕ
+ports_seen (Seen ports came trace) = ports
+
+-- how many ports the node had that the agent saw last
+abbrev pub ports : View → ℕ
+ports Start = 0
+ports (Told view command Nothing) = ports view
+ports (Told view command (Saw sight)) = ports_seen sight
+ports (Arrived view sight) = ports_seen sight
+
+-- the standing after a heard command, at a node with so many ports
+abbrev pub standing_after : Standing → ℕ → Command → Standing
+standing_after standing ports Enter = Present
+standing_after standing ports Leave = Ended
+standing_after Present ports (Depart port) = if nat_lt port ports then Away else Present
+standing_after Present ports (Accuse port) = if nat_lt port ports then Ended else Present
+standing_after standing ports command = standing
+
+-- what the agent is doing
+abbrev pub standing : View → Standing
+standing Start = Outside
+standing (Told view command glance) = standing_after (standing view) (ports view) command
+standing (Arrived view sight) = Present
+
+-- whether a heard command counts against the quota
+abbrev pub counts : Command → Bool
+counts Enter = false
+counts Leave = false
+counts command = true
+
+-- how many commands the agent has used of its quota
+abbrev pub used : View → ℕ
+used Start = 0
+used (Told view command glance) = if counts command then used view + 1 else used view
+used (Arrived view sight) = used view

@@ -1,0 +1,95 @@
+ghost use Rattle.std.specs.Prelude.{◌≡◌, string_bytes};
+ghost use Rattle.bhs_model.specs.Marks.{text_at};
+
+use crate::commands::Command;
+use crate::events::Event;
+use crate::replies::Why;
+
+/// A reply as a match stores it: the text of a whiteboard is named by the place of the event that wrote
+/// it in the log; None stands for the empty text of a whiteboard that no Write has changed.
+#[derive(Clone, Copy, Debug, PartialEq, Eq)]
+pub enum Mark {
+    /// The agent is at a node with this many ports, came by the link with this label at the node (None
+    /// where it entered at the home base), and the whiteboard shows the text of this place.
+    Here {
+        ports: u16,
+        came: Option<u16>,
+        board: Option<u32>,
+    },
+    /// The whiteboard shows the new text.
+    Written,
+    /// The whiteboard showed another text than the expected one, that of this place, and shows it still.
+    Changed {
+        board: Option<u32>,
+    },
+    /// The agent is on its way.
+    Gone,
+    /// The accusation stands, right or wrong, and the agent has ended.
+    Noted,
+    /// The agent has ended.
+    Bye,
+    /// The match has ended.
+    Over,
+    /// The command is refused.
+    No(Why),
+}
+
+/// An event of a log, and what was answered, if anything.
+#[derive(Debug, Drop)]
+pub struct Kept {
+    pub event: Event,
+    pub mark: Option<Mark>,
+}
+
+/// The text that a whiteboard shows whose last change is the Write at this place of the log; empty where
+/// there is none.
+pub fn text_at(log: &[Kept], board: Option<u32>) -> &str
+    ensures { result.now ≡ text_at log.now board }
+{
+    let Some(place) = board else {
+        return "";
+    };
+    match log.get(place as usize) {
+        Some(
+            Kept {
+                event: Event::Tell {
+                    command: Command::Write { put, .. },
+                    ..
+                },
+                ..
+            },
+        ) => put.as_str(),
+        _ => "",
+    }
+}
+
+#[cfg(test)]
+mod tests {
+    use super::*;
+    use crate::texts::Text;
+    use std::test::Fail;
+
+    #[test]
+    fn a_place_names_the_text_of_its_write(rt: HostRuntime) -> Result<(), Fail> {
+        let mut log = Vec::new(rt.alloc());
+        log.push(Kept {
+            event: Event::Tell {
+                agent: 0,
+                command: Command::Write {
+                    expect: Text::from(String::from_str(rt.alloc(), "a")?),
+                    put: Text::from(String::from_str(rt.alloc(), "b")?),
+                },
+            },
+            mark: Some(Mark::Written),
+        })?;
+        log.push(Kept {
+            event: Event::Close,
+            mark: None,
+        })?;
+        assert_eq!(rt; text_at(&log, Some(0)), "b");
+        assert_eq!(rt; text_at(&log, Some(1)), "");
+        assert_eq!(rt; text_at(&log, Some(2)), "");
+        assert_eq!(rt; text_at(&log, None), "");
+        Ok(())
+    }
+}
