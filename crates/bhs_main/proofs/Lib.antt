@@ -3,3 +3,4 @@ pub mod LineLemmas
 pub mod PlayLemmas
 pub mod TriangleLemmas
 pub mod EventLemmas
+pub mod LogLemmas

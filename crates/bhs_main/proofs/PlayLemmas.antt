@@ -1,12 +1,11 @@
-use Rattle.std.proofs.Common.{◌≡◌, ℕ, ◌+◌, ◌<◌, List, [], ◌∷◌, ◌++◌, length, take, Option, refl, sym, ap, subst, ◌∙◌, arith, append_assoc, append-nil, length-append, suc, get_or, drop, drop-cons, add-one, Result, Ok, Err, OnErr}
-use Rattle.bhs_model.specs.declared.events.Event.{Event}
-use Rattle.bhs_world.specs.Playing.{Playing}
-use Rattle.bhs_world.specs.Rules.{answer, after}
-use Rattle.bhs_main.specs.Transcript.{printed_if, transcript}
+use Rattle.std.proofs.Common.{◌≡◌, ℕ, ◌+◌, ◌<◌, List, [], ◌∷◌, ◌++◌, length, take, Option, refl, sym, ap, subst, ◌∙◌, arith, append_assoc, append-nil, length-append, suc, get_or, drop, drop-cons, add-one, Result, Ok, Err, IfErr, IsErrAnd}
 use Rattle.std.specs.Io.KnownBytes.{Appends}
 use Rattle.std.proofs.KnownBytes.{Appends-trans, Appends-nil}
-use Rattle.bhs_stream.specs.Known.{AppendsPart}
-use Rattle.bhs_stream.proofs.Known.{AppendsPart-trans, AppendsPart-longer}
+use Rattle.bhs_stream.specs.Known.{AppendsPart, AppendsPrefix}
+use Rattle.bhs_stream.proofs.Known.{AppendsPart-trans, AppendsPart-longer, AppendsPrefix-trans, AppendsPrefix-longer}
+use Rattle.bhs_main.specs.PlayFault.{StopsPlaying}
+use Rattle.bhs_main.specs.declared.faults.PlayFault.{PlayFault}
+use Rattle.bhs_main.specs.declared.faults.PlayFault.TheVariants.{Read, Text, Line, Write, Memory, Turns}
 
 -- a writer has the front of a text, and this of it is left
 pub record IsSentUpTo (old new : Option (List ℕ)) (text left : List ℕ) : Type 0 where
@@ -27,17 +26,23 @@ sent_more a b c text bytes left so_far more = record {
 pub sent_all : (a b : Option (List ℕ)) (text : List ℕ) → IsSentUpTo a b text [] → Appends a b text
 sent_all a b text so_far = subst (Appends a b) (sym (append-nil so_far.front) ∙ so_far.whole) so_far.sent
 
-pub sent_part : (a b c : Option (List ℕ)) (text bytes left : List ℕ) → IsSentUpTo a b text (bytes ++ left) → AppendsPart b c bytes → AppendsPart a c text
-sent_part a b c text bytes left so_far part =
+-- a fault at the next bytes
+pub sent_until : (a b c : Option (List ℕ)) (text bytes left : List ℕ) (fault : PlayFault) → IsSentUpTo a b text (bytes ++ left) → StopsPlaying b c bytes fault → StopsPlaying a c text fault
+sent_until a b c text bytes left Write so_far part =
     subst (AppendsPart a c) so_far.whole (AppendsPart-trans a b c so_far.front (bytes ++ left) so_far.sent (AppendsPart-longer b c bytes left part))
+sent_until a b c text bytes left Memory so_far prefix =
+    subst (AppendsPrefix a c) so_far.whole (AppendsPrefix-trans a b c so_far.front (bytes ++ left) so_far.sent (AppendsPrefix-longer b c bytes left prefix))
+sent_until a b c text bytes left Read so_far none = absurd none
+sent_until a b c text bytes left Text so_far none = absurd none
+sent_until a b c text bytes left (Line line) so_far none = absurd none
+sent_until a b c text bytes left Turns so_far none = absurd none
 
--- the transcript from one event on
-pub transcript-at : (playing : Playing) (events : List Event) (place : ℕ) (event : Event) → place < length events → event ≡ get_or events place event
-    → transcript playing (drop place events) ≡ printed_if (answer playing event) ++ transcript (after playing event) (drop (place + 1) events)
-transcript-at playing events place event within is =
-    rw (drop-cons events place event within, add-one) (rw (← is) refl)
+-- no memory for the next event
+pub sent_so_far : (a b : Option (List ℕ)) (text left : List ℕ) → IsSentUpTo a b text left → AppendsPrefix a b text
+sent_so_far a b text left so_far =
+    subst (AppendsPrefix a b) so_far.whole (AppendsPrefix-trans a b b so_far.front left so_far.sent (record { count = 0; grown = Appends-nil b }))
 
--- what holds, holds where there is an error
-pub on_err : {T E : Type 0} (r : Result T E) (P : Type 0) → P → OnErr r P
-on_err (Ok x) P holds = tt
-on_err (Err e) P holds = holds
+-- the fault that comes through a `?` is this one
+pub fault_is : {T : Type 0} (r : Result T PlayFault) (fault : PlayFault) (P : PlayFault → Type 0) → IsErrAnd r (λ e. e ≡ fault) → P fault → IfErr r P
+fault_is (Ok x) fault P is holds = tt
+fault_is (Err e) fault P is holds = subst P (sym is) holds

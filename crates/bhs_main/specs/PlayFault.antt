@@ -1,6 +1,7 @@
 -- Why a script was not played to its end.
-use Rattle.std.specs.Prelude.{◌≡◌, ℕ, List, Result, Err}
+use Rattle.std.specs.Prelude.{◌≡◌, ℕ, List, Option, Result, Err}
 use Rattle.bhs_model.specs.declared.events.Event.{Event}
+use Rattle.bhs_stream.specs.Known.{AppendsPart, AppendsPrefix}
 use Rattle.bhs_stream.specs.declared.reading.ReadFault.{ReadFault}
 use Rattle.bhs_stream.specs.declared.reading.ReadFault.TheVariants as reads
 use Rattle.bhs_main.specs.declared.faults.PlayFault.{PlayFault}
@@ -20,11 +21,12 @@ Refuses events Memory = Unit {0}
 Refuses events (Line line) = events ≡ Err line
 Refuses events fault = ⊥
 
--- the faults that end the playing of events
-abbrev pub IsOfPlaying : PlayFault → Type 0
-IsOfPlaying Write = Unit {0}
-IsOfPlaying Memory = Unit {0}
-IsOfPlaying fault = ⊥
+-- Playing stopped with this fault before the whole text was written: a failed write leaves out the end of the
+-- text; memory may also run out behind its end, at an event that nobody is answered.
+abbrev pub StopsPlaying : (output output' : Option (List ℕ)) → (text : List ℕ) → PlayFault → Type 0
+StopsPlaying output output' text Write = AppendsPart output output' text
+StopsPlaying output output' text Memory = AppendsPrefix output output' text
+StopsPlaying output output' text fault = ⊥
 
 -- the exit status that tells a fault
 abbrev pub status : PlayFault → ℕ

@@ -2,13 +2,13 @@
 use Rattle.std.specs.Prelude.{◌≡◌, ℕ, ◌≤◌, ◌⊎◌, List, length, Option, Ok, Err}
 use Rattle.std.specs.Io.KnownBytes.{Appends, Consumes, IsAtEnd, Keeps}
 use Rattle.bhs_model.specs.declared.events.Event.{Event}
-use Rattle.bhs_stream.specs.Known.{AppendsPart}
 use Rattle.bhs_stream.specs.ReadFault.{StoppedBy}
 use Rattle.bhs_stream.specs.declared.reading.ReadFault.{ReadFault}
 use Rattle.bhs_stream.specs.declared.reading.ReadFault.TheVariants as reads
 use Rattle.bhs_main.specs.declared.faults.PlayFault.{PlayFault}
 use Rattle.bhs_main.specs.declared.faults.PlayFault.TheVariants.{Read, Text, Line, Write, Memory, Turns}
 use Rattle.bhs_main.specs.declared.playing.TheConstants.{MAX_TEXT}
+use Rattle.bhs_main.specs.PlayFault.{StopsPlaying}
 use Rattle.bhs_main.specs.Script.{events_of}
 use Rattle.bhs_main.specs.Transcript.{transcript}
 use Rattle.bhs_main.specs.Triangle.{built_in}
@@ -33,11 +33,11 @@ pub record Plays (input input' output output' : Option (List ℕ)) : Type 0 wher
   pub means : Means input input' print
   pub written : Appends output output' print
 
--- the script was played in part: the last of what it prints was not written
-pub record PlaysPart (input input' output output' : Option (List ℕ)) : Type 0 where
+-- the script was played until this fault
+pub record PlaysUntil (fault : PlayFault) (input input' output output' : Option (List ℕ)) : Type 0 where
   pub print : List ℕ
   pub means : Means input input' print
-  pub written : AppendsPart output output' print
+  pub stopped : StopsPlaying output output' print fault
 
 -- reading stopped with this fault, and nothing was written
 abbrev pub StopsReading : ℕ → Option (List ℕ) → Option (List ℕ) → Option (List ℕ) → Option (List ℕ) → ReadFault → Type 0
@@ -51,6 +51,6 @@ Stops turns input input' output output' Text = StopsReading turns input input' o
 Stops turns input input' output output' Turns = StopsReading turns input input' output output' reads.Turns
 Stops turns input input' output output' (Line line) =
     (script : List ℕ) × HasRead input input' script × (events_of script ≡ Err line) × Keeps output output'
-Stops turns input input' output output' Write = PlaysPart input input' output output'
+Stops turns input input' output output' Write = PlaysUntil Write input input' output output'
 Stops turns input input' output output' Memory =
-    ((bytes : List ℕ) × Consumes input input' bytes × Keeps output output') ⊎ PlaysPart input input' output output'
+    ((bytes : List ℕ) × Consumes input input' bytes × Keeps output output') ⊎ PlaysUntil Memory input input' output output'

@@ -2,7 +2,8 @@
 use Rattle.std.specs.Prelude.{ℕ, List, [], ◌∷◌, Option, Some}
 use Rattle.bhs_net.specs.Network.{Network}
 use Rattle.bhs_model.specs.declared.setups.Setup.{Setup}
-use Rattle.bhs_world.specs.Playing.{Playing, fresh}
+use Rattle.bhs_model.specs.Worlds.{World}
+use Rattle.bhs_model.specs.Setups.{world_of}
 
 -- per node the far ends of its ports
 abbrev pub triangle : Network
@@ -16,6 +17,6 @@ triangle =
 abbrev pub setup : Setup
 setup = record { home = 0; hole = Some 2; agents = 1; quota = 10; board = 8 }
 
--- the built-in match before anything happens
-abbrev pub built_in : Playing
-built_in = fresh triangle setup
+-- the world of the built-in match
+abbrev pub built_in : World
+built_in = world_of triangle setup

@@ -1,4 +1,4 @@
-ghost use Rattle.std.specs.Prelude.{◌≡◌, ◌<◌, ◌∷◌, [], length, IfOk, IfSome, MatchResult};
+ghost use Rattle.std.specs.Prelude.{◌≡◌, ◌+◌, ◌<◌, ◌≤◌, ◌∷◌, [], length, IfOk, IfSome, MatchResult};
 ghost use Rattle.bhs_main.specs.Script.{said, meaning, is_line_feed, lines_of, events_of};
 ghost use Rattle.bhs_main.specs.PlayFault.{Refuses};
 ghost use Rattle.std.specs.List.{position_from};
@@ -56,7 +56,8 @@ fn tells(command: Command) -> Meaning
 
 /// The events that a script means, or its first line that is none of a script.
 pub fn events_in(alloc: Global, script: &[u8]) -> Result<Vec<Event>, PlayFault>
-    ensures { MatchResult result (λ events. events_of script.now ≡ Ok events.items) (Refuses (events_of script.now)) }
+    ensures meant { MatchResult result (λ events. events_of script.now ≡ Ok events.items) (Refuses (events_of script.now)) }
+    ensures few { IfOk result (λ events. length events.items ≤ length script.now + 1) }
 {
     let mut events = Vec::new(alloc);
     let mut rest = Some(script);

@@ -36,21 +36,68 @@ draw 0 4294967295
 0 {"no":"away"}
 "#,
         ),
-        // What the agent may not do yet, and what is no command, is a bad line.
+        // A write says what it expects, and a whiteboard holds 8 bytes.
         (
             r#"0 {"do":"enter","key":"ka"}
-0 {"do":"leave"}
-0 {"do":"accuse","port":0}
-0 {"do":"write","expect":"","put":""}
-0 jump
-0 {"do":"depart","port":2}
+0 {"do":"write","expect":"","put":"12345678"}
+0 {"do":"write","expect":"12345678","put":"123456789"}
+0 {"do":"write","expect":"","put":"a"}
+0 {"do":"write","expect":"12345678","put":"abcde€"}
+0 {"do":"look"}
 "#,
             r#"0 {"board":"","from":null,"ok":"here","ports":2}
-0 {"no":"line"}
-0 {"no":"line"}
-0 {"no":"line"}
-0 {"no":"line"}
+0 {"ok":"written"}
+0 {"no":"long"}
+0 {"board":"12345678","ok":"changed"}
+0 {"ok":"written"}
+0 {"board":"abcde€","from":null,"ok":"here","ports":2}
+"#,
+        ),
+        // What is refused for its port, or is no command, uses the quota too. Leaving needs none.
+        (
+            r#"0 {"do":"enter","key":"ka"}
+0 {"do":"depart","port":2}
+0 jump
+0 {"do":"look","x":[]}
+0 7
+0 {"do":"look"}
+0 []
+0 {"do":"look"}
+0 {"do":"accuse","port":2}
+0 {"do":"look"}
+0 {"do":"enter","key":"ka"}
+0 {"do":"look"}
+0 {"do":"look"}
+0 {"do":"look"}
+0 {"do":"leave"}
+0 {"do":"look"}
+"#,
+            r#"0 {"board":"","from":null,"ok":"here","ports":2}
 0 {"no":"port"}
+0 {"no":"line"}
+0 {"board":"","from":null,"ok":"here","ports":2}
+0 {"no":"line"}
+0 {"board":"","from":null,"ok":"here","ports":2}
+0 {"no":"line"}
+0 {"board":"","from":null,"ok":"here","ports":2}
+0 {"no":"port"}
+0 {"board":"","from":null,"ok":"here","ports":2}
+0 {"no":"twice"}
+0 {"board":"","from":null,"ok":"here","ports":2}
+0 {"board":"","from":null,"ok":"here","ports":2}
+0 {"no":"spent"}
+0 {"ok":"bye"}
+0 {"no":"ended"}
+"#,
+        ),
+        (
+            r#"0 {"do":"enter","key":"ka"}
+0 {"do":"accuse","port":0}
+0 {"do":"leave"}
+"#,
+            r#"0 {"board":"","from":null,"ok":"here","ports":2}
+0 {"ok":"noted"}
+0 {"no":"ended"}
 "#,
         ),
         // Lines that are skipped, by the script or as blank lines of the agent.

@@ -1,9 +1,10 @@
-ghost use Rattle.std.specs.Prelude.{◌≡◌, IfOk};
+ghost use Rattle.std.specs.Prelude.{◌≡◌, [], IfOk};
+ghost use Rattle.bhs_world.specs.Tables.{world_in, StandsFor};
 ghost use Rattle.bhs_main.specs.Triangle.{triangle, built_in};
 
 use bhs_model::Setup;
 use bhs_net::{Link, Memory, Net, NetFault};
-use bhs_world::World;
+use bhs_world::{SetupFault, World};
 use std::alloc::Global;
 
 const NODES: u16 = 3;
@@ -40,11 +41,15 @@ const SETUP: Setup = Setup {
 
 /// The built-in match before anything happens.
 pub fn built_in(alloc: Global) -> Result<World, Memory>
-    ensures { IfOk result (λ world. world ≡ built_in) }
+    ensures world { IfOk result (λ world. world_in world ≡ built_in) }
+    ensures fresh { IfOk result (λ world. StandsFor world []) }
 {
     match World::new(alloc, network(alloc)?, SETUP) {
         Ok(world) => Ok(world),
-        Err(_) => unreachable!(),
+        Err(fault) => match fault {
+            SetupFault::Memory => Err(Memory),
+            _ => unreachable!(),
+        },
     }
 }
 

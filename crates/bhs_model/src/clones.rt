@@ -20,7 +20,7 @@ impl Command {
     pub fn try_clone(&self) -> Result<Command, Memory>
         ensures { IfOk result (λ copy. copy ≡ self.now) }
     {
-        self.clone()
+        Command::clone(self)
     }
 }
 
@@ -29,7 +29,7 @@ impl Event {
     pub fn try_clone(&self) -> Result<Event, Memory>
         ensures { IfOk result (λ copy. copy ≡ self.now) }
     {
-        self.clone()
+        Event::clone(self)
     }
 }
 
@@ -38,7 +38,7 @@ impl Reply {
     pub fn try_clone(&self) -> Result<Reply, Memory>
         ensures { IfOk result (λ copy. copy ≡ self.now) }
     {
-        self.clone()
+        Reply::clone(self)
     }
 }
 

@@ -17,7 +17,7 @@ pub use commands::Command;
 pub use dooms::is_doomed;
 pub use events::Event;
 pub use limits::{MAX_AGENTS, MAX_BOARD, MAX_QUOTA};
-pub use marks::{Kept, Mark, text_at};
+pub use marks::{Kept, Mark, read, text_at};
 pub use replies::{Reply, Why};
 pub use setups::Setup;
 pub use texts::Text;

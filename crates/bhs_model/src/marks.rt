@@ -1,9 +1,12 @@
-ghost use Rattle.std.specs.Prelude.{◌≡◌, string_bytes};
-ghost use Rattle.bhs_model.specs.Marks.{text_at};
+ghost use Rattle.std.specs.Prelude.{◌≡◌, IfOk};
+ghost use Rattle.bhs_model.specs.Marks.{text_at, read};
 
 use crate::commands::Command;
 use crate::events::Event;
-use crate::replies::Why;
+use crate::replies::{Reply, Why};
+use crate::texts::Text;
+use bhs_net::Memory;
+use std::alloc::Global;
 
 /// A reply as a match stores it: the text of a whiteboard is named by the place of the event that wrote
 /// it in the log; None stands for the empty text of a whiteboard that no Write has changed.
@@ -63,10 +66,38 @@ pub fn text_at(log: &[Kept], board: Option<u32>) -> &str
     }
 }
 
+/// The reply that a mark stands for, in its log. The text of a whiteboard is copied.
+pub fn read(alloc: Global, log: &[Kept], mark: &Mark) -> Result<Reply, Memory>
+    ensures { IfOk result (λ reply. reply ≡ read log.now mark.now) }
+{
+    Ok(match mark {
+        Mark::Here { ports, came, board } => Reply::Here {
+            ports: *ports,
+            came: *came,
+            board: text_copied(alloc, log, *board)?,
+        },
+        Mark::Written => Reply::Written,
+        Mark::Changed { board } => Reply::Changed {
+            board: text_copied(alloc, log, *board)?,
+        },
+        Mark::Gone => Reply::Gone,
+        Mark::Noted => Reply::Noted,
+        Mark::Bye => Reply::Bye,
+        Mark::Over => Reply::Over,
+        Mark::No(why) => Reply::No(*why),
+    })
+}
+
+fn text_copied(alloc: Global, log: &[Kept], board: Option<u32>) -> Result<Text, Memory>
+    ensures { IfOk result (λ text. text ≡ text_at log.now board) }
+{
+    let text = String::from_str(alloc, text_at(log, board))?;
+    Ok(Text::from(text))
+}
+
 #[cfg(test)]
 mod tests {
     use super::*;
-    use crate::texts::Text;
     use std::test::Fail;
 
     #[test]
@@ -90,6 +121,9 @@ mod tests {
         assert_eq!(rt; text_at(&log, Some(1)), "");
         assert_eq!(rt; text_at(&log, Some(2)), "");
         assert_eq!(rt; text_at(&log, None), "");
+        let mark = Mark::Changed { board: Some(0) };
+        let board = Text::from(String::from_str(rt.alloc(), "b")?);
+        assert_eq!(rt; read(rt.alloc(), &log, &mark)?, Reply::Changed { board });
         Ok(())
     }
 }

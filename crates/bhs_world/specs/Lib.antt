@@ -1,3 +1,3 @@
-pub mod Setting
-pub mod Playing
-pub mod Rules
+pub mod Tables
+pub mod Faults
+pub mod Steps

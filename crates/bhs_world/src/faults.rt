@@ -1,24 +1,36 @@
+ghost use Rattle.std.specs.Prelude.{◌≡◌, None, Some, Ok, Err};
+ghost use Rattle.bhs_world.specs.declared.faults.SetupFault.TheVariants.{Memory};
+
+use std::alloc::AllocError;
 use thiserror::Error;
 
-/// Why a match cannot be set up. The first that holds, in this order, is the answer.
+/// Why a setup makes no world. The first that holds, in this order, is told.
 #[derive(Clone, Copy, Debug, PartialEq, Eq, Error)]
 pub enum SetupFault {
-    /// The home base is no node of the network.
+    /// The home base is not a node.
     #[error("home")]
-    Home = 1,
-    /// The black hole is no node of the network, or is the home base.
+    Home,
+    /// The black hole is not a node, or is the home base.
     #[error("hole")]
-    Hole = 2,
-    /// The number of agents is out of range.
+    Hole,
+    /// The number of agents is not from 1 to `MAX_AGENTS`.
     #[error("agents")]
-    Agents = 3,
-    /// The quota is out of range.
+    Agents,
+    /// The quota is not from 1 to `MAX_QUOTA`.
     #[error("quota")]
-    Quota = 4,
-    /// The whiteboards are too large.
+    Quota,
+    /// A whiteboard holds more than `MAX_BOARD` bytes.
     #[error("board")]
-    Board = 5,
-    /// There was not enough memory.
+    Board,
+    /// Memory ran out.
     #[error("memory")]
-    Memory = 6,
+    Memory,
+}
+
+impl From<AllocError> for SetupFault {
+    ghost from_gives = { λ _ fault. fault ≡ Memory };
+
+    fn from(_: AllocError) -> SetupFault {
+        SetupFault::Memory
+    }
 }

@@ -1,13 +1,10 @@
-//! A match of one agent, one event at a time.
+//! The world of one match: where each agent is and what each whiteboard shows, changed event by event.
 #![tactic(auto)]
 
 mod faults;
-mod standings;
+mod hearing;
+mod making;
 mod worlds;
 
 pub use faults::SetupFault;
-pub use standings::Standing;
 pub use worlds::World;
-
-#[cfg(test)]
-mod tests;

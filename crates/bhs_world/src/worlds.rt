@@ -1,141 +1,241 @@
-ghost use Rattle.std.specs.Prelude.{◌≡◌, ◌<◌, MatchOption, IfSome};
-ghost use Rattle.bhs_world.specs.Setting.{setup_fault};
+ghost use Rattle.std.specs.Prelude.{◌≡◌, ◌<◌, ◌^◌, ℕ, List, length, slice_get, [], Some, None, IfOk, IfErr, true, IsTrue, OnOk, MatchResult, if◌then◌else◌, ◌⊎◌, nat_lt};
 ghost use Rattle.bhs_net.specs.Network.{nodes_of};
-ghost use Rattle.bhs_world.specs.Playing.{fresh, IsPlace};
-ghost use Rattle.bhs_world.specs.Rules.{answer, after, sight, answer_to, led_to, arrival_of};
+ghost use Rattle.bhs_model.specs.declared.marks.Kept.{Kept as KeptData};
+ghost use Rattle.bhs_model.specs.Marks.{events_of, read_if};
+ghost use Rattle.bhs_model.specs.Runs.{run, reply};
+ghost use Rattle.bhs_world.specs.Faults.{first_fault, IsWithinLimits};
+ghost use Rattle.bhs_world.specs.Tables.{agent_at, board_at, world_in, StandsFor, keeps_next, log_after};
+ghost use Rattle.bhs_world.specs.Steps.{IsSound, IsPlaced, standing_at, refusal_of, hears_in, table_heard, mark_heard, table_after, mark_after, mark_of_command, heard_in, keeps_delivered, keeps_in};
 
 use crate::faults::SetupFault;
-use crate::standings::Standing;
-use bhs_model::{Command, Event, MAX_BOARD, MAX_QUOTA, Reply, Setup, Text, Why};
+use crate::hearing::{advance, answer, here, refusal};
+use crate::making::{check, empty_boards, newcomers};
+use bhs_agent::Agent;
+use bhs_board::Board;
+use bhs_model::{Command, Event, Kept, Mark, Setup, Why, is_doomed};
 use bhs_net::Net;
 use std::alloc::Global;
 use std::marker::Model;
 
-/// A match of one agent. Contracts see it as its network, its setup and where its agent is.
-#[derive(Drop)]
+/// The world of one match. It keeps no text: a whiteboard names the place, in the log, of the Write that
+/// put its text, and so does an answer.
+#[derive(Debug, Drop)]
 pub struct World {
-    alloc: Global,
     net: Net,
     setup: Setup,
-    standing: Standing,
+    agents: Vec<Agent>,
+    boards: Vec<Board>,
+    closed: bool,
 }
 
 impl Model for World {
-    ghost use Rattle.bhs_world.specs.Playing.{Playing, IsOnNet};
+    ghost use Rattle.bhs_world.specs.Tables.{Table};
 
-    ghost Value = { Playing };
+    ghost Value = { Table };
 
-    ghost view = { λ w. record { net = w.net; setup = w.setup; standing = w.standing } };
+    ghost use Rattle.bhs_world.specs.Steps.{IsSound};
 
-    ghost invariant = { λ w. IsOnNet (record { net = w.net; setup = w.setup; standing = w.standing }) };
+    ghost view = { λ world. record { net = world.net; setup = world.setup; agents = world.agents.items; boards = world.boards.items; closed = world.closed } };
+
+    ghost invariant = { λ world. IsSound (record { net = world.net; setup = world.setup; agents = world.agents.items; boards = world.boards.items; closed = world.closed }) };
 }
 
 impl World {
-    /// The match in which nothing has happened, or the first fault of its setup.
+    /// A world at the start of a match. The first fault of the setup is told; Memory is told only where memory
+    /// was refused.
     pub fn new(alloc: Global, net: Net, setup: Setup) -> Result<World, SetupFault>
-        ensures { MatchOption (setup_fault net setup) (result ≡ Ok (fresh net setup)) (λ fault. result ≡ Err fault) }
+        ensures fit { OnOk result ((first_fault net setup ≡ None) × IsWithinLimits net setup) }
+        ensures given { IfOk result (λ world. (world.net ≡ net) × (world.setup ≡ setup)) }
+        ensures stands { IfOk result (λ world. StandsFor world []) }
+        ensures fault { IfErr result (λ fault. (fault ≡ SetupFault.Memory) ⊎ (first_fault net setup ≡ Some fault)) }
     {
-        let nodes = net.nodes();
-        if setup.home >= nodes {
-            return Err(SetupFault::Home);
-        }
-        if let Some(hole) = setup.hole && (hole >= nodes || hole == setup.home) {
-            return Err(SetupFault::Hole);
-        }
-        if setup.agents != 1 {
-            return Err(SetupFault::Agents);
-        }
-        if setup.quota < 1 || setup.quota > MAX_QUOTA {
-            return Err(SetupFault::Quota);
-        }
-        if setup.board > MAX_BOARD {
-            return Err(SetupFault::Board);
-        }
+        check(&net, &setup)?;
+        let agents = newcomers(alloc, setup.agents)?;
+        let boards = empty_boards(alloc, net.nodes(), setup.board)?;
         Ok(World {
-            alloc,
             net,
             setup,
-            standing: Standing::Outside,
+            agents,
+            boards,
+            closed: false,
         })
     }
 
-    /// Lets one event happen, and answers what the agent is answered, if anything. Takes no memory.
-    pub fn step(&mut self, event: &Event) -> Option<Reply>
-        ensures answer { result ≡ answer self.old event.now }
-        ensures after { self.new ≡ after self.old event.now }
+    /// The network.
+    pub fn net(&self) -> &Net
+        ensures { result.now ≡ self.now.net }
+    {
+        &self.net
+    }
+
+    /// How the match is set up.
+    pub fn setup(&self) -> &Setup
+        ensures setup { result.now ≡ self.now.setup }
+        ensures within { IsWithinLimits self.now.net self.now.setup }
+    {
+        &self.setup
+    }
+
+    /// The agent of this number.
+    pub fn agent(&self, agent: u16) -> &Agent
+        requires { agent < self.now.setup.agents }
+        ensures agent { result.now ≡ agent_at self.now.agents agent }
+        ensures place { IsPlaced self.now.net result.now.position }
+    {
+        &self.agents[usize::from(agent)]
+    }
+
+    /// The place, in the log, of the Write whose text the whiteboard of the node shows; None where no Write has
+    /// changed it.
+    pub fn last(&self, node: u16) -> Option<u32>
+        requires { node < nodes_of self.now.net }
+        ensures { result ≡ (board_at self.now.boards node).last }
+    {
+        self.boards[usize::from(node)].last()
+    }
+
+    /// Whether the next event is kept: a heard command, an arrival, the first Deliver that destroys its agent,
+    /// the first Close. Nothing else changes the match.
+    pub fn keeps(&self, event: &Event) -> bool
+        ensures { (log : List KeptData) → StandsFor self.now log → result ≡ keeps_next (world_in self.now) log event.now }
+    {
+        self.keeps_event(event)
+    }
+
+    /// Plays an event, and answers the mark of its reply, which is read in the log with the event and this mark
+    /// at its end, where the event is kept. `log` is what the world stands for. Takes no memory; it takes as long
+    /// as comparing the texts of one Write.
+    pub fn step(&mut self, log: &[Kept], event: &Event) -> Option<Mark>
+        requires stands { StandsFor self.old log.now }
+        requires room { length log.now < 2 ^ 32 }
+
+        // The answer is the reply of the definitions.
+        ensures reply { let world = world_in self.old in
+            read_if (log_after world log.now event.now result) result ≡ reply world (run world (events_of log.now)) event.now }
+        ensures stands { StandsFor self.new (log_after (world_in self.old) log.now event.now result) }
+        ensures same { (self.new.net ≡ self.old.net) × (self.new.setup ≡ self.old.setup) }
+    {
+        self.play(log, event)
+    }
+
+    /// Whether the match has ended.
+    pub fn closed(&self) -> bool
+        ensures { result ≡ self.now.closed }
+    {
+        self.closed
+    }
+
+    /// Plays a command that is heard.
+    fn hear(&mut self, log: &[Kept], agent: u16, command: &Command) -> Mark
+        requires room { length log.now < 2 ^ 32 }
+        requires agent { agent < self.old.setup.agents }
+        requires heard { IsTrue (hears_in self.old agent command.now) }
+        ensures mark { result ≡ mark_heard self.old log.now agent command.now }
+        ensures world { self.new ≡ table_heard self.old log.now agent command.now }
+    {
+        let agent = &mut self.agents[usize::from(agent)];
+        let mark = answer(
+            &self.net,
+            &self.setup,
+            &mut self.boards,
+            log,
+            agent.standing(),
+            command,
+        );
+        advance(agent, &self.net, &self.setup, command);
+        mark
+    }
+
+    /// Why a command is not heard of an agent, the match being open.
+    fn refusal(&self, agent: u16, command: &Command) -> Option<Why>
+        requires { agent < self.now.setup.agents }
+        ensures { result ≡ refusal_of (standing_at (agent_at self.now.agents agent).position) (nat_lt (agent_at self.now.agents agent).used self.now.setup.quota) command.now }
+    {
+        let agent = &self.agents[usize::from(agent)];
+        refusal(agent.standing(), agent.used() < self.setup.quota, command)
+    }
+
+    fn tell(&mut self, log: &[Kept], agent: u16, command: &Command) -> Mark
+        requires room { length log.now < 2 ^ 32 }
+        ensures mark { result ≡ mark_of_command self.old log.now agent command.now }
+        ensures world { self.new ≡ (if heard_in self.old agent command.now then table_heard self.old log.now agent command.now else self.old) }
+        ensures sound { IsSound self.old }
+    {
+        if agent >= self.setup.agents {
+            return Mark::No(Why::Agent);
+        }
+        if self.closed {
+            return Mark::Over;
+        }
+        match self.refusal(agent, command) {
+            Some(why) => Mark::No(why),
+            None => self.hear(log, agent, command),
+        }
+    }
+
+    /// Lets the link of an agent be, which it arrives by, or which destroys it.
+    fn deliver(&mut self, agent: u16) -> Option<Mark>
+        ensures mark { result ≡ mark_after self.old [] (Event.Deliver agent) }
+        ensures world { self.new ≡ table_after self.old [] (Event.Deliver agent) }
+        ensures sound { IsSound self.old }
+    {
+        if self.closed || agent >= self.setup.agents {
+            return None;
+        }
+        let agent = &mut self.agents[usize::from(agent)];
+        let (node, port) = agent.bound()?;
+        if is_doomed(&self.net, &self.setup, node, port) {
+            agent.lose();
+            return None;
+        }
+        let (node, label) = self.net.far(node, port);
+        agent.arrive(node, label);
+        Some(here(&self.net, &self.boards, &self.setup, node, Some(label)))
+    }
+
+    /// Plays an event, and says what is answered.
+    fn play(&mut self, log: &[Kept], event: &Event) -> Option<Mark>
+        requires room { length log.now < 2 ^ 32 }
+        ensures mark { result ≡ mark_after self.old log.now event.now }
+        ensures world { self.new ≡ table_after self.old log.now event.now }
+        ensures sound { IsSound self.old }
     {
         match event {
-            Event::Tell { agent, command } => {
-                if *agent >= self.setup.agents {
-                    return Some(Reply::No(Why::Agent));
-                }
-                let (standing, reply) = self.hear(command);
-                self.standing = standing;
-                Some(reply)
+            Event::Tell { agent, command } => Some(self.tell(log, *agent, command)),
+            Event::Deliver { agent } => self.deliver(*agent),
+            Event::Close => {
+                self.closed = true;
+                None
             }
-            Event::Deliver { agent } => {
-                if *agent >= self.setup.agents {
-                    return None;
-                }
-                let (node, label) = self.arrival()?;
-                self.standing = Standing::Present {
-                    node,
-                    came: Some(label),
-                };
-                Some(self.sight(node, Some(label)))
-            }
-            Event::Close => None,
         }
     }
 
-    fn hear(&self, command: &Command) -> (Standing, Reply)
-        ensures standing { result.0 ≡ led_to self.now self.now.standing command.now }
-        ensures place { IsPlace self.now.net result.0 }
-        ensures reply { result.1 ≡ answer_to self.now self.now.standing command.now }
+    fn keeps_event(&self, event: &Event) -> bool
+        ensures { result ≡ keeps_in self.now event.now }
     {
-        match (self.standing, command) {
-            (Standing::Outside, Command::Enter) => {
-                let node = self.setup.home;
-                let entered = Standing::Present { node, came: None };
-                (entered, self.sight(node, None))
-            }
-            (Standing::Outside, _) => (self.standing, Reply::No(Why::Outside)),
-            (_, Command::Enter) => (self.standing, Reply::No(Why::Twice)),
-            (Standing::Away { .. }, _) => (self.standing, Reply::No(Why::Away)),
-            (Standing::Present { node, came }, Command::Look) => (self.standing, self.sight(node, came)),
-            (Standing::Present { node, .. }, Command::Depart { port }) => {
-                if *port < self.net.degree(node) {
-                    (Standing::Away { node, port: *port }, Reply::Gone)
-                } else {
-                    (self.standing, Reply::No(Why::Port))
-                }
-            }
-            (Standing::Present { .. }, _) => (self.standing, Reply::No(Why::Line)),
+        if self.closed {
+            return false;
+        }
+        match event {
+            Event::Tell { agent, command } => *agent < self.setup.agents
+                && self.refusal(*agent, command).is_none(),
+            Event::Deliver { agent } => *agent < self.setup.agents && self.keeps_delivered(*agent),
+            Event::Close => true,
         }
     }
 
-    fn arrival(&self) -> Option<(u16, u16)>
-        ensures arrival { result ≡ arrival_of self.now self.now.standing }
-        ensures place { IfSome result (λ far. far.0 < nodes_of self.now.net) }
+    /// Whether a Deliver of the agent is kept: it arrives, or is destroyed for the first time.
+    fn keeps_delivered(&self, agent: u16) -> bool
+        requires { agent < self.now.setup.agents }
+        ensures { result ≡ keeps_delivered (world_in self.now) (agent_at self.now.agents agent) (agent_at self.now.agents agent).position }
     {
-        let Standing::Away { node, port } = self.standing else {
-            return None;
-        };
-        let (node, label) = self.net.far(node, port);
-        if self.setup.hole == Some(node) {
-            return None;
-        }
-        Some((node, label))
-    }
-
-    fn sight(&self, node: u16, came: Option<u16>) -> Reply
-        requires { node < nodes_of self.now.net }
-        ensures { result ≡ sight self.now node came }
-    {
-        Reply::Here {
-            ports: self.net.degree(node),
-            came,
-            board: Text::from(String::new(self.alloc)),
+        let agent = &self.agents[usize::from(agent)];
+        match agent.bound() {
+            Some((node, port)) => !is_doomed(&self.net, &self.setup, node, port) || !agent.lost(),
+            None => false,
         }
     }
 }
+
+#[cfg(test)]
+mod tests;
