@@ -125,9 +125,9 @@ pub no_cut : (node : ℕ) → ¬ IsCut 3 links node
 no_cut node cut =
     let ends = cut.1 in
     ends.6 (elim (linked_or_same ends.0 ends.1 ends.2 ends.3) [
-  | inl same ↦ (0, same)
-  | inr linked ↦ (1, (ends.0, refl, (linked, ends.4, ends.5)))
-])
+      | inl same ↦ (0, same)
+      | inr linked ↦ (1, (ends.0, refl, (linked, ends.4, ends.5)))
+    ])
 
 pub no_fault : (fault : NetFault) → fault ≢ Memory → Holds 3 links fault → ⊥
 no_fault Nodes other holds = elim holds [ inl e ↦ omega arith | inr e ↦ omega arith ]

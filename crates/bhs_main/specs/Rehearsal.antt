@@ -7,7 +7,7 @@ use Rattle.bhs_stream.specs.declared.reading.ReadFault.{ReadFault}
 use Rattle.bhs_stream.specs.declared.reading.ReadFault.TheVariants as reads
 use Rattle.bhs_main.specs.declared.faults.PlayFault.{PlayFault}
 use Rattle.bhs_main.specs.declared.faults.PlayFault.TheVariants.{Read, Text, Line, Write, Memory, Turns}
-use Rattle.bhs_main.specs.declared.playing.TheConstants.{MAX_TEXT}
+use Rattle.bhs_model.specs.declared.limits.TheConstants.{MAX_TEXT}
 use Rattle.bhs_main.specs.PlayFault.{StopsPlaying}
 use Rattle.bhs_main.specs.Script.{events_of}
 use Rattle.bhs_main.specs.Transcript.{transcript}

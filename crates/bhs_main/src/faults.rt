@@ -18,9 +18,7 @@ pub enum PlayFault {
     Text,
     /// This line, counted from 1, is no line of a script.
     #[error("line {line}")]
-    Line {
-        line: usize,
-    },
+    Line { line: usize },
     /// A write failed.
     #[error("write")]
     Write,

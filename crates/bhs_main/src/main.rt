@@ -11,7 +11,6 @@ mod triangle;
 
 pub use faults::PlayFault;
 pub use playing::rehearse;
-
 use run::{FAILED_STREAM, NO_MEMORY};
 use std::io::{BufWriter, ErrorKind};
 use std::process::ExitCode;

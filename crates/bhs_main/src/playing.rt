@@ -10,16 +10,13 @@ ghost use Rattle.bhs_main.specs.PlayFault.{StopsPlaying};
 use crate::faults::PlayFault;
 use crate::script::events_in;
 use crate::triangle::built_in;
-use bhs_model::{Event, Kept, Mark, Reply, read};
+use bhs_model::{Event, Kept, MAX_TEXT, Mark, Reply, read};
 use bhs_net::Memory;
 use bhs_stream::{read_text, send};
 use bhs_wire::line_of;
 use bhs_world::World;
 use std::alloc::Global;
 use std::io::{Read, Write};
-
-/// The most bytes that a script may have.
-pub const MAX_TEXT: usize = 1_048_576;
 
 /// Plays the script that a reader gives, on the built-in triangle, and prints the reply to each event before the
 /// next, as a line `0 REPLY`. At most `turns` reads are made.
@@ -60,11 +57,7 @@ fn play<W: Write>(
 }
 
 // Plays one event of a match, and puts it into the log where it is kept. The mark is read in the new log.
-fn play_event(
-    world: &mut World,
-    log: &mut Vec<Kept>,
-    event: Event,
-) -> Result<Option<Mark>, Memory>
+fn play_event(world: &mut World, log: &mut Vec<Kept>, event: Event) -> Result<Option<Mark>, Memory>
     requires stands { StandsFor world.old log.old.items }
     requires room { length log.old.items < 2 ^ 32 }
     ensures log { IfOk result (λ mark. log.new.items ≡ log_after (world_in world.old) log.old.items event mark) }

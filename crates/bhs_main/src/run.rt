@@ -8,13 +8,11 @@ ghost use Rattle.bhs_main.specs.Rehearsal.{Plays};
 use crate::faults::PlayFault;
 use crate::playing::rehearse;
 use bhs_command_line::{Answer, Order, order_of};
+use bhs_model::MAX_TURNS;
 use bhs_stream::{finish, send};
 use std::alloc::Global;
 use std::convert::AsStr;
 use std::io::{Read, Write};
-
-/// The most reads of one rehearsal.
-pub const MAX_TURNS: u32 = 16_777_216;
 
 /// The exit status where all was done.
 pub const DONE: u8 = 0;

@@ -1,6 +1,7 @@
 use crate::faults::PlayFault;
-use crate::playing::{MAX_TEXT, rehearse};
+use crate::playing::rehearse;
 use crate::run::run;
+use bhs_model::MAX_TEXT;
 use std::io;
 use std::io::{Read, Write};
 use std::test::Fail;
@@ -84,7 +85,7 @@ draw 0 4294967295
 0 {"board":"","from":null,"ok":"here","ports":2}
 0 {"no":"twice"}
 0 {"board":"","from":null,"ok":"here","ports":2}
-0 {"board":"","from":null,"ok":"here","ports":2}
+0 {"no":"spent"}
 0 {"no":"spent"}
 0 {"ok":"bye"}
 0 {"no":"ended"}
@@ -202,7 +203,11 @@ fn stops_where_a_stream_fails(rt: HostRuntime) -> Result<(), Fail> {
         };
         let played = rehearse(rt.alloc(), &mut ROAD.as_bytes(), &mut full, 2);
         assert_eq!(rt; played, Err(PlayFault::Write), "at {room}");
-        assert_eq!(rt; full.taken.as_slice(), SEEN.as_bytes().get(..room).unwrap_or(b"?"), "at {room}");
+        assert_eq!(rt;
+            full.taken.as_slice(),
+            SEEN.as_bytes().get(..room).unwrap_or(b"?"),
+            "at {room}"
+        );
     }
     Ok(())
 }
@@ -211,7 +216,13 @@ fn stops_where_a_stream_fails(rt: HostRuntime) -> Result<(), Fail> {
 fn tells_faults_and_statuses(rt: HostRuntime) -> Result<(), Fail> {
     for (words, script, status, output, fault) in [
         (["rehearse"].as_slice(), ROAD, 0, SEEN, ""),
-        (["rehearse"].as_slice(), "0 {\"do\":\"look\"}\ndraw 0\n", 3, "", "script: line 2\n"),
+        (
+            ["rehearse"].as_slice(),
+            "0 {\"do\":\"look\"}\ndraw 0\n",
+            3,
+            "",
+            "script: line 2\n",
+        ),
         (
             ["rehears"].as_slice(),
             ROAD,
@@ -222,10 +233,24 @@ fn tells_faults_and_statuses(rt: HostRuntime) -> Result<(), Fail> {
     ] {
         let mut writer = Vec::new(rt.alloc());
         let mut errors = Vec::new(rt.alloc());
-        let answer = run(rt.alloc(), words, &mut script.as_bytes(), &mut writer, &mut errors);
+        let answer = run(
+            rt.alloc(),
+            words,
+            &mut script.as_bytes(),
+            &mut writer,
+            &mut errors,
+        );
         assert_eq!(rt; answer, status, "at {words:?} {script:?}");
-        assert_eq!(rt; writer.as_slice(), output.as_bytes(), "at {words:?} {script:?}");
-        assert_eq!(rt; errors.as_slice(), fault.as_bytes(), "at {words:?} {script:?}");
+        assert_eq!(rt;
+            writer.as_slice(),
+            output.as_bytes(),
+            "at {words:?} {script:?}"
+        );
+        assert_eq!(rt;
+            errors.as_slice(),
+            fault.as_bytes(),
+            "at {words:?} {script:?}"
+        );
     }
     Ok(())
 }
@@ -236,17 +261,56 @@ fn tells_faults_of_streams(rt: HostRuntime) -> Result<(), Fail> {
     let mut errors = Vec::new(rt.alloc());
     let mut output = Vec::new(rt.alloc());
     let mut broken = Broken { bytes: b"" };
-    assert_eq!(rt; run(rt.alloc(), words, &mut broken, &mut output, &mut errors), 6);
+    assert_eq!(rt;
+        run(rt.alloc(), words, &mut broken, &mut output, &mut errors),
+        6
+    );
     let mut full = Full {
         taken: Vec::new(rt.alloc()),
         room: 3,
     };
-    assert_eq!(rt; run(rt.alloc(), words, &mut ROAD.as_bytes(), &mut full, &mut errors), 6);
+    assert_eq!(rt;
+        run(
+            rt.alloc(),
+            words,
+            &mut ROAD.as_bytes(),
+            &mut full,
+            &mut errors
+        ),
+        6
+    );
     let longest = vec![in rt.alloc(); b'\n'; MAX_TEXT]?;
-    assert_eq!(rt; run(rt.alloc(), words, &mut longest.as_slice(), &mut output, &mut errors), 0);
+    assert_eq!(rt;
+        run(
+            rt.alloc(),
+            words,
+            &mut longest.as_slice(),
+            &mut output,
+            &mut errors
+        ),
+        0
+    );
     let too_long = vec![in rt.alloc(); b'\n'; MAX_TEXT + 1]?;
-    assert_eq!(rt; run(rt.alloc(), words, &mut too_long.as_slice(), &mut output, &mut errors), 3);
-    assert_eq!(rt; run(rt.alloc(), ["--help"].as_slice(), &mut b"".as_slice(), &mut full, &mut errors), 6);
+    assert_eq!(rt;
+        run(
+            rt.alloc(),
+            words,
+            &mut too_long.as_slice(),
+            &mut output,
+            &mut errors
+        ),
+        3
+    );
+    assert_eq!(rt;
+        run(
+            rt.alloc(),
+            ["--help"].as_slice(),
+            &mut b"".as_slice(),
+            &mut full,
+            &mut errors
+        ),
+        6
+    );
     assert!(rt; output.is_empty());
     let want = b"script: read\noutput: write\nscript: text\noutput: write\n";
     assert_eq!(rt; errors.as_slice(), want.as_slice());

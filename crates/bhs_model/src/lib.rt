@@ -16,7 +16,7 @@ mod texts;
 pub use commands::Command;
 pub use dooms::is_doomed;
 pub use events::Event;
-pub use limits::{MAX_AGENTS, MAX_BOARD, MAX_QUOTA};
+pub use limits::{MAX_AGENTS, MAX_BOARD, MAX_LINE, MAX_QUOTA, MAX_TEXT, MAX_TURNS};
 pub use marks::{Kept, Mark, read, text_at};
 pub use replies::{Reply, Why};
 pub use setups::Setup;

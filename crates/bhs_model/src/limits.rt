@@ -6,3 +6,12 @@ pub const MAX_QUOTA: u16 = 1000;
 
 /// The most bytes that a whiteboard may be set up to hold. The least is 0.
 pub const MAX_BOARD: u16 = 1024;
+
+/// The most bytes of a client's line, without its line feed.
+pub const MAX_LINE: usize = 16_384;
+
+/// The most bytes of a text that is read whole, as a script.
+pub const MAX_TEXT: usize = 1_048_576;
+
+/// The most reads of one rehearsal or one session.
+pub const MAX_TURNS: u32 = 16_777_216;

@@ -1,13 +1,12 @@
-use Rattle.std.proofs.Common.{◌≡◌, ℕ, ◌+◌, ◌<◌, ◌≤◌, ⊎_elim, eqb, true, false, sym, ap, ◌∙◌, arith, List, length, map, get_or, take, [], ◌∷◌, ◌++◌, Vec, Global, vec_len, sum_by}
+use Rattle.std.proofs.Common.{◌≡◌, ℕ, ◌+◌, ◌<◌, ◌≤◌, ⊎_elim, eqb, true, false, sym, ap, ◌∙◌, subst, arith, List, length, map, get_or, take, [], ◌∷◌, ◌++◌, Vec, Global, vec_len}
 use Rattle.std.specs.List.{list_any, IsDistinct}
-use Rattle.std.proofs.lemmas.List.{get_or-map, length-map, take_more}
+use Rattle.std.proofs.lemmas.List.{get_or-map, get_or_default, length-map, take_more}
 use Rattle.std.proofs.lemmas.List.Folds.{Any-from_list_any}
-use Rattle.std.proofs.lemmas.List.Sums.{sum_by_more}
 use Rattle.std.proofs.lemmas.Map.Keys.{IsDistinct-from_apart}
 use Rattle.std.proofs.lemmas.Map.Steps.{length-le_from_distinct_below}
 use Rattle.std.proofs.lemmas.Bool.Decides.{eqb_tells}
 use Rattle.bhs_net.specs.Links.{End}
-use Rattle.bhs_net.specs.Network.{Network, nodes_of, row_of, degree_of, far_of, IsPortLabelled}
+use Rattle.bhs_net.specs.Network.{Network, network_of, nodes_of, row_of, degree_of, far_of, IsPortLabelled}
 use Rattle.bhs_net.proofs.Listed.{HasPort-node}
 
 -- the nodes that a row leads to
@@ -39,25 +38,25 @@ degree_of-le net node labelled =
     let len = length-map row (λ (end : End). end.0) in
     omega arith
 
--- the rows as lists
-abbrev pub items_of : List (Vec End Global) → Network
-items_of rows = map (λ row. row.items) rows
-
-pub row_of-items : (rows : List (Vec End Global)) (node : ℕ) (row : Vec End Global) → node < length rows → row ≡ get_or rows node row → row_of (items_of rows) node ≡ row.items
-row_of-items rows node row h is = get_or-map (λ (r : Vec End Global). r.items) rows node row [] h ∙ ap (λ (r : Vec End Global). r.items) (sym is)
+pub row_of-network_of : (rows : List (Vec End Global)) (node : ℕ) (row : Vec End Global) → node < length rows → row ≡ get_or rows node row → row_of (network_of rows) node ≡ row.items
+row_of-network_of rows node row h is = get_or-map (λ (r : Vec End Global). r.items) rows node row [] h ∙ ap (λ (r : Vec End Global). r.items) (sym is)
 
 -- a row that stands behind `rows` has at most 256 ports
-pub vec_len-le : (rows : List (Vec End Global)) (node : ℕ) (row : Vec End Global) → node < length rows → row ≡ get_or rows node row → IsPortLabelled (items_of rows) → vec_len row ≤ 256
+pub vec_len-le : (rows : List (Vec End Global)) (node : ℕ) (row : Vec End Global) → node < length rows → row ≡ get_or rows node row → IsPortLabelled (network_of rows) → vec_len row ≤ 256
 vec_len-le rows node row h is labelled =
-    let most = degree_of-le (items_of rows) node labelled in
-    let many : nodes_of (items_of rows) ≤ 256 = labelled.many in
-    let same : degree_of (items_of rows) node ≡ length row.items = ap (λ (r : List End). length r) (row_of-items rows node row h is) in
+    let most = degree_of-le (network_of rows) node labelled in
+    let many : nodes_of (network_of rows) ≤ 256 = labelled.many in
+    let same : degree_of (network_of rows) node ≡ length row.items = ap (λ (r : List End). length r) (row_of-network_of rows node row h is) in
     omega (arith, row.ok.0)
 
-pub sum_by-items : (rows : List (Vec End Global)) (node : ℕ) (row : Vec End Global) → node < length rows → row ≡ get_or rows node row → sum_by length (take (node + 1) (items_of rows)) ≡ sum_by length (take node (items_of rows)) + length row.items
-sum_by-items rows node row h is =
-    sum_by_more length (items_of rows) node [] (let len = length-map rows (λ (r : Vec End Global). r.items) in omega arith) ∙ ap (λ (r : List End). sum_by length (take node (items_of rows)) + length r) (row_of-items rows node row h is)
+pub take-network_of : (rows : List (Vec End Global)) (node : ℕ) (row : Vec End Global) → node < length rows → row ≡ get_or rows node row → take (node + 1) (network_of rows) ≡ take node (network_of rows) ++ row.items ∷ []
+take-network_of rows node row h is =
+    take_more (network_of rows) node [] (let len = length-map rows (λ (r : Vec End Global). r.items) in omega arith) ∙ ap (λ (r : List End). take node (network_of rows) ++ r ∷ []) (row_of-network_of rows node row h is)
 
-pub take-items : (rows : List (Vec End Global)) (node : ℕ) (row : Vec End Global) → node < length rows → row ≡ get_or rows node row → take (node + 1) (items_of rows) ≡ take node (items_of rows) ++ row.items ∷ []
-take-items rows node row h is =
-    take_more (items_of rows) node [] (let len = length-map rows (λ (r : Vec End Global). r.items) in omega arith) ∙ ap (λ (r : List End). take node (items_of rows) ++ r ∷ []) (row_of-items rows node row h is)
+-- what a row has at a port is an end at a node
+pub far_node : (rows : List (Vec End Global)) (node port : ℕ) (row : Vec End Global) (end : End) → IsPortLabelled (network_of rows) → node < length rows → row ≡ get_or rows node row → port < length row.items → end ≡ get_or row.items port end → end.0 < nodes_of (network_of rows)
+far_node rows node port row end labelled lt is has end_is =
+    let e : row_of (network_of rows) node ≡ row.items = row_of-network_of rows node row lt is in
+    let port_has : port < degree_of (network_of rows) node = subst (λ (r : List End). port < length r) (sym e) has in
+    let far : far_of (network_of rows) node port ≡ end = ap (λ (r : List End). get_or r port (0, 0)) e ∙ (get_or_default row.items port (0, 0) end has ∙ sym end_is) in
+    subst (λ (q : End). q.0 < nodes_of (network_of rows)) far (HasPort-node (network_of rows) _ _ (labelled.within node port port_has))

@@ -1,15 +1,12 @@
-use Rattle.std.proofs.Common.{◌≡◌, ℕ, ◌+◌, ◌<◌, ◌⊎◌, ⊎_elim, Bool, true, false, cond, refl, sym, ap, ◌∙◌, arith, List, [], length, subst}
+use Rattle.std.proofs.Common.{◌≡◌, ℕ, ◌+◌, ◌<◌, ⊎_elim, Bool, true, false, cond, refl, sym, ap, ◌∙◌, arith, List, [], length, subst}
 use Rattle.std.specs.Ordering.{is_eq}
 use Rattle.std.specs.BTreeSet.{BTreeSet, contains}
 use Rattle.bhs_net.specs.declared.links.Link.{Link}
 use Rattle.bhs_net.specs.Links.{End, link_at}
 use Rattle.bhs_net.specs.Faults.{IsDouble}
 use Rattle.bhs_net.specs.Listing.{end_cmp, IsLeast}
+use Rattle.bhs_net.proofs.Places.{below_or_at}
 use Rattle.bhs_net.proofs.Ends.{pair_of, SameNodes-from_pair, pair_from_SameNodes, end_cmp-cases, end_cmp-same}
-
--- a place below the next one is below this one, or is this one
-pub below_or_at : (early seen : ℕ) → early < seen + 1 → (early < seen) ⊎ (early ≡ seen)
-below_or_at early seen h = grind arith
 
 -- the set has the pairs of the first links, and no others; no two of these links join the same nodes
 pub record KnowsPairs (links : List Link) (seen : ℕ) (joined : BTreeSet End) : Type 0 where

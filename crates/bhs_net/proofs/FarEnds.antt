@@ -6,7 +6,7 @@ use Rattle.bhs_net.specs.Links.{End, link_at, near_end, far_end, HasEnd, Joins}
 use Rattle.bhs_net.specs.Faults.{IsPortTwice}
 use Rattle.bhs_net.specs.Listing.{end_cmp, IsLeast, MapsEnds}
 use Rattle.bhs_net.proofs.Ends.{end_cmp-cases, end_cmp-same}
-use Rattle.bhs_net.proofs.Doubles.{below_or_at}
+use Rattle.bhs_net.proofs.Places.{below_or_at}
 
 -- the map has the ends of the first links, and no others; no two of these links share an end
 pub record KnowsEnds (links : List Link) (seen : ℕ) (far_ends : BTreeMap End End) : Type 0 where

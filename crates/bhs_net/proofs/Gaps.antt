@@ -3,7 +3,7 @@ use Rattle.std.specs.Option.{option_map_or}
 use Rattle.bhs_net.specs.declared.links.Link.{Link}
 use Rattle.bhs_net.specs.Links.{End, near_end, far_end, link_at, HasEnd}
 use Rattle.bhs_net.specs.Network.{Network, HasPort, degree_of}
-use Rattle.bhs_net.proofs.Doubles.{below_or_at}
+use Rattle.bhs_net.proofs.Places.{below_or_at, lt_or_ge}
 
 -- of the ends with P, none lies beyond its node's row, or this is the least node with one that does
 abbrev pub LeastBeyond : (End → Type 0) → Network → Option ℕ → Type 0
@@ -18,9 +18,6 @@ IsSeen links seen end = (early : ℕ) × (early < seen) × HasEnd (link_at links
 -- P, and one more end
 abbrev pub OrEnd : (End → Type 0) → End → End → Type 0
 OrEnd P new end = P end ⊎ (new ≡ end)
-
-le_or_lt : (a b : ℕ) → (a < b) ⊎ (b ≤ a)
-le_or_lt a b = grind arith
 
 module _ (P : End → Type 0) (net : Network) (node port : ℕ) where
   kept : (least : Option ℕ) → port < degree_of net node → LeastBeyond P net least → LeastBeyond (OrEnd P (node, port)) net least
@@ -47,14 +44,14 @@ module _ (P : End → Type 0) (net : Network) (node port : ℕ) where
         (port, small, inr refl, beyond),
         λ end has past. ⊎_elim (λ old. let le : gap ≤ end.0 = h.1 end old past in omega arith) (λ e'. let same : node ≡ end.0 = ap (λ (q : End). q.0) e' in omega arith) has,
       ))
-      (le_or_lt gap node)
+      (lt_or_ge gap node)
 
   -- one more end
   pub LeastBeyond-more : (least result : Option ℕ) → port < 65536 → (HasPort net (node, port) → result ≡ least) → (degree_of net node ≤ port → result ≡ Some (option_map_or (λ gap. min gap node) least node)) → LeastBeyond P net least → LeastBeyond (OrEnd P (node, port)) net result
   LeastBeyond-more least result small same new h = ⊎_elim
       (λ within. subst (λ (r : Option ℕ). LeastBeyond (OrEnd P (node, port)) net r) (sym (same within)) (kept least within h))
       (λ beyond. subst (λ (r : Option ℕ). LeastBeyond (OrEnd P (node, port)) net r) (sym (new beyond)) (added least small beyond h))
-      (le_or_lt port (degree_of net node))
+      (lt_or_ge port (degree_of net node))
 
 -- of other ends that are the same
 pub LeastBeyond-same : (P Q : End → Type 0) (net : Network) (least : Option ℕ) → ((end : End) → P end → Q end) → ((end : End) → Q end → P end) → LeastBeyond P net least → LeastBeyond Q net least

@@ -1,3 +1,4 @@
+pub mod Places
 pub mod Ends
 pub mod Doubles
 pub mod FarEnds
@@ -9,3 +10,4 @@ pub mod Degrees
 pub mod Walks
 pub mod Marks
 pub mod Made
+pub mod Counts

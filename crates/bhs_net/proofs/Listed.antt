@@ -1,4 +1,4 @@
-use Rattle.std.proofs.Common.{◌≡◌, ◌≢◌, ℕ, ◌<◌, ◌≤◌, ◌⊎◌, inl, inr, ⊎_elim, refl, sym, ap, ◌∙◌, arith, List, [], length, subst, Some, None}
+use Rattle.std.proofs.Common.{◌≡◌, ◌≢◌, ℕ, ◌<◌, ◌≤◌, inl, inr, ⊎_elim, refl, sym, ap, ◌∙◌, arith, List, [], length, subst, Some, None}
 use Rattle.std.proofs.lemmas.List.{get_or_past}
 use Rattle.std.specs.BTreeMap.{BTreeMap, get}
 use Rattle.bhs_net.specs.declared.faults.TheConstants.{MIN_NODES, MAX_NODES}
@@ -7,10 +7,8 @@ use Rattle.bhs_net.specs.Links.{End, near_end, far_end, link_at, HasEnd, Joins, 
 use Rattle.bhs_net.specs.Network.{Network, nodes_of, row_of, degree_of, far_of, HasPort, IsPortLabelled, HasLinks}
 use Rattle.bhs_net.specs.Faults.{IsStray, IsLoop, IsDouble, IsPortTwice, IsGap, Lists}
 use Rattle.bhs_net.specs.Listing.{end_cmp, MapsEnds, AreRowsOf, HasAllPorts, IsBeyond}
+use Rattle.bhs_net.proofs.Places.{lt_or_ge, lt_eq_gt}
 use Rattle.bhs_net.proofs.Order.{NoneBelow, NoneBelow-one, NoneBelow-more}
-
-lt_or_ge : (a b : ℕ) → (a < b) ⊎ (b ≤ a)
-lt_or_ge a b = grind arith
 
 -- a node with a port is a node
 pub HasPort-node : (net : Network) (node port : ℕ) → port < degree_of net node → node < nodes_of net
@@ -62,9 +60,6 @@ Joins-one link node port port' other other' no_loop (inl i) (inl j) = ap (λ (q 
 Joins-one link node port port' other other' no_loop (inl i) (inr j) = absurd (no_loop (ap (λ (q : End). q.0) i.0 ∙ sym (ap (λ (q : End). q.0) j.0)))
 Joins-one link node port port' other other' no_loop (inr i) (inl j) = absurd (no_loop (ap (λ (q : End). q.0) j.0 ∙ sym (ap (λ (q : End). q.0) i.0)))
 Joins-one link node port port' other other' no_loop (inr i) (inr j) = ap (λ (q : End). q.1) (sym i.0 ∙ j.0)
-
-places : (a b : ℕ) → (a < b) ⊎ ((a ≡ b) ⊎ (b < a))
-places a b = grind arith
 
 -- a right number of nodes
 pub none_below_two : (nodes : ℕ) (links : List Link) → (MIN_NODES ≤ nodes) × (nodes ≤ MAX_NODES) → NoneBelow nodes links 2
@@ -163,7 +158,7 @@ module _ (nodes : ℕ) (links : List Link) (far_ends : BTreeMap End End) (net : 
           (λ same. Joins-one (link_at links b.0) node port other (far_of net node port) (far_of net node other) (λ loop. passes.loops b.0 (b.1, loop)) (subst (λ k. Joins (link_at links k) (node, port) (far_of net node port)) same a.2) b.2)
           (λ lt. absurd (passes.doubles a.0 (a.1, (b.0, lt, Joins-same (link_at links b.0) (link_at links a.0) _ _ _ _ b.2 a.2 refl (sym e)))))
           rest)
-          (places a.0 b.0);
+          (lt_eq_gt a.0 b.0);
     }
 
     pub made_of : HasLinks net links

@@ -1,11 +1,12 @@
-use Rattle.std.proofs.Common.{◌≡◌, ◌≢◌, ℕ, ◌+◌, ◌<◌, ◌≤◌, ◌⊎◌, inl, inr, ⊎_elim, refl, sym, ap, ◌∙◌, arith, List, length, subst}
+use Rattle.std.proofs.Common.{◌≡◌, ℕ, zero, suc, ◌<◌, ◌≤◌, ◌⊎◌, inl, inr, ⊎_elim, refl, sym, ap, ◌∙◌, arith, List, [], length, subst}
+use Rattle.std.proofs.lemmas.List.{ext_get_or}
 use Rattle.bhs_net.specs.declared.faults.NetFault.{NetFault}
 use Rattle.bhs_net.specs.declared.faults.NetFault.TheVariants.{Nodes, Node, Loop, Double, PortTwice, PortGap, Apart, CutNode, Memory}
 use Rattle.bhs_net.specs.declared.links.Link.{Link}
 use Rattle.bhs_net.specs.Paths.{IsPath, Without}
-use Rattle.bhs_net.specs.Links.{End, near_end, far_end, link_at, HasEnd, Joins, SameNodes, SharesEnd, IsListed, AreJoined, AreLinked}
-use Rattle.bhs_net.specs.Network.{Network, nodes_of, degree_of, far_of, HasPort, Leads, IsPortLabelled, IsNetwork, IsConnected, AreJoinedWithout, HasLinks, Makes}
-use Rattle.bhs_net.specs.Faults.{IsStray, IsLoop, IsDouble, IsPortTwice, IsGap, IsApart, IsCut, Holds, Refuses, Lists, HasNoFault}
+use Rattle.bhs_net.specs.Links.{End, near_end, far_end, link_at, HasEnd, Joins, SharesEnd, IsListed, AreJoined, AreLinked}
+use Rattle.bhs_net.specs.Network.{Network, nodes_of, row_of, degree_of, far_of, HasPort, Leads, IsPortLabelled, IsConnected, HasLinks, Makes}
+use Rattle.bhs_net.specs.Faults.{IsStray, IsLoop, IsDouble, IsPortTwice, IsGap, IsApart, IsCut, Holds, Refuses, Lists}
 use Rattle.bhs_net.specs.Search.{IsApartIn, IsCutIn}
 use Rattle.bhs_net.specs.Listing.{TellsLeast}
 use Rattle.bhs_net.proofs.Listed.{HasPort-node, IsListed-from_joined}
@@ -161,3 +162,24 @@ Refuses-from_paths nodes links net fault lists told =
     ))
     rest)
     told
+
+-- ---- one list of links makes one network
+le_by_below : (a b : ℕ) → ((port : ℕ) → port < a → port < b) → a ≤ b
+le_by_below zero b all = omega arith
+le_by_below (suc a) b all = let last : a < b = all a (omega arith) in omega arith
+
+module _ (net other : Network) (links : List Link) (made_of : HasLinks net links) (too : HasLinks other links) where
+  -- a port of the one network is a port of the other, and leads to the same end
+  same_port : (node port : ℕ) → port < degree_of net node → (port < degree_of other node) × (far_of other node port ≡ far_of net node port)
+  same_port node port h = joined_leads other links too node port (far_of net node port) (made_of.all node port h)
+
+module _ (nodes : ℕ) (links : List Link) (net other : Network) (makes : Makes nodes links net) (too : Makes nodes links other) where
+  same_degree : (node : ℕ) → degree_of net node ≡ degree_of other node
+  same_degree node =
+      let le = le_by_below (degree_of net node) (degree_of other node) (λ port h. (same_port net other links makes.made_of too.made_of node port h).0) in
+      let ge = le_by_below (degree_of other node) (degree_of net node) (λ port h. (same_port other net links too.made_of makes.made_of node port h).0) in
+      omega arith
+
+  pub same_network : net ≡ other
+  same_network = ext_get_or [] net other (makes.size ∙ sym too.size) (λ node h.
+      ext_get_or (0, 0) (row_of net node) (row_of other node) (same_degree node) (λ port i. sym (same_port net other links makes.made_of too.made_of node port i).1))

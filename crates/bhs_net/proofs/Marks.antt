@@ -1,15 +1,15 @@
-use Rattle.std.proofs.Common.{◌≡◌, ◌≢◌, ℕ, zero, suc, ◌+◌, ◌-◌, ◌<◌, ◌≤◌, ◌⊎◌, inl, inr, ⊎_elim, Bool, true, false, not, cond, refl, sym, ap, ◌∙◌, arith, subst, List, [], ◌∷◌, ◌++◌, length, get_or, set, count_by, sum_by, length-append, replicate, Vec, Global}
+use Rattle.std.proofs.Common.{◌≡◌, ◌≢◌, ℕ, ◌+◌, ◌-◌, ◌<◌, ◌≤◌, ◌⊎◌, inl, inr, ⊎_elim, Bool, true, false, not, cond, refl, sym, ap, ◌∙◌, arith, subst, List, [], ◌∷◌, ◌++◌, length, get_or, set, count_by, length-append, replicate, Vec, Global}
 use Rattle.std.proofs.Math.ListN.{get_or-append, length-set}
 use Rattle.std.proofs.lemmas.List.{get_or-set_same, get_or-set_other, get_or-append_right, get_or_past, get_or_default, length-map, get_or-replicate, length-replicate}
 use Rattle.std.proofs.lemmas.List.Sums.{sum_by-set, count_by-le-length}
 use Rattle.std.proofs.lemmas.Bool.Decides.{eqb_tells}
 use Rattle.bhs_net.specs.Links.{End}
-use Rattle.bhs_net.specs.Paths.{Path, IsPath, Without}
-use Rattle.bhs_net.specs.Network.{Network, nodes_of, row_of, degree_of, far_of, Leads, IsPortLabelled}
+use Rattle.bhs_net.specs.Paths.{IsPath, Without}
+use Rattle.bhs_net.specs.Network.{Network, network_of, nodes_of, row_of, degree_of, far_of, Leads, IsPortLabelled}
 use Rattle.bhs_net.specs.Search.{IsMarked, MarksReached}
-use Rattle.bhs_net.proofs.Doubles.{below_or_at}
+use Rattle.bhs_net.proofs.Places.{below_or_at, lt_or_ge}
 use Rattle.bhs_net.proofs.Listed.{HasPort-node}
-use Rattle.bhs_net.proofs.Degrees.{items_of, row_of-items}
+use Rattle.bhs_net.proofs.Degrees.{row_of-network_of}
 use Rattle.bhs_net.proofs.Walks.{IsPath-none, IsPath-more, IsPath-ends}
 
 -- the marks so far, and the nodes that have one in the order in which they were found
@@ -51,9 +51,6 @@ IsMarked-within marks node h = ⊎_elim
     (λ lt. lt)
     (λ ge. absurd (let no : true ≡ false = sym h ∙ get_or_past marks node false ge in cc))
     (lt_or_ge node (length marks))
-  where
-    lt_or_ge : (a b : ℕ) → (a < b) ⊎ (b ≤ a)
-    lt_or_ge a b = grind arith
 
 -- one more mark is one less to set
 count-set : (marks : List Bool) (at : ℕ) → at < length marks → get_or marks at false ≡ false → count_by not (set marks at true) + 1 ≡ count_by not marks
@@ -177,7 +174,7 @@ module _ (net : Network) (labelled : IsPortLabelled net) (start removed next nod
       }
 
 -- the node that stands next among those found
-pub next_node : (rows : List (Vec End Global)) (start removed : ℕ) (marks : List Bool) (found : List ℕ) (next node : ℕ) → IsSearch (items_of rows) start removed marks found → next < length found → node ≡ get_or found next node → (node < length rows) × (get_or found next 0 ≡ node)
+pub next_node : (rows : List (Vec End Global)) (start removed : ℕ) (marks : List Bool) (found : List ℕ) (next node : ℕ) → IsSearch (network_of rows) start removed marks found → next < length found → node ≡ get_or found next node → (node < length rows) × (get_or found next 0 ≡ node)
 next_node rows start removed marks found next node search within is =
     let same : get_or found next 0 ≡ node = get_or_default found next 0 node within ∙ sym is in
     let marked : IsMarked marks node = subst (λ d. IsMarked marks d) same (search.marked next within) in
@@ -187,17 +184,17 @@ next_node rows start removed marks found next node search within is =
     (omega arith, same)
 
 -- what a loop over the node's row reads: a port of the node, and a place among the marks
-pub port_read : (rows : List (Vec End Global)) → IsPortLabelled (items_of rows) → (start removed next node port : ℕ) (marks : List Bool) (found : List ℕ) (row : Vec End Global) (items : List End) (other : ℕ) → IsStep (items_of rows) start removed next node port marks found → row ≡ get_or rows node row → items ≡ row.items → port < length items → other ≡ (get_or items port (0, 0)).0 → (other < length marks) × (port < degree_of (items_of rows) node) × ((far_of (items_of rows) node port).0 ≡ other)
+pub port_read : (rows : List (Vec End Global)) → IsPortLabelled (network_of rows) → (start removed next node port : ℕ) (marks : List Bool) (found : List ℕ) (row : Vec End Global) (items : List End) (other : ℕ) → IsStep (network_of rows) start removed next node port marks found → row ≡ get_or rows node row → items ≡ row.items → port < length items → other ≡ (get_or items port (0, 0)).0 → (other < length marks) × (port < degree_of (network_of rows) node) × ((far_of (network_of rows) node port).0 ≡ other)
 port_read rows labelled start removed next node port marks found row items other step is items_is has other_is =
     let lt : node < length rows =
     (let at = IsMarked-within marks node (subst (λ d. IsMarked marks d) step.is_next (step.search.marked next step.within)) in
     let size = step.search.size in
     let all = length-map rows (λ (r : Vec End Global). r.items) in
     omega arith) in
-    let e : items ≡ row_of (items_of rows) node = items_is ∙ sym (row_of-items rows node row lt is) in
-    let port_has : port < degree_of (items_of rows) node = subst (λ (r : List End). port < length r) e has in
-    let leads : (far_of (items_of rows) node port).0 ≡ other = sym (other_is ∙ ap (λ (r : List End). (get_or r port (0, 0)).0) e) in
-    let other_in : (far_of (items_of rows) node port).0 < nodes_of (items_of rows) = HasPort-node (items_of rows) _ _ (labelled.within node port port_has) in
+    let e : items ≡ row_of (network_of rows) node = items_is ∙ sym (row_of-network_of rows node row lt is) in
+    let port_has : port < degree_of (network_of rows) node = subst (λ (r : List End). port < length r) e has in
+    let leads : (far_of (network_of rows) node port).0 ≡ other = sym (other_is ∙ ap (λ (r : List End). (get_or r port (0, 0)).0) e) in
+    let other_in : (far_of (network_of rows) node port).0 < nodes_of (network_of rows) = HasPort-node (network_of rows) _ _ (labelled.within node port port_has) in
     let size = step.search.size in
     (omega arith, port_has, leads)
 
@@ -206,17 +203,17 @@ pub mark_read : (marks : List Bool) (node : ℕ) (mark value : Bool) → node < 
 mark_read marks node mark value lt is e = get_or_default marks node false mark lt ∙ (sym is ∙ e)
 
 -- the loop over the node's row is over
-pub row_done : (rows : List (Vec End Global)) (start removed next node ports : ℕ) (marks : List Bool) (found : List ℕ) (row : Vec End Global) (items : List End) → IsStep (items_of rows) start removed next node ports marks found → row ≡ get_or rows node row → items ≡ row.items → length items ≤ ports → AreDone (items_of rows) removed marks found (next + 1)
+pub row_done : (rows : List (Vec End Global)) (start removed next node ports : ℕ) (marks : List Bool) (found : List ℕ) (row : Vec End Global) (items : List End) → IsStep (network_of rows) start removed next node ports marks found → row ≡ get_or rows node row → items ≡ row.items → length items ≤ ports → AreDone (network_of rows) removed marks found (next + 1)
 row_done rows start removed next node ports marks found row items step is items_is over =
     let lt : node < length rows =
     (let at = IsMarked-within marks node (subst (λ d. IsMarked marks d) step.is_next (step.search.marked next step.within)) in
     let size = step.search.size in
     let all = length-map rows (λ (r : Vec End Global). r.items) in
     omega arith) in
-    let e : row_of (items_of rows) node ≡ items = row_of-items rows node row lt is ∙ sym items_is in
-    let degree : degree_of (items_of rows) node ≡ length items = ap (λ (r : List End). length r) e in
-    AreDone-next (items_of rows) start removed marks found step.search next step.done
-    (subst (λ d. ArePortsDone (items_of rows) removed marks d (degree_of (items_of rows) d)) (sym step.is_next) (λ port h apart. step.ports_done port (omega arith) apart))
+    let e : row_of (network_of rows) node ≡ items = row_of-network_of rows node row lt is ∙ sym items_is in
+    let degree : degree_of (network_of rows) node ≡ length items = ap (λ (r : List End). length r) e in
+    AreDone-next (network_of rows) start removed marks found step.search next step.done
+    (subst (λ d. ArePortsDone (network_of rows) removed marks d (degree_of (network_of rows) d)) (sym step.is_next) (λ port h apart. step.ports_done port (omega arith) apart))
 
 -- the search is over
 pub search_over : (net : Network) (start removed : ℕ) (marks : List Bool) (found : List ℕ) (next : ℕ) → IsSearch net start removed marks found → AreDone net removed marks found next → length found ≤ next → MarksReached net start removed marks
@@ -228,6 +225,3 @@ no_mark n marks is node = ⊎_elim
     (λ lt. ap (λ (m : List Bool). get_or m node false) is ∙ get_or-replicate n node false false lt)
     (λ ge. get_or_past marks node false (let len : length marks ≡ n = ap (λ (m : List Bool). length m) is ∙ length-replicate n false in omega arith))
     (lt_or_ge node n)
-  where
-    lt_or_ge : (a b : ℕ) → (a < b) ⊎ (b ≤ a)
-    lt_or_ge a b = grind arith

@@ -4,7 +4,7 @@ use Rattle.bhs_net.specs.declared.faults.NetFault.TheVariants.{Nodes, Node, Loop
 use Rattle.bhs_net.specs.declared.links.Link.{Link}
 use Rattle.bhs_net.specs.Faults.{Holds, number_of, place_of, IsFirstFault, Refuses}
 use Rattle.bhs_net.specs.Listing.{TellsLeast}
-use Rattle.bhs_net.proofs.Doubles.{below_or_at}
+use Rattle.bhs_net.proofs.Places.{below_or_at}
 
 -- the fault of a number, at a link or a node
 abbrev pub fault_at : ℕ → ℕ → NetFault

@@ -5,7 +5,7 @@ use Rattle.std.specs.BTreeMap.{BTreeMap}
 use Rattle.bhs_net.specs.Links.{End}
 use Rattle.bhs_net.specs.Network.{Network, row_of}
 use Rattle.bhs_net.specs.Listing.{IsRowOf, AreRowsOf}
-use Rattle.bhs_net.proofs.Doubles.{below_or_at}
+use Rattle.bhs_net.proofs.Places.{below_or_at}
 
 pub AreRowsOf-none : (far_ends : BTreeMap End End) → AreRowsOf far_ends 0 []
 AreRowsOf-none far_ends = record { size = refl; rows = λ node h. absurd (omega arith) }

@@ -1,4 +1,4 @@
-use Rattle.std.proofs.Common.{◌≡◌, ◌≢◌, ℕ, zero, suc, ◌<◌, ◌≤◌, refl, sym, ap, ◌∙◌, arith, subst}
+use Rattle.std.proofs.Common.{◌≢◌, ℕ, zero, suc, ◌<◌, ◌≤◌, refl, sym, ap, ◌∙◌, arith, subst}
 use Rattle.bhs_net.specs.Paths.{Path, IsPath, Without}
 use Rattle.bhs_net.specs.Links.{End}
 use Rattle.bhs_net.specs.Network.{Network, nodes_of, degree_of, far_of, Leads, IsPortLabelled, IsConnected, AreJoinedWithout}

@@ -5,10 +5,11 @@ use Rattle.bhs_net.specs.declared.links.Link.{Link}
 abbrev pub End : Type 0
 End = ℕ × ℕ
 
--- the two ends of a link, as it names them
+-- the end that a link names first
 abbrev pub near_end : Link → End
 near_end link = (link.v, link.p)
 
+-- the end that a link names second
 abbrev pub far_end : Link → End
 far_end link = (link.w, link.q)
 

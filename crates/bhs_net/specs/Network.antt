@@ -1,4 +1,5 @@
-use Rattle.std.specs.Prelude.{◌≡◌, ◌≢◌, ℕ, ◌<◌, ◌≤◌, List, [], length, slice_index_or, sum_by}
+use Rattle.std.specs.Prelude.{◌≡◌, ◌≢◌, ℕ, ◌<◌, ◌≤◌, List, [], length, slice_index_or, sum_by, map, Vec}
+use Rattle.std.specs.declared.alloc.Global.{Global}
 use Rattle.bhs_net.specs.declared.faults.TheConstants.{MIN_NODES, MAX_NODES}
 use Rattle.bhs_net.specs.declared.links.Link.{Link}
 use Rattle.bhs_net.specs.Links.{End, near_end, far_end, link_at, AreJoined, SharesEnd}
@@ -8,13 +9,19 @@ use Rattle.bhs_net.specs.Paths.{IsPath, Without}
 abbrev pub Network : Type 0
 Network = List (List End)
 
+-- the network that rows in memory show
+abbrev pub network_of : List (Vec End Global) → Network
+network_of rows = map (λ row. row.items) rows
+
+-- how many nodes there are
 abbrev pub nodes_of : Network → ℕ
 nodes_of net = length net
 
+-- the far ends of the node's ports: none where it is no node
 abbrev pub row_of : Network → ℕ → List End
 row_of net node = slice_index_or net node []
 
--- how many ports the node has: none where it is no node
+-- how many ports the node has
 abbrev pub degree_of : Network → ℕ → ℕ
 degree_of net node = length (row_of net node)
 

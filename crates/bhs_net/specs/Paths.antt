@@ -1,6 +1,7 @@
 use Rattle.std.specs.Prelude.{◌≡◌, ◌≢◌, ℕ, zero, suc}
 
--- a path of so many steps leads from the one node to the other; `Step` says from which node one step leads to which
+-- a path of so many steps leads from the one node to the other, where `Step` says which node a step leads to from
+-- which; a path may pass a node more than once
 abbrev pub Path : (ℕ → ℕ → Type 0) → ℕ → ℕ → ℕ → Type 0
 Path Step node other zero = node ≡ other
 Path Step node other (suc steps) = (before : ℕ) × Path Step node before steps × Step before other

@@ -1,9 +1,6 @@
-use Rattle.std.specs.Prelude.{◌≡◌, ◌≢◌, ℕ, ◌<◌, ◌⊎◌, Bool, true, false, List, length, slice_index_or}
-use Rattle.bhs_net.specs.declared.faults.NetFault.{NetFault}
-use Rattle.bhs_net.specs.declared.faults.NetFault.TheVariants.{Apart, CutNode, Memory}
+use Rattle.std.specs.Prelude.{◌≡◌, ◌≢◌, ℕ, ◌<◌, Bool, true, false, List, length, slice_index_or}
 use Rattle.bhs_net.specs.Paths.{IsPath, Without}
 use Rattle.bhs_net.specs.Network.{Network, nodes_of, Leads}
-use Rattle.bhs_net.specs.Listing.{TellsLeast}
 
 -- the node has a mark
 abbrev pub IsMarked : List Bool → ℕ → Type 0

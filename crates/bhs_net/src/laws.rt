@@ -1,8 +1,13 @@
 //! Laws of the definitions alone.
 
-ghost use Rattle.bhs_net.specs.Laws.{NoNetworkWithFault};
+ghost use Rattle.bhs_net.specs.Laws.{NoNetworkWithFault, OneNetwork};
 
 /// Links that have a fault make no network: so a list is refused with a fault only where it makes none.
 pub fn no_network_with_fault()
     ensures { NoNetworkWithFault }
+{}
+
+/// Links make one network at the most: so two networks made of one list are equal.
+pub fn one_network()
+    ensures { OneNetwork }
 {}

@@ -9,7 +9,8 @@ mod network;
 mod search;
 
 pub use faults::{MAX_NODES, MIN_NODES, NetFault};
-pub use laws::no_network_with_fault;
+pub use laws::{no_network_with_fault, one_network};
 pub use links::Link;
 pub use network::Net;
+/// The error of a call in which memory ran out.
 pub use std::alloc::AllocError as Memory;

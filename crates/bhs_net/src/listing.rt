@@ -2,12 +2,11 @@
 //! may stand later in the list. The ends stand in a map by node and port, so that nothing is as large as the largest
 //! port. With n links the cost is O(n log n), and O(n) memory.
 
-ghost use Rattle.std.specs.Prelude.{◌≡◌, ℕ, ◌<◌, ◌≤◌, ◌⊎◌, length, OnOk, IfOk, IfErr, IfSome, IfNone, map, min};
-ghost use Rattle.bhs_net.specs.Links.{link_at};
-ghost use Rattle.bhs_net.specs.Network.{HasPort, degree_of};
+ghost use Rattle.std.specs.Prelude.{◌≡◌, ℕ, ◌<◌, ◌≤◌, ◌⊎◌, length, OnOk, IfOk, IfErr, min};
 ghost use Rattle.std.specs.Option.{option_map_or};
+ghost use Rattle.bhs_net.specs.Network.{network_of, HasPort, degree_of};
 ghost use Rattle.bhs_net.specs.Faults.{IsStray, IsLoop, IsDouble, IsPortTwice, Lists, Refuses, place_of};
-ghost use Rattle.bhs_net.specs.Listing.{TellsLeast, IsLeast, MapsEnds, IsRowOf, AreRowsOf, HasAllPorts, IsBeyond};
+ghost use Rattle.bhs_net.specs.Listing.{TellsLeast, MapsEnds, IsRowOf, AreRowsOf, HasAllPorts, IsBeyond};
 
 use crate::faults::{MAX_NODES, MIN_NODES, NetFault};
 use crate::links::Link;
@@ -107,7 +106,7 @@ fn rows(
     far_ends: &BTreeMap<End, End>,
     nodes: u16,
 ) -> Result<Vec<Vec<End>>, AllocError>
-    ensures { IfOk result (λ rows. AreRowsOf far_ends.now nodes (map (λ row. row.items) rows.items)) }
+    ensures { IfOk result (λ rows. AreRowsOf far_ends.now nodes (network_of rows.items)) }
 {
     let mut rows = Vec::new(alloc);
     for node in 0..nodes {
@@ -120,8 +119,8 @@ fn rows(
 fn with_end(rows: &[Vec<End>], least: Option<u16>, node: u16, port: u16) -> Option<u16>
     requires { node < length rows.now }
     ensures small { port < 65536 }
-    ensures kept { HasPort (map (λ row. row.items) rows.now) (node, port) → result ≡ least }
-    ensures beyond { degree_of (map (λ row. row.items) rows.now) node ≤ port
+    ensures kept { HasPort (network_of rows.now) (node, port) → result ≡ least }
+    ensures beyond { degree_of (network_of rows.now) node ≤ port
         → result ≡ Some (option_map_or (λ gap. min gap node) least node) }
 {
     if usize::from(port) < rows[usize::from(node)].len() {
@@ -135,11 +134,11 @@ fn with_end(rows: &[Vec<End>], least: Option<u16>, node: u16, port: u16) -> Opti
 
 fn check_gaps(links: &[Link], rows: &[Vec<End>]) -> Result<(), NetFault>
     requires { (place : ℕ) → ¬ IsStray (length rows.now) links.now place }
-    ensures ok { OnOk result (HasAllPorts links.now (map (λ row. row.items) rows.now)) }
+    ensures ok { OnOk result (HasAllPorts links.now (network_of rows.now)) }
     ensures err { IfErr result
-        (TellsLeast NetFault.PortGap (IsBeyond links.now (map (λ row. row.items) rows.now))) }
+        (TellsLeast NetFault.PortGap (IsBeyond links.now (network_of rows.now))) }
     ensures short { IfErr result
-        (λ fault. degree_of (map (λ row. row.items) rows.now) (place_of fault) < 65536) }
+        (λ fault. degree_of (network_of rows.now) (place_of fault) < 65536) }
 {
     let mut least = None;
     for link in links {
@@ -154,7 +153,7 @@ fn check_gaps(links: &[Link], rows: &[Vec<End>]) -> Result<(), NetFault>
 
 /// The rows of the network that the links make, where none of the first six faults holds.
 pub fn listed(alloc: Global, nodes: u16, links: &[Link]) -> Result<Vec<Vec<End>>, NetFault>
-    ensures ok { IfOk result (λ rows. Lists nodes links.now (map (λ row. row.items) rows.items)) }
+    ensures ok { IfOk result (λ rows. Lists nodes links.now (network_of rows.items)) }
     ensures err { IfErr result (Refuses nodes links.now) }
 {
     check_nodes(nodes)?;

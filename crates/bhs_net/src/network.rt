@@ -1,4 +1,4 @@
-ghost use Rattle.std.specs.Prelude.{◌≡◌, ◌<◌, ◌/◌, IfOk, IfErr};
+ghost use Rattle.std.specs.Prelude.{◌≡◌, ◌<◌, ◌*◌, length, IfOk, IfErr};
 ghost use Rattle.bhs_net.specs.Network.{nodes_of, degree_of, far_of, ports_of, IsNetwork, Makes};
 ghost use Rattle.bhs_net.specs.Faults.{Refuses};
 
@@ -10,22 +10,24 @@ use std::alloc::{AllocError, Global};
 use std::marker::Model;
 
 /// A network: a simple graph of nodes 0 to `nodes() - 1`, connected, and still connected when any one node is removed.
-/// At each node the links carry distinct labels, the ports 0 to
-/// `degree(v) - 1`; the two labels of one link need not agree.
+/// At each node the links carry distinct labels, the ports 0 to `degree(v) - 1`; the two labels of one link need not
+/// agree.
 #[derive(Debug, Drop)]
 pub struct Net {
     rows: Vec<Vec<End>>,
+    links: usize,
 }
 
 impl Model for Net {
-    ghost use Rattle.std.specs.Prelude.{map};
-    ghost use Rattle.bhs_net.specs.Network.{Network, IsNetwork};
+    ghost use Rattle.std.specs.Prelude.{◌≡◌, ◌*◌};
+    ghost use Rattle.bhs_net.specs.Network.{Network, network_of, ports_of, IsNetwork};
 
     ghost Value = { Network };
 
-    ghost view = { λ net. map (λ row. row.items) net.rows.items };
+    ghost view = { λ net. network_of net.rows.items };
 
-    ghost invariant = { λ net. IsNetwork (map (λ row. row.items) net.rows.items) };
+    ghost invariant = { λ net. IsNetwork (network_of net.rows.items)
+        × (ports_of (network_of net.rows.items) ≡ 2 * net.links) };
 }
 
 impl Net {
@@ -33,11 +35,15 @@ impl Net {
     /// its ends. Refused with the first fault, or with `NetFault::Memory` in place of any answer.
     pub fn try_new(alloc: Global, nodes: u16, links: &[Link]) -> Result<Net, NetFault>
         ensures made { IfOk result (Makes nodes links.now) }
+        ensures count { IfOk result (λ net. ports_of net ≡ 2 * length links.now) }
         ensures refused { IfErr result (Refuses nodes links.now) }
     {
         let rows = listed(alloc, nodes, links)?;
         check_paths(alloc, &rows)?;
-        Ok(Net { rows })
+        Ok(Net {
+            rows,
+            links: links.len(),
+        })
     }
 
     /// How many nodes there are, from `MIN_NODES` to `MAX_NODES`.
@@ -50,13 +56,9 @@ impl Net {
 
     /// How many links there are: half as many as ports.
     pub fn links(&self) -> usize
-        ensures { result ≡ ports_of self.now / 2 }
+        ensures { ports_of self.now ≡ 2 * result }
     {
-        let mut ports = 0;
-        for row in &self.rows {
-            ports += row.len();
-        }
-        ports / 2
+        self.links
     }
 
     /// How many ports the node has.
@@ -68,11 +70,11 @@ impl Net {
         self.rows[usize::from(v)].len() as u16
     }
 
-    /// The far end of the link at port `p` of node `v`: its node, and its port there.
+    /// The far end of the link at port `p` of node `v`: its node, and its port there. Only a node has ports.
     pub fn far(&self, v: u16, p: u16) -> (u16, u16)
-        requires node { v < nodes_of self.now }
-        requires port { p < degree_of self.now v }
+        requires { p < degree_of self.now v }
         ensures end { result ≡ far_of self.now v p }
+        ensures node { result.0 < nodes_of self.now }
         ensures network { IsNetwork self.now }
     {
         self.rows[usize::from(v)][usize::from(p)]
@@ -86,7 +88,10 @@ impl Net {
         for row in &self.rows {
             rows.push(Vec::from_slice(alloc, row)?)?;
         }
-        Ok(Net { rows })
+        Ok(Net {
+            rows,
+            links: self.links,
+        })
     }
 }
 

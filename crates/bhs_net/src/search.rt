@@ -1,8 +1,8 @@
 //! Whether rows are connected, and still so when any one node is removed. One search takes time in the number of ports;
 //! with n nodes and m links there are n + 1 searches, so the cost is O(n * m).
 
-ghost use Rattle.std.specs.Prelude.{◌≡◌, ◌≢◌, ◌<◌, ◌≤◌, ◌⊎◌, map, length, vec_len, IfOk, IfErr, OnOk, MatchBool};
-ghost use Rattle.bhs_net.specs.Network.{IsPortLabelled, IsNetwork, IsConnected};
+ghost use Rattle.std.specs.Prelude.{◌≡◌, ◌≢◌, ◌<◌, ◌⊎◌, length, IfOk, IfErr, OnOk, MatchBool};
+ghost use Rattle.bhs_net.specs.Network.{network_of, IsPortLabelled, IsNetwork, IsConnected};
 ghost use Rattle.bhs_net.specs.Search.{MarksReached, ReachesAll, MissesSome, IsApartIn, IsCutIn};
 ghost use Rattle.bhs_net.specs.Listing.{TellsLeast};
 
@@ -17,11 +17,11 @@ fn reached(
     start: usize,
     removed: usize,
 ) -> Result<Vec<bool>, AllocError>
-    requires labelled { IsPortLabelled (map (λ row. row.items) rows.now) }
+    requires labelled { IsPortLabelled (network_of rows.now) }
     requires node { start < length rows.now }
     requires kept { start ≢ removed }
     ensures { IfOk result
-        (λ marks. MarksReached (map (λ row. row.items) rows.now) start removed marks.items) }
+        (λ marks. MarksReached (network_of rows.now) start removed marks.items) }
 {
     let mut marks = vec![in alloc; false; rows.len()]?;
     let mut found = Vec::new(alloc);
@@ -50,11 +50,13 @@ fn reaches_all(
     start: usize,
     removed: usize,
 ) -> Result<bool, AllocError>
-    requires labelled { IsPortLabelled (map (λ row. row.items) rows.now) }
+    requires labelled { IsPortLabelled (network_of rows.now) }
     requires node { start < length rows.now }
     requires kept { start ≢ removed }
     ensures { IfOk result
-        (λ all. MatchBool all (ReachesAll (map (λ row. row.items) rows.now) start removed) (MissesSome (map (λ row. row.items) rows.now) start removed)) }
+        (λ all. MatchBool all
+        (ReachesAll (network_of rows.now) start removed)
+        (MissesSome (network_of rows.now) start removed)) }
 {
     let marks = reached(alloc, rows, start, removed)?;
     for (node, is_marked) in marks.iter().enumerate() {
@@ -67,14 +69,16 @@ fn reaches_all(
 
 /// Looks for two nodes that no path joins, and then for the least node without which no path joins some two others.
 pub fn check_paths(alloc: Global, rows: &[Vec<End>]) -> Result<(), NetFault>
-    requires { IsPortLabelled (map (λ row. row.items) rows.now) }
-    ensures ok { OnOk result (IsNetwork (map (λ row. row.items) rows.now)) }
+    requires { IsPortLabelled (network_of rows.now) }
+    ensures ok { OnOk result (IsNetwork (network_of rows.now)) }
     ensures err { IfErr result (λ fault. (fault ≡ NetFault.Memory)
-        ⊎ (((fault ≡ NetFault.Apart) × IsApartIn (map (λ row. row.items) rows.now))
-        ⊎ (IsConnected (map (λ row. row.items) rows.now)
-        × TellsLeast NetFault.CutNode (IsCutIn (map (λ row. row.items) rows.now)) fault))) }
+        ⊎ (((fault ≡ NetFault.Apart) × IsApartIn (network_of rows.now))
+        ⊎ (IsConnected (network_of rows.now)
+        × TellsLeast NetFault.CutNode (IsCutIn (network_of rows.now)) fault))) }
 {
     let nodes = rows.len();
+
+    // `nodes` is the number of no node, so this search removes none.
     if !reaches_all(alloc, rows, 0, nodes)? {
         return Err(NetFault::Apart);
     }

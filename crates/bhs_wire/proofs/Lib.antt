@@ -1,3 +1,5 @@
 pub mod FirstLines
+pub mod LineFeeds
 pub mod Members
+pub mod StreamLaws
 pub mod ReplyLines

@@ -3,3 +3,4 @@ pub mod First
 pub mod Why
 pub mod Reply
 pub mod Denial
+pub mod Lines

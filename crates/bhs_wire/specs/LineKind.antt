@@ -3,7 +3,7 @@ use Rattle.std.specs.Prelude.{ℕ, List, Bool, length, ◌==◌, ◌||◌, nat_l
 use Rattle.std.specs.List.{list_all}
 use Rattle.bhs_wire.specs.declared.kinds.LineKind.{LineKind}
 use Rattle.bhs_wire.specs.declared.kinds.LineKind.TheVariants.{Over, Blank, Whole}
-use Rattle.bhs_wire.specs.declared.kinds.TheConstants.{MAX_LINE}
+use Rattle.bhs_model.specs.declared.limits.TheConstants.{MAX_LINE}
 
 -- a space, a tab or a carriage return
 abbrev pub is_space : ℕ → Bool

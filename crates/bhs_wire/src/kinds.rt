@@ -2,8 +2,7 @@ ghost use Rattle.std.specs.Prelude.{◌≡◌};
 ghost use Rattle.std.specs.List.{list_all};
 ghost use Rattle.bhs_wire.specs.LineKind.{line_kind, is_space};
 
-/// The most bytes that a line of a client may have, without its line feed.
-pub const MAX_LINE: usize = 16_384;
+use bhs_model::MAX_LINE;
 
 /// What a line of a client is, before anyone reads it.
 #[derive(Clone, Copy, Debug, PartialEq, Eq)]
@@ -29,7 +28,7 @@ pub fn kind_of(line: &[u8]) -> LineKind
     }
 }
 
-fn is_blank(line: &[u8]) -> bool
+pub(crate) fn is_blank(line: &[u8]) -> bool
     ensures { result ≡ list_all is_space line.now }
 {
     line.iter().all(|byte| matches!(byte, b' ' | b'\t' | b'\r'))

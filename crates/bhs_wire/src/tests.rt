@@ -1,8 +1,8 @@
 use crate::{
-    Denial, First, LineKind, MAX_LINE, command_of, denial_of, kind_of, line_of, read_line,
+    Denial, First, LineKind, Lines, Raw, command_of, denial_of, kind_of, line_of, read_line,
     value_of, word_of,
 };
-use bhs_model::{Command, Reply, Text, Why};
+use bhs_model::{Command, MAX_LINE, Reply, Text, Why};
 use bhs_net::Memory;
 use std::alloc::Global;
 use std::test::Fail;
@@ -235,4 +235,75 @@ fn denials(rt: HostRuntime) {
     assert_eq!(rt; denial_of(Denial::Enter), "{\"no\":\"enter\"}");
     assert_eq!(rt; denial_of(Denial::Key), "{\"no\":\"key\"}");
     assert_eq!(rt; denial_of(Denial::Taken), "{\"no\":\"taken\"}");
+}
+
+#[test]
+fn pieces(rt: HostRuntime) -> Result<(), Fail> {
+    let alloc = rt.alloc();
+    let mut lines = Lines::new(alloc);
+    assert_eq!(rt; lines.feed(b"")?.len(), 0);
+    assert_eq!(rt; lines.feed(b"lo")?.len(), 0);
+    assert_eq!(rt; lines.held(), 2);
+    let found = lines.feed(b"ok\r\n\n \t\r\n at\n\nda")?;
+    let look = Raw::Whole(Vec::from_slice(alloc, b"look\r")?);
+    let at = Raw::Whole(Vec::from_slice(alloc, b" at")?);
+    assert_eq!(rt; found.as_slice(), [look, at].as_slice());
+    assert_eq!(rt; lines.held(), 2);
+    let found = lines.feed(b"\n")?;
+    assert_eq!(rt;
+        found.as_slice(),
+        [Raw::Whole(Vec::from_slice(alloc, b"da")?)].as_slice()
+    );
+    assert_eq!(rt; lines.held(), 0);
+    Ok(())
+}
+
+#[test]
+fn overlong_lines(rt: HostRuntime) -> Result<(), Fail> {
+    let alloc = rt.alloc();
+    let mut lines = Lines::new(alloc);
+    assert_eq!(rt;
+        lines.feed(&padded(alloc, b"", b'a', 20_000, b"")?)?.len(),
+        0
+    );
+    assert_eq!(rt; lines.held(), 0);
+    assert_eq!(rt; lines.feed(b"aaa")?.len(), 0);
+    assert_eq!(rt; lines.held(), 0);
+    assert_eq!(rt; lines.feed(b"\n")?.as_slice(), [Raw::Over].as_slice());
+    assert_eq!(rt; Raw::Over.said(alloc)?, First::Tell(Command::Bad));
+    let look = Vec::from_slice(alloc, b"{\"do\":\"look\"}")?;
+    let found = lines.feed(b"{\"do\":\"look\"}\n")?;
+    assert_eq!(rt; found.as_slice(), [Raw::Whole(look)].as_slice());
+    let full = padded(alloc, b"{\"do\":\"look\"}", b' ', 16_371, b"")?;
+    assert_eq!(rt; lines.feed(&full)?.len(), 0);
+    assert_eq!(rt; lines.held(), 16_384);
+    assert_eq!(rt;
+        lines.feed(b"\n")?.as_slice(),
+        [Raw::Whole(full)].as_slice()
+    );
+    let long = padded(alloc, b"{\"do\":\"look\"}", b' ', 16_372, b"\n")?;
+    assert_eq!(rt; lines.feed(&long)?.as_slice(), [Raw::Over].as_slice());
+    let spaces = padded(alloc, b"", b' ', 16_385, b"\n")?;
+    assert_eq!(rt; lines.feed(&spaces)?.as_slice(), [Raw::Over].as_slice());
+    Ok(())
+}
+
+#[test]
+fn byte_by_byte(rt: HostRuntime) -> Result<(), Fail> {
+    let alloc = rt.alloc();
+    let front = padded(alloc, b"look\n\n", b'a', 16_400, b"\nenter\r\n")?;
+    let stream = padded(alloc, &front, b' ', 16_384, b"\nleave")?;
+    let mut whole = Lines::new(alloc);
+    let at_once = whole.feed(&stream)?;
+    assert_eq!(rt; at_once.len(), 3);
+    let mut lines = Lines::new(alloc);
+    let mut found = Vec::new(alloc);
+    for byte in &stream {
+        for line in lines.feed(&[*byte])? {
+            found.push(line)?;
+        }
+    }
+    assert_eq!(rt; found, at_once);
+    assert_eq!(rt; lines.held(), whole.held());
+    Ok(())
 }

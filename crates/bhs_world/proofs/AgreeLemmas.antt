@@ -31,10 +31,10 @@ use Rattle.bhs_world.proofs.LegalLemmas.{IsLegal, AllLegal, KnowsPorts, either, 
 use Rattle.bhs_world.proofs.GrowthLemmas.{run_from_more, lost_from_more, replies_from_more, events_more, shows_more, read_same, named_more, reads_same, all_named_more, all_append, map_more}
 use Rattle.bhs_world.proofs.MarkLemmas.{KnownPorts, HasLimit, told_reads, told_named, told_shows, here_reads, here_named}
 
-chosen_true : {A : Type 0} (b : Bool) (x y : A) → b ≡ true → (if b then x else y) ≡ x
+pub chosen_true : {A : Type 0} (b : Bool) (x y : A) → b ≡ true → (if b then x else y) ≡ x
 chosen_true b x y h = rw h refl
 
-chosen_false : {A : Type 0} (b : Bool) (x y : A) → b ≡ false → (if b then x else y) ≡ y
+pub chosen_false : {A : Type 0} (b : Bool) (x y : A) → b ≡ false → (if b then x else y) ≡ y
 chosen_false b x y h = rw h refl
 
 pub by_cases : (b : Bool) (P : Type 0) → (b ≡ true → P) → (b ≡ false → P) → P

@@ -4,3 +4,4 @@ pub mod LegalLemmas
 pub mod GrowthLemmas
 pub mod MarkLemmas
 pub mod AgreeLemmas
+pub mod AwayLemmas

@@ -3,6 +3,7 @@
 
 mod faults;
 mod hearing;
+pub mod laws;
 mod making;
 mod worlds;
 

@@ -94,6 +94,13 @@ impl World {
         self.boards[usize::from(node)].last()
     }
 
+    /// Whether the match has ended.
+    pub fn closed(&self) -> bool
+        ensures { result ≡ self.now.closed }
+    {
+        self.closed
+    }
+
     /// Whether the next event is kept: a heard command, an arrival, the first Deliver that destroys its agent,
     /// the first Close. Nothing else changes the match.
     pub fn keeps(&self, event: &Event) -> bool
@@ -116,13 +123,6 @@ impl World {
         ensures same { (self.new.net ≡ self.old.net) × (self.new.setup ≡ self.old.setup) }
     {
         self.play(log, event)
-    }
-
-    /// Whether the match has ended.
-    pub fn closed(&self) -> bool
-        ensures { result ≡ self.now.closed }
-    {
-        self.closed
     }
 
     /// Plays a command that is heard.
@@ -155,6 +155,7 @@ impl World {
         refusal(agent.standing(), agent.used() < self.setup.quota, command)
     }
 
+    /// Answers a command, and plays it if it is heard.
     fn tell(&mut self, log: &[Kept], agent: u16, command: &Command) -> Mark
         requires room { length log.now < 2 ^ 32 }
         ensures mark { result ≡ mark_of_command self.old log.now agent command.now }
@@ -173,7 +174,7 @@ impl World {
         }
     }
 
-    /// Lets the link of an agent be, which it arrives by, or which destroys it.
+    /// Lets an agent through on its link: it arrives, or it is destroyed.
     fn deliver(&mut self, agent: u16) -> Option<Mark>
         ensures mark { result ≡ mark_after self.old [] (Event.Deliver agent) }
         ensures world { self.new ≡ table_after self.old [] (Event.Deliver agent) }

@@ -135,13 +135,26 @@ fn each_two_of_the_most_nodes_are_linked(rt: HostRuntime) -> Result<(), Fail> {
 }
 
 #[test]
+fn faults_are_made_of_refused_memory(rt: HostRuntime) {
+    assert_eq!(rt; NetFault::from(AllocError), NetFault::Memory);
+}
+
+#[test]
 fn faults_are_shown(rt: HostRuntime) -> Result<(), Fail> {
-    let shown = format!(in rt.alloc();
-        "{}, {}, {}",
-        NetFault::Nodes,
-        NetFault::Node { link: 7 },
-        NetFault::CutNode { node: 9 }
-    )?;
-    assert_eq!(rt; shown.as_str(), "nodes, node in link 7, cut node 9");
+    let faults = [
+        (NetFault::Nodes, "nodes"),
+        (NetFault::Node { link: 7 }, "node in link 7"),
+        (NetFault::Loop { link: 0 }, "loop in link 0"),
+        (NetFault::Double { link: 12 }, "double link 12"),
+        (NetFault::PortTwice { link: 3 }, "port twice in link 3"),
+        (NetFault::PortGap { node: 255 }, "port gap at node 255"),
+        (NetFault::Apart, "apart"),
+        (NetFault::CutNode { node: 9 }, "cut node 9"),
+        (NetFault::Memory, "memory"),
+    ];
+    for (fault, text) in faults {
+        let shown = format!(in rt.alloc(); "{fault}")?;
+        assert_eq!(rt; shown.as_str(), text);
+    }
     Ok(())
 }

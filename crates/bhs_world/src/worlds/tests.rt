@@ -47,17 +47,31 @@ fn play(
     Ok(mark)
 }
 
-fn tell(
+/// Plays these events from the start of a match, and compares what is answered. The log is given back.
+fn assert_answers(
     rt: &impl Abort,
-    world: &mut World,
-    log: &mut Vec<Kept>,
-    agent: u16,
-    command: Command,
-) -> Result<Option<Mark>, AllocError>
-    requires { StandsFor world.old log.old.items }
-    ensures { OnOk result (StandsFor world.new log.new.items) }
-{
-    play(rt, world, log, Event::Tell { agent, command })
+    alloc: Global,
+    hole: Option<u16>,
+    script: Vec<(Event, Option<Mark>)>,
+) -> Result<Vec<Kept>, Fail> {
+    let mut world = triangle(alloc, hole)?;
+    let mut log = Vec::new(alloc);
+    for (event, mark) in script {
+        assert_eq!(rt;
+            play(rt, &mut world, &mut log, event)?,
+            mark,
+            "after {log:?}"
+        );
+    }
+    Ok(log)
+}
+
+fn tell(agent: u16, command: Command) -> Event {
+    Event::Tell { agent, command }
+}
+
+fn deliver(agent: u16) -> Event {
+    Event::Deliver { agent }
 }
 
 fn write(alloc: Global, expect: &str, put: &str) -> Result<Command, AllocError> {
@@ -141,27 +155,157 @@ fn setups_are_judged_in_order(rt: HostRuntime) -> Result<(), Fail> {
     Ok(())
 }
 
+fn depart(port: u16) -> Command {
+    Command::Depart { port }
+}
+
+fn no(why: Why) -> Option<Mark> {
+    Some(Mark::No(why))
+}
+
 #[test]
 fn a_write_compares_and_puts(rt: HostRuntime) -> Result<(), Fail> {
     let alloc = rt.alloc();
+    let script = vec![in alloc;
+        (tell(0, Command::Enter), here(None, None)),
+        (tell(1, Command::Enter), here(None, None)),
+        (tell(0, write(alloc, "", "a")?), Some(Mark::Written)),
+        (
+            tell(1, write(alloc, "", "b")?),
+            Some(Mark::Changed { board: Some(2) })
+        ),
+    ]?;
+    let log = assert_answers(&rt, alloc, Some(2), script)?;
+    assert_eq!(rt; text_at(&log, Some(2)), "a");
+    Ok(())
+}
+
+#[test]
+fn a_whiteboard_counts_bytes(rt: HostRuntime) -> Result<(), Fail> {
+    let alloc = rt.alloc();
+    let script = vec![in alloc;
+        (tell(0, Command::Enter), here(None, None)),
+        (tell(0, write(alloc, "", "12345678")?), Some(Mark::Written)),
+        (
+            tell(0, write(alloc, "12345678", "123456789")?),
+            no(Why::Long)
+        ),
+        (
+            tell(0, write(alloc, "12345678", "abcde€")?),
+            Some(Mark::Written)
+        ),
+        (tell(0, Command::Look), here(None, Some(3))),
+    ]?;
+    let log = assert_answers(&rt, alloc, Some(2), script)?;
+    assert_eq!(rt; text_at(&log, Some(3)), "abcde€");
+    Ok(())
+}
+
+#[test]
+fn a_quota_is_spent_by_refused_commands_too(rt: HostRuntime) -> Result<(), Fail> {
+    let alloc = rt.alloc();
+    let mut script = vec![in alloc;
+        (tell(0, Command::Enter), here(None, None)),
+        (tell(0, depart(2)), no(Why::Port)),
+    ]?;
+    for _ in 0..9 {
+        script.push((tell(0, Command::Look), here(None, None)))?;
+    }
+    script.push((tell(0, Command::Look), no(Why::Spent)))?;
+    // A team has no common quota.
+    script.push((tell(1, Command::Enter), here(None, None)))?;
+    script.push((tell(1, Command::Look), here(None, None)))?;
+    assert_answers(&rt, alloc, Some(2), script)?;
+    Ok(())
+}
+
+#[test]
+fn an_agent_leaves_with_its_quota_spent(rt: HostRuntime) -> Result<(), Fail> {
+    let alloc = rt.alloc();
+    let mut script = vec![in alloc; (tell(0, Command::Enter), here(None, None))]?;
+    for _ in 0..10 {
+        script.push((tell(0, Command::Look), here(None, None)))?;
+    }
+    script.push((tell(0, Command::Look), no(Why::Spent)))?;
+    script.push((tell(0, Command::Leave), Some(Mark::Bye)))?;
+    assert_answers(&rt, alloc, Some(2), script)?;
+    Ok(())
+}
+
+#[test]
+fn an_arrival_tells_the_label_at_the_node(rt: HostRuntime) -> Result<(), Fail> {
+    let alloc = rt.alloc();
+    let script = vec![in alloc;
+        (tell(0, Command::Enter), here(None, None)),
+        (tell(0, depart(0)), Some(Mark::Gone)),
+        (deliver(0), here(Some(0), None)),
+        (tell(0, depart(1)), Some(Mark::Gone)),
+        (deliver(0), here(Some(0), None)),
+        (deliver(0), None),
+    ]?;
+    assert_answers(&rt, alloc, None, script)?;
+    Ok(())
+}
+
+#[test]
+fn a_lost_agent_is_answered_as_one_in_transit(rt: HostRuntime) -> Result<(), Fail> {
+    let alloc = rt.alloc();
+    let script = vec![in alloc;
+        (tell(0, Command::Enter), here(None, None)),
+        (tell(0, depart(0)), Some(Mark::Gone)),
+        (tell(0, Command::Look), no(Why::Away)),
+        (tell(0, Command::Leave), Some(Mark::Bye)),
+        (deliver(0), None),
+        (tell(1, Command::Enter), here(None, None)),
+        (tell(1, depart(1)), Some(Mark::Gone)),
+        (deliver(1), None),
+        (deliver(1), None),
+        (tell(1, Command::Look), no(Why::Away)),
+        (tell(1, Command::Leave), Some(Mark::Bye)),
+    ]?;
+    let log = assert_answers(&rt, alloc, Some(2), script)?;
+    // Kept are the commands, and of the Delivers the one that destroys agent 1.
+    assert_eq!(rt; log.len(), 9);
+    Ok(())
+}
+
+#[test]
+fn refusals_come_in_order(rt: HostRuntime) -> Result<(), Fail> {
+    let alloc = rt.alloc();
+    let script = vec![in alloc;
+        (tell(2, Command::Look), no(Why::Agent)),
+        (tell(0, Command::Look), no(Why::Outside)),
+        (tell(0, Command::Leave), no(Why::Outside)),
+        (tell(0, Command::Enter), here(None, None)),
+        (tell(0, Command::Enter), no(Why::Twice)),
+        (tell(0, Command::Bad), no(Why::Line)),
+        (tell(0, Command::Leave), Some(Mark::Bye)),
+        (tell(0, Command::Look), no(Why::Ended)),
+        (tell(0, Command::Enter), no(Why::Twice)),
+        (tell(1, Command::Enter), here(None, None)),
+        (tell(1, Command::Accuse { port: 2 }), no(Why::Port)),
+        (tell(1, Command::Accuse { port: 0 }), Some(Mark::Noted)),
+        (tell(1, Command::Leave), no(Why::Ended)),
+        (Event::Close, None),
+        (tell(0, Command::Look), Some(Mark::Over)),
+        (tell(2, Command::Look), no(Why::Agent)),
+        (Event::Close, None),
+    ]?;
+    assert_answers(&rt, alloc, Some(2), script)?;
+    Ok(())
+}
+
+#[test]
+fn a_world_shows_what_it_keeps(rt: HostRuntime) -> Result<(), Fail> {
+    let alloc = rt.alloc();
     let mut world = triangle(alloc, Some(2))?;
     let mut log = Vec::new(alloc);
-    assert_eq!(rt;
-        tell(&rt, &mut world, &mut log, 0, Command::Enter)?,
-        here(None, None)
-    );
-    assert_eq!(rt;
-        tell(&rt, &mut world, &mut log, 1, Command::Enter)?,
-        here(None, None)
-    );
-    assert_eq!(rt;
-        tell(&rt, &mut world, &mut log, 0, write(alloc, "", "a")?)?,
-        Some(Mark::Written)
-    );
-    assert_eq!(rt;
-        tell(&rt, &mut world, &mut log, 1, write(alloc, "", "b")?)?,
-        Some(Mark::Changed { board: Some(2) })
-    );
-    assert_eq!(rt; text_at(&log, Some(2)), "a");
+    play(&rt, &mut world, &mut log, tell(0, Command::Enter))?;
+    play(&rt, &mut world, &mut log, tell(0, write(alloc, "", "a")?))?;
+    assert_eq!(rt; world.setup().agents, 2);
+    assert_eq!(rt; world.net().nodes(), 3);
+    assert_eq!(rt; world.agent(0).node(), Some(0));
+    assert_eq!(rt; (world.last(0), world.last(1)), (Some(1), None));
+    assert!(rt; !world.closed());
     Ok(())
 }

@@ -1,9 +1,9 @@
-use Rattle.std.proofs.Common.{◌≡◌, ◌≢◌, ℕ, ◌<◌, ◌≤◌, ◌⊎◌, inl, inr, ⊎_elim, length, arith, true, false, refl, sym, ◌∙◌, subst, Vec, Global}
+use Rattle.std.proofs.Common.{◌≢◌, ◌<◌, ◌≤◌, inl, inr, ⊎_elim, arith, refl, sym, subst, Vec, Global}
 use Rattle.std.proofs.lemmas.List.{length-map}
 use Rattle.bhs_net.specs.Links.{End}
 use Rattle.bhs_net.specs.Network.{nodes_of, AreJoinedWithout}
-use Rattle.bhs_net.proofs.Degrees.{items_of}
-use Rattle.bhs_net.proofs.Doubles.{below_or_at}
+use Rattle.bhs_net.specs.Network.{network_of}
+use Rattle.bhs_net.proofs.Places.{below_or_at}
 use Rattle.bhs_net.proofs.Walks.{joined_without, connected, apart, is_cut, not_cut}
 use Rattle.bhs_net.proofs.search.check_paths.Goals as goal
 use Rattle.bhs_net.proofs.search.check_paths.Goals.{then-node-eq0, else-node-eq0}
@@ -12,12 +12,12 @@ pub returns-then-not-branch-clause-err : goal.returns-then-not-branch-clause-err
 returns-then-not-branch-clause-err c =
     let missed = rw c.if-not-branch.true at c.in_ok-reaches_all.ensures in
     let all = length-map c.args.rows.now (λ (r : Vec End Global). r.items) in
-    let few : 3 ≤ nodes_of (items_of c.args.rows.now) = c.requires.few in
-    inr (inl (refl, apart (items_of c.args.rows.now) c.requires 0 _ (omega arith) (omega arith) missed))
+    let few : 3 ≤ nodes_of (network_of c.args.rows.now) = c.requires.few in
+    inr (inl (refl, apart (network_of c.args.rows.now) c.requires 0 _ (omega arith) (omega arith) missed))
 
 pub returns-then-not-branch-2-clause-err : goal.returns-then-not-branch-2-clause-err
 returns-then-not-branch-2-clause-err c =
-    let net = items_of c.args.rows.now in
+    let net = network_of c.args.rows.now in
     let all = length-map c.args.rows.now (λ (r : Vec End Global). r.items) in
     let few : 3 ≤ nodes_of net = c.requires.few in
     let reached = rw c.if-not-branch.false at c.in_ok-reaches_all.ensures in
@@ -36,7 +36,7 @@ returns-then-not-branch-2-clause-err c =
 
 pub loop-node-preserved : goal.loop-node-preserved
 loop-node-preserved c =
-    let net = items_of c.args.rows.now in
+    let net = network_of c.args.rows.now in
     let reached = rw c.if-not-branch-2.false at c.in_ok-reaches_all-2.ensures in
     λ cut h. ⊎_elim
     (λ below. c.loop-node.invariant cut below)
@@ -45,7 +45,7 @@ loop-node-preserved c =
 
 pub returns-clause-ok : goal.returns-clause-ok
 returns-clause-ok c =
-    let net = items_of c.args.rows.now in
+    let net = network_of c.args.rows.now in
     let all = length-map c.args.rows.now (λ (r : Vec End Global). r.items) in
     let reached = rw c.if-not-branch.false at c.in_ok-reaches_all.ensures in
     record {

@@ -1,7 +1,6 @@
-use Rattle.std.proofs.Common.{◌≡◌, ◌≢◌, ℕ, ◌<◌, ◌≤◌, ◌⊎◌, inl, inr, ⊎_elim, length, arith, true, false, sym, ap, ◌∙◌, subst, get_or, Bool, List}
+use Rattle.std.proofs.Common.{◌≡◌, ⊎_elim, length, arith, true, false, sym, ap, ◌∙◌, subst, get_or, Bool, List}
 use Rattle.bhs_net.specs.Search.{IsMarked}
-use Rattle.bhs_net.proofs.Degrees.{items_of}
-use Rattle.bhs_net.proofs.Doubles.{below_or_at}
+use Rattle.bhs_net.proofs.Places.{below_or_at}
 use Rattle.bhs_net.proofs.search.reaches_all.Goals as goal
 
 pub loop-node-init : goal.loop-node-init

@@ -1,0 +1,142 @@
+ghost use Rattle.std.specs.Prelude.{◌≡◌, ◌+◌, ◌≤◌, ◌∷◌, ◌++◌, length, map, false, option_map, option_and_then, MatchOption, IsOk, IfOk, OnOk, OnErr};
+ghost use Rattle.std.specs.List.{list_any, position};
+ghost use Rattle.std.specs.Option.{ForSome};
+ghost use Rattle.bhs_wire.specs.Lines.{seen, given, is_line_feed, kept, lines, rest, ended_by};
+
+use crate::commands::{First, command_of};
+use crate::kinds::is_blank;
+use bhs_model::{Command, MAX_LINE};
+use bhs_net::Memory;
+use std::alloc::Global;
+
+/// A line that a client sent, without its line feed.
+#[derive(Clone, Debug, PartialEq, Eq, Drop)]
+pub enum Raw {
+    /// The bytes of a line that is neither blank nor too long.
+    Whole(Vec<u8>),
+    /// A line of more than `MAX_LINE` bytes.
+    Over,
+}
+
+impl Raw {
+    ghost use Rattle.bhs_wire.specs.Lines.{said_by};
+
+    /// What the client means by the line.
+    pub fn said(&self, alloc: Global) -> Result<First, Memory>
+        ensures said { IfOk result (λ first. first ≡ said_by (seen self.now)) }
+        // An overlong line takes no memory.
+        ensures unread { self.now ≡ Raw.Over → IsOk result }
+    {
+        match self {
+            Raw::Whole(line) => command_of(alloc, line),
+            Raw::Over => Ok(First::Tell(Command::Bad)),
+        }
+    }
+}
+
+// The bytes before the first line feed, and those after it.
+pub(crate) fn split_line(bytes: &[u8]) -> Option<(&[u8], &[u8])>
+    ensures { MatchOption result (list_any is_line_feed bytes.now ≡ false)
+        (λ parts. (bytes.now ≡ parts.0.now ++ 10 ∷ parts.1.now) × (list_any is_line_feed parts.0.now ≡ false)) }
+{
+    let end = line_end(bytes)?;
+    Some((&bytes[..end], &bytes[end + 1..]))
+}
+
+fn line_end(bytes: &[u8]) -> Option<usize>
+    ensures { result ≡ position is_line_feed bytes.now }
+{
+    bytes.iter().position(|byte| *byte == b'\n')
+}
+
+// Adds what the line gives that was held in part, and ends here.
+pub(crate) fn push_first(
+    alloc: Global,
+    found: &mut Vec<Raw>,
+    held: &Option<Vec<u8>>,
+    end: &[u8],
+) -> Result<(), Memory>
+    requires { ForSome held.now (λ line. length line.items ≤ MAX_LINE) }
+    ensures { OnOk result (map seen found.new.items ≡ map seen found.old.items
+        ++ ended_by (option_map (λ line. line.items) held.now) end.now) }
+{
+    match held {
+        Some(front) => push_line(alloc, found, front, end)?,
+        None => found.push(Raw::Over)?,
+    }
+    Ok(())
+}
+
+// Adds the lines that end in the bytes, and gives what stands after the last line feed.
+pub(crate) fn push_lines<'b>(
+    alloc: Global,
+    found: &mut Vec<Raw>,
+    bytes: &'b [u8],
+) -> Result<&'b [u8], Memory>
+    ensures found { OnOk result (map seen found.new.items ≡ map seen found.old.items ++ lines bytes.now) }
+    ensures rest { IfOk result (λ after. after.now ≡ rest bytes.now) }
+{
+    let mut after = bytes;
+    while let Some((line, more)) = split_line(after) {
+        push_line(alloc, found, &[], line)?;
+        after = more;
+    }
+    Ok(after)
+}
+
+// Adds what a line gives that lies in two parts. One that is too long is not put together.
+fn push_line(alloc: Global, found: &mut Vec<Raw>, front: &[u8], end: &[u8]) -> Result<(), Memory>
+    requires { length front.now ≤ MAX_LINE }
+    ensures { OnOk result (map seen found.new.items ≡ map seen found.old.items ++ given (front.now ++ end.now)) }
+{
+    if end.len() > MAX_LINE - front.len() {
+        found.push(Raw::Over)?;
+        return Ok(());
+    }
+    if is_blank(front) && is_blank(end) {
+        return Ok(());
+    }
+    let line = joined(alloc, front, end)?;
+    found.push(Raw::Whole(line))?;
+    Ok(())
+}
+
+fn joined(alloc: Global, front: &[u8], end: &[u8]) -> Result<Vec<u8>, Memory>
+    requires { length front.now + length end.now ≤ MAX_LINE }
+    ensures { IfOk result (λ line. line.items ≡ front.now ++ end.now) }
+{
+    let mut line = Vec::with_capacity(alloc, front.len() + end.len())?;
+    line.extend_from_slice(front)?;
+    line.extend_from_slice(end)?;
+    Ok(line)
+}
+
+// Holds more of an unfinished line, or none of it once it is too long.
+pub(crate) fn hold(held: &mut Option<Vec<u8>>, piece: &[u8]) -> Result<(), Memory>
+    requires { ForSome held.old (λ line. length line.items ≤ MAX_LINE) }
+    ensures ok { OnOk result (option_map (λ line. line.items) held.new
+        ≡ option_and_then (λ line. kept (line.items ++ piece.now)) held.old) }
+    ensures err { OnErr result (option_map (λ line. line.items) held.new
+        ≡ option_map (λ line. line.items) held.old) }
+    ensures bound { ForSome held.new (λ line. length line.items ≤ MAX_LINE) }
+{
+    if let Some(line) = held {
+        if piece.len() > MAX_LINE - line.len() {
+            *held = None;
+        } else {
+            line.extend_from_slice(piece)?;
+        }
+    }
+    Ok(())
+}
+
+// An unfinished line, held from its start.
+pub(crate) fn keep(alloc: Global, line: &[u8]) -> Result<Option<Vec<u8>>, Memory>
+    ensures held { IfOk result (λ held. option_map (λ bytes. bytes.items) held ≡ kept line.now) }
+    ensures bound { IfOk result (λ held. ForSome held (λ bytes. length bytes.items ≤ MAX_LINE)) }
+{
+    if line.len() > MAX_LINE {
+        return Ok(None);
+    }
+    Ok(Some(Vec::from_slice(alloc, line)?))
+}
