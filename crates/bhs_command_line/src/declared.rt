@@ -25,20 +25,27 @@ const REHEARSE: &str = "Plays the script on standard input on the built-in match
 
 const REHEARSE_AT_LENGTH: &str = "\
 Plays the script on standard input on the built-in match: the triangle, whose
-nodes 0, 1 and 2 have two ports each. Agent 0 enters at node 0 with the key
-\"ka\". Node 2 is the black hole.
+nodes 0, 1 and 2 have two ports each. Its one agent, agent 0, enters at node 0,
+and may say 10 commands more. Node 2 is the black hole. A whiteboard holds 8
+bytes.
 
 Each line of the script is one of these:
 
-  0 REST     Feeds the line REST to the connection of agent 0
-  draw 0 W   Delivers the agent that is on a link. W is any word from 0 to
+  0 REST     The agent says the line REST
+  draw 0 W   The agent arrives, if it is on a link. W is any word from 0 to
              4294967295
+
+Empty lines and lines that begin with # are skipped.
 
 What REST may be:
 
-  {\"do\":\"enter\",\"key\":\"ka\"}   Enters the network. This line comes first
+  {\"do\":\"enter\",\"key\":\"ka\"}   Enters the network. The key is not looked at yet
   {\"do\":\"look\"}               Looks again at the node
+  {\"do\":\"write\",\"expect\":\"\",\"put\":\"a\"}
+                              Writes a on a whiteboard that shows nothing
   {\"do\":\"depart\",\"port\":0}    Departs by port 0 of the node
+  {\"do\":\"accuse\",\"port\":1}    Says that port 1 leads to the black hole, and ends
+  {\"do\":\"leave\"}              Ends
 
 Each line that the agent is told is printed as `0 LINE`.";
 
