@@ -20,6 +20,6 @@ has_room world events agent = nat_lt (used (past world events agent)) world.quot
 -- neither has. It is not asked which of them is lost.
 abbrev pub AwayAlike : Type 0
 AwayAlike = (world : World) (events : List Event) (agent other : ℕ) (command : Command) →
-    IsAway world events agent → IsAway world events other →
-    has_room world events agent ≡ has_room world events other →
-    reply world (run world events) (Tell agent command) ≡ reply world (run world events) (Tell other command)
+  IsAway world events agent → IsAway world events other →
+  has_room world events agent ≡ has_room world events other →
+  reply world (run world events) (Tell agent command) ≡ reply world (run world events) (Tell other command)
