@@ -1,0 +1,16 @@
+-- Faults of parts.
+use Rattle.std.proofs.Common.{◌≡◌, Result, Err}
+use Rattle.bhs_files.specs.declared.faults.FileFault.{FileFault}
+use Rattle.bhs_files.specs.declared.faults.FileFault.TheVariants.{Toml, Version, Missing, Shape, Net, KeyTwice, Held, Memory}
+use Rattle.bhs_files.specs.Reading.{Fails}
+
+-- a fault of a part is one of the whole
+pub fails_with : {A B : Type 0} (fault : FileFault) (part : Result A FileFault) (whole : Result B FileFault) → (part ≡ Err fault → whole ≡ Err fault) → Fails fault part → Fails fault whole
+fails_with Memory part whole f h = tt
+fails_with Toml part whole f h = f h
+fails_with Version part whole f h = f h
+fails_with (Missing game key) part whole f h = f h
+fails_with (Shape game key) part whole f h = f h
+fails_with (Net fault) part whole f h = f h
+fails_with (KeyTwice game agent) part whole f h = f h
+fails_with (Held game index) part whole f h = f h

@@ -1,0 +1,7 @@
+pub mod Each
+pub mod Failing
+pub mod KeyTableLemmas
+pub mod KeysFind
+pub mod Matches
+pub mod NamesLemmas
+pub mod Values

@@ -1,0 +1,9 @@
+pub mod Words
+pub mod Shapes
+pub mod Reading
+pub mod Documents
+pub mod Tournaments
+pub mod Names
+pub mod KeyTable
+pub mod Seats
+pub mod NetworkFiles

@@ -1,0 +1,17 @@
+-- Names in the order in which they are first seen.
+use Rattle.std.specs.Prelude.{ℕ, Bool, not, nat_eq, List, [], ◌∷◌, filter}
+use Rattle.std.specs.List.{list_any}
+use Rattle.std.specs.Cmp.Lexicographic.{pointwise}
+
+-- the two names have the same bytes
+abbrev pub same_name : List ℕ → List ℕ → Bool
+same_name = pointwise nat_eq
+
+-- the first name, and then the others without it
+abbrev pub first_seen : List (List ℕ) → List (List ℕ)
+first_seen [] = []
+first_seen (name ∷ names) = name ∷ filter (λ other. not (same_name other name)) (first_seen names)
+
+-- the name is one of these
+abbrev pub is_among : List (List ℕ) → List ℕ → Bool
+is_among names name = list_any (same_name name) names

@@ -1,0 +1,86 @@
+-- What each key of the two files may hold: the value that the data stands for, or None where it has another shape.
+use Rattle.std.specs.Prelude.{ℕ, pos, Bool, ◌&&◌, ◌||◌, ◌==◌, ◌+◌, ◌∷◌, not, nat_eq, nat_le, if◌then◌else◌, List, [], length, codes, Option, Some, None, option_map, option_and_then}
+use Rattle.std.specs.List.{list_all}
+use Rattle.std.specs.Cmp.Lexicographic.{pointwise}
+use Rattle.std.specs.Result.{result_ok}
+use Rattle.toml.specs.Data.{Data, string, integer, array, Items, no_items, item, Members, as_table}
+use Rattle.hex.specs.Hex.{decode_sized}
+use Rattle.bhs_files.specs.declared.limits.TheConstants.{SEED_BYTES, MAX_MATCHES, MAX_TEAM, MAX_NETWORK_NAME, MAX_KEY, MAX_KEYS}
+
+-- a whole number 0 to 65,535
+abbrev pub number : Data → Option ℕ
+number (integer (pos n)) = if nat_le n 65535 then Some n else None
+number _ = None
+
+-- a text that passes the test
+abbrev pub text_where : (List ℕ → Bool) → Data → Option (List ℕ)
+text_where test (string bytes) = if test bytes then Some bytes else None
+text_where test _ = None
+
+-- at least one byte, and no more than these
+abbrev pub is_sized : ℕ → List ℕ → Bool
+is_sized most bytes = nat_le 1 (length bytes) && nat_le (length bytes) most
+
+-- `a` to `z`, `0` to `9`, or `-`
+abbrev pub is_team_character : ℕ → Bool
+is_team_character c = (nat_le 97 c && nat_le c 122) || (nat_le 48 c && nat_le c 57) || (c == 45)
+
+-- the name of a team
+abbrev pub is_team : List ℕ → Bool
+is_team bytes = is_sized MAX_TEAM bytes && list_all is_team_character bytes
+
+-- the name of a network's file
+abbrev pub is_network_name : List ℕ → Bool
+is_network_name bytes = is_sized MAX_NETWORK_NAME bytes && list_all (λ byte. not (byte == 0)) bytes
+
+abbrev pub team : Data → Option (List ℕ)
+team = text_where is_team
+
+abbrev pub network_name : Data → Option (List ℕ)
+network_name = text_where is_network_name
+
+-- a key that lets an agent enter
+abbrev pub key : Data → Option (List ℕ)
+key = text_where (is_sized MAX_KEY)
+
+-- the bytes that twice as many hexadecimal digits spell, of either case
+abbrev pub seed : Data → Option (List ℕ)
+seed (string text) = result_ok (decode_sized text SEED_BYTES)
+seed _ = None
+
+-- the node of the black hole, or no node where the text is `none`
+abbrev pub hole : Data → Option (Option ℕ)
+hole (string text) = if pointwise nat_eq text (codes "none") then Some None else None
+hole found = option_map (λ node. Some node) (number found)
+
+-- a list of two numbers
+abbrev pub pair : Data → Option (ℕ × ℕ)
+pair (array (item a (item b no_items))) = option_and_then (λ node. option_map (λ port. (node, port)) (number b)) (number a)
+pair _ = None
+
+abbrev pub count : Items → ℕ
+count no_items = 0
+count (item d ds) = count ds + 1
+
+-- a list that is read so
+abbrev pub list_where : {A : Type 0} → (Items → Option A) → Data → Option A
+list_where read (array items) = read items
+list_where read _ = None
+
+module _ {A : Type 0} (shape : Data → Option A) where
+  -- each item in the shape
+  abbrev pub each : Items → Option (List A)
+  each no_items = Some []
+  each (item d ds) = option_and_then (λ v. option_map (λ vs. v ∷ vs) (each ds)) (shape d)
+
+-- the keys of a match's agents
+abbrev pub keys : Data → Option (List (List ℕ))
+keys = list_where (λ items. if nat_le (count items) MAX_KEYS then each key items else None)
+
+-- held links, each as a node and a port
+abbrev pub held : Data → Option (List (ℕ × ℕ))
+held = list_where (each pair)
+
+-- the tables of 1 to `MAX_MATCHES` matches
+abbrev pub matches : Data → Option (List Members)
+matches = list_where (λ items. if nat_le 1 (count items) && nat_le (count items) MAX_MATCHES then each as_table items else None)

@@ -1,0 +1,18 @@
+use Rattle.std.specs.Prelude.{ℕ, List, codes}
+use Rattle.bhs_files.specs.declared.file_keys.FileKey.{FileKey}
+use Rattle.bhs_files.specs.declared.file_keys.FileKey.TheVariants.{Nodes, Links, Seed, Match, Team, Network, Home, Hole, Quota, Board, Keys, Held}
+
+-- a key as the files spell it
+abbrev pub word : FileKey → List ℕ
+word Nodes = codes "nodes"
+word Links = codes "links"
+word Seed = codes "seed"
+word Match = codes "match"
+word Team = codes "team"
+word Network = codes "network"
+word Home = codes "home"
+word Hole = codes "hole"
+word Quota = codes "quota"
+word Board = codes "board"
+word Keys = codes "keys"
+word Held = codes "held"

@@ -1,0 +1,28 @@
+//! The files of a tournament: networks and matches in TOML, and the keys that let agents enter.
+#![tactic(auto)]
+
+mod documents;
+mod faults;
+mod file_keys;
+mod fixtures;
+mod key_table;
+pub mod laws;
+mod limits;
+mod network_files;
+mod shapes;
+mod tables;
+mod tournament_files;
+mod tournaments;
+
+pub use faults::FileFault;
+pub use file_keys::FileKey;
+pub use fixtures::Fixture;
+pub use key_table::Keys;
+pub use limits::{MAX_KEY, MAX_KEYS, MAX_MATCHES, MAX_NETWORK_NAME, MAX_TEAM, SEED_BYTES, VERSION};
+pub use network_files::read_network;
+pub use shapes::is_team;
+pub use tournament_files::read_tournament;
+pub use tournaments::Tournament;
+
+#[cfg(test)]
+mod tests;

@@ -1,0 +1,20 @@
+/// The version of the two file formats.
+pub const VERSION: u16 = 1;
+
+/// How many bytes a seed has. A file spells each by two hexadecimal digits.
+pub const SEED_BYTES: usize = 32;
+
+/// The most matches of a tournament. The least is 1.
+pub const MAX_MATCHES: usize = 64;
+
+/// The most characters of a team's name. The least is 1.
+pub const MAX_TEAM: usize = 16;
+
+/// The most bytes of the name of a network's file. The least is 1.
+pub const MAX_NETWORK_NAME: usize = 255;
+
+/// The most bytes of a key that lets an agent enter. The least is 1.
+pub const MAX_KEY: usize = 64;
+
+/// The most keys of one match.
+pub const MAX_KEYS: usize = 65_535;

@@ -1,0 +1,76 @@
+//! Reading a network file.
+
+ghost use Rattle.std.specs.Prelude.{◌≡◌, None, option_map, IfOk, IfErr};
+ghost use Rattle.toml.specs.View.{view, items_view, table_view};
+ghost use Rattle.bhs_files.specs.declared.file_keys.FileKey.TheVariants as keys;
+ghost use Rattle.bhs_files.specs.Shapes.{each};
+ghost use Rattle.bhs_files.specs.Reading.{GivesUnlessMemory, required};
+ghost use Rattle.bhs_files.specs.NetworkFiles.{link, links, listing_of, listing_in, IsNetworkOf, RefusesFile};
+
+use crate::faults::FileFault;
+use crate::file_keys::FileKey;
+use crate::{documents, shapes, tables};
+use bhs_net::{Link, Memory, Net};
+use std::alloc::Global;
+use toml::{Table, Value};
+
+fn link(value: &Value) -> Option<Link>
+    ensures { result ≡ link (view value.now) }
+{
+    match value.as_array()?.as_slice() {
+        [v, p, w, q] => Some(Link {
+            v: shapes::number(v)?,
+            p: shapes::number(p)?,
+            w: shapes::number(w)?,
+            q: shapes::number(q)?,
+        }),
+        _ => None,
+    }
+}
+
+fn each_link(alloc: Global, items: &[Value]) -> Result<Option<Vec<Link>>, Memory>
+    ensures { IfOk result
+        (λ found. option_map (λ links. links.items) found ≡ each link (items_view items.now)) }
+{
+    let mut links = Vec::new(alloc);
+    for item in items {
+        let Some(link) = link(item) else {
+            return Ok(None);
+        };
+        links.push(link)?;
+    }
+    Ok(Some(links))
+}
+
+fn links(alloc: Global, value: &Value) -> Result<Option<Vec<Link>>, Memory>
+    ensures { IfOk result (λ found. option_map (λ links. links.items) found ≡ links (view value.now)) }
+{
+    match value.as_array() {
+        Some(items) => each_link(alloc, items),
+        None => Ok(None),
+    }
+}
+
+#[tactic(auto, unfolding(crate::specs::NetworkFiles::listing_of))]
+fn listing(alloc: Global, table: &Table) -> Result<(u16, Vec<Link>), FileFault>
+    ensures { GivesUnlessMemory (λ listing. (listing.0, listing.1.items)) result
+        (listing_of (table_view table.now)) }
+{
+    let nodes = tables::number(None, FileKey::Nodes, table)?;
+    let value = tables::present(None, FileKey::Links, table)?;
+    let links = tables::shaped(None, FileKey::Links, links(alloc, value)?)?;
+    Ok((nodes, links))
+}
+
+/// Reads a network file. The first fault is told: the text is no TOML document, then its version, then `nodes`
+/// and `links`, whatever the order in the file, and then the first fault of the network that is listed. Other
+/// keys are ignored.
+#[tactic(auto, unfolding(crate::specs::NetworkFiles::listing_in))]
+pub fn read_network(alloc: Global, text: &str) -> Result<Net, FileFault>
+    ensures made { IfOk result (IsNetworkOf (listing_in text.now)) }
+    ensures refused { IfErr result (RefusesFile (listing_in text.now)) }
+{
+    let table = documents::table(alloc, text)?;
+    let (nodes, links) = listing(alloc, &table)?;
+    Ok(Net::try_new(alloc, nodes, &links)?)
+}

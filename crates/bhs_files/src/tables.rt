@@ -1,0 +1,118 @@
+//! What a table says at each key, or the fault of the key.
+
+ghost use Rattle.std.specs.Prelude.{◌≡◌, ◌≤◌, ℕ, Some, None, IfOk, [], codes, option_map, option_and_then, vec_len, map};
+ghost use Rattle.toml.specs.Data.{get_member};
+ghost use Rattle.toml.specs.View.{view, table_view};
+ghost use Rattle.bhs_files.specs.Words.{word};
+ghost use Rattle.bhs_files.specs.Reading.{Gives, GivesUnlessMemory, present, shaped, required, optional};
+ghost use Rattle.bhs_files.specs.Shapes as shapes;
+ghost use Rattle.bhs_files.specs.declared.file_keys.FileKey.TheVariants as keys;
+
+use crate::faults::FileFault;
+use crate::file_keys::FileKey;
+use crate::limits::{MAX_KEYS, MAX_MATCHES, SEED_BYTES};
+use crate::shapes;
+use bhs_model::Text;
+use std::alloc::Global;
+use toml::{Table, Value};
+
+/// The value of a key, if the table has the key.
+pub fn lookup<'a>(table: &'a Table, key: &str) -> Option<&'a Value>
+    ensures { option_map (λ value. view value.now) result ≡ get_member key.now (table_view table.now) }
+{
+    table.get(key)
+}
+
+/// The value of a key that the table must have.
+pub fn present(game: Option<u32>, key: FileKey, table: &Table) -> Result<&Value, FileFault>
+    ensures { Gives (λ value. view value.now) result
+        (present game key (get_member (word key) (table_view table.now))) }
+{
+    match lookup(table, key.word()) {
+        Some(value) => Ok(value),
+        None => Err(FileFault::Missing { game, key }),
+    }
+}
+
+/// What the value of a key stands for, if it has the key's shape.
+pub fn shaped<T: Drop>(game: Option<u32>, key: FileKey, value: Option<T>) -> Result<T, FileFault>
+    ensures { result ≡ shaped game key value }
+{
+    value.ok_or(FileFault::Shape { game, key })
+}
+
+pub fn number(game: Option<u32>, key: FileKey, table: &Table) -> Result<u16, FileFault>
+    ensures { result ≡ required game key shapes.number (table_view table.now) }
+{
+    shaped(game, key, shapes::number(present(game, key, table)?))
+}
+
+pub fn seed(table: &Table) -> Result<[u8; SEED_BYTES], FileFault>
+    ensures { result ≡ required None keys.Seed shapes.seed (table_view table.now) }
+{
+    shaped(
+        None,
+        FileKey::Seed,
+        shapes::seed(present(None, FileKey::Seed, table)?),
+    )
+}
+
+pub fn matches(alloc: Global, table: &Table) -> Result<Vec<&Table>, FileFault>
+    ensures reads { GivesUnlessMemory (λ tables. map (λ table. table_view table.now) tables.items) result
+        (required None keys.Match shapes.matches (table_view table.now)) }
+    ensures few { IfOk result (λ tables. vec_len tables ≤ MAX_MATCHES) }
+{
+    let value = present(None, FileKey::Match, table)?;
+    shaped(None, FileKey::Match, shapes::matches(alloc, value)?)
+}
+
+pub fn team(game: Option<u32>, table: &Table) -> Result<&str, FileFault>
+    ensures { Gives (λ name. name.now) result
+        (required game keys.Team shapes.team (table_view table.now)) }
+{
+    shaped(
+        game,
+        FileKey::Team,
+        shapes::team(present(game, FileKey::Team, table)?),
+    )
+}
+
+pub fn network(game: Option<u32>, table: &Table) -> Result<&str, FileFault>
+    ensures { Gives (λ name. name.now) result
+        (required game keys.Network shapes.network_name (table_view table.now)) }
+{
+    shaped(
+        game,
+        FileKey::Network,
+        shapes::network_name(present(game, FileKey::Network, table)?),
+    )
+}
+
+pub fn hole(game: Option<u32>, table: &Table) -> Result<Option<u16>, FileFault>
+    ensures { result ≡ required game keys.Hole shapes.hole (table_view table.now) }
+{
+    shaped(
+        game,
+        FileKey::Hole,
+        shapes::hole(present(game, FileKey::Hole, table)?),
+    )
+}
+
+pub fn keys(alloc: Global, game: Option<u32>, table: &Table) -> Result<Vec<Text>, FileFault>
+    ensures reads { GivesUnlessMemory (λ keys. keys.items) result
+        (required game keys.Keys shapes.keys (table_view table.now)) }
+    ensures few { IfOk result (λ keys. vec_len keys ≤ MAX_KEYS) }
+{
+    let value = present(game, FileKey::Keys, table)?;
+    shaped(game, FileKey::Keys, shapes::keys(alloc, value)?)
+}
+
+pub fn held(alloc: Global, game: Option<u32>, table: &Table) -> Result<Vec<(u16, u16)>, FileFault>
+    ensures { GivesUnlessMemory (λ pairs. pairs.items) result
+        (optional game keys.Held shapes.held [] (table_view table.now)) }
+{
+    match lookup(table, FileKey::Held.word()) {
+        Some(value) => shaped(game, FileKey::Held, shapes::held(alloc, value)?),
+        None => Ok(Vec::new(alloc)),
+    }
+}

@@ -1,0 +1,74 @@
+//! Reading a tournament file.
+
+ghost use Rattle.std.specs.Prelude.{◌≡◌, ◌<◌, ◌^◌, IfOk, map, vec_len, length};
+ghost use Rattle.toml.specs.View.{table_view};
+ghost use Rattle.bhs_files.specs.Reading.{GivesUnlessMemory};
+ghost use Rattle.bhs_files.specs.Tournaments.{planned, plan, match_in, matches_in, plan_in, tournament_in};
+
+use crate::faults::FileFault;
+use crate::file_keys::FileKey;
+use crate::fixtures::Fixture;
+use crate::tournaments::Tournament;
+use crate::{documents, shapes, tables};
+use std::alloc::Global;
+use toml::Table;
+
+#[tactic(auto, unfolding(crate::specs::Tournaments::match_in))]
+fn fixture(alloc: Global, game: u32, table: &Table) -> Result<Fixture, FileFault>
+    ensures { GivesUnlessMemory planned result (match_in game (table_view table.now)) }
+{
+    let place = Some(game);
+    let team = tables::team(place, table)?;
+    let network = tables::network(place, table)?;
+    let home = tables::number(place, FileKey::Home, table)?;
+    let hole = tables::hole(place, table)?;
+    let quota = tables::number(place, FileKey::Quota, table)?;
+    let board = tables::number(place, FileKey::Board, table)?;
+    let keys = tables::keys(alloc, place, table)?;
+    let held = tables::held(alloc, place, table)?;
+    Ok(Fixture {
+        team: shapes::copied(alloc, team)?,
+        network: shapes::copied(alloc, network)?,
+        home,
+        hole,
+        quota,
+        board,
+        keys,
+        held,
+    })
+}
+
+fn fixtures(alloc: Global, tables: &[&Table]) -> Result<Vec<Fixture>, FileFault>
+    requires { length tables.now < 2 ^ 32 }
+    ensures reads { GivesUnlessMemory (λ fixtures. map planned fixtures.items) result
+        (matches_in 0 (map (λ table. table_view table.now) tables.now)) }
+    ensures len { IfOk result (λ fixtures. vec_len fixtures ≡ length tables.now) }
+{
+    let mut fixtures = Vec::new(alloc);
+    for (game, table) in tables.iter().enumerate() {
+        fixtures.push(fixture(alloc, game as u32, table)?)?;
+    }
+    Ok(fixtures)
+}
+
+#[tactic(auto, unfolding(crate::specs::Tournaments::plan_in))]
+fn tournament(alloc: Global, table: &Table) -> Result<Tournament, FileFault>
+    ensures { GivesUnlessMemory plan result (plan_in (table_view table.now)) }
+{
+    let seed = tables::seed(table)?;
+    let matches = tables::matches(alloc, table)?;
+    Ok(Tournament {
+        seed,
+        matches: fixtures(alloc, &matches)?,
+    })
+}
+
+/// Reads a tournament file. The first fault is told: the text is no TOML document, then its version, then
+/// `seed` and `match`, and then match by match `team`, `network`, `home`, `hole`, `quota`, `board`, `keys`
+/// and `held`, whatever the order in the file. Other keys are ignored.
+#[tactic(auto, unfolding(crate::specs::Tournaments::tournament_in))]
+pub fn read_tournament(alloc: Global, text: &str) -> Result<Tournament, FileFault>
+    ensures { GivesUnlessMemory plan result (tournament_in text.now) }
+{
+    tournament(alloc, &documents::table(alloc, text)?)
+}

@@ -1,0 +1,9 @@
+pub mod DepartedLemmas
+pub mod MoveLemmas
+pub mod FairLemmas
+pub mod CountLemmas
+pub mod PoolLemmas
+pub mod NewsLemmas
+pub mod ApplyLemmas
+pub mod LawLemmas
+pub mod GameLemmas

@@ -1,0 +1,129 @@
+-- What a heard command does to an agent.
+use Rattle.std.proofs.Common.{◌≡◌, ℕ, ◌+◌, ◌*◌, ◌<◌, ◌≤◌, Bool, true, false, Option, refl, arith, nat_lt, if◌then◌else◌}
+use Rattle.std.proofs.lemmas.Bool.{ltb-true}
+use Rattle.bhs_model.specs.declared.commands.Command.{Command}
+use Rattle.bhs_model.specs.declared.commands.Command.TheVariants.{Enter, Look, Write, Depart, Accuse, Leave, Bad}
+use Rattle.bhs_model.specs.Views.{Standing, Outside, Present, Away, Ended, counts}
+use Rattle.bhs_model.specs.Replying.{may}
+use Rattle.bhs_model.specs.Worlds.{World, doomed}
+use Rattle.bhs_model.specs.Runs.{Position, Before, At, Bound, After, position_after}
+use Rattle.bhs_world.specs.Steps.{standing_at}
+
+-- a lost agent is on the link that destroyed it, or has ended
+abbrev pub IsGone : World → Position → Type 0
+IsGone world (Bound node port) = doomed world node port ≡ true
+IsGone world After = Unit {0}
+IsGone world position = ⊥
+
+-- how much of an agent's share in the log has been used by where it is, beside two for each command of its quota:
+-- while it is on a link that has not destroyed it, one more is to come
+abbrev pub weight : Position → (is_lost : Bool) → ℕ
+weight Before is_lost = 0
+weight (At node came) is_lost = 1
+weight (Bound node port) is_lost = if is_lost then 1 else 0
+weight After is_lost = 2
+
+-- 1 while it is on a link
+abbrev pub flight : Position → ℕ
+flight (Bound node port) = 1
+flight position = 0
+
+-- who comes to be on a link comes from a node, and who is on a link stays on that one
+abbrev pub IsLinked : (old new : Position) → Type 0
+IsLinked (At node came) new = Unit {0}
+IsLinked old (Bound node port) = old ≡ Bound node port
+IsLinked old new = Unit {0}
+
+-- what a heard command does to an agent
+pub record Moves (world : World) (is_lost : Bool) (old new : Position) (before after : ℕ) : Type 0 where
+  pub weight : weight old is_lost + 2 * before + 1 ≤ weight new is_lost + 2 * after
+  pub flight : flight new + before ≤ after + flight old
+  pub gone : IsGone world old → IsGone world new
+  pub linked : IsLinked old new
+
+light : (is_lost : Bool) (node port : ℕ) → weight (Bound node port) is_lost ≤ 1
+light true node port = omega arith
+light false node port = omega arith
+
+few_flights : (position : Position) → flight position ≤ 1
+few_flights Before = omega arith
+few_flights (At node came) = omega arith
+few_flights (Bound node port) = omega arith
+few_flights After = omega arith
+
+-- from a node, by a command that counts
+from_node : (world : World) (is_lost : Bool) (node : ℕ) (came : Option ℕ) (new : Position) (before : ℕ) → Moves world is_lost (At node came) new before (before + 1)
+from_node world is_lost node came new before =
+    let few = few_flights new in
+    record { weight = omega arith; flight = omega arith; gone = λ none. absurd none; linked = tt }
+
+-- on a link, by a command that counts
+on_link : (world : World) (is_lost : Bool) (node port : ℕ) (before : ℕ) → Moves world is_lost (Bound node port) (Bound node port) before (before + 1)
+on_link world is_lost node port before = record { weight = omega arith; flight = omega arith; gone = λ gone. gone; linked = refl }
+
+pub moves : (world : World) (is_lost room : Bool) (position : Position) (command : Command) (before : ℕ) → may (standing_at position) room command ≡ true →
+    Moves world is_lost position (position_after world position command) before (if counts command then before + 1 else before)
+moves world is_lost room Before Enter before heard = record { weight = omega arith; flight = omega arith; gone = λ none. absurd none; linked = tt }
+moves world is_lost room Before Look before heard = cc
+moves world is_lost room Before (Write expect put) before heard = cc
+moves world is_lost room Before (Depart port) before heard = cc
+moves world is_lost room Before (Accuse port) before heard = cc
+moves world is_lost room Before Leave before heard = cc
+moves world is_lost room Before Bad before heard = cc
+moves world is_lost room (At node came) Enter before heard = cc
+moves world is_lost room (At node came) Look before heard = from_node world is_lost node came _ before
+moves world is_lost room (At node came) (Write expect put) before heard = from_node world is_lost node came _ before
+moves world is_lost room (At node came) (Depart port) before heard = from_node world is_lost node came _ before
+moves world is_lost room (At node came) (Accuse port) before heard = from_node world is_lost node came _ before
+moves world is_lost room (At node came) Leave before heard = record { weight = omega arith; flight = omega arith; gone = λ none. absurd none; linked = tt }
+moves world is_lost room (At node came) Bad before heard = from_node world is_lost node came _ before
+moves world is_lost room (Bound node p) Enter before heard = cc
+moves world is_lost room (Bound node p) Look before heard = on_link world is_lost node p before
+moves world is_lost room (Bound node p) (Write expect put) before heard = on_link world is_lost node p before
+moves world is_lost room (Bound node p) (Depart port) before heard = on_link world is_lost node p before
+moves world is_lost room (Bound node p) (Accuse port) before heard = on_link world is_lost node p before
+moves world is_lost room (Bound node p) Leave before heard =
+    let few = light is_lost node p in
+    record { weight = omega arith; flight = omega arith; gone = λ gone. tt; linked = tt }
+moves world is_lost room (Bound node p) Bad before heard = on_link world is_lost node p before
+moves world is_lost room After Enter before heard = cc
+moves world is_lost room After Look before heard = cc
+moves world is_lost room After (Write expect put) before heard = cc
+moves world is_lost room After (Depart port) before heard = cc
+moves world is_lost room After (Accuse port) before heard = cc
+moves world is_lost room After Leave before heard = cc
+moves world is_lost room After Bad before heard = cc
+
+-- a command that counts is heard only where there is room for it
+room_left : (standing : Standing) (room : Bool) (command : Command) → may standing room command ≡ true → counts command ≡ true → room ≡ true
+room_left Outside room Enter heard counted = cc
+room_left Outside room Look heard counted = cc
+room_left Outside room (Write expect put) heard counted = cc
+room_left Outside room (Depart port) heard counted = cc
+room_left Outside room (Accuse port) heard counted = cc
+room_left Outside room Leave heard counted = cc
+room_left Outside room Bad heard counted = cc
+room_left Present room Enter heard counted = cc
+room_left Present room Look heard counted = heard
+room_left Present room (Write expect put) heard counted = heard
+room_left Present room (Depart port) heard counted = heard
+room_left Present room (Accuse port) heard counted = heard
+room_left Present room Leave heard counted = cc
+room_left Present room Bad heard counted = heard
+room_left Away room Enter heard counted = cc
+room_left Away room Look heard counted = heard
+room_left Away room (Write expect put) heard counted = heard
+room_left Away room (Depart port) heard counted = heard
+room_left Away room (Accuse port) heard counted = heard
+room_left Away room Leave heard counted = cc
+room_left Away room Bad heard counted = heard
+room_left Ended room command heard counted = cc
+
+pub within_quota : (quota before : ℕ) (standing : Standing) (command : Command) → may standing (nat_lt before quota) command ≡ true → before ≤ quota →
+    (if counts command then before + 1 else before) ≤ quota
+within_quota quota before standing command heard few =
+    by_count (counts command) (λ counted. ltb-true before quota (room_left standing (nat_lt before quota) command heard counted))
+  where
+    by_count : (b : Bool) → (b ≡ true → before < quota) → (if b then before + 1 else before) ≤ quota
+    by_count true less = let lt : before < quota = less refl in omega arith
+    by_count false less = few

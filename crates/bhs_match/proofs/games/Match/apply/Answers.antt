@@ -1,0 +1,33 @@
+use Rattle.std.proofs.Common.{sym, ◌∙◌, subst, arith, IsSome}
+use Rattle.bhs_match.proofs.ApplyLemmas.{ready, log_small, in_order_after, has_room_after}
+use Rattle.bhs_match.proofs.games.Match.apply.Goals as goal
+
+pub step-mark-requires-clause-room : goal.step-mark-requires-clause-room
+step-mark-requires-clause-room c = let small = log_small _ _ _ _ c.self.invariant.0 in rw c.deref.ensures.value small
+
+pub overflow_cast-place : goal.overflow_cast-place
+overflow_cast-place c = let small = log_small _ _ _ _ c.self.invariant.0 in omega (arith, c.self.inside.log.ok)
+
+pub settle-requires : goal.settle-requires
+settle-requires c =
+    let at_hand = ready _ _ _ _ _ _ _ _ _ c.self.invariant.0 c.deref.ensures.value c.step-mark.ensures.stands c.step-mark.ensures.same c.keeps-is_kept.ensures c.if-not-is_kept.false in
+    record {
+      room = λ outside inside.
+          let few = at_hand.pool_room (sym c.link_by-was.ensures ∙ outside) (subst (λ link. IsSome link) c.link_by-now.ensures inside) in
+          omega (arith, c.self.inside.pool.ok, c.self.invariant.1.pool);
+    }
+
+pub note-requires : goal.note-requires
+note-requires c = (ready _ _ _ _ _ _ _ _ _ c.self.invariant.0 c.deref.ensures.value c.step-mark.ensures.stands c.step-mark.ensures.same c.keeps-is_kept.ensures c.if-not-is_kept.false).news_room
+
+pub push_reserved-requires : goal.push_reserved-requires
+push_reserved-requires c =
+    let few = (ready _ _ _ _ _ _ _ _ _ c.self.invariant.0 c.deref.ensures.value c.step-mark.ensures.stands c.step-mark.ensures.same c.keeps-is_kept.ensures c.if-not-is_kept.false).log_room in
+    omega (arith, c.self.inside.log.ok, c.self.invariant.1.log)
+
+pub invariant_of-self-2 : goal.invariant_of-self-2
+invariant_of-self-2 c =
+    let at_hand = ready _ _ _ _ _ _ _ _ _ c.self.invariant.0 c.deref.ensures.value c.step-mark.ensures.stands c.step-mark.ensures.same c.keeps-is_kept.ensures c.if-not-is_kept.false in (
+      in_order_after _ _ _ _ _ _ _ _ _ _ _ _ _ at_hand c.link_by-was.ensures c.link_by-now.ensures (omega (arith, c.self.inside.log.ok)) c.push_reserved.ensures.items c.settle.ensures.items c.note.ensures,
+      has_room_after _ _ _ _ _ _ c.step-mark.ensures.same.1 c.push_reserved.ensures.capacity c.settle.ensures.capacity c.self.invariant.1,
+    )

@@ -1,0 +1,4 @@
+pub mod Matches
+pub mod Keeping
+pub mod Laws
+pub mod Games

@@ -1,0 +1,67 @@
+-- A match, and what follows from its log.
+use Rattle.std.specs.Prelude.{ℕ, ◌+◌, ◌*◌, Bool, false, Option, Some, None, List, [], ◌∷◌, ◌==◌, if◌then◌else◌, map, length, option_and_then, unwrap_or}
+use Rattle.bhs_net.specs.Network.{Network}
+use Rattle.bhs_model.specs.declared.setups.Setup.{Setup}
+use Rattle.bhs_model.specs.declared.events.Event.{Event}
+use Rattle.bhs_model.specs.declared.events.Event.TheVariants.{Deliver}
+use Rattle.bhs_model.specs.declared.marks.Mark.{Mark}
+use Rattle.bhs_model.specs.declared.marks.Kept.{Kept}
+use Rattle.bhs_model.specs.Replying.{text}
+use Rattle.bhs_model.specs.Worlds.{World}
+use Rattle.bhs_model.specs.Runs.{Position, Before, At, State, run}
+use Rattle.bhs_model.specs.Draws.{pool}
+use Rattle.bhs_model.specs.Setups.{world_of}
+use Rattle.bhs_model.specs.Marks.{events_of}
+use Rattle.bhs_agent.specs.Agents.{link_of}
+use Rattle.bhs_match.specs.declared.pools.Bound.{Bound}
+
+-- a network, how a match on it is set up, and its log
+pub record Play : Type 0 where
+  pub net : Network
+  pub setup : Setup
+  pub log : List Kept
+
+-- the world of the definitions
+abbrev pub world_in : Play → World
+world_in play = world_of play.net play.setup
+
+-- how the match stands after the events of its log
+abbrev pub state_of : Play → State
+state_of play = run (world_in play) (events_of play.log)
+
+-- the most events that a log holds: of each agent so many commands and as many arrivals as its quota, an Enter
+-- and a Leave; and a Close
+abbrev pub most_kept : (agents quota : ℕ) → ℕ
+most_kept agents quota = agents * (2 * quota + 2) + 1
+
+-- whether this is an arrival of the agent: a Deliver of it that is answered
+abbrev pub is_arrival : (agent : ℕ) → Event → Option Mark → Bool
+is_arrival agent (Deliver other) (Some mark) = agent == other
+is_arrival agent event mark = false
+
+-- the places of an agent's arrivals in a log whose first place has this number
+abbrev pub arrivals_from : (agent place : ℕ) → List Kept → List ℕ
+arrivals_from agent place [] = []
+arrivals_from agent place (one ∷ others) =
+    let rest = arrivals_from agent (place + 1) others in
+    if is_arrival agent one.event one.mark then place ∷ rest else rest
+
+abbrev pub arrivals : (agent : ℕ) → List Kept → List ℕ
+arrivals agent log = arrivals_from agent 0 log
+
+-- an agent at this position, with the node and the port by which it departed
+abbrev pub bound_at : (agent : ℕ) → Position → Bound
+bound_at agent position =
+    let link = unwrap_or (link_of position) (0, 0) in
+    record { agent = agent; node = link.0; port = link.1 }
+
+-- the agents of the pool, each with its link
+abbrev pub bounds : State → List Bound
+bounds state = map (λ agent. bound_at agent (state.position agent)) (pool state)
+
+-- the whiteboard that an agent at this position sees: where it is; that of the home base before it enters; none
+-- on a link and after its end
+abbrev pub shown_at : World → State → Position → List ℕ
+shown_at world state Before = text world.board (state.trace world.home)
+shown_at world state (At node came) = text world.board (state.trace node)
+shown_at world state position = []

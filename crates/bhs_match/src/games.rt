@@ -1,0 +1,205 @@
+ghost use Rattle.std.specs.Prelude.{◌≡◌, ◌<◌, ◌≤◌, ℕ, List, [], length, Some, None, Ok, Err, IfSome, IfOk, IfErr, OnOk, if◌then◌else◌, ◌⊎◌, map};
+ghost use Rattle.bhs_net.specs.Network.{nodes_of};
+ghost use Rattle.bhs_model.specs.declared.limits.TheConstants.{MAX_AGENTS, MAX_QUOTA};
+ghost use Rattle.bhs_model.specs.Kept.{kept};
+ghost use Rattle.bhs_model.specs.Marks.{events_of, read, read_if, text_at, board_of};
+ghost use Rattle.bhs_model.specs.Runs.{run, reply, replies};
+ghost use Rattle.bhs_world.specs.Faults.{first_fault, IsWithinLimits};
+ghost use Rattle.bhs_world.specs.Tables.{keeps_next, log_after};
+ghost use Rattle.bhs_match.specs.Matches.{world_in, state_of, most_kept, arrivals, bounds, shown_at};
+ghost use Rattle.bhs_match.specs.Keeping.{node_seen};
+
+use crate::answers::Answer;
+use crate::news::{News, no_news, note, places};
+use crate::pools::{Bound, link_by, settle};
+use crate::reading;
+use crate::seals::Sealed;
+use bhs_agent::Standing;
+use bhs_model::{Event, Kept, Mark, Reply, Setup, read, text_at};
+use bhs_net::{Memory, Net};
+use bhs_world::{SetupFault, World};
+use std::alloc::Global;
+use std::marker::Model;
+
+/// A match: a network, how the match is set up, and its log. The log holds the events that changed something, each
+/// with the mark of its reply.
+#[derive(Debug, Drop)]
+pub struct Match {
+    world: World,
+    log: Vec<Kept>,
+    pool: Vec<Bound>,
+    news: Vec<News>,
+}
+
+impl Model for Match {
+    ghost use Rattle.bhs_match.specs.Matches.{Play};
+
+    ghost Value = { Play };
+
+    ghost use Rattle.std.specs.Prelude.{vec_capacity};
+    ghost use Rattle.bhs_match.specs.Keeping.{IsInOrder, HasRoom};
+
+    ghost view = { λ game. record { net = game.world.net; setup = game.world.setup; log = game.log.items } };
+
+    ghost invariant = { λ game. IsInOrder game.world game.log.items game.pool.items game.news.items × HasRoom game.world.setup (vec_capacity game.log) (vec_capacity game.pool) };
+}
+
+impl Match {
+    /// A match with an empty log. The first fault of the setup is told; Memory is told only where memory was refused.
+    /// All memory that the match needs is taken here.
+    pub fn new(alloc: Global, net: Net, setup: Setup) -> Result<Match, SetupFault>
+        ensures fit { OnOk result ((first_fault net setup ≡ None) × IsWithinLimits net setup) }
+        ensures given { IfOk result (λ game. game ≡ record { net = net; setup = setup; log = [] }) }
+        ensures fault { IfErr result (λ fault. (fault ≡ SetupFault.Memory) ⊎ (first_fault net setup ≡ Some fault)) }
+    {
+        let world = World::new(alloc, net, setup)?;
+        let log = Vec::with_capacity(alloc, most_kept(setup.agents, setup.quota))?;
+        let pool = Vec::with_capacity(alloc, usize::from(setup.agents))?;
+        let news = no_news(alloc, setup.agents, setup.quota)?;
+        Ok(Match {
+            world,
+            log,
+            pool,
+            news,
+        })
+    }
+
+    /// Plays an event. Takes no memory; it takes as long as comparing the texts of one Write, and looking through the
+    /// pool.
+    pub fn apply(&mut self, event: Event) -> Answer
+        // The answer is the reply of the definitions, read in the log.
+        ensures reply { read_if self.new.log result.mark ≡ reply (world_in self.old) (state_of self.old) event }
+
+        // The log grows by the event where the definitions keep it, and the place is its index there.
+        ensures log { self.new.log ≡ log_after (world_in self.old) self.old.log event result.mark }
+        ensures place { result.place ≡ (if keeps_next (world_in self.old) self.old.log event then Some (length self.old.log) else None) }
+        ensures same { (self.new.net ≡ self.old.net) × (self.new.setup ≡ self.old.setup) }
+    {
+        let is_kept = self.world.keeps(&event);
+        let was = link_by(&self.world, &event);
+        let mark = self.world.step(&self.log, &event);
+        if !is_kept {
+            return Answer { place: None, mark };
+        }
+        let now = link_by(&self.world, &event);
+        let place = self.log.len() as u32;
+        settle(&mut self.pool, &event, was, now);
+        note(&mut self.news, &event, mark, place);
+        self.log.push_reserved(Kept { event, mark });
+        Answer {
+            place: Some(place),
+            mark,
+        }
+    }
+
+    /// The events that were kept, in order, each with the mark of its reply.
+    pub fn log(&self) -> &[Kept]
+        ensures log { result.now ≡ self.now.log }
+
+        // It holds what the definitions keep, with what they reply.
+        ensures kept { kept (world_in self.now) (events_of self.now.log) ≡ events_of self.now.log }
+        ensures replies { map (λ one. read_if self.now.log one.mark) self.now.log ≡ replies (world_in self.now) (events_of self.now.log) }
+        ensures bound { length self.now.log ≤ most_kept self.now.setup.agents self.now.setup.quota }
+    {
+        &self.log
+    }
+
+    /// The places, in the log, of the agent's arrivals, in order; none for a number that is no agent's.
+    pub fn news(&self, agent: u16) -> &[u32]
+        ensures places { result.now ≡ arrivals agent self.now.log }
+        ensures bound { length result.now ≤ self.now.setup.quota }
+        ensures stranger { self.now.setup.agents ≤ agent → result.now ≡ [] }
+    {
+        places(&self.news, agent)
+    }
+
+    /// The agents on a link, destroyed ones too, in the order of their last departure.
+    pub fn pool(&self) -> &[Bound]
+        ensures { result.now ≡ bounds (state_of self.now) }
+    {
+        &self.pool
+    }
+
+    /// What the agent sees of a whiteboard: of the one where it is; of the one at the home base before it enters, and
+    /// so for a number that is no agent's; the empty text on a link and after its end.
+    pub fn seen(&self, agent: u16) -> &str
+        ensures { result.now ≡ shown_at (world_in self.now) (state_of self.now) ((state_of self.now).position agent) }
+    {
+        match node_seen(&self.world, agent) {
+            Some(node) => text_at(&self.log, self.world.last(node)),
+            None => "",
+        }
+    }
+
+    /// The text that the mark's whiteboard shows; the empty one for a mark without a whiteboard. The mark is one of
+    /// this log.
+    pub fn text(&self, mark: &Mark) -> &str
+        ensures { result.now ≡ text_at self.now.log (board_of mark.now) }
+    {
+        reading::text(&self.log, mark)
+    }
+
+    /// The reply that the mark stands for. The mark is one of this log.
+    pub fn reply(&self, mark: &Mark) -> Result<Reply, Memory>
+        ensures { IfOk result (λ reply. reply ≡ read self.now.log mark.now) }
+    {
+        read(*self.log.allocator(), &self.log, mark)
+    }
+
+    /// Whether the match has ended.
+    pub fn closed(&self) -> bool
+        ensures { result ≡ (state_of self.now).closed }
+    {
+        self.world.closed()
+    }
+
+    /// The network.
+    pub fn net(&self) -> &Net
+        ensures { result.now ≡ self.now.net }
+    {
+        self.world.net()
+    }
+
+    /// How the match is set up.
+    pub fn setup(&self) -> &Setup
+        ensures setup { result.now ≡ self.now.setup }
+        ensures within { IsWithinLimits self.now.net self.now.setup }
+    {
+        self.world.setup()
+    }
+
+    /// The match for reading alone, where it has ended; else the match as it was. Takes no memory.
+    pub fn sealed(self) -> Result<Sealed, Match>
+        ensures { result ≡ (if (state_of self).closed then Ok self else Err self) }
+    {
+        if self.closed() {
+            Ok(Sealed { game: self })
+        } else {
+            Err(self)
+        }
+    }
+}
+
+/// The node whose whiteboard an agent sees.
+fn node_seen(world: &World, agent: u16) -> Option<u16>
+    ensures node { result ≡ node_seen world.now agent }
+    ensures range { IfSome result (λ node. node < nodes_of world.now.net) }
+{
+    if agent >= world.setup().agents {
+        return Some(world.setup().home);
+    }
+    match world.agent(agent).standing() {
+        Standing::Outside => Some(world.setup().home),
+        Standing::Present { node, .. } => Some(node),
+        _ => None,
+    }
+}
+
+/// The most events that a log may hold.
+fn most_kept(agents: u16, quota: u16) -> usize
+    requires agents { agents ≤ MAX_AGENTS }
+    requires quota { quota ≤ MAX_QUOTA }
+    ensures { result ≡ most_kept agents quota }
+{
+    usize::from(agents) * (2 * usize::from(quota) + 2) + 1
+}

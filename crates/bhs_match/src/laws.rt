@@ -1,0 +1,29 @@
+//! The laws of a match. Each holds for every world and every list of events; the functions do nothing.
+
+ghost use Rattle.bhs_match.specs.Laws.{ArrivalsAreBounded, LogsAreBounded, LogsGrow, LogsTellAll, PoolsAreOfAgents};
+
+/// What a match does not keep in its log changes nothing: pasts, positions, traces and the pool of all that happened
+/// are those of the log.
+pub fn logs_tell_all()
+    ensures { LogsTellAll }
+{}
+
+/// So each event is answered as after all that happened, and the log stays what is kept of it.
+pub fn logs_grow()
+    ensures { LogsGrow }
+{}
+
+/// No log is longer than what is reserved for it.
+pub fn logs_are_bounded()
+    ensures { LogsAreBounded }
+{}
+
+/// No agent has more arrivals than its quota.
+pub fn arrivals_are_bounded()
+    ensures { ArrivalsAreBounded }
+{}
+
+/// The pool is that of the definitions, and each agent is there at most once.
+pub fn pools_are_of_agents()
+    ensures { PoolsAreOfAgents }
+{}

@@ -1,0 +1,73 @@
+ghost use Rattle.std.specs.Prelude.{◌≡◌, ◌≤◌, true, length, map, IfOk};
+ghost use Rattle.bhs_model.specs.Kept.{kept};
+ghost use Rattle.bhs_model.specs.Marks.{events_of, read, read_if, text_at, board_of};
+ghost use Rattle.bhs_model.specs.Runs.{replies};
+ghost use Rattle.bhs_world.specs.Faults.{IsWithinLimits};
+ghost use Rattle.bhs_match.specs.Matches.{world_in, state_of, most_kept};
+
+use crate::games::Match;
+use bhs_model::{Kept, Mark, Reply, Setup};
+use bhs_net::{Memory, Net};
+use std::marker::Model;
+
+/// A match that has ended, for reading alone.
+#[derive(Debug, Drop)]
+pub struct Sealed {
+    pub(crate) game: Match,
+}
+
+impl Model for Sealed {
+    ghost use Rattle.std.specs.Prelude.{◌≡◌, true};
+    ghost use Rattle.bhs_match.specs.Matches.{Play, state_of};
+
+    ghost Value = { Play };
+
+    ghost view = { λ sealed. sealed.game };
+
+    ghost invariant = { λ sealed. (state_of sealed.game).closed ≡ true };
+}
+
+impl Sealed {
+    /// The events that were kept, in order, each with the mark of its reply.
+    pub fn log(&self) -> &[Kept]
+        ensures log { result.now ≡ self.now.log }
+        ensures closed { (state_of self.now).closed ≡ true }
+
+        // It holds what the definitions keep, with what they reply.
+        ensures kept { kept (world_in self.now) (events_of self.now.log) ≡ events_of self.now.log }
+        ensures replies { map (λ one. read_if self.now.log one.mark) self.now.log ≡ replies (world_in self.now) (events_of self.now.log) }
+        ensures bound { length self.now.log ≤ most_kept self.now.setup.agents self.now.setup.quota }
+    {
+        self.game.log()
+    }
+
+    /// The text that the mark's whiteboard shows; the empty one for a mark without a whiteboard. The mark is one of
+    /// this log.
+    pub fn text(&self, mark: &Mark) -> &str
+        ensures { result.now ≡ text_at self.now.log (board_of mark.now) }
+    {
+        self.game.text(mark)
+    }
+
+    /// The reply that the mark stands for. The mark is one of this log.
+    pub fn reply(&self, mark: &Mark) -> Result<Reply, Memory>
+        ensures { IfOk result (λ reply. reply ≡ read self.now.log mark.now) }
+    {
+        self.game.reply(mark)
+    }
+
+    /// The network.
+    pub fn net(&self) -> &Net
+        ensures { result.now ≡ self.now.net }
+    {
+        self.game.net()
+    }
+
+    /// How the match was set up.
+    pub fn setup(&self) -> &Setup
+        ensures setup { result.now ≡ self.now.setup }
+        ensures within { IsWithinLimits self.now.net self.now.setup }
+    {
+        self.game.setup()
+    }
+}

@@ -1,0 +1,4 @@
+pub mod Writing
+pub mod Moving
+pub mod Taking
+pub mod Playing

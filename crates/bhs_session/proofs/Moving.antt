@@ -1,0 +1,111 @@
+-- Parts of a session, one after the other.
+use Rattle.std.proofs.Common.{◌≡◌, ℕ, ◌+◌, ◌<◌, Bool, true, false, List, [], ◌∷◌, ◌++◌, length, Ok, Err, IfErr, refl, sym, ap, subst, append_assoc, append-nil, arith, length-append}
+use Rattle.std.specs.declared.option.Option.{Option}
+use Rattle.std.specs.declared.result.Result.{Result}
+use Rattle.std.specs.Io.KnownBytes.{Appends}
+use Rattle.std.proofs.KnownBytes.{Appends-nil, Appends-trans}
+use Rattle.bhs_model.specs.declared.replies.Reply.{Reply}
+use Rattle.bhs_wire.specs.Lines.{Line}
+use Rattle.bhs_session.specs.declared.endings.Ended.{Ended}
+use Rattle.bhs_session.specs.declared.endings.Stop.{Stop}
+use Rattle.bhs_session.specs.declared.endings.Stop.TheVariants as stops
+use Rattle.bhs_session.specs.Port.{Asked, Heard}
+use Rattle.bhs_session.specs.Phase.{Phase, Ready, Owes, text_of, answered_by, waiting, reached, phase_of, stopped, between}
+use Rattle.bhs_session.specs.Session.{Point, Step, Session, begins, goes_on, sends, TakesLines, IsNext}
+use Rattle.bhs_session.specs.Moves.{Moves, Ends, StopsAtLines, IsCauseOfLines}
+use Rattle.bhs_session.proofs.Writing.{Wrote, waiting-false}
+
+pub Session-trans : {P : Type 0} {calls : P → Asked → Heard → P → Type 0} {p q r : Point P} → Session calls p q → Session calls q r → Session calls p r
+Session-trans a begins = a
+Session-trans a (goes_on q r b step) = goes_on q r (Session-trans a b) step
+
+pub Session-step : {P : Type 0} {calls : P → Asked → Heard → P → Type 0} {p q : Point P} → Step calls p q → Session calls p q
+Session-step {p = p} {q = q} step = goes_on p q begins step
+
+module _ {P : Type 0} (calls : P → Asked → Heard → P → Type 0) (a : Option (List ℕ)) (p : Point P) where
+  -- a step that writes nothing
+  pub Moves-step : (port : P) (taken : List Line) (phase : Phase) → Step calls p (record p { port = port; taken = taken; phase = phase })
+      → Moves calls a a p port taken phase
+  Moves-step port taken phase step = record {
+    more = [];
+    appended = Appends-nil a;
+    session = subst (λ (w : List ℕ). Session calls p (record p { port = port; taken = taken; written = w; phase = phase })) (sym (append-nil p.written)) (Session-step step);
+  }
+
+  -- no step
+  pub Moves-none : Moves calls a a p p.port p.taken p.phase
+  Moves-none = record {
+    more = [];
+    appended = Appends-nil a;
+    session = subst (λ (w : List ℕ). Session calls p (record p { written = w })) (sym (append-nil p.written)) begins;
+  }
+
+  pub Moves-wrote : (b : Option (List ℕ)) (next : Phase) → Wrote a b p.phase next → Moves calls a b p p.port p.taken next
+  Moves-wrote b next wrote = record { more = wrote.0; appended = wrote.1; session = Session-step (sends p wrote.0 next wrote.2) }
+
+  pub Moves-trans : (b c : Option (List ℕ)) (port1 port2 : P) (taken1 taken2 : List Line) (phase1 phase2 : Phase) (first : Moves calls a b p port1 taken1 phase1)
+      → Moves calls b c (record p { port = port1; taken = taken1; written = p.written ++ first.more; phase = phase1 }) port2 taken2 phase2
+      → Moves calls a c p port2 taken2 phase2
+  Moves-trans b c port1 port2 taken1 taken2 phase1 phase2 first second = record {
+    more = first.more ++ second.more;
+    appended = Appends-trans a b c first.more second.more first.appended second.appended;
+    session = subst (λ (w : List ℕ). Session calls p (record p { port = port2; taken = taken2; written = w; phase = phase2 }))
+        (append_assoc p.written first.more second.more) (Session-trans first.session second.session);
+  }
+
+  pub Ends-trans : {T : Type 0} (b c : Option (List ℕ)) (port1 port2 : P) (taken1 taken2 : List Line) (phase1 : Phase) (next : T → Phase) (result : Result T Stop)
+      (first : Moves calls a b p port1 taken1 phase1)
+      → Ends calls b c (record p { port = port1; taken = taken1; written = p.written ++ first.more; phase = phase1 }) port2 taken2 next result
+      → Ends calls a c p port2 taken2 next result
+  Ends-trans b c port1 port2 taken1 taken2 phase1 next (Ok answer) first second =
+      Moves-trans b c port1 port2 taken1 taken2 phase1 (next answer) first second
+  Ends-trans b c port1 port2 taken1 taken2 phase1 next (Err stop) first second =
+      (second.0, (second.1.0, Moves-trans b c port1 port2 taken1 second.1.0 phase1 (phase_of stop) first second.1.1))
+
+-- the line of an answer that is no other's news
+module _ {P T : Type 0} (calls : P → Asked → Heard → P → Type 0) (a b : Option (List ℕ)) (p : Point P) (reply : Reply) where
+  pub Ends-news : (result : Result T Stop) → p.phase ≡ Owes (text_of reply) (answered_by false reply)
+      → Wrote a b (Owes (text_of reply) (answered_by false reply)) (reached (waiting false reply) result) → IfErr result StopsAtLines
+      → Ends calls a b p p.port p.taken (λ _. Ready) result
+  Ends-news (Ok done) owes wrote cause =
+      Moves-wrote calls a p b Ready (subst (λ (phase : Phase). Wrote a b phase Ready) (sym owes)
+      (subst (λ (phase : Phase). Wrote a b (Owes (text_of reply) (answered_by false reply)) phase) (waiting-false reply) wrote))
+  Ends-news (Err stop) owes wrote cause =
+      (cause, (p.taken, Moves-wrote calls a p b (phase_of stop) (subst (λ (phase : Phase). Wrote a b phase (phase_of stop)) (sym owes) wrote)))
+
+-- a step that writes nothing, and then what is written
+module _ {P T : Type 0} (calls : P → Asked → Heard → P → Type 0) (a b : Option (List ℕ)) (p : Point P) (port : P) (taken : List Line) (phase : Phase)
+    (step : Step calls p (record p { port = port; taken = taken; phase = phase })) where
+  pub Ends-step : (next : T → Phase) (port2 : P) (taken2 : List Line) (result : Result T Stop)
+      → ((written : List ℕ) → Ends calls a b (record p { port = port; taken = taken; written = written; phase = phase }) port2 taken2 next result)
+      → Ends calls a b p port2 taken2 next result
+  Ends-step next port2 taken2 result second =
+      let first : Moves calls a a p port taken phase = Moves-step calls a p port taken phase step in
+      Ends-trans calls a p a b port port2 taken taken2 phase next result first (second (p.written ++ first.more))
+
+-- the same, where the text is the last thing that is written
+module _ {P : Type 0} (calls : P → Asked → Heard → P → Type 0) (a b : Option (List ℕ)) (p : Point P) (port : P) (taken : List Line) (phase : Phase)
+    (step : Step calls p (record p { port = port; taken = taken; phase = phase })) where
+  pub Stops-step : (stop : Stop) → Wrote a b phase (phase_of stop) → Moves calls a b p port taken (phase_of stop)
+  Stops-step stop wrote =
+      let first : Moves calls a a p port taken phase = Moves-step calls a p port taken phase step in
+      Moves-trans calls a p a b port port taken taken phase (phase_of stop) first
+      (Moves-wrote calls a (record p { port = port; taken = taken; written = p.written ++ first.more; phase = phase }) b (phase_of stop) wrote)
+
+-- ---- where a session takes lines
+
+pub TakesLines-between : (has_entered : Bool) → TakesLines (between has_entered)
+TakesLines-between true = tt
+TakesLines-between false = tt
+
+-- bytes with a line in them are some bytes
+pub IsNext-some : (read : List ℕ) (taken : List Line) (line : Line) → IsNext read taken line → 0 < length read
+IsNext-some [] taken line next = absurd (let none = ap length next.1 in omega (arith, none, length-append taken (line ∷ next.0)))
+IsNext-some (byte ∷ read) taken line next = omega arith
+
+-- the cause of a stop at a line
+pub StopsAtLines-of : (stop : Stop) (has_entered : Bool) (cause : Ended) → phase_of stop ≡ stopped (between has_entered) cause → IsCauseOfLines cause → StopsAtLines stop
+StopsAtLines-of (stops.Finished ended) true cause is h = absurd (cc)
+StopsAtLines-of (stops.Finished ended) false cause is h = let same : ended ≡ cause = cc in subst IsCauseOfLines (sym same) h
+StopsAtLines-of (stops.Leaves ended) true cause is h = let same : ended ≡ cause = cc in subst IsCauseOfLines (sym same) h
+StopsAtLines-of (stops.Leaves ended) false cause is h = absurd (cc)

@@ -1,0 +1,21 @@
+use Rattle.std.proofs.Common.{◌≡◌, sym, subst}
+use Rattle.bhs_session.specs.declared.endings.Ended.TheVariants.{Memory}
+use Rattle.bhs_session.specs.Phase.{Phase, between, stopped, phase_of}
+use Rattle.bhs_session.specs.Session.{Point}
+use Rattle.bhs_session.specs.Session as session
+use Rattle.bhs_session.specs.Moves.{Moves}
+use Rattle.bhs_session.proofs.Moving.{Moves-step, TakesLines-between, IsNext-some, StopsAtLines-of}
+use Rattle.bhs_wire.specs.Lines.{seen}
+use Rattle.bhs_session.proofs.lines.take_line.Goals as goal
+
+pub returns-in_default : goal.returns-in_default
+returns-in_default g c p next =
+    let entered = c.args.has_entered in
+    let start = record p { port = c.args.port.now; phase = between entered } in (
+      StopsAtLines-of c.between_lines.result entered Memory c.between_lines.ensures tt,
+      (
+        p.taken,
+        rw c.between_lines.ensures (Moves-step g.P.Port.calls _ start c.args.port.now p.taken (stopped (between entered) Memory)
+            (session.stops start Memory (TakesLines-between entered) (IsNext-some p.read p.taken (seen c.args.line.now) next))),
+      ),
+    )

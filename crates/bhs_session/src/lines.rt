@@ -1,0 +1,110 @@
+ghost use Rattle.std.specs.Prelude.{◌≡◌, [], ◌∷◌, ◌++◌, map, List};
+ghost use Rattle.bhs_wire.specs.Lines.{Line, lines, seen, said_by};
+ghost use Rattle.bhs_session.specs.Phase.{Fresh, Ready, between};
+ghost use Rattle.bhs_session.specs.Session.{Point, IsNext, command_by};
+ghost use Rattle.bhs_session.specs.Moves.{Ends};
+
+use crate::answers::answer;
+use crate::endings::{Ended, Stop};
+use crate::port::{Entered, Port};
+use crate::replies::write_denial;
+use bhs_model::Command;
+use bhs_net::Memory;
+use bhs_wire::{Denial, First, Raw};
+use std::alloc::Global;
+use std::io::Write;
+
+// Takes lines in order. Says whether the session has entered.
+pub(crate) fn take_lines<W: Write, P: Port>(
+    alloc: Global,
+    writer: &mut W,
+    port: &mut P,
+    has_entered: bool,
+    found: &[Raw],
+) -> Result<bool, Stop>
+    ensures { (p : Point P) → lines p.read ≡ p.taken ++ map seen found.now
+        → Ends P.calls (W.contents writer.old) (W.contents writer.new)
+        (record p { port = port.old; phase = between has_entered })
+        port.new (lines p.read) between result }
+{
+    let mut entered = has_entered;
+    for line in found {
+        take_line(alloc, writer, port, entered, line)?;
+        entered = true;
+    }
+    Ok(entered)
+}
+
+// Takes one line, with the news that its answer waits for.
+fn take_line<W: Write, P: Port>(
+    alloc: Global,
+    writer: &mut W,
+    port: &mut P,
+    has_entered: bool,
+    line: &Raw,
+) -> Result<(), Stop>
+    ensures { (p : Point P) → IsNext p.read p.taken (seen line.now)
+        → Ends P.calls (W.contents writer.old) (W.contents writer.new)
+        (record p { port = port.old; phase = between has_entered })
+        port.new (p.taken ++ seen line.now ∷ []) (λ _. Ready) result }
+{
+    let Ok(first) = line.said(alloc) else {
+        return Err(Stop::between_lines(has_entered, Ended::Memory));
+    };
+    if has_entered {
+        take_later(alloc, writer, port, first)
+    } else {
+        take_first(alloc, writer, port, first)
+    }
+}
+
+// Takes the first line, which lets the session in or not.
+fn take_first<W: Write, P: Port>(
+    alloc: Global,
+    writer: &mut W,
+    port: &mut P,
+    first: First,
+) -> Result<(), Stop>
+    ensures { (p : Point P) (line : Line) → IsNext p.read p.taken line → said_by line ≡ first
+        → Ends P.calls (W.contents writer.old) (W.contents writer.new)
+        (record p { port = port.old; phase = Fresh })
+        port.new (p.taken ++ line ∷ []) (λ _. Ready) result }
+{
+    let First::Enter { key } = first else {
+        return Err(write_denial(writer, Denial::Enter));
+    };
+    match port.enter(key.as_str()) {
+        Ok(Entered::In(reply)) => answer(alloc, writer, port, &reply),
+        Ok(Entered::Key) => Err(write_denial(writer, Denial::Key)),
+        Ok(Entered::Taken) => Err(write_denial(writer, Denial::Taken)),
+        Err(Memory) => Err(Stop::Finished(Ended::Memory)),
+    }
+}
+
+// Takes a line after the first.
+fn take_later<W: Write, P: Port>(
+    alloc: Global,
+    writer: &mut W,
+    port: &mut P,
+    first: First,
+) -> Result<(), Stop>
+    ensures { (p : Point P) (line : Line) → IsNext p.read p.taken line → said_by line ≡ first
+        → Ends P.calls (W.contents writer.old) (W.contents writer.new)
+        (record p { port = port.old; phase = Ready })
+        port.new (p.taken ++ line ∷ []) (λ _. Ready) result }
+{
+    match port.tell(command_in(first)) {
+        Ok(reply) => answer(alloc, writer, port, &reply),
+        Err(Memory) => Err(Stop::Leaves(Ended::Memory)),
+    }
+}
+
+// What a later line tells. The key of an enter is not looked at.
+fn command_in(first: First) -> Command
+    ensures { result ≡ command_by first }
+{
+    match first {
+        First::Enter { .. } => Command::Enter,
+        First::Tell(command) => command,
+    }
+}

@@ -1,0 +1,34 @@
+ghost use Rattle.bhs_session.specs.Port.{Asked, Enters, Tells, News, Heard, entered, answered};
+
+use bhs_model::{Command, Reply};
+use bhs_net::Memory;
+
+/// What a port answers to a key.
+#[derive(Clone, Debug, PartialEq, Eq, Drop)]
+pub enum Entered {
+    /// No agent has the key.
+    Key,
+    /// The key was used before.
+    Taken,
+    /// The key's agent is played from now on, and its Enter was answered so.
+    In(Reply),
+}
+
+/// Where a session plays its agent. Contracts see the port's calls as steps from one state to the next, each
+/// with what was asked and what was heard.
+pub trait Port {
+    // From the first state the port may be asked this and answer that, and is then in the second state.
+    ghost calls: { Self → Asked → Heard → Self → Type 0 };
+
+    /// Lets the agent of a key enter. This is the first call, and none follows a `Key` or a `Taken`.
+    fn enter(&mut self, key: &str) -> Result<Entered, Memory>
+        ensures { calls self.old (Enters key.now) (entered result) self.new };
+
+    /// Tells what the agent says.
+    fn tell(&mut self, command: Command) -> Result<Reply, Memory>
+        ensures { calls self.old (Tells command) (answered result) self.new };
+
+    /// Waits for the agent's next arrival, or for the end of the match.
+    fn news(&mut self) -> Result<Reply, Memory>
+        ensures { calls self.old News (answered result) self.new };
+}

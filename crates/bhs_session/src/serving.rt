@@ -1,0 +1,75 @@
+ghost use Rattle.std.specs.Prelude.{◌≡◌};
+ghost use Rattle.std.specs.Io.KnownBytes.{IsAtEnd};
+ghost use Rattle.bhs_session.specs.Phase.{Finished, phase_of, cause_of};
+ghost use Rattle.bhs_session.specs.Session.{Serves};
+
+use crate::endings::{Ended, Stop};
+use crate::lines::take_lines;
+use crate::port::Port;
+use crate::reading::read_lines;
+use bhs_model::Command;
+use bhs_stream::BUFFER;
+use bhs_wire::Lines;
+use std::alloc::Global;
+use std::io::{Read, Write};
+
+/// Serves one client to its end, by at most `turns` reads: takes its lines one by one, tells them to the port,
+/// and writes what the port answers.
+///
+/// The first line must be an enter with a key that the port lets in; else the client is written why it is
+/// denied. Where the answer to a line is Gone, news are asked for and written before the next line is taken.
+/// It reads only when no whole line is left. Bye, Noted and Over are written and end the session; where
+/// anything else ends it and its agent has entered, the agent is told to leave, once and last, and what that
+/// answers is not written. A line is written by as many writes as it takes.
+///
+/// No clause says that `ReadFault` comes only where a read failed, or `WriteFault` where a write failed or
+/// took nothing: tests show it.
+pub fn serve<R: Read, W: Write, P: Port>(
+    alloc: Global,
+    reader: &mut R,
+    writer: &mut W,
+    port: &mut P,
+    turns: u32,
+) -> Ended
+    ensures session { Serves P.calls port.old port.new turns
+        (R.remaining reader.old) (R.remaining reader.new)
+        (W.contents writer.old) (W.contents writer.new) (Finished result) }
+    ensures input_ended { result ≡ Ended.InputEnded → IsAtEnd (R.remaining reader.new) }
+{
+    match play(alloc, reader, writer, port, turns) {
+        Stop::Finished(ended) => ended,
+        Stop::Leaves(ended) => {
+            let _ = port.tell(Command::Leave);
+            ended
+        }
+    }
+}
+
+// Takes lines until the session stops.
+fn play<R: Read, W: Write, P: Port>(
+    alloc: Global,
+    reader: &mut R,
+    writer: &mut W,
+    port: &mut P,
+    turns: u32,
+) -> Stop
+    ensures session { Serves P.calls port.old port.new turns
+        (R.remaining reader.old) (R.remaining reader.new)
+        (W.contents writer.old) (W.contents writer.new) (phase_of result) }
+    ensures input_ended { cause_of result ≡ Ended.InputEnded → IsAtEnd (R.remaining reader.new) }
+{
+    let mut lines = Lines::new(alloc);
+    let mut buffer = [0u8; BUFFER];
+    let mut has_entered = false;
+    for _ in 0..turns {
+        let found = match read_lines(reader, &mut lines, &mut buffer) {
+            Ok(found) => found,
+            Err(cause) => return Stop::between_lines(has_entered, cause),
+        };
+        match take_lines(alloc, writer, port, has_entered, &found) {
+            Ok(entered) => has_entered = entered,
+            Err(stop) => return stop,
+        }
+    }
+    Stop::between_lines(has_entered, Ended::Turns)
+}
