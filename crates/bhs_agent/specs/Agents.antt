@@ -1,5 +1,5 @@
 -- An agent of a match.
-use Rattle.std.specs.Prelude.{ℕ, Bool, false, true, Option, Some, None, ◌≡◌}
+use Rattle.std.specs.Prelude.{ℕ, Bool, false, true, Option, Some, None}
 use Rattle.bhs_model.specs.Runs.{Position, Before, At, Bound, After}
 use Rattle.bhs_agent.specs.declared.standings.Standing.{Standing}
 use Rattle.bhs_agent.specs.declared.standings.Standing.TheVariants.{Outside, Present, Away, Ended}

@@ -1,9 +1,8 @@
-use Rattle.std.proofs.Common.{◌≡◌, ℕ, ◌+◌, List, [], ◌∷◌, ◌++◌, length, Option, None, Some, IfSome, ◌<◌, ◌≤◌, arith, Result, Ok, Err, Bor, refl, ap, ◌∙◌, sym, append_assoc, append-nil}
+use Rattle.std.proofs.Common.{◌≡◌, ℕ, ◌+◌, List, [], ◌∷◌, ◌++◌, length, Option, None, Some, IfSome, ◌<◌, ◌≤◌, arith, Result, Ok, Err, Bor, refl, ap, sym, append_assoc}
 use Rattle.std.specs.Option.{option_map_or}
 use Rattle.bhs_model.specs.declared.events.Event.{Event}
 use Rattle.bhs_main.specs.declared.meanings.Meaning.{Meaning}
-use Rattle.bhs_main.specs.declared.meanings.Meaning.TheVariants.{Nothing, Happens, Refused}
-use Rattle.bhs_main.specs.Script.{lines_of, meaning, before, with_meaning, events_from, events_of}
+use Rattle.bhs_main.specs.Script.{lines_of, meaning, before, with_meaning, events_from}
 
 -- events before the others, unless the others are refused
 abbrev pub with_front : List Event → Result (List Event) ℕ → Result (List Event) ℕ

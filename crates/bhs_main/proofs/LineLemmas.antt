@@ -1,4 +1,4 @@
-use Rattle.std.proofs.Common.{◌≡◌, ℕ, suc, ◌+◌, ◌-◌, ◌<◌, ◌≤◌, List, [], ◌∷◌, length, take, drop, Bool, true, false, Option, None, Some, cond, refl, ap, ◌∙◌, sym, arith, add-one, zero-add, length-drop, take_all, subst, if◌then◌else◌}
+use Rattle.std.proofs.Common.{◌≡◌, ℕ, suc, ◌+◌, ◌-◌, List, [], ◌∷◌, length, take, drop, Bool, true, false, None, Some, cond, refl, ap, arith, add-one, length-drop, take_all, subst, if◌then◌else◌}
 use Rattle.std.specs.List.{position_from}
 use Rattle.bhs_main.specs.Script.{is_line_feed, onto_first, lines_of}
 

@@ -1,12 +1,12 @@
 -- A log that grows by the events that are kept.
-use Rattle.std.proofs.Common.{◌≡◌, ℕ, Bool, true, false, List, [], ◌∷◌, ◌++◌, Option, refl, sym, ap, ◌∙◌, if◌then◌else◌, map, length, ◌+◌, ◌≤◌, arith, length-append}
+use Rattle.std.proofs.Common.{◌≡◌, Bool, true, false, List, [], ◌∷◌, ◌++◌, Option, refl, sym, ap, ◌∙◌, if◌then◌else◌, length, ◌+◌, ◌≤◌, arith, length-append}
 use Rattle.std.proofs.lemmas.List.{map-append}
 use Rattle.bhs_model.specs.declared.events.Event.{Event}
 use Rattle.bhs_model.specs.declared.marks.Mark.{Mark}
 use Rattle.bhs_model.specs.declared.marks.Kept.{Kept}
 use Rattle.bhs_model.specs.Worlds.{World}
 use Rattle.bhs_model.specs.Runs.{State, initial, run, next, reply, replies_from}
-use Rattle.bhs_model.specs.Kept.{keeps, lost}
+use Rattle.bhs_model.specs.Kept.{lost}
 use Rattle.bhs_model.specs.Marks.{events_of}
 use Rattle.bhs_model.proofs.AddLemmas.{run-append}
 use Rattle.bhs_model.proofs.KeptLemmas.{unkept_state}

@@ -1,11 +1,10 @@
 -- The links of the triangle have no fault, and make the network that `triangle` says.
-use Rattle.std.proofs.Common.{◌≡◌, ◌≢◌, ℕ, zero, suc, ◌+◌, ◌<◌, ◌≤◌, ◌⊎◌, inl, inr, List, [], ◌∷◌, length, slice_index_or, refl, sym, ap, ◌∙◌, subst, arith, lit<, lit≤}
+use Rattle.std.proofs.Common.{◌≡◌, ◌≢◌, ℕ, zero, suc, ◌<◌, ◌≤◌, ◌⊎◌, inl, inr, List, [], ◌∷◌, length, slice_index_or, refl, ap, subst, arith, lit<, lit≤}
 use Rattle.bhs_net.specs.declared.faults.NetFault.{NetFault}
 use Rattle.bhs_net.specs.declared.faults.NetFault.TheVariants.{Nodes, Node, Loop, Double, PortTwice, PortGap, Apart, CutNode, Memory}
 use Rattle.bhs_net.specs.declared.links.Link.{Link}
-use Rattle.bhs_net.specs.Links.{End, near_end, far_end, link_at, HasEnd, Joins, SameNodes, SharesEnd, IsListed, AreJoined, AreLinked}
-use Rattle.bhs_net.specs.Paths.{Path, IsPath, Without}
-use Rattle.bhs_net.specs.Network.{Network, nodes_of, row_of, degree_of, far_of, HasPort, Makes}
+use Rattle.bhs_net.specs.Links.{End, link_at, HasEnd, SameNodes, SharesEnd, IsListed, AreJoined, AreLinked}
+use Rattle.bhs_net.specs.Network.{Network, row_of, degree_of, far_of, Makes}
 use Rattle.bhs_net.specs.Faults.{IsStray, IsLoop, IsDouble, IsPortTwice, IsGap, IsApart, IsCut, Holds, Refuses}
 use Rattle.bhs_main.specs.Triangle.{triangle}
 

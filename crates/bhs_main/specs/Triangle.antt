@@ -1,5 +1,5 @@
 -- The built-in match: three nodes, each joined to the others; the black hole at node 2.
-use Rattle.std.specs.Prelude.{ℕ, List, [], ◌∷◌, Option, Some}
+use Rattle.std.specs.Prelude.{[], ◌∷◌, Some}
 use Rattle.bhs_net.specs.Network.{Network}
 use Rattle.bhs_model.specs.declared.setups.Setup.{Setup}
 use Rattle.bhs_model.specs.Worlds.{World}

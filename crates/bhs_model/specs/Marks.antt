@@ -1,6 +1,5 @@
 -- Replies that name places of the log, and how they are read there.
 use Rattle.std.specs.Prelude.{ℕ, Option, Some, None, List, [], option_map, option_and_then, unwrap_or, map, slice_get}
-use Rattle.bhs_model.specs.declared.commands.Command.{Command}
 use Rattle.bhs_model.specs.declared.commands.Command.TheVariants.{Write}
 use Rattle.bhs_model.specs.declared.events.Event.{Event}
 use Rattle.bhs_model.specs.declared.events.Event.TheVariants.{Tell}

@@ -1,5 +1,4 @@
 -- The world of the definitions that a network and a setup make.
-use Rattle.std.specs.Prelude.{ℕ, List}
 use Rattle.bhs_net.specs.Network as networks
 use Rattle.bhs_model.specs.declared.setups.Setup.{Setup}
 use Rattle.bhs_model.specs.Worlds.{Network, World}

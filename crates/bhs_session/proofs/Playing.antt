@@ -1,5 +1,5 @@
 -- A whole session, read by read.
-use Rattle.std.proofs.Common.{◌≡◌, ℕ, ◌+◌, ◌-◌, ◌<◌, Bool, List, [], ◌++◌, length, refl, subst, arith, length-append}
+use Rattle.std.proofs.Common.{◌≡◌, ℕ, ◌-◌, ◌<◌, Bool, List, ◌++◌, refl, subst, arith, length-append}
 use Rattle.std.specs.declared.option.Option.{Option}
 use Rattle.std.specs.Io.KnownBytes.{Appends, Consumes}
 use Rattle.std.proofs.KnownBytes.{Appends-trans, Consumes-trans, Consumes-kept}
@@ -11,7 +11,7 @@ use Rattle.bhs_session.specs.declared.endings.Stop.{Stop}
 use Rattle.bhs_session.specs.declared.endings.Stop.TheVariants as ends
 use Rattle.bhs_session.specs.Port.{Asked, Tells, Heard}
 use Rattle.bhs_session.specs.Phase.{Phase, Leaves, Finished, between, stopped, cause_of}
-use Rattle.bhs_session.specs.Session.{Point, Step, Session, Serves, goes_on, reads, stops, leaves, fresh, IsPiece}
+use Rattle.bhs_session.specs.Session.{Point, Session, Serves, goes_on, reads, stops, leaves, fresh, IsPiece}
 use Rattle.bhs_session.specs.Moves.{Moves, StopsAtLines, IsCauseOfLines}
 use Rattle.bhs_session.specs.Input.{BringsNone}
 use Rattle.bhs_session.proofs.Moving.{Session-trans, TakesLines-between}

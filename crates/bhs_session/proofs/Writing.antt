@@ -1,5 +1,5 @@
 -- What was written, as a step of a session.
-use Rattle.std.proofs.Common.{◌≡◌, ◌≢◌, ℕ, Bool, true, false, List, [], None, Some, refl, sym, subst, take}
+use Rattle.std.proofs.Common.{◌≡◌, ◌≢◌, ℕ, Bool, true, false, List, [], None, Some, refl, subst, take}
 use Rattle.std.specs.declared.option.Option.{Option}
 use Rattle.std.specs.Io.KnownBytes.{Appends}
 use Rattle.bhs_model.specs.declared.replies.Reply.{Reply}
@@ -7,7 +7,7 @@ use Rattle.bhs_model.specs.declared.replies.Reply.TheVariants as replies
 use Rattle.bhs_stream.proofs.Known.{Appends-from_keeps}
 use Rattle.bhs_session.specs.declared.endings.Ended.{Ended}
 use Rattle.bhs_session.specs.declared.endings.Ended.TheVariants as endings
-use Rattle.bhs_session.specs.Phase.{Phase, Ready, Awaits, Owes, Leaves, Finished, Sends, all, part, none, stopped, waiting, ended_by, finished_or}
+use Rattle.bhs_session.specs.Phase.{Phase, Ready, Owes, Leaves, Finished, Sends, all, part, none, stopped, waiting, finished_or}
 use Rattle.bhs_session.specs.Sent.{SentBut}
 
 -- bytes that the writer took, and that lead from one phase to another

@@ -1,5 +1,5 @@
 -- Where a session stands between two of its steps.
-use Rattle.std.specs.Prelude.{ℕ, ◌<◌, Bool, true, false, if◌then◌else◌, List, [], ◌∷◌, ◌++◌, length, take, Option, Some, None, Ok, Err}
+use Rattle.std.specs.Prelude.{ℕ, ◌<◌, Bool, true, if◌then◌else◌, List, [], ◌∷◌, ◌++◌, length, take, Option, Some, None, Ok, Err}
 use Rattle.std.specs.declared.result.Result.{Result}
 use Rattle.bhs_model.specs.declared.replies.Reply.{Reply}
 use Rattle.bhs_model.specs.declared.replies.Reply.TheVariants as replies
@@ -11,7 +11,6 @@ use Rattle.bhs_session.specs.declared.endings.Ended.{Ended}
 use Rattle.bhs_session.specs.declared.endings.Ended.TheVariants as endings
 use Rattle.bhs_session.specs.declared.endings.Stop.{Stop}
 use Rattle.bhs_session.specs.declared.endings.Stop.TheVariants as stops
-use Rattle.bhs_session.specs.declared.port.Entered.{Entered}
 use Rattle.bhs_session.specs.declared.port.Entered.TheVariants as entries
 use Rattle.bhs_session.specs.Port.{Heard, LetIn, Answers, NoMemory}
 
@@ -70,7 +69,7 @@ finished_or (Some ended) next = Finished ended
 abbrev pub answered_by : (waits : Bool) → Reply → Phase
 answered_by waits reply = finished_or (ended_by reply) (waiting waits reply)
 
--- the phase after a call of `tell`, or without waiting of `news`
+-- the phase after a call of `tell`, or of `news` where it does not wait. Neither lets anyone in: the last line never comes
 abbrev pub after_answer : (waits : Bool) → Heard → Phase
 after_answer waits (Answers reply) = Owes (text_of reply) (answered_by waits reply)
 after_answer waits NoMemory = Leaves endings.Memory
@@ -79,7 +78,7 @@ after_answer waits (LetIn answer) = Leaves endings.Memory
 abbrev pub denied : Denial → Phase
 denied denial = Owes (denial_text denial) (Finished endings.Denied)
 
--- the phase after a call of `enter`
+-- the phase after a call of `enter`, which gives no plain answer: the last line never comes
 abbrev pub after_enter : Heard → Phase
 after_enter (LetIn entries.Key) = denied denials.Key
 after_enter (LetIn entries.Taken) = denied denials.Taken

@@ -1,5 +1,5 @@
 -- What was written of a text where it did not go out whole.
-use Rattle.std.specs.Prelude.{◌≡◌, ℕ, List}
+use Rattle.std.specs.Prelude.{ℕ, List}
 use Rattle.std.specs.declared.option.Option.{Option}
 use Rattle.std.specs.Io.KnownBytes.{Keeps}
 use Rattle.bhs_stream.specs.Known.{AppendsPart}

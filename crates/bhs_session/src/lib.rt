@@ -3,6 +3,7 @@
 
 mod answers;
 mod endings;
+mod laws;
 mod lines;
 mod port;
 mod reading;
@@ -12,5 +13,6 @@ mod serving;
 mod tests;
 
 pub use endings::Ended;
+pub use laws::{lines_in_order, no_turns};
 pub use port::{Entered, Port};
 pub use serving::serve;

@@ -60,7 +60,7 @@ accuse_by (Some port) = Accuse port
 abbrev pub accuses : Data → Command
 accuses value = accuse_by (port_at (codes "port") value)
 
--- what an object says, by its text at "do". No other key is looked at
+-- what an object says, by its text at "do". Keys that its command does not need are not looked at
 abbrev pub first_by : Option (List ℕ) → Data → First
 first_by None value = Tell Bad
 first_by (Some word) value =

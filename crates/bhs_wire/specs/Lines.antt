@@ -27,6 +27,7 @@ given_as kind.Over line = Over ∷ []
 given_as kind.Blank line = []
 given_as kind.Whole line = Whole line ∷ []
 
+-- what a line gives, its bytes being those before a line feed
 abbrev pub given : List ℕ → List Line
 given line = given_as (line_kind line) line
 
@@ -37,6 +38,7 @@ said_by Over = Tell Bad
 
 -- ---- a whole stream
 
+-- the byte that ends a line
 abbrev pub is_line_feed : ℕ → Bool
 is_line_feed byte = byte == 10
 
@@ -76,10 +78,12 @@ kept line = if nat_lt MAX_LINE (length line) then None else Some line
 abbrev pub held_of : List ℕ → Option (List ℕ)
 held_of stream = kept (rest stream)
 
+-- what one more byte gives, where this much is held
 abbrev pub found_at : Option (List ℕ) → ℕ → List Line
 found_at None byte = if is_line_feed byte then Over ∷ [] else []
 found_at (Some line) byte = given_at line byte
 
+-- what is held after it: nothing of a line that is too long, until it has ended
 abbrev pub left_at : Option (List ℕ) → ℕ → Option (List ℕ)
 left_at None byte = if is_line_feed byte then Some [] else None
 left_at (Some line) byte = kept (grown line byte)

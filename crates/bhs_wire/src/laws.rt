@@ -1,6 +1,14 @@
-ghost use Rattle.std.specs.Prelude.{◌≡◌, ℕ, List, ◌++◌, Option, option_to_list, map};
+ghost use Rattle.std.specs.Prelude.{◌≡◌, ℕ, List, [], ◌∷◌, ◌++◌, false, Option, option_to_list, map};
+ghost use Rattle.std.specs.List.{list_any};
 ghost use Rattle.bhs_wire.specs.First.{says};
-ghost use Rattle.bhs_wire.specs.Lines.{given, said_by, lines, held_of, found_in, left_by};
+ghost use Rattle.bhs_wire.specs.Lines.{given, is_line_feed, said_by, lines, held_of, found_in, left_by};
+
+/// A line is the bytes before a line feed: this gives the lines of every stream.
+pub fn line_by_line()
+    ensures first { (line more : List ℕ) → list_any is_line_feed line ≡ false
+        → lines (line ++ 10 ∷ more) ≡ given line ++ lines more }
+    ensures last { (bytes : List ℕ) → list_any is_line_feed bytes ≡ false → lines bytes ≡ [] }
+{}
 
 /// However bytes are cut into pieces, the same lines are found in them, and the same is held after them.
 pub fn any_pieces()

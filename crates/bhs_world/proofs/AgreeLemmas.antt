@@ -1,9 +1,8 @@
 -- A table that stands for the events of a log stands, after a step, for the log with the event.
-use Rattle.std.proofs.Common.{◌≡◌, ℕ, ◌+◌, ◌<◌, ◌≤◌, Bool, true, false, not, ◌&&◌, ◌||◌, Option, Some, None, List, [], ◌∷◌, ◌++◌, length, map, refl, sym, ap, ◌∙◌, subst, inl, inr, arith, nat_lt, ◌==◌, if◌then◌else◌}
-use Rattle.std.specs.Prelude.{slice_set, slice_index_or}
-use Rattle.std.specs.List.{AllByRecursion}
+use Rattle.std.proofs.Common.{◌≡◌, ℕ, ◌+◌, ◌<◌, Bool, true, false, not, ◌&&◌, ◌||◌, Option, Some, None, List, [], ◌∷◌, ◌++◌, length, refl, sym, ap, ◌∙◌, subst, inl, inr, arith, nat_lt, ◌==◌, if◌then◌else◌}
+use Rattle.std.specs.Prelude.{slice_set}
 use Rattle.std.proofs.lemmas.List.{get_or_past}
-use Rattle.bhs_net.specs.Network.{Network, nodes_of, degree_of, far_of}
+use Rattle.bhs_net.specs.Network.{Network, far_of}
 use Rattle.bhs_model.specs.declared.setups.Setup.{Setup}
 use Rattle.bhs_model.specs.declared.commands.Command.{Command}
 use Rattle.bhs_model.specs.declared.events.Event.{Event}
@@ -15,19 +14,19 @@ use Rattle.bhs_model.specs.declared.replies.Reply.{Reply}
 use Rattle.bhs_model.specs.declared.replies.Reply.TheVariants as replies
 use Rattle.bhs_model.specs.declared.replies.Why.{Why}
 use Rattle.bhs_model.specs.declared.replies.Why.TheVariants as whys
-use Rattle.bhs_model.specs.Views.{View, Told, Standing, Trace, standing, ports, used, counts}
+use Rattle.bhs_model.specs.Views.{View, Told, Standing, standing, ports, used, counts}
 use Rattle.bhs_model.specs.Replying.{rep, answer, may, hears, refusal, text}
 use Rattle.bhs_model.specs.Worlds.{World, doomed}
 use Rattle.bhs_model.specs.Setups.{world_of}
-use Rattle.bhs_model.specs.Runs.{Position, Before, At, Bound, After, State, changed, initial, glance, position_after, traces_after, told, heard, is_doomed, is_let_through, arrives, arrived, delivered, next, run, run_from, reply, replies}
+use Rattle.bhs_model.specs.Runs.{Position, Before, At, Bound, After, State, changed, initial, glance, position_after, traces_after, told, heard, is_doomed, is_let_through, arrives, arrived, delivered, next, run, reply, replies}
 use Rattle.bhs_model.specs.Kept.{destroys, lost_after, keeps, lost, nobody}
 use Rattle.bhs_model.specs.Marks.{events_of, read, read_if}
 use Rattle.bhs_agent.specs.Agents.{Course, newcomer}
 use Rattle.bhs_board.specs.Boards.{Whiteboard}
 use Rattle.bhs_world.specs.Tables.{Table, agent_at, board_at, world_in, IsCourseOf, Shows, Agrees, IsNamed, StandsFor, keeps_next, log_after}
-use Rattle.bhs_world.specs.Steps.{IsSound, standing_at, agent_told, boards_told, mark_told, mark_here, hears_in, heard_in, table_heard, mark_heard, mark_of_command, agent_delivered, table_delivered, mark_delivered, table_after, mark_after, keeps_delivered, keeps_in}
+use Rattle.bhs_world.specs.Steps.{IsSound, standing_at, agent_told, boards_told, mark_here, hears_in, heard_in, table_heard, mark_heard, mark_of_command, table_delivered, mark_delivered, table_after, mark_after, keeps_delivered, keeps_in}
 use Rattle.bhs_world.proofs.ListLemmas.{each_set, changed_same, lt_tells}
-use Rattle.bhs_world.proofs.LegalLemmas.{IsLegal, AllLegal, KnowsPorts, either, all_run}
+use Rattle.bhs_world.proofs.LegalLemmas.{AllLegal, KnowsPorts, either, all_run}
 use Rattle.bhs_world.proofs.GrowthLemmas.{run_from_more, lost_from_more, replies_from_more, events_more, shows_more, read_same, named_more, reads_same, all_named_more, all_append, map_more}
 use Rattle.bhs_world.proofs.MarkLemmas.{KnownPorts, HasLimit, told_reads, told_named, told_shows, here_reads, here_named}
 

@@ -1,19 +1,17 @@
 -- Agents that are on links are answered alike.
-use Rattle.std.proofs.Common.{◌≡◌, ℕ, ◌<◌, Bool, true, false, not, ◌&&◌, Option, Some, None, List, refl, sym, ap, ◌∙◌, nat_lt, if◌then◌else◌}
+use Rattle.std.proofs.Common.{◌≡◌, ℕ, ◌<◌, Bool, true, not, ◌&&◌, Option, Some, refl, sym, ap, ◌∙◌, nat_lt, if◌then◌else◌}
 use Rattle.std.proofs.lemmas.Bool.{lt-ltb}
 use Rattle.bhs_model.specs.declared.commands.Command.{Command}
 use Rattle.bhs_model.specs.declared.commands.Command.TheVariants.{Enter, Look, Write, Depart, Accuse, Leave, Bad}
-use Rattle.bhs_model.specs.declared.events.Event.{Event}
-use Rattle.bhs_model.specs.declared.events.Event.TheVariants.{Tell, Deliver, Close}
+use Rattle.bhs_model.specs.declared.events.Event.TheVariants.{Tell}
 use Rattle.bhs_model.specs.declared.replies.Reply.{Reply}
 use Rattle.bhs_model.specs.declared.replies.Reply.TheVariants as replies
-use Rattle.bhs_model.specs.declared.replies.Why.TheVariants as whys
 use Rattle.bhs_model.specs.Views.{View, Told, Glance, Nothing, Standing, Away, standing, ports, used}
 use Rattle.bhs_model.specs.Replying.{rep, answer, may, hears, refusal}
 use Rattle.bhs_model.specs.Worlds.{World}
 use Rattle.bhs_model.specs.Runs.{Position, Before, At, Bound, After, State, is_bound, glance, told, heard, next, run, reply}
 use Rattle.bhs_world.specs.Steps.{standing_at}
-use Rattle.bhs_world.specs.Laws.{IsAway, AwayAlike}
+use Rattle.bhs_world.specs.Laws.{AwayAlike}
 use Rattle.bhs_world.proofs.ListLemmas.{changed_same}
 use Rattle.bhs_world.proofs.LegalLemmas.{IsLegal, all_run}
 use Rattle.bhs_world.proofs.AgreeLemmas.{by_cases, chosen_true, chosen_false}
@@ -50,22 +48,22 @@ away_reply world state agent command within bound legal =
     let heard_by : heard world state agent command ≡ (not state.closed && hears world.quota view command) = ap (λ (is_agent : Bool). is_agent && (not state.closed && hears world.quota view command)) (lt-ltb agent world.agents within) in
     chosen_true (nat_lt agent world.agents) _ _ (lt-ltb agent world.agents within)
     ∙ by_cases state.closed _
-      (λ is_closed. chosen_true state.closed _ _ is_closed ∙ sym (chosen_true state.closed _ _ is_closed))
-      (λ is_open. chosen_false state.closed _ _ is_open
-        ∙ by_cases (hears world.quota view command) _
-          (λ heard_it.
-            let is_heard : heard world state agent command ≡ true = heard_by ∙ ap (λ (closed : Bool). not closed && hears world.quota view command) is_open ∙ heard_it in
-            let past : (next world state (Tell agent command)).past agent ≡ Told view command sight =
-                ap (λ (state : State). state.past agent) (chosen_true (heard world state agent command) (told world state agent command) state is_heard) ∙ changed_same state.past agent (Told view command sight) in
-            let answered : rep world.board ((next world state (Tell agent command)).past agent) ≡ Some (answer world.board Away 0 command Nothing) =
-                ap (rep world.board) past
-                ∙ ap (λ (standing : Standing). Some (answer world.board standing (ports view) command sight)) is_away
-                ∙ ap Some (same_answer world.board (ports view) command sight) in
-            chosen_true (hears world.quota view command) _ _ heard_it ∙ answered ∙ sym (chosen_false state.closed _ _ is_open ∙ chosen_true (may Away room command) _ _ (sym same_hears ∙ heard_it)))
-          (λ unheard.
-            chosen_false (hears world.quota view command) _ _ unheard
-            ∙ ap (λ (standing : Standing). Some (replies.No (refusal standing command))) is_away
-            ∙ sym (chosen_false state.closed _ _ is_open ∙ chosen_false (may Away room command) _ _ (sym same_hears ∙ unheard))))
+    (λ is_closed. chosen_true state.closed _ _ is_closed ∙ sym (chosen_true state.closed _ _ is_closed))
+    (λ is_open. chosen_false state.closed _ _ is_open
+    ∙ by_cases (hears world.quota view command) _
+    (λ heard_it.
+    let is_heard : heard world state agent command ≡ true = heard_by ∙ ap (λ (closed : Bool). not closed && hears world.quota view command) is_open ∙ heard_it in
+    let past : (next world state (Tell agent command)).past agent ≡ Told view command sight =
+    ap (λ (state : State). state.past agent) (chosen_true (heard world state agent command) (told world state agent command) state is_heard) ∙ changed_same state.past agent (Told view command sight) in
+    let answered : rep world.board ((next world state (Tell agent command)).past agent) ≡ Some (answer world.board Away 0 command Nothing) =
+    ap (rep world.board) past
+    ∙ ap (λ (standing : Standing). Some (answer world.board standing (ports view) command sight)) is_away
+    ∙ ap Some (same_answer world.board (ports view) command sight) in
+    chosen_true (hears world.quota view command) _ _ heard_it ∙ answered ∙ sym (chosen_false state.closed _ _ is_open ∙ chosen_true (may Away room command) _ _ (sym same_hears ∙ heard_it)))
+    (λ unheard.
+    chosen_false (hears world.quota view command) _ _ unheard
+    ∙ ap (λ (standing : Standing). Some (replies.No (refusal standing command))) is_away
+    ∙ sym (chosen_false state.closed _ _ is_open ∙ chosen_false (may Away room command) _ _ (sym same_hears ∙ unheard))))
 
 pub away_alike : AwayAlike
 away_alike world events agent other command is_away is_other same_room =

@@ -1,17 +1,16 @@
 -- What an event more makes of a log, and of what the definitions say of it.
-use Rattle.std.proofs.Common.{◌≡◌, ℕ, zero, suc, ◌+◌, ◌<◌, ◌≤◌, Bool, true, false, Option, Some, None, List, [], ◌∷◌, ◌++◌, length, map, refl, sym, ap, ◌∙◌, subst, inl, inr, arith, nat_lt, ◌==◌, if◌then◌else◌}
-use Rattle.std.specs.Prelude.{slice_get, IsSome, IfSome, option_and_then, option_map, unwrap_or}
+use Rattle.std.proofs.Common.{◌≡◌, ℕ, zero, suc, Bool, Option, Some, None, List, [], ◌∷◌, ◌++◌, length, map, refl, sym, ap}
+use Rattle.std.specs.Prelude.{slice_get, IsSome, IfSome, option_and_then, unwrap_or}
 use Rattle.std.specs.List.{AllByRecursion}
 use Rattle.bhs_model.specs.declared.events.Event.{Event}
 use Rattle.bhs_model.specs.declared.marks.Mark.{Mark}
 use Rattle.bhs_model.specs.declared.marks.Mark.TheVariants.{Here, Written, Changed, Gone, Noted, Bye, Over, No}
 use Rattle.bhs_model.specs.declared.marks.Kept.{Kept}
-use Rattle.bhs_model.specs.declared.replies.Reply.{Reply}
 use Rattle.bhs_model.specs.declared.replies.Reply.TheVariants as replies
 use Rattle.bhs_model.specs.Worlds.{World}
-use Rattle.bhs_model.specs.Runs.{State, initial, next, run, run_from, reply, replies, replies_from}
+use Rattle.bhs_model.specs.Runs.{State, next, run_from, reply, replies_from}
 use Rattle.bhs_model.specs.Kept.{lost, lost_from, lost_after}
-use Rattle.bhs_model.specs.Marks.{events_of, put_of, put_at, text_at, read, read_if, board_of}
+use Rattle.bhs_model.specs.Marks.{events_of, put_of, put_at, text_at, read_if, board_of}
 use Rattle.bhs_world.specs.Tables.{Shows, IsNamed}
 
 -- one event more

@@ -1,6 +1,6 @@
 -- What holds of a list that is written at one place.
-use Rattle.std.proofs.Common.{◌≡◌, ◌≢◌, ℕ, ◌+◌, ◌<◌, ◌≤◌, Bool, true, false, Option, Some, None, List, [], ◌∷◌, ◌++◌, length, get_or, nat_lt, ◌==◌, ◌⊎◌, inl, inr, refl, sym, ap, ◌∙◌, subst, arith, get_or-set_same, get_or-set_other}
-use Rattle.std.specs.Prelude.{slice_set, slice_get, slice_index_or, nat_le}
+use Rattle.std.proofs.Common.{◌≡◌, ℕ, ◌+◌, ◌<◌, ◌≤◌, true, false, List, length, nat_lt, ◌==◌, ◌⊎◌, inl, inr, refl, arith, get_or-set_same, get_or-set_other}
+use Rattle.std.specs.Prelude.{slice_set, slice_index_or, nat_le}
 use Rattle.bhs_model.specs.Runs.{changed}
 use Rattle.std.proofs.lemmas.Bool.Decides.{eqb_tells, leb_tells}
 

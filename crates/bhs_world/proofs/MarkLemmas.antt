@@ -1,31 +1,28 @@
 -- The marks that a step answers are read as the replies of the definitions.
-use Rattle.std.proofs.Common.{◌≡◌, ℕ, ◌+◌, ◌<◌, ◌≤◌, Bool, true, false, Option, Some, None, List, [], ◌∷◌, ◌++◌, length, refl, sym, ap, ◌∙◌, subst, inl, inr, arith, nat_lt, ◌==◌, if◌then◌else◌}
-use Rattle.std.specs.Prelude.{slice_set, slice_index_or, nat_le, bytes_eq}
+use Rattle.std.proofs.Common.{◌≡◌, ℕ, ◌<◌, Bool, true, false, Option, Some, None, List, [], ◌∷◌, ◌++◌, length, refl, sym, ap, ◌∙◌, subst, arith, nat_lt, if◌then◌else◌}
+use Rattle.std.specs.Prelude.{nat_le, bytes_eq}
 use Rattle.bhs_net.specs.Network.{Network, nodes_of, degree_of}
 use Rattle.bhs_model.specs.declared.setups.Setup.{Setup}
 use Rattle.bhs_model.specs.declared.commands.Command.{Command}
 use Rattle.bhs_model.specs.declared.commands.Command.TheVariants.{Enter, Look, Write, Depart, Accuse, Leave, Bad}
-use Rattle.bhs_model.specs.declared.events.Event.{Event}
-use Rattle.bhs_model.specs.declared.events.Event.TheVariants.{Tell, Deliver, Close}
+use Rattle.bhs_model.specs.declared.events.Event.TheVariants.{Tell}
 use Rattle.bhs_model.specs.declared.marks.Mark.{Mark}
 use Rattle.bhs_model.specs.declared.marks.Mark.TheVariants as marks
 use Rattle.bhs_model.specs.declared.marks.Kept.{Kept}
-use Rattle.bhs_model.specs.declared.replies.Reply.{Reply}
 use Rattle.bhs_model.specs.declared.replies.Reply.TheVariants as replies
-use Rattle.bhs_model.specs.declared.replies.Why.{Why}
 use Rattle.bhs_model.specs.declared.replies.Why.TheVariants as whys
-use Rattle.bhs_model.specs.Views.{View, Told, Trace, Blank, Last, Saw, Seen}
+use Rattle.bhs_model.specs.Views.{View, Told, Trace, Last, Saw}
 use Rattle.bhs_model.specs.Replying.{swapped, text, write_answer, here, answer, may}
 use Rattle.bhs_model.specs.Worlds.{World}
 use Rattle.bhs_model.specs.Setups.{world_of}
 use Rattle.bhs_model.specs.Runs.{Position, Before, At, Bound, After, State, changed, sight_at, glance, traces_after}
-use Rattle.bhs_model.specs.Marks.{put_of, text_at, read, read_if}
+use Rattle.bhs_model.specs.Marks.{put_of, text_at, read}
 use Rattle.bhs_board.specs.declared.swaps.Swap.{Swap}
 use Rattle.bhs_board.specs.declared.swaps.Swap.TheVariants.{Long, Differs, Took}
 use Rattle.bhs_board.specs.Boards.{Whiteboard, last_after}
-use Rattle.bhs_world.specs.Tables.{Table, agent_at, board_at, untouched, world_in, Shows, IsNamed}
+use Rattle.bhs_world.specs.Tables.{board_at, untouched, Shows, IsNamed}
 use Rattle.bhs_world.specs.Steps.{IsPlaced, standing_at, swap_at, board_written, boards_told, mark_here, mark_of_swap, mark_told}
-use Rattle.bhs_world.proofs.ListLemmas.{each_set, changed_same, lt_tells}
+use Rattle.bhs_world.proofs.ListLemmas.{each_set, changed_same}
 use Rattle.bhs_world.proofs.LegalLemmas.{either}
 use Rattle.bhs_world.proofs.GrowthLemmas.{put_at_end, shows_more, text_shown, shows_named, NamesWrite}
 

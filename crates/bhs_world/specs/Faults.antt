@@ -1,5 +1,5 @@
 -- Which setups make a world.
-use Rattle.std.specs.Prelude.{ℕ, ◌<◌, ◌≤◌, ◌≢◌, Bool, true, false, not, ◌&&◌, Option, Some, None, Result, Ok, Err, ◌==◌, nat_lt, nat_le, ◌≡◌, if◌then◌else◌}
+use Rattle.std.specs.Prelude.{ℕ, ◌<◌, ◌≤◌, ◌≢◌, Bool, true, not, ◌&&◌, Option, Some, None, Result, Ok, Err, ◌==◌, nat_lt, nat_le, ◌≡◌, if◌then◌else◌}
 use Rattle.bhs_net.specs.Network.{Network, nodes_of}
 use Rattle.bhs_model.specs.declared.limits.TheConstants.{MAX_AGENTS, MAX_QUOTA, MAX_BOARD}
 use Rattle.bhs_model.specs.declared.setups.Setup.{Setup}

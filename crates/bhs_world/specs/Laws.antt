@@ -2,7 +2,7 @@
 use Rattle.std.specs.Prelude.{ℕ, Bool, true, ◌≡◌, ◌<◌, List, nat_lt}
 use Rattle.bhs_model.specs.declared.commands.Command.{Command}
 use Rattle.bhs_model.specs.declared.events.Event.{Event}
-use Rattle.bhs_model.specs.declared.events.Event.TheVariants.{Tell, Deliver, Close}
+use Rattle.bhs_model.specs.declared.events.Event.TheVariants.{Tell}
 use Rattle.bhs_model.specs.Views.{used}
 use Rattle.bhs_model.specs.Worlds.{World}
 use Rattle.bhs_model.specs.Runs.{is_bound, run, past, reply}
@@ -20,6 +20,6 @@ has_room world events agent = nat_lt (used (past world events agent)) world.quot
 -- neither has. It is not asked which of them is lost.
 abbrev pub AwayAlike : Type 0
 AwayAlike = (world : World) (events : List Event) (agent other : ℕ) (command : Command) →
-  IsAway world events agent → IsAway world events other →
-  has_room world events agent ≡ has_room world events other →
-  reply world (run world events) (Tell agent command) ≡ reply world (run world events) (Tell other command)
+    IsAway world events agent → IsAway world events other →
+    has_room world events agent ≡ has_room world events other →
+    reply world (run world events) (Tell agent command) ≡ reply world (run world events) (Tell other command)

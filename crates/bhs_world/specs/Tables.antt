@@ -1,7 +1,7 @@
 -- What a world keeps, and what it means that this stands for what happened.
-use Rattle.std.specs.Prelude.{ℕ, ◌<◌, ◌++◌, ◌∷◌, Bool, Option, Some, None, List, [], ◌≡◌, IfSome, IsSome, IsTrue, if◌then◌else◌, option_and_then, map, length, slice_index_or}
+use Rattle.std.specs.Prelude.{ℕ, ◌++◌, ◌∷◌, Bool, Option, Some, None, List, [], ◌≡◌, IfSome, IsSome, if◌then◌else◌, option_and_then, map, slice_index_or}
 use Rattle.std.specs.List.{AllByRecursion}
-use Rattle.bhs_net.specs.Network.{Network, nodes_of, degree_of}
+use Rattle.bhs_net.specs.Network.{Network}
 use Rattle.bhs_model.specs.declared.setups.Setup.{Setup}
 use Rattle.bhs_model.specs.declared.events.Event.{Event}
 use Rattle.bhs_model.specs.declared.marks.Mark.{Mark}

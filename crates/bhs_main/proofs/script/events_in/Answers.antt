@@ -1,8 +1,8 @@
-use Rattle.std.proofs.Common.{◌≡◌, ℕ, ◌+◌, ◌≤◌, ◌∷◌, [], ◌++◌, length, arith, sym, ◌∙◌}
+use Rattle.std.proofs.Common.{◌+◌, length, arith, sym, ◌∙◌}
 use Rattle.std.proofs.lemmas.Grind.{common_steps}
-use Rattle.bhs_main.specs.Script.{events_from, events_of}
+use Rattle.bhs_main.specs.Script.{events_from}
 use Rattle.bhs_main.specs.declared.meanings.Meaning.TheVariants.{Happens}
-use Rattle.bhs_main.proofs.EventLemmas.{with_front, with_front-before, rest_lines, bytes_left, bytes_left-shorter, one_line}
+use Rattle.bhs_main.proofs.EventLemmas.{with_front-before, rest_lines, bytes_left-shorter, one_line}
 use Rattle.bhs_main.proofs.script.events_in.Goals as goal
 
 pub loop-rest-preserved : goal.loop-rest-preserved

@@ -1,4 +1,4 @@
-use Rattle.std.proofs.Common.{◌≡◌, ℕ, ◌+◌, ◌≤◌, length}
+use Rattle.std.proofs.Common.{◌≡◌, ◌+◌, ◌≤◌, length}
 use Rattle.bhs_main.specs.Script.{events_from, events_of}
 use Rattle.bhs_main.proofs.EventLemmas.{with_front, rest_lines, bytes_left}
 use Rattle.bhs_main.proofs.script.events_in.Given as goal

@@ -1,4 +1,4 @@
-use Rattle.std.proofs.Common.{◌≡◌, true, ◌++◌, refl, subst}
+use Rattle.std.proofs.Common.{true, ◌++◌, subst}
 use Rattle.std.proofs.lemmas.Result.{err_from_is_err_and}
 use Rattle.bhs_model.specs.declared.replies.Reply.{Reply}
 use Rattle.bhs_session.specs.Phase.{Phase, Ready, Awaits, Owes, text_of, answered_by, waiting, phase_of}

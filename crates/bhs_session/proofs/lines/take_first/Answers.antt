@@ -1,4 +1,4 @@
-use Rattle.std.proofs.Common.{◌≡◌, ◌∙◌, true, refl, ◌∷◌, [], ◌++◌}
+use Rattle.std.proofs.Common.{◌∙◌, true, refl, ◌∷◌, [], ◌++◌}
 use Rattle.bhs_session.specs.declared.endings.Ended.TheVariants.{Memory}
 use Rattle.bhs_session.specs.declared.port.Entered.TheVariants as entries
 use Rattle.bhs_wire.specs.declared.denials.Denial.TheVariants as denials

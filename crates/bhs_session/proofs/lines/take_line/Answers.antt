@@ -1,9 +1,7 @@
-use Rattle.std.proofs.Common.{◌≡◌, sym, subst}
 use Rattle.bhs_session.specs.declared.endings.Ended.TheVariants.{Memory}
-use Rattle.bhs_session.specs.Phase.{Phase, between, stopped, phase_of}
+use Rattle.bhs_session.specs.Phase.{between, stopped}
 use Rattle.bhs_session.specs.Session.{Point}
 use Rattle.bhs_session.specs.Session as session
-use Rattle.bhs_session.specs.Moves.{Moves}
 use Rattle.bhs_session.proofs.Moving.{Moves-step, TakesLines-between, IsNext-some, StopsAtLines-of}
 use Rattle.bhs_wire.specs.Lines.{seen}
 use Rattle.bhs_session.proofs.lines.take_line.Goals as goal

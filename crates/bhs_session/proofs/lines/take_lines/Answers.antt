@@ -1,7 +1,6 @@
-use Rattle.std.proofs.Common.{◌++◌, map, take, subst, List, [], append-nil, sym}
+use Rattle.std.proofs.Common.{◌++◌, map, take, subst, List, append-nil, sym}
 use Rattle.std.proofs.lemmas.Result.{err_from_is_err_and}
-use Rattle.std.proofs.KnownBytes.{Appends-nil}
-use Rattle.bhs_wire.specs.Lines.{Line, lines, seen}
+use Rattle.bhs_wire.specs.Lines.{Line, seen}
 use Rattle.bhs_session.specs.Phase.{Ready, between, phase_of}
 use Rattle.bhs_session.specs.Moves.{Moves}
 use Rattle.bhs_session.proofs.Moving.{Moves-none, Moves-trans}

@@ -1,4 +1,3 @@
-use Rattle.std.proofs.Common.{rules}
 use Rattle.bhs_session.specs.Phase.{Finished, denial_text}
 use Rattle.bhs_session.specs.declared.endings.Ended.TheVariants.{Denied, WriteFault}
 use Rattle.bhs_session.proofs.Writing.{Wrote-all, Wrote-but}
