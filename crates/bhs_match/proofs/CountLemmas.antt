@@ -1,17 +1,17 @@
 -- How many events a log can hold: each kept event uses up a part of its agent's share.
-use Rattle.std.proofs.Common.{◌≡◌, ℕ, zero, suc, ◌+◌, ◌*◌, ◌<◌, ◌≤◌, Bool, true, false, not, ◌&&◌, ◌||◌, List, [], ◌∷◌, length, refl, sym, ap, subst, inl, inr, arith, ◌==◌, if◌then◌else◌}
-use Rattle.std.proofs.lemmas.Bool.{and_parts, ne_eqb, eq-eqb}
+use Rattle.std.proofs.Common.{◌≡◌, ℕ, zero, suc, ◌+◌, ◌*◌, ◌<◌, ◌≤◌, Bool, true, false, not, ◌&&◌, ◌||◌, Option, List, [], ◌∷◌, length, refl, sym, ap, ◌∙◌, subst, inl, inr, arith, ◌==◌, if◌then◌else◌}
+use Rattle.std.proofs.lemmas.Bool.{and_parts, not-true, cond_both, cond-true, cond-false, ne_eqb, eq-eqb, not-false}
 use Rattle.std.proofs.lemmas.Bool.Decides.{eqb_tells}
 use Rattle.bhs_model.specs.declared.commands.Command.{Command}
 use Rattle.bhs_model.specs.declared.events.Event.{Event}
 use Rattle.bhs_model.specs.declared.events.Event.TheVariants.{Tell, Deliver, Close}
-use Rattle.bhs_model.specs.Views.{used}
+use Rattle.bhs_model.specs.Views.{View, Told, used}
 use Rattle.bhs_model.specs.Worlds.{World, doomed}
-use Rattle.bhs_model.specs.Runs.{Position, Before, At, Bound, After, State, initial, changed, told, is_doomed, arrives, arrived, delivered, heard, next, run, run_from}
+use Rattle.bhs_model.specs.Runs.{Position, Before, At, Bound, After, State, initial, changed, glance, position_after, told, is_doomed, arrives, arrived, delivered, heard, next, run, run_from}
 use Rattle.bhs_model.specs.Kept.{destroys, lost_after, keeps, kept_first, kept_from, kept, lost, lost_from, nobody}
 use Rattle.bhs_match.specs.Matches.{most_kept}
-use Rattle.bhs_match.proofs.MoveLemmas.{IsGone, weight}
-use Rattle.bhs_match.proofs.FairLemmas.{IsFair, IsHeard, heard_means, moves_of, IsArriving, arrival_means, bound_within, fair_next, fair_run, fair_initial}
+use Rattle.bhs_match.proofs.MoveLemmas.{IsGone, Moves, weight}
+use Rattle.bhs_match.proofs.FairLemmas.{IsFair, IsHeard, heard_means, moves_of, IsArriving, arrival_means, bound_within, fair_next, fair_run, fair_run_from, fair_initial}
 
 -- the numbers below n, summed over
 sum_to : (n : ℕ) → (ℕ → ℕ) → ℕ
@@ -55,7 +55,7 @@ sum_bound (suc n) most f each =
 share : State → (ℕ → Bool) → ℕ → ℕ
 share state lost agent = weight (state.position agent) (lost agent) + 2 * used (state.past agent)
 
-abbrev bit : Bool → ℕ
+abbrev pub bit : Bool → ℕ
 bit b = if b then 1 else 0
 
 -- what all have used up

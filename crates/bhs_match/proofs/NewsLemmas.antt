@@ -1,6 +1,6 @@
 -- An agent has at most as many arrivals as its quota: before each it departed.
-use Rattle.std.proofs.Common.{◌≡◌, ℕ, ◌+◌, ◌≤◌, Bool, true, false, Option, Some, None, List, [], ◌∷◌, ◌++◌, length, map, refl, sym, ap, ◌∙◌, subst, inl, inr, arith, ◌==◌, if◌then◌else◌}
-use Rattle.std.proofs.lemmas.Bool.{cond_both, cond-false, eq-eqb, ne_eqb}
+use Rattle.std.proofs.Common.{◌≡◌, ℕ, ◌+◌, ◌<◌, ◌≤◌, Bool, true, false, not, Option, Some, None, List, [], ◌∷◌, ◌++◌, length, map, refl, sym, ap, ◌∙◌, subst, inl, inr, arith, ◌==◌, if◌then◌else◌}
+use Rattle.std.proofs.lemmas.Bool.{cond_both, cond-true, cond-false, eqb-true, eq-eqb, ne_eqb}
 use Rattle.std.proofs.lemmas.Bool.Decides.{eqb_tells}
 use Rattle.bhs_model.specs.declared.commands.Command.{Command}
 use Rattle.bhs_model.specs.declared.events.Event.{Event}
@@ -11,11 +11,12 @@ use Rattle.bhs_model.specs.declared.replies.Reply.{Reply}
 use Rattle.bhs_model.specs.Views.{used}
 use Rattle.bhs_model.specs.Replying.{rep}
 use Rattle.bhs_model.specs.Worlds.{World}
-use Rattle.bhs_model.specs.Runs.{Position, Bound, State, initial, told, arrived, delivered, arrives, heard, next, run_from, reply, replies, replies_from}
+use Rattle.bhs_model.specs.Runs.{Position, Before, At, Bound, After, State, initial, changed, told, arrived, delivered, arrives, heard, next, run, run_from, reply, replies, replies_from}
 use Rattle.bhs_model.specs.Kept.{lost_after, lost, nobody}
 use Rattle.bhs_model.specs.Marks.{events_of, read_if}
 use Rattle.bhs_match.specs.Matches.{is_arrival, arrivals_from, arrivals}
-use Rattle.bhs_match.proofs.MoveLemmas.{flight}
+use Rattle.bhs_match.proofs.MoveLemmas.{flight, Moves}
+use Rattle.bhs_match.proofs.CountLemmas.{bit}
 use Rattle.bhs_match.proofs.FairLemmas.{IsFair, IsHeard, heard_means, moves_of, IsArriving, arrival_means, bound_within, fair_next, fair_run, fair_initial}
 
 chosen_append : (b : Bool) (place : ℕ) (xs ys zs : List ℕ) → xs ≡ ys ++ zs → (if b then place ∷ xs else xs) ≡ (if b then place ∷ ys else ys) ++ zs
@@ -36,9 +37,6 @@ arrivals_more agent place (first ∷ log) one =
     let same : (place + 1) + length log ≡ place + length (first ∷ log) = omega arith in
     chosen_append (is_arrival agent first.event first.mark) place _ _ _
     (arrivals_more agent (place + 1) log one ∙ ap (λ (last : ℕ). arrivals_from agent (place + 1) log ++ last_arrival agent last one) same)
-
-abbrev bit : Bool → ℕ
-bit b = if b then 1 else 0
 
 -- a flight begins with a command that counts, and ends with an arrival
 record Balance (before after : State) (agent : ℕ) (arrival : Bool) : Type 0 where

@@ -4,7 +4,7 @@ use Rattle.bhs_model.specs.declared.events.Event.{Event}
 use Rattle.bhs_model.specs.declared.marks.Mark.{Mark}
 use Rattle.bhs_model.specs.declared.marks.Kept.{Kept}
 use Rattle.bhs_model.specs.Worlds.{World}
-use Rattle.bhs_model.specs.Runs.{run, reply, replies}
+use Rattle.bhs_model.specs.Runs.{State, run, reply, replies}
 use Rattle.bhs_model.specs.Kept.{kept, lost}
 use Rattle.bhs_model.specs.Draws.{pool}
 use Rattle.bhs_model.specs.Marks.{events_of, read_if}
