@@ -8,7 +8,8 @@ use Rattle.bhs_stream.specs.declared.reading.ReadFault.TheVariants as reads
 use Rattle.bhs_main.specs.declared.faults.PlayFault.{PlayFault}
 use Rattle.bhs_main.specs.declared.faults.PlayFault.TheVariants.{Read, Text, Line, Write, Memory, Turns}
 use Rattle.bhs_model.specs.declared.limits.TheConstants.{MAX_TEXT}
-use Rattle.bhs_main.specs.PlayFault.{StopsPlaying}
+use Rattle.bhs_main.specs.PlayFault.{StopsPlaying, status}
+use Rattle.bhs_main.specs.declared.run.TheConstants.{DONE, NO_MEMORY}
 use Rattle.bhs_main.specs.Script.{events_of}
 use Rattle.bhs_main.specs.Transcript.{transcript}
 use Rattle.bhs_main.specs.Triangle.{built_in}
@@ -54,3 +55,15 @@ Stops turns input input' output output' (Line line) =
 Stops turns input input' output output' Write = PlaysUntil Write input input' output output'
 Stops turns input input' output output' Memory =
     ((bytes : List ℕ) × Consumes input input' bytes × Keeps output output') ⊎ PlaysUntil Memory input input' output output'
+
+-- a rehearsal ended by a fault: it stopped the playing, or all was played and the last bytes were lost on their way out
+abbrev pub Ends : ℕ → Option (List ℕ) → Option (List ℕ) → Option (List ℕ) → Option (List ℕ) → PlayFault → Type 0
+Ends turns input input' output output' fault =
+    Stops turns input input' output output' fault ⊎ ((fault ≡ Write) × Plays input input' output output')
+
+-- what the exit status of a rehearsal says: all was played; or this fault ended it; or there was no memory to begin
+abbrev pub Exits : ℕ → Option (List ℕ) → Option (List ℕ) → Option (List ℕ) → Option (List ℕ) → ℕ → Type 0
+Exits turns input input' output output' code =
+    ((code ≡ DONE) × Plays input input' output output')
+    ⊎ (((fault : PlayFault) × (code ≡ status fault) × Ends turns input input' output output' fault)
+    ⊎ ((code ≡ NO_MEMORY) × Keeps input input' × Keeps output output'))

@@ -1,9 +1,9 @@
 ghost use Rattle.std.specs.Prelude.{◌≡◌, map, OnOk, IfErr, IsOkUnless};
-ghost use Rattle.std.specs.Io.KnownBytes.{Keeps};
+ghost use Rattle.std.specs.Io.KnownBytes.{Appends, Keeps};
 ghost use Rattle.bhs_command_line.specs.CommandLine.{Rehearses};
 ghost use Rattle.bhs_main.specs.PlayFault.{status};
 ghost use Rattle.bhs_main.specs.declared.faults.PlayFault.TheVariants.{Write};
-ghost use Rattle.bhs_main.specs.Rehearsal.{Plays};
+ghost use Rattle.bhs_main.specs.Rehearsal.{Plays, Ends, Exits};
 
 use crate::faults::PlayFault;
 use crate::playing::rehearse;
@@ -43,6 +43,8 @@ pub fn run<S: AsStr, R: Read, W: Write, E: Write>(
         Plays (R.remaining reader.old) (R.remaining reader.new) (W.contents writer.old) (W.contents writer.new) }
     ensures refused { Rehearses (map S.text words.now) → result ≡ REFUSED_SCRIPT →
         Keeps (W.contents writer.old) (W.contents writer.new) }
+    ensures exits { Rehearses (map S.text words.now) →
+        Exits MAX_TURNS (R.remaining reader.old) (R.remaining reader.new) (W.contents writer.old) (W.contents writer.new) result }
 {
     match order_of(alloc, words) {
         Ok(Answer::Ordered(Order::Rehearse)) => match rehearse_whole(alloc, reader, writer) {
@@ -71,6 +73,7 @@ fn rehearse_whole<R: Read, W: Write>(
 ) -> Result<(), PlayFault>
     ensures played { OnOk result (Plays (R.remaining reader.old) (R.remaining reader.new) (W.contents writer.old) (W.contents writer.new)) }
     ensures refused { IfErr result (λ fault. status fault ≡ REFUSED_SCRIPT → Keeps (W.contents writer.old) (W.contents writer.new)) }
+    ensures ended { IfErr result (Ends MAX_TURNS (R.remaining reader.old) (R.remaining reader.new) (W.contents writer.old) (W.contents writer.new)) }
 {
     rehearse(alloc, reader, writer, MAX_TURNS)?;
     finish(writer)?;
@@ -78,7 +81,8 @@ fn rehearse_whole<R: Read, W: Write>(
 }
 
 fn show<W: Write>(text: &str, writer: &mut W) -> Result<(), PlayFault>
-    ensures { IsOkUnless result Write }
+    ensures shown { OnOk result (Appends (W.contents writer.old) (W.contents writer.new) text.now) }
+    ensures fault { IsOkUnless result Write }
 {
     send(writer, text.as_bytes())?;
     finish(writer)?;
