@@ -42,7 +42,7 @@ def show(seed, stream, places):
 
 
 if __name__ == "__main__":
-    # Published: the key stream of ChaCha8 at a key and a nonce of zeros begins 3e00ef2f 895f40d6 7f5bb8e8.
+    # The key stream of ChaCha8 at a key and a nonce of zeros, as remembered and not looked up.
     assert struct.pack("<3I", *block(bytes(32), 0, 0)[:3]).hex() == "3e00ef2f895f40d67f5bb8e8"
     show(bytes(32), 0, range(8))
     show(bytes(32), 1, range(8))
