@@ -1,20 +1,21 @@
 -- Which words the command line takes.
-use Rattle.std.proofs.Common.{◌≡◌, ◌⊎◌, ◌&&◌, ◌||◌, ap, subst, sym, refl, inl, inr, not, true≢false, Bool, true, false, cond, ℕ, zero, suc, codes, length, List, [], ◌∷◌, Option, Some, None, is_some}
+use Rattle.std.proofs.Common.{◌≡◌, ◌⊎◌, ◌∙◌, ◌&&◌, ◌||◌, ap, subst, sym, refl, inl, inr, not, true≢false, Bool, true, false, cond, ℕ, zero, suc, codes, length, List, [], ◌∷◌, Option, Some, None, is_some}
 use Rattle.std.specs.Prelude.{find, option_and_then, option_map, encode_utf8, drop, slice_get, if◌then◌else◌}
 use Rattle.std.specs.Option.{option_map_or}
 use Rattle.std.specs.Str.{bytes_eq, chars}
 use Rattle.std.proofs.lemmas.Slice.Eq.{bytes_eq-Decides}
 use Rattle.clap.specs.Lexer.{long_of, short_of}
-use Rattle.clap.specs.Walk.{Held, Names, Rule, Step, Text, after_flag, answers_to, trailing, value, arg_by_long, arg_by_short, bundle_met, bundle_step, has_long, has_short, idle, long_or_other, nothing_held, plain, short_or_plain, subcommand_or_other, stop_after, Walk, walk_from, walked}
-use Rattle.clap.specs.Simple.{Shape, built, built_leaf, filled, help_rule, inherited, is_simple, names_of, with_index}
+use Rattle.clap.specs.Walk.{Held, Names, Row, Rule, Step, Text, after_flag, answers_to, trailing, value, arg_by_long, arg_by_short, bundle_met, bundle_step, has_long, has_short, idle, long_or_other, nothing_held, plain, short_or_plain, subcommand_or_other, stop_after, Walk, walk_from, walked}
+use Rattle.clap.specs.Simple.{Shape, built, built_leaf, entered, filled, rows_at, help_rule, inherited, is_simple, names_of, with_index}
 use Rattle.clap.specs.Kinds.{Kinds, or_else}
+use Rattle.clap.specs.Words.{first_of}
 use Rattle.clap.specs.Faults.{bundle_fault, bundle_step_fault, entered_fault, flag_word_fault, flags_fault, level_fault, long_fault, other_fault, short_fault, step_fault, turn_fault, walk_fault, defaults_fault, is_simple_and_free}
 use Rattle.clap.specs.declared.error.kind.ErrorKind.{ErrorKind}
 use Rattle.clap.specs.declared.error.kind.ErrorKind.TheVariants.{DisplayHelp, DisplayHelpOnMissingArgumentOrSubcommand}
 use Rattle.clap.proofs.WalkLemmas.{walk_stopped}
 use Rattle.clap.proofs.OnLiterals.{clap_on_literals}
-use Rattle.bhs_command_line.specs.CommandLine.{AsksHelp, Rehearses, arena, command_in, faults, order_by, rehearse}
-use Rattle.bhs_command_line.specs.declared.Order.TheVariants.{Rehearse}
+use Rattle.bhs_command_line.specs.CommandLine.{AsksHelp, Rehearses, arena, check, command_in, faults, is_dashed, order_by, rehearse, tournament_in}
+use Rattle.bhs_command_line.specs.declared.Order.TheVariants.{Check, Rehearse}
 
 -- ---- lists of kinds
 
@@ -114,42 +115,27 @@ module _ (s : Shape) (stray : (h : Held) → step_fault s 1 h value ≡ [] → �
       go true is e = (bytes_eq-Decides word (codes "--")).0 is
       go false is e = absurd (flag_refused (long_of word) word e)
 
--- ---- the words of a command that takes none
-
-abbrev command : Shape
-command = built_leaf (inherited (built arena).top rehearse)
-
-no_words : (words : List Text) → level_fault command [] nothing_held words false [] ≡ [] → (words ≡ []) ⊎ (words ≡ codes "--" ∷ [])
-unfolding walk_fault walked defaults_fault
-no_words [] e = inl refl
-no_words (word ∷ rest) e =
-    let faults_none : walk_fault command [] (walk_from nothing_held) (word ∷ rest) ≡ [] = first_none _ _ e in
-    let is_mark : word ≡ codes "--" = no_command command (λ h. kind≢none _ _) word (first_none _ _ faults_none) in
-    inr (go rest (subst (λ (w : Text). walk_fault command [] (walk_from nothing_held) (w ∷ rest) ≡ []) is_mark faults_none) is_mark)
-  where
-    go : (rest : List Text) → walk_fault command [] (walk_from nothing_held) (codes "--" ∷ rest) ≡ [] → word ≡ codes "--" → word ∷ rest ≡ codes "--" ∷ []
-    go [] e is = ap (λ w. w ∷ []) is
-    go (x ∷ xs) e is = absurd (kind≢none _ _ e)
-
 -- ---- the words of the program
 
 or_false : (b : Bool) → (b || false) ≡ true → b ≡ true
 or_false true e = refl
 or_false false e = e
 
--- a first word without a fault is the command, or the mark that ends the options
-top_word : (word : Text) → turn_fault top names (walk_from nothing_held) word ≡ [] → (word ≡ codes "rehearse") ⊎ (word ≡ codes "--")
-top_word word e = go (answers_to word (codes "rehearse", [])) (answers_to word (codes "help", [])) refl e
+-- a first word without a fault is a command, or the mark that ends the options
+top_word : (word : Text) → turn_fault top names (walk_from nothing_held) word ≡ [] → (word ≡ codes "rehearse") ⊎ ((word ≡ codes "check") ⊎ (word ≡ codes "--"))
+top_word word e = go (answers_to word (codes "rehearse", [])) (answers_to word (codes "check", [])) (answers_to word (codes "help", [])) refl refl e
   where
-    met : Bool → Bool → Option Text
-    met is_command is_help = option_map {T = Text × List Text} (λ s. s.0) (cond is_command (Some (codes "rehearse", [])) (cond is_help (Some (codes "help", [])) None))
+    met : Bool → Bool → Bool → Option Text
+    met is_rehearse is_check is_help =
+        option_map {T = Text × List Text} (λ s. s.0) (cond is_rehearse (Some (codes "rehearse", [])) (cond is_check (Some (codes "check", [])) (cond is_help (Some (codes "help", [])) None)))
 
-    go : (is_command is_help : Bool) → answers_to word (codes "rehearse", []) ≡ is_command
-        → first_fault top (other_fault top (met is_command is_help) word nothing_held) (subcommand_or_other helps (met is_command is_help) idle 1 word nothing_held) ≡ []
-        → (word ≡ codes "rehearse") ⊎ (word ≡ codes "--")
-    go true is_help is e = inl (sym ((bytes_eq-Decides (codes "rehearse") word).0 (or_false _ is)))
-    go false true is e = absurd (kind≢none _ _ e)
-    go false false is e = inr (no_command top (λ h. kind≢none _ _) word e)
+    go : (is_rehearse is_check is_help : Bool) → answers_to word (codes "rehearse", []) ≡ is_rehearse → answers_to word (codes "check", []) ≡ is_check
+        → first_fault top (other_fault top (met is_rehearse is_check is_help) word nothing_held) (subcommand_or_other helps (met is_rehearse is_check is_help) idle 1 word nothing_held) ≡ []
+        → (word ≡ codes "rehearse") ⊎ ((word ≡ codes "check") ⊎ (word ≡ codes "--"))
+    go true is_check is_help is other e = inl (sym ((bytes_eq-Decides (codes "rehearse") word).0 (or_false _ is)))
+    go false true is_help is other e = inr (inl (sym ((bytes_eq-Decides (codes "check") word).0 (or_false _ other))))
+    go false false true is other e = absurd (kind≢none _ _ e)
+    go false false false is other e = inr (inr (no_command top (λ h. kind≢none _ _) word e))
 
 -- after the mark there is no command
 mark_refused : (rest : List Text) → faults (codes "--" ∷ rest) ≡ [] → ⊥
@@ -157,26 +143,39 @@ unfolding walk_fault walked defaults_fault
 mark_refused [] e = kind≢none _ _ e
 mark_refused (x ∷ xs) e = kind≢none _ _ e
 
-command_words : (rest : List Text) → faults (codes "rehearse" ∷ rest) ≡ [] → Rehearses (codes "rehearse" ∷ rest)
-unfolding walked
-command_words rest e =
-    let stops : stop_after helps names (codes "rehearse" ∷ rest) ≡ Some (codes "rehearse", rest) =
-    sym (ap (λ (w : Walk). w.stopped) (walk_stopped helps names (walk_from nothing_held) (codes "rehearse") [] rest)) in
-    let below : entered_fault (built arena) (stop_after helps names (codes "rehearse" ∷ rest)) ≡ [] = first_none _ _ (then_none _ _ e) in
-    elim (no_words rest (subst (λ (stop : Option (Text × List Text)). entered_fault (built arena) stop ≡ []) stops below)) [
-      | inl is ↦ inl (ap (λ (words : List Text). codes "rehearse" ∷ words) is)
-      | inr is ↦ inr (ap (λ (words : List Text). codes "rehearse" ∷ words) is)
-    ]
+-- the words begin with a command
+abbrev pub Begins : Text → List Text → Type 0
+Begins command words = (rest : List Text) × (words ≡ command ∷ rest)
 
--- words without a fault are the command alone, or the command and the mark
-pub taken_words : (words : List Text) → faults words ≡ [] → Rehearses words
+-- words without a fault are a command with its words
+pub taken_words : (words : List Text) → faults words ≡ [] → Begins (codes "rehearse") words ⊎ Begins (codes "check") words
 unfolding walk_fault defaults_fault
 taken_words [] e = absurd (kind≢none _ _ e)
 taken_words (word ∷ rest) e = go (top_word word (first_none _ _ (first_none _ _ e)))
   where
-    go : (word ≡ codes "rehearse") ⊎ (word ≡ codes "--") → Rehearses (word ∷ rest)
-    go (inl is) = subst (λ (w : Text). Rehearses (w ∷ rest)) (sym is) (command_words rest (subst (λ (w : Text). faults (w ∷ rest) ≡ []) is e))
-    go (inr is) = absurd (mark_refused rest (subst (λ (w : Text). faults (w ∷ rest) ≡ []) is e))
+    go : (word ≡ codes "rehearse") ⊎ ((word ≡ codes "check") ⊎ (word ≡ codes "--")) → Begins (codes "rehearse") (word ∷ rest) ⊎ Begins (codes "check") (word ∷ rest)
+    go (inl is) = inl (rest, ap (λ (w : Text). w ∷ rest) is)
+    go (inr (inl is)) = inr (rest, ap (λ (w : Text). w ∷ rest) is)
+    go (inr (inr is)) = absurd (mark_refused rest (subst (λ (w : Text). faults (w ∷ rest) ≡ []) is e))
+
+-- a command is found with what its own words come to
+abbrev pub rows_after : Shape → List Text → List Row
+rows_after command rest = (rows_at (built_leaf (inherited (built arena).top command)) rest).1
+
+pub rehearse_found : (words : List Text) (begins : Begins (codes "rehearse") words)
+    → option_and_then order_by (command_in words) ≡ Some (Rehearse (first_of (codes "tournament") (rows_after rehearse begins.0)))
+unfolding walked
+rehearse_found words begins =
+    let stops : stop_after helps names (codes "rehearse" ∷ begins.0) ≡ Some (codes "rehearse", begins.0) =
+    sym (ap (λ (w : Walk). w.stopped) (walk_stopped helps names (walk_from nothing_held) (codes "rehearse") [] begins.0)) in
+    ap (λ (ws : List Text). option_and_then order_by (command_in ws)) begins.1 ∙ ap (λ (stop : Option (Text × List Text)). option_and_then order_by (entered (built arena) stop)) stops
+
+pub check_found : (words : List Text) (begins : Begins (codes "check") words) → option_and_then order_by (command_in words) ≡ Some (Check (tournament_in (rows_after check begins.0)))
+unfolding walked
+check_found words begins =
+    let stops : stop_after helps names (codes "check" ∷ begins.0) ≡ Some (codes "check", begins.0) =
+    sym (ap (λ (w : Walk). w.stopped) (walk_stopped helps names (walk_from nothing_held) (codes "check") [] begins.0)) in
+    ap (λ (ws : List Text). option_and_then order_by (command_in ws)) begins.1 ∙ ap (λ (stop : Option (Text × List Text)). option_and_then order_by (entered (built arena) stop)) stops
 
 -- ---- words that are written out
 
@@ -193,18 +192,42 @@ unfolding clap_on_literals
 no_fault words (inl is) = subst (λ (ws : List Text). faults ws ≡ []) (sym is) refl
 no_fault words (inr is) = subst (λ (ws : List Text). faults ws ≡ []) (sym is) refl
 
-pub command_found : (words : List Text) → Rehearses words → option_and_then order_by (command_in words) ≡ Some Rehearse
+pub command_found : (words : List Text) → Rehearses words → option_and_then order_by (command_in words) ≡ Some (Rehearse None)
 unfolding clap_on_literals
-command_found words (inl is) = subst (λ (ws : List Text). option_and_then order_by (command_in ws) ≡ Some Rehearse) (sym is) refl
-command_found words (inr is) = subst (λ (ws : List Text). option_and_then order_by (command_in ws) ≡ Some Rehearse) (sym is) refl
+command_found words (inl is) = subst (λ (ws : List Text). option_and_then order_by (command_in ws) ≡ Some (Rehearse None)) (sym is) refl
+command_found words (inr is) = subst (λ (ws : List Text). option_and_then order_by (command_in ws) ≡ Some (Rehearse None)) (sym is) refl
 
 pub help_fault : (words : List Text) → AsksHelp words → faults words ≡ DisplayHelp ∷ []
 unfolding clap_on_literals
 help_fault words (inl (inl is)) = subst (λ (ws : List Text). faults ws ≡ DisplayHelp ∷ []) (sym is) refl
 help_fault words (inl (inr is)) = subst (λ (ws : List Text). faults ws ≡ DisplayHelp ∷ []) (sym is) refl
-help_fault words (inr (inl is)) = subst (λ (ws : List Text). faults ws ≡ DisplayHelp ∷ []) (sym is) refl
-help_fault words (inr (inr is)) = subst (λ (ws : List Text). faults ws ≡ DisplayHelp ∷ []) (sym is) refl
+help_fault words (inr (inl (inl is))) = subst (λ (ws : List Text). faults ws ≡ DisplayHelp ∷ []) (sym is) refl
+help_fault words (inr (inl (inr is))) = subst (λ (ws : List Text). faults ws ≡ DisplayHelp ∷ []) (sym is) refl
+help_fault words (inr (inr (inl is))) = subst (λ (ws : List Text). faults ws ≡ DisplayHelp ∷ []) (sym is) refl
+help_fault words (inr (inr (inr is))) = subst (λ (ws : List Text). faults ws ≡ DisplayHelp ∷ []) (sym is) refl
 
 pub no_word_fault : (words : List Text) → words ≡ [] → faults words ≡ DisplayHelpOnMissingArgumentOrSubcommand ∷ []
 unfolding clap_on_literals
 no_word_fault words is = subst (λ (ws : List Text). faults ws ≡ DisplayHelpOnMissingArgumentOrSubcommand ∷ []) (sym is) refl
+
+-- ---- a tournament's name
+
+pub named_fault : (name : List ℕ) → is_dashed name ≡ false → faults (codes "check" ∷ name ∷ []) ≡ []
+unfolding clap_on_literals
+named_fault [] e = refl
+named_fault (b ∷ bs) e = rw e (rw e refl)
+
+pub named_rows : (name : List ℕ) → is_dashed name ≡ false → tournament_in (rows_after check (name ∷ [])) ≡ name
+unfolding clap_on_literals
+named_rows [] e = refl
+named_rows (b ∷ bs) e = rw e (rw e refl)
+
+pub rehearsed_fault : (name : List ℕ) → is_dashed name ≡ false → faults (codes "rehearse" ∷ name ∷ []) ≡ []
+unfolding clap_on_literals
+rehearsed_fault [] e = refl
+rehearsed_fault (b ∷ bs) e = rw e (rw e refl)
+
+pub rehearsed_rows : (name : List ℕ) → is_dashed name ≡ false → first_of (codes "tournament") (rows_after rehearse (name ∷ [])) ≡ Some name
+unfolding clap_on_literals
+rehearsed_rows [] e = refl
+rehearsed_rows (b ∷ bs) e = rw e (rw e refl)

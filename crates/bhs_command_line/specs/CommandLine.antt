@@ -1,16 +1,16 @@
 -- The command line of the program, and what its words give.
-use Rattle.std.specs.Prelude.{◌≡◌, ◌⊎◌, IsTrue, Bool, true, false, not, List, [], ◌∷◌, Option}
-use Rattle.std.specs.Prelude.{Some, None, codes, if◌then◌else◌, option_and_then}
+use Rattle.std.specs.Prelude.{◌≡◌, ◌⊎◌, ◌==◌, IsTrue, Bool, true, false, not, List, [], ◌∷◌, Option}
+use Rattle.std.specs.Prelude.{Some, None, codes, if◌then◌else◌, option_and_then, unwrap_or}
 use Rattle.std.specs.List.{list_any}
 use Rattle.std.specs.Str.{bytes_eq}
-use Rattle.clap.specs.Words.{App, Kinds, Row, Shape, Text, fault_of, new_app, subcommand_of}
+use Rattle.clap.specs.Words.{App, Kinds, Row, Rule, Shape, Text, fault_of, first_of, new_app, new_rule, subcommand_of}
 use Rattle.clap.specs.Words.{with_subcommand}
 use Rattle.clap.specs.Simple.{new_shape, on_top}
 use Rattle.clap.specs.Walk.{is_empty}
 use Rattle.clap.specs.declared.error.kind.ErrorKind.{ErrorKind}
 use Rattle.clap.specs.declared.error.kind.ErrorKind.TheVariants.{DisplayHelp, DisplayVersion}
 use Rattle.bhs_command_line.specs.declared.Order.{Order}
-use Rattle.bhs_command_line.specs.declared.Order.TheVariants.{Rehearse}
+use Rattle.bhs_command_line.specs.declared.Order.TheVariants.{Rehearse, Check}
 use Rattle.bhs_command_line.specs.declared.Answer.{Answer}
 use Rattle.bhs_command_line.specs.declared.Answer.TheVariants.{Ordered, Shown, Refused}
 
@@ -24,12 +24,24 @@ program name = on_top (λ s. record s {
   subcommand_required = true;
 }) (new_app name)
 
--- a command that takes no word of its own
+-- the one word of its own that `rehearse` may take
+abbrev pub tournament_if_any : Rule
+tournament_if_any = record (new_rule (codes "tournament")) { value_names = 1 }
+
+-- a command that takes the name of a tournament's file, or none
 abbrev pub rehearse : Shape
-rehearse = new_shape (codes "rehearse")
+rehearse = record (new_shape (codes "rehearse")) { rules = tournament_if_any ∷ [] }
+
+-- the one word of its own that `check` takes, and must have
+abbrev pub tournament : Rule
+tournament = record (new_rule (codes "tournament")) { required = true; value_names = 1 }
+
+-- a command that takes the name of a tournament's file
+abbrev pub check : Shape
+check = record (new_shape (codes "check")) { rules = tournament ∷ [] }
 
 abbrev pub arena : App
-arena = with_subcommand (program (codes "arena")) rehearse
+arena = with_subcommand (with_subcommand (program (codes "arena")) rehearse) check
 
 -- ---- what clap makes of the words that stand after the program's name
 
@@ -43,19 +55,38 @@ command_in words = subcommand_of arena words
 
 -- ---- orders
 
+-- the tournament that the words of `check` name; clap refuses words that name none
+abbrev pub tournament_in : List Row → Text
+tournament_in rows = unwrap_or (first_of (codes "tournament") rows) []
+
 -- the order that a command gives
 abbrev pub order_by : Text × List Row → Option Order
-order_by command = if bytes_eq command.0 (codes "rehearse") then Some Rehearse else None
+order_by command =
+    if bytes_eq command.0 (codes "rehearse") then Some (Rehearse (first_of (codes "tournament") command.1))
+    else (if bytes_eq command.0 (codes "check") then Some (Check (tournament_in command.1)) else None)
 
 -- the order that the words give, and None where they give none
 abbrev pub order_in : List Text → Option Order
 order_in words =
     if is_empty (faults words) then option_and_then order_by (command_in words) else None
 
--- the words that give the order to rehearse: the command alone, or with the mark `--` that ends
--- the options
+-- the words that order a rehearsal of the built-in tournament: the command alone, or with the mark `--` that
+-- ends the options
 abbrev pub Rehearses : List Text → Type 0
 Rehearses words = (words ≡ codes "rehearse" ∷ []) ⊎ (words ≡ codes "rehearse" ∷ codes "--" ∷ [])
+
+-- the word begins with a hyphen, as an option does
+abbrev pub is_dashed : Text → Bool
+is_dashed [] = false
+is_dashed (byte ∷ bytes) = byte == 45
+
+-- the words that order a rehearsal of a tournament, or a check of it, whose name begins with no hyphen: the command and
+-- the name
+abbrev pub RehearsesOn : List Text → (name : Text) → Type 0
+RehearsesOn words name = (is_dashed name ≡ false) × (words ≡ codes "rehearse" ∷ name ∷ [])
+
+abbrev pub ChecksAlone : List Text → (name : Text) → Type 0
+ChecksAlone words name = (is_dashed name ≡ false) × (words ≡ codes "check" ∷ name ∷ [])
 
 -- ---- answers
 
@@ -74,8 +105,8 @@ Answers words (Refused text) = IsTrue (list_any (λ kind. not (is_asked kind)) (
 -- the words that ask for help and do nothing else
 abbrev pub AsksHelp : List Text → Type 0
 AsksHelp words = ((words ≡ codes "--help" ∷ []) ⊎ (words ≡ codes "-h" ∷ []))
-    ⊎ ((words ≡ codes "rehearse" ∷ codes "--help" ∷ [])
-    ⊎ (words ≡ codes "rehearse" ∷ codes "-h" ∷ []))
+    ⊎ (((words ≡ codes "rehearse" ∷ codes "--help" ∷ []) ⊎ (words ≡ codes "rehearse" ∷ codes "-h" ∷ []))
+    ⊎ ((words ≡ codes "check" ∷ codes "--help" ∷ []) ⊎ (words ≡ codes "check" ∷ codes "-h" ∷ [])))
 
 abbrev pub is_shown : Answer → Bool
 is_shown (Shown text) = true

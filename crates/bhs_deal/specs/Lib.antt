@@ -1,2 +1,6 @@
 pub mod Dealer
 pub mod Pool
+pub mod Links
+pub mod Marking
+pub mod Drawing
+pub mod Examples

@@ -1,3 +1,11 @@
+ghost use Rattle.bhs_deal.specs.Examples.{
+  ALinkIsHeldInOneDirection,
+  NobodyIsDrawnAfterTheClose,
+  TheFirstStrangePairIsTold,
+  WhoIsHeldStays,
+  WordsDrawFromThePool,
+};
+ghost use Rattle.bhs_deal.specs.Drawing.{DrawsAreThoseOfTheModel};
 ghost use Rattle.bhs_deal.specs.Dealer.{GivesTheWordAtItsPlace, GivesItsStreamInOrder, AreTheWordsOfChaCha8};
 
 /// A dealer gives the word at its place, and then stands at the next place.
@@ -13,4 +21,18 @@ pub fn gives_its_stream_in_order()
 /// The words are those of ChaCha8: some of them, as they were computed apart from this code.
 pub fn words_are_those_of_chacha8()
     ensures { AreTheWordsOfChaCha8 }
+{}
+
+/// A draw delivers an agent exactly where the draw of the definitions is that agent's delivery.
+pub fn draws_are_those_of_the_model()
+    ensures { DrawsAreThoseOfTheModel }
+{}
+
+/// What the definitions give on a triangle, worked out by hand.
+pub fn worked_draws()
+    ensures the_first_strange_pair_is_told { TheFirstStrangePairIsTold }
+    ensures a_link_is_held_in_one_direction { ALinkIsHeldInOneDirection }
+    ensures words_draw_from_the_pool { WordsDrawFromThePool }
+    ensures who_is_held_stays { WhoIsHeldStays }
+    ensures nobody_is_drawn_after_the_close { NobodyIsDrawnAfterTheClose }
 {}

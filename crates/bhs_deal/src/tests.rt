@@ -4,6 +4,9 @@
 use super::{Dealer, pick};
 use std::process::Abort;
 
+mod links;
+mod matches;
+
 fn expect_words(rt: &impl Abort, dealer: &mut Dealer, expected: &[u32]) {
     for word in expected {
         assert_eq!(rt; dealer.next(), *word);

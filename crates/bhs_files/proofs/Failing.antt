@@ -1,7 +1,7 @@
 -- Faults of parts.
 use Rattle.std.proofs.Common.{◌≡◌, Result, Err}
 use Rattle.bhs_files.specs.declared.faults.FileFault.{FileFault}
-use Rattle.bhs_files.specs.declared.faults.FileFault.TheVariants.{Toml, Version, Missing, Shape, Net, KeyTwice, Held, Memory}
+use Rattle.bhs_files.specs.declared.faults.FileFault.TheVariants.{Toml, Version, Missing, Shape, Net, Setup, KeyTwice, Held, Memory}
 use Rattle.bhs_files.specs.Reading.{Fails}
 
 -- a fault of a part is one of the whole
@@ -12,5 +12,6 @@ fails_with Version part whole f h = f h
 fails_with (Missing game key) part whole f h = f h
 fails_with (Shape game key) part whole f h = f h
 fails_with (Net fault) part whole f h = f h
+fails_with (Setup game fault) part whole f h = f h
 fails_with (KeyTwice game agent) part whole f h = f h
 fails_with (Held game index) part whole f h = f h

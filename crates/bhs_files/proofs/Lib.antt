@@ -4,4 +4,5 @@ pub mod KeyTableLemmas
 pub mod KeysFind
 pub mod Matches
 pub mod NamesLemmas
+pub mod Passing
 pub mod Values

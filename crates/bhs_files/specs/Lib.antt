@@ -7,3 +7,5 @@ pub mod Names
 pub mod KeyTable
 pub mod Seats
 pub mod NetworkFiles
+pub mod Lineups
+pub mod Passes

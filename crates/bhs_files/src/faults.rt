@@ -4,6 +4,7 @@ ghost use Rattle.bhs_files.specs.NetworkFiles.{of_network};
 
 use crate::file_keys::FileKey;
 use bhs_net::NetFault;
+use bhs_world::SetupFault;
 use std::alloc::{AllocError, AllocFailed};
 use std::error::Error;
 use std::fmt;
@@ -22,6 +23,8 @@ pub enum FileFault {
     Shape { game: Option<u32>, key: FileKey },
     /// The links make no network.
     Net(NetFault),
+    /// The match is set up as no match on its network may be.
+    Setup { game: u32, fault: SetupFault },
     /// The key of this agent is that of an earlier agent of the tournament.
     KeyTwice { game: u32, agent: u16 },
     /// The held link at this place of the match's list is no port of a node.
@@ -46,6 +49,7 @@ impl fmt::Display for FileFault {
                 key,
             } => write!(f, "match {game} shape {key}"),
             FileFault::Net(fault) => write!(f, "{fault}"),
+            FileFault::Setup { game, fault } => write!(f, "match {game} {fault}"),
             FileFault::KeyTwice { game, agent } => write!(f, "match {game} key {agent} twice"),
             FileFault::Held { game, index } => write!(f, "match {game} held {index}"),
             FileFault::Memory => f.write_str("memory"),

@@ -1,6 +1,7 @@
-//! The files of a tournament: networks and matches in TOML, and the keys that let agents enter.
+//! The files of a tournament: networks and matches in TOML, the keys that let agents enter, and what they make together.
 #![tactic(auto)]
 
+mod assembling;
 mod documents;
 mod faults;
 mod file_keys;
@@ -8,17 +9,20 @@ mod fixtures;
 mod key_table;
 pub mod laws;
 mod limits;
+mod lineups;
 mod network_files;
 mod shapes;
 mod tables;
 mod tournament_files;
 mod tournaments;
 
+pub use assembling::assemble;
 pub use faults::FileFault;
 pub use file_keys::FileKey;
 pub use fixtures::Fixture;
 pub use key_table::Keys;
 pub use limits::{MAX_KEY, MAX_KEYS, MAX_MATCHES, MAX_NETWORK_NAME, MAX_TEAM, SEED_BYTES, VERSION};
+pub use lineups::{Lineup, Ready};
 pub use network_files::read_network;
 pub use shapes::is_team;
 pub use tournament_files::read_tournament;

@@ -1,8 +1,10 @@
 use super::*;
 use bhs_net::NetFault;
+use bhs_world::SetupFault;
 use std::alloc::Global;
 use std::test::Fail;
 
+mod lineups;
 mod networks;
 mod tournaments;
 
@@ -74,6 +76,13 @@ fn faults_are_told(rt: HostRuntime) -> Result<(), Fail> {
         (
             FileFault::Net(NetFault::PortTwice { link: 2 }),
             "port twice in link 2",
+        ),
+        (
+            FileFault::Setup {
+                game: 1,
+                fault: SetupFault::Hole,
+            },
+            "match 1 hole",
         ),
         (
             FileFault::KeyTwice { game: 1, agent: 4 },

@@ -1,6 +1,8 @@
 pub mod NumberLemmas
 pub mod LineLemmas
+pub mod InstructionLemmas
 pub mod PlayLemmas
 pub mod TriangleLemmas
-pub mod EventLemmas
-pub mod LogLemmas
+pub mod TextLemmas
+pub mod SummaryLemmas
+pub mod ExitLemmas

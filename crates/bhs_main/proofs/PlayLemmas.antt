@@ -1,8 +1,13 @@
-use Rattle.std.proofs.Common.{◌≡◌, ℕ, List, [], ◌++◌, Option, refl, sym, subst, ◌∙◌, append_assoc, append-nil, Result, Ok, Err, IfErr, IsErrAnd}
+-- A text that goes out piece by piece.
+use Rattle.std.proofs.Common.{◌≡◌, ◌⊎◌, inl, inr, OnOk, IfOk, ℕ, List, [], ◌∷◌, ◌++◌, map, Option, refl, sym, subst, ap, ◌∙◌, append_assoc, append-nil, Result, Ok, Err, IfErr, IsErrAnd}
 use Rattle.std.specs.Io.KnownBytes.{Appends}
 use Rattle.std.proofs.KnownBytes.{Appends-trans, Appends-nil}
-use Rattle.bhs_stream.specs.Known.{AppendsPart, AppendsPrefix}
-use Rattle.bhs_stream.proofs.Known.{AppendsPart-trans, AppendsPart-longer, AppendsPrefix-trans, AppendsPrefix-longer}
+use Rattle.bhs_stream.specs.Known.{AppendsPrefix}
+use Rattle.bhs_stream.proofs.Known.{AppendsPart-within, AppendsPrefix-within, AppendsPrefix-so_far}
+use Rattle.bhs_session.specs.Games.{Game}
+use Rattle.bhs_session.specs.Stages.{Stage, Instruction, step, stands_after}
+use Rattle.bhs_main.specs.Rehearsal.{Means, Plays, Leaves, Stops}
+use Rattle.bhs_main.specs.Transcript.{printed, all_printed, transcript}
 use Rattle.bhs_main.specs.PlayFault.{StopsPlaying}
 use Rattle.bhs_main.specs.declared.faults.PlayFault.{PlayFault}
 use Rattle.bhs_main.specs.declared.faults.PlayFault.TheVariants.{Read, Text, Line, Write, Memory, Turns}
@@ -28,21 +33,46 @@ sent_all a b text so_far = subst (Appends a b) (sym (append-nil so_far.front) �
 
 -- a fault at the next bytes
 pub sent_until : (a b c : Option (List ℕ)) (text bytes left : List ℕ) (fault : PlayFault) → IsSentUpTo a b text (bytes ++ left) → StopsPlaying b c bytes fault → StopsPlaying a c text fault
-sent_until a b c text bytes left Write so_far part =
-    subst (AppendsPart a c) so_far.whole (AppendsPart-trans a b c so_far.front (bytes ++ left) so_far.sent (AppendsPart-longer b c bytes left part))
-sent_until a b c text bytes left Memory so_far prefix =
-    subst (AppendsPrefix a c) so_far.whole (AppendsPrefix-trans a b c so_far.front (bytes ++ left) so_far.sent (AppendsPrefix-longer b c bytes left prefix))
+sent_until a b c text bytes left Write so_far part = AppendsPart-within a b c so_far.front bytes left text (sym so_far.whole) so_far.sent part
+sent_until a b c text bytes left Memory so_far some = AppendsPrefix-within a b c so_far.front bytes left text (sym so_far.whole) so_far.sent some
 sent_until a b c text bytes left Read so_far none = absurd none
 sent_until a b c text bytes left Text so_far none = absurd none
 sent_until a b c text bytes left (Line line) so_far none = absurd none
 sent_until a b c text bytes left Turns so_far none = absurd none
 
--- no memory for the next event
+-- no memory before the next bytes
 pub sent_so_far : (a b : Option (List ℕ)) (text left : List ℕ) → IsSentUpTo a b text left → AppendsPrefix a b text
-sent_so_far a b text left so_far =
-    subst (AppendsPrefix a b) so_far.whole (AppendsPrefix-trans a b b so_far.front left so_far.sent (record { count = 0; grown = Appends-nil b }))
+sent_so_far a b text left so_far = AppendsPrefix-so_far a b so_far.front left text (sym so_far.whole) so_far.sent
 
 -- the fault that comes through a `?` is this one
 pub fault_is : {T : Type 0} (r : Result T PlayFault) (fault : PlayFault) (P : PlayFault → Type 0) → IsErrAnd r (λ e. e ≡ fault) → P fault → IfErr r P
 fault_is (Ok x) fault P is holds = tt
 fault_is (Err e) fault P is holds = subst P (sym is) holds
+
+-- what the first instruction of a script prints, and what the others print after it
+pub transcript-turn : (stage : Stage) (script : List Instruction) (one : Instruction) (others : List Instruction) → script ≡ one ∷ others
+    → transcript stage script ≡ all_printed (step stage one).outs ++ transcript (step stage one).stage others
+transcript-turn stage script one others turn = rw turn refl
+
+-- ---- what a rehearsal does, of what its playing does
+
+module _ (stage : Stage) (input input' output output' : Option (List ℕ)) (instructions : List Instruction) (means : Means stage input input' instructions) where
+  pub plays_all : {T : Type 0} (r : Result T PlayFault) → OnOk r (Appends output output' (transcript stage instructions)) → OnOk r (Plays stage input input' output output')
+  plays_all (Ok x) written = record { instructions = instructions; means = means; written = written }
+  plays_all (Err fault) written = tt
+
+  stops_at : (turns : ℕ) (fault : PlayFault) → StopsPlaying output output' (transcript stage instructions) fault → Stops stage turns input input' output output' fault
+  stops_at turns Write stopped = record { instructions = instructions; means = means; stopped = stopped }
+  stops_at turns Memory stopped = inr (record { instructions = instructions; means = means; stopped = stopped })
+  stops_at turns Read stopped = absurd stopped
+  stops_at turns Text stopped = absurd stopped
+  stops_at turns (Line line) stopped = absurd stopped
+  stops_at turns Turns stopped = absurd stopped
+
+  pub stops_all : {T : Type 0} (turns : ℕ) (r : Result T PlayFault) → IfErr r (StopsPlaying output output' (transcript stage instructions)) → IfErr r (Stops stage turns input input' output output')
+  stops_all turns (Ok x) stopped = tt
+  stops_all turns (Err fault) stopped = stops_at turns fault stopped
+
+  pub leaves_all : {T : Type 0} (games_in : T → List Game) (r : Result T PlayFault) → IfOk r (λ x. games_in x ≡ (stands_after stage instructions).games) → IfOk r (λ x. Leaves stage input input' (games_in x))
+  leaves_all games_in (Ok x) left = record { instructions = instructions; means = means; left = left }
+  leaves_all games_in (Err fault) left = tt

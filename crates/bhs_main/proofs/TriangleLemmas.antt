@@ -6,7 +6,7 @@ use Rattle.bhs_net.specs.declared.links.Link.{Link}
 use Rattle.bhs_net.specs.Links.{End, link_at, HasEnd, SameNodes, SharesEnd, IsListed, AreJoined, AreLinked}
 use Rattle.bhs_net.specs.Network.{Network, row_of, degree_of, far_of, Makes}
 use Rattle.bhs_net.specs.Faults.{IsStray, IsLoop, IsDouble, IsPortTwice, IsGap, IsApart, IsCut, Holds, Refuses}
-use Rattle.bhs_main.specs.Triangle.{triangle}
+use Rattle.bhs_main.specs.BuiltIn.{triangle}
 
 abbrev pub links : List Link
 links = record { v = 0; p = 0; w = 1; q = 0 } ∷ record { v = 1; p = 1; w = 2; q = 0 } ∷ record { v = 2; p = 1; w = 0; q = 1 } ∷ []
@@ -128,20 +128,17 @@ no_cut node cut =
       | inr linked ↦ (1, (ends.0, refl, (linked, ends.4, ends.5)))
     ])
 
-pub no_fault : (fault : NetFault) → fault ≢ Memory → Holds 3 links fault → ⊥
-no_fault Nodes other holds = elim holds [ inl e ↦ omega arith | inr e ↦ omega arith ]
-no_fault (Node link) other holds = no_stray link holds
-no_fault (Loop link) other holds = no_loop link holds
-no_fault (Double link) other holds = no_double link holds
-no_fault (PortTwice link) other holds = no_port_twice link holds
-no_fault (PortGap node) other holds = no_gap node holds
-no_fault Apart other holds = not_apart holds
-no_fault (CutNode node) other holds = no_cut node holds
-no_fault Memory other holds = holds
-
--- so a list of the links is refused for want of memory alone
-pub refused_for_memory : (fault : NetFault) → fault ≢ Memory → Refuses 3 links fault → ⊥
-refused_for_memory fault other refuses = elim refuses [ inl same ↦ other same | inr first ↦ no_fault fault other first.holds ]
+-- the links have no fault
+pub no_fault : (fault : NetFault) → ¬ Holds 3 links fault
+no_fault Nodes holds = elim holds [ inl e ↦ omega arith | inr e ↦ omega arith ]
+no_fault (Node link) holds = no_stray link holds
+no_fault (Loop link) holds = no_loop link holds
+no_fault (Double link) holds = no_double link holds
+no_fault (PortTwice link) holds = no_port_twice link holds
+no_fault (PortGap node) holds = no_gap node holds
+no_fault Apart holds = not_apart holds
+no_fault (CutNode node) holds = no_cut node holds
+no_fault Memory holds = holds
 
 -- a list is its elements
 list_of_two : (xs : List End) (d a b : End) → length xs ≡ 2 → slice_index_or xs 0 d ≡ a → slice_index_or xs 1 d ≡ b → xs ≡ a ∷ b ∷ []

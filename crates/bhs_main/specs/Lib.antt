@@ -1,6 +1,9 @@
 pub mod Number
 pub mod Script
+pub mod Instructions
+pub mod BuiltIn
 pub mod PlayFault
 pub mod Transcript
-pub mod Triangle
+pub mod Summary
+pub mod CheckFault
 pub mod Rehearsal

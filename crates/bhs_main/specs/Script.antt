@@ -1,19 +1,14 @@
--- What a script means: the events that its lines make.
-use Rattle.std.specs.Prelude.{ℕ, ◌+◌, ◌==◌, Bool, List, [], ◌∷◌, length, take, drop, bytes_eq, codes, Option, None, Some, Result, Ok, Err, if◌then◌else◌}
-use Rattle.bhs_model.specs.declared.commands.Command.TheVariants.{Enter}
-use Rattle.bhs_model.specs.declared.events.Event.{Event}
-use Rattle.bhs_model.specs.declared.events.Event.TheVariants.{Tell, Deliver}
-use Rattle.bhs_wire.specs.First.{says}
-use Rattle.bhs_wire.specs.declared.commands.First.{First}
-use Rattle.bhs_wire.specs.declared.commands.First.TheVariants as first
-use Rattle.bhs_main.specs.declared.meanings.Meaning.{Meaning}
-use Rattle.bhs_main.specs.declared.meanings.Meaning.TheVariants.{Nothing, Happens, Refused}
+-- What a script means: the instructions that its lines give.
+use Rattle.std.specs.Prelude.{ℕ, ◌+◌, ◌==◌, Bool, List, [], ◌∷◌, ◌++◌, take, drop, nat_lt, bytes_eq, codes, Option, None, Some, option_map, option_and_then, Result, Ok, Err, if◌then◌else◌}
+use Rattle.std.specs.List.{position}
+use Rattle.std.specs.Result.{result_ok}
+use Rattle.hex.specs.Hex.{decode_of}
+use Rattle.bhs_wire.specs.Lines.{is_line_feed}
+use Rattle.bhs_session.specs.Stages.{Instruction, Feeds, EndsInput, Draws, Closes}
+use Rattle.bhs_main.specs.declared.instructions.TheConstants.{CONNECTIONS}
 use Rattle.bhs_main.specs.Number.{number}
 
 -- ---- lines
-
-abbrev pub is_line_feed : ℕ → Bool
-is_line_feed byte = byte == 10
 
 -- a byte put before the first line
 abbrev pub onto_first : ℕ → List (List ℕ) → List (List ℕ)
@@ -27,54 +22,113 @@ lines_of (byte ∷ bytes) = if is_line_feed byte then [] ∷ lines_of bytes else
 
 -- ---- what a line means
 
--- what stands behind a beginning; None where the line begins otherwise
-abbrev pub behind : List ℕ → List ℕ → Option (List ℕ)
-behind beginning line = if bytes_eq (take (length beginning) line) beginning then Some (drop (length beginning) line) else None
+abbrev pub is_space : ℕ → Bool
+is_space byte = byte == 32
 
--- what the one agent says by a line of its client, if anything; the key that it enters with is not looked at
-abbrev pub said : Option First → Meaning
-said None = Nothing
-said (Some (first.Enter key)) = Happens (Tell 0 Enter)
-said (Some (first.Tell command)) = Happens (Tell 0 command)
+-- what stands before the first space, and behind it; None where there is no space
+abbrev pub parted : List ℕ → Option (List ℕ × List ℕ)
+parted text = option_map (λ end. (take end text, drop (end + 1) text)) (position is_space text)
 
--- any word lets the one agent arrive, wherever it is on a link
-abbrev pub drawn : Option ℕ → Meaning
-drawn None = Refused
-drawn (Some word) = Happens (Deliver 0)
+-- the number that a text spells, where it is less than this
+abbrev pub less_than : ℕ → ℕ → Option ℕ
+less_than bound n = if nat_lt n bound then Some n else None
 
--- `draw 0 W` draws with the word W
-abbrev pub drawing : Option (List ℕ) → Meaning
-drawing None = Refused
-drawing (Some word) = drawn (number word)
+abbrev pub number_below : (bound : ℕ) → List ℕ → Option ℕ
+number_below bound text = option_and_then (less_than bound) (number text)
 
--- `0 REST` sends the line REST to the one agent
-abbrev pub saying : Option (List ℕ) → List ℕ → Meaning
-saying None line = drawing (behind (codes "draw 0 ") line)
-saying (Some rest) line = said (says rest)
+-- the bytes that hexadecimal digits give, two digits a byte, at least one byte
+abbrev pub bytes_of : List ℕ → Option (List ℕ)
+bytes_of [] = None
+bytes_of (digit ∷ digits) = result_ok (decode_of (digit ∷ digits))
+
+-- first the one, and then with what it gave the other
+infixl 10 ◌>>=◌
+abbrev pub ◌>>=◌ : {A B : Type 0} → Option A → (A → Option B) → Option B
+option >>= next = option_and_then next option
+
+-- `N REST` feeds REST and a line feed to connection N
+abbrev pub feeds_line : (word rest : List ℕ) → Option Instruction
+feeds_line word rest = do
+  conn ← number_below CONNECTIONS word
+  Some (Feeds conn (rest ++ 10 ∷ []))
+
+-- `hex N DIGITS` feeds it the bytes that the digits give
+abbrev pub feeds_bytes : (rest : List ℕ) → Option Instruction
+feeds_bytes rest = do
+  parts ← parted rest
+  conn ← number_below CONNECTIONS parts.0
+  bytes ← bytes_of parts.1
+  Some (Feeds conn bytes)
+
+-- `end N` ends its input
+abbrev pub ends_input : (rest : List ℕ) → Option Instruction
+ends_input rest = do
+  conn ← number_below CONNECTIONS rest
+  Some (EndsInput conn)
+
+-- `draw G W` draws in match G with the word W
+abbrev pub draws : (games : ℕ) → (rest : List ℕ) → Option Instruction
+draws games rest = do
+  parts ← parted rest
+  game ← number_below games parts.0
+  word ← number parts.1
+  Some (Draws game word)
+
+-- `close G` ends match G
+abbrev pub closes : (games : ℕ) → (rest : List ℕ) → Option Instruction
+closes games rest = do
+  game ← number_below games rest
+  Some (Closes game)
+
+-- a line by its first word and what stands behind the space after it
+abbrev pub instruction_by : (games : ℕ) → (word rest : List ℕ) → Option Instruction
+instruction_by games word rest =
+    if bytes_eq word (codes "hex") then feeds_bytes rest
+    else (if bytes_eq word (codes "end") then ends_input rest
+    else (if bytes_eq word (codes "draw") then draws games rest
+    else (if bytes_eq word (codes "close") then closes games rest
+    else feeds_line word rest)))
+
+-- the instruction of a line, in a rehearsal of so many matches; None where it is no line of a script
+abbrev pub instruction_in : (games : ℕ) → List ℕ → Option Instruction
+instruction_in games line = do
+  parts ← parted line
+  instruction_by games parts.0 parts.1
+
+-- what a line means: it is skipped, it gives an instruction, or it is refused
+pub data Meaning : Type 0 where
+  Skipped : Meaning
+  Gives : Instruction → Meaning
+  Refused : Meaning
+
+abbrev pub gives_if : Option Instruction → Meaning
+gives_if None = Refused
+gives_if (Some instruction) = Gives instruction
 
 -- an empty line and one that begins with `#` are skipped
-abbrev pub meaning : List ℕ → Meaning
-meaning [] = Nothing
-meaning (byte ∷ bytes) = if byte == 35 then Nothing else saying (behind (codes "0 ") (byte ∷ bytes)) (byte ∷ bytes)
+abbrev pub meaning : (games : ℕ) → List ℕ → Meaning
+meaning games [] = Skipped
+meaning games (byte ∷ bytes) = if byte == 35 then Skipped else gives_if (instruction_in games (byte ∷ bytes))
 
 -- ---- the whole script
 
--- an event before the others, unless the others are refused
-abbrev pub before : Event → Result (List Event) ℕ → Result (List Event) ℕ
-before event (Ok events) = Ok (event ∷ events)
-before event (Err line) = Err line
+-- an instruction before the others, unless the others are refused
+abbrev pub before : Instruction → Result (List Instruction) ℕ → Result (List Instruction) ℕ
+before instruction (Ok others) = Ok (instruction ∷ others)
+before instruction (Err line) = Err line
 
--- the events that a line means, with those of the lines behind it; a line that is refused refuses all
-abbrev pub with_meaning : ℕ → Meaning → Result (List Event) ℕ → Result (List Event) ℕ
-with_meaning place Nothing rest = rest
-with_meaning place (Happens event) rest = before event rest
-with_meaning place Refused rest = Err place
+-- the instruction that a line gives, with those of the lines behind it; a line that is refused refuses all
+abbrev pub with_meaning : (place : ℕ) → Meaning → Result (List Instruction) ℕ → Result (List Instruction) ℕ
+with_meaning place Skipped others = others
+with_meaning place (Gives instruction) others = before instruction others
+with_meaning place Refused others = Err place
 
--- the events that these lines mean, the first of them being line `place`, or the first of them that is refused
-abbrev pub events_from : ℕ → List (List ℕ) → Result (List Event) ℕ
-events_from place [] = Ok []
-events_from place (line ∷ lines) = with_meaning place (meaning line) (events_from (place + 1) lines)
+-- the instructions of these lines, the first of them being line `place`, or the first of them that is refused
+abbrev pub instructions_from : (games place : ℕ) → List (List ℕ) → Result (List Instruction) ℕ
+instructions_from games place [] = Ok []
+instructions_from games place (line ∷ lines) =
+    with_meaning place (meaning games line) (instructions_from games (place + 1) lines)
 
--- the events that a script means, or its first line that is refused, counted from 1
-abbrev pub events_of : List ℕ → Result (List Event) ℕ
-events_of script = events_from 1 (lines_of script)
+-- the instructions of a script, or its first line that is refused, counted from 1
+abbrev pub instructions_of : (games : ℕ) → List ℕ → Result (List Instruction) ℕ
+instructions_of games script = instructions_from games 1 (lines_of script)

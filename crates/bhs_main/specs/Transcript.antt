@@ -1,25 +1,32 @@
 -- What a rehearsal prints.
-use Rattle.std.specs.Prelude.{ℕ, List, [], ◌∷◌, ◌++◌, codes, Option, None, Some}
-use Rattle.bhs_model.specs.declared.events.Event.{Event}
-use Rattle.bhs_model.specs.declared.replies.Reply.{Reply}
-use Rattle.bhs_model.specs.Worlds.{World}
-use Rattle.bhs_model.specs.Runs.{replies}
-use Rattle.bhs_wire.specs.Reply.{line}
+use Rattle.std.specs.Prelude.{ℕ, Bool, true, List, [], ◌∷◌, ◌++◌, decimal, if◌then◌else◌}
+use Rattle.bhs_wire.specs.Lines.{is_line_feed}
+use Rattle.bhs_session.specs.Stages.{Stage, Instruction, said}
 
--- a reply: the number of the one connection, a space, the line of the reply and a line feed
-abbrev pub printed : Reply → List ℕ
-printed reply = codes "0 " ++ (line reply ++ codes "\n")
+-- a text with a beginning before each of its lines
+abbrev pub begun_with : (beginning : List ℕ) → (is_start : Bool) → List ℕ → List ℕ
+begun_with beginning is_start [] = []
+begun_with beginning is_start (byte ∷ bytes) =
+    (if is_start then beginning else []) ++ byte ∷ begun_with beginning (is_line_feed byte) bytes
 
--- an answer, where there is one
-abbrev pub printed_if : Option Reply → List ℕ
-printed_if None = []
-printed_if (Some reply) = printed reply
+-- the number of a connection, and a space
+abbrev pub beginning_of : (conn : ℕ) → List ℕ
+beginning_of conn = decimal conn ++ 32 ∷ []
 
--- these answers, in order
-abbrev pub all_printed : List (Option Reply) → List ℕ
+-- what a connection is sent, each line behind its number
+abbrev pub printed : (conn : ℕ) → (text : List ℕ) → List ℕ
+printed conn text = begun_with (beginning_of conn) true text
+
+-- what an instruction sends
+abbrev pub all_printed : List (ℕ × List ℕ) → List ℕ
 all_printed [] = []
-all_printed (answer ∷ answers) = printed_if answer ++ all_printed answers
+all_printed (out ∷ outs) = printed out.0 out.1 ++ all_printed outs
 
--- what is answered to these events in a world, from the start of its match
-abbrev pub transcript : World → List Event → List ℕ
-transcript world events = all_printed (replies world events)
+-- what is sent, of one instruction after the other
+abbrev pub transcript_of : List (List (ℕ × List ℕ)) → List ℕ
+transcript_of [] = []
+transcript_of (outs ∷ others) = all_printed outs ++ transcript_of others
+
+-- what a script prints
+abbrev pub transcript : Stage → List Instruction → List ℕ
+transcript stage script = transcript_of (said stage script)

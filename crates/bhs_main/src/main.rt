@@ -1,16 +1,24 @@
-//! The program `arena`: plays a script of one agent on the built-in triangle.
+//! The program `arena`: rehearses the matches of a tournament by a script, and checks the files of one.
 #![tactic(auto)]
 
+mod check_faults;
+mod checking;
 mod faults;
+mod instructions;
 mod meanings;
 mod numbers;
 mod playing;
+mod printing;
+mod rehearsing;
 mod run;
 mod script;
-mod triangle;
+mod standard;
+mod summaries;
 
+pub use check_faults::CheckFault;
+pub use checking::check;
 pub use faults::PlayFault;
-pub use playing::rehearse;
+pub use rehearsing::rehearse;
 use run::{FAILED_STREAM, NO_MEMORY};
 use std::io::{BufWriter, ErrorKind};
 use std::process::ExitCode;
@@ -31,6 +39,7 @@ fn started(rt: &HostRuntime) -> io::Result<u8> {
     let mut errors = rt.stderr();
     Ok(run::run(
         alloc,
+        rt,
         words.as_slice(),
         &mut rt.reader(),
         &mut writer,

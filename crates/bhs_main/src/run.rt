@@ -1,18 +1,24 @@
-ghost use Rattle.std.specs.Prelude.{◌≡◌, map, OnOk, IfErr, IsOkUnless};
+ghost use Rattle.std.specs.Prelude.{◌≡◌, ℕ, List, None, Some, map, OnOk, IfErr, IsOkUnless};
 ghost use Rattle.std.specs.Io.KnownBytes.{Appends, Keeps};
-ghost use Rattle.bhs_command_line.specs.CommandLine.{Rehearses};
+ghost use Rattle.bhs_command_line.specs.CommandLine.{ChecksAlone, Rehearses};
+ghost use Rattle.bhs_main.specs.Summary.{Checks};
+ghost use Rattle.bhs_main.specs.BuiltIn as texts;
 ghost use Rattle.bhs_main.specs.PlayFault.{status};
 ghost use Rattle.bhs_main.specs.declared.faults.PlayFault.TheVariants.{Write};
-ghost use Rattle.bhs_main.specs.Rehearsal.{Plays, Ends, Exits};
+ghost use Rattle.bhs_main.specs.Rehearsal.{opening, opening_of, Plays, EndsBy, Exits, RehearsesFile, PlaysFile};
 
+use crate::checking::{check, lineup_of};
 use crate::faults::PlayFault;
-use crate::playing::rehearse;
+use crate::rehearsing::rehearse;
+use crate::standard::built_in;
 use bhs_command_line::{Answer, Order, order_of};
+use bhs_files::Lineup;
 use bhs_model::MAX_TURNS;
 use bhs_stream::{finish, send};
 use std::alloc::Global;
 use std::convert::AsStr;
 use std::io::{Read, Write};
+use std::rt::Files;
 
 /// The exit status where all was done.
 pub const DONE: u8 = 0;
@@ -20,8 +26,8 @@ pub const DONE: u8 = 0;
 /// The exit status where the command line was refused.
 pub const REFUSED_WORDS: u8 = 2;
 
-/// The exit status where a script was refused.
-pub const REFUSED_SCRIPT: u8 = 3;
+/// The exit status where a script or a file was refused.
+pub const REFUSED_TEXT: u8 = 3;
 
 /// The exit status where memory ran out.
 pub const NO_MEMORY: u8 = 5;
@@ -29,28 +35,37 @@ pub const NO_MEMORY: u8 = 5;
 /// The exit status where reading or writing failed, or needed too many turns.
 pub const FAILED_STREAM: u8 = 6;
 
-/// Does what the words after the program's name order, and answers the exit status. What is asked for goes to
-/// `writer`; why it could not be done goes to `errors`, as a line `WHERE: WHAT`.
-pub fn run<S: AsStr, R: Read, W: Write, E: Write>(
+/// Does what the words after the program's name order, and answers the exit status. Files are opened through `files`.
+/// What is asked for goes to `writer`; why it could not be done goes to `errors`, as a line `WHERE: WHAT`.
+pub fn run<S: AsStr, F: Files, R: Read, W: Write, E: Write>(
     alloc: Global,
+    files: &F,
     words: &[S],
     reader: &mut R,
     writer: &mut W,
     errors: &mut E,
 ) -> u8
-    // Where the words order a rehearsal, 0 says that the whole script was played, and 3 that nothing was written.
+    // Where the words order a rehearsal of the built-in tournament, 0 says that the whole script was played, and 3 that
+    // nothing was written.
     ensures played { Rehearses (map S.text words.now) → result ≡ DONE →
-        Plays (R.remaining reader.old) (R.remaining reader.new) (W.contents writer.old) (W.contents writer.new) }
-    ensures refused { Rehearses (map S.text words.now) → result ≡ REFUSED_SCRIPT →
+        Plays (opening_of texts.built_in) (R.remaining reader.old) (R.remaining reader.new) (W.contents writer.old) (W.contents writer.new) }
+    ensures refused { Rehearses (map S.text words.now) → result ≡ REFUSED_TEXT →
         Keeps (W.contents writer.old) (W.contents writer.new) }
     ensures exits { Rehearses (map S.text words.now) →
-        Exits MAX_TURNS (R.remaining reader.old) (R.remaining reader.new) (W.contents writer.old) (W.contents writer.new) result }
+        Exits (opening_of texts.built_in) MAX_TURNS (R.remaining reader.old) (R.remaining reader.new) (W.contents writer.old) (W.contents writer.new) result }
+
+    // Where they order one of a file's tournament, 0 says that the whole script was played on it.
+    ensures file { RehearsesFile (map S.text words.now) → result ≡ DONE →
+        PlaysFile (R.remaining reader.old) (R.remaining reader.new) (W.contents writer.old) (W.contents writer.new) }
+
+    // Where they order a check, 0 says that the matches of a tournament were printed, and 3 that nothing was written.
+    ensures checked { (name : List ℕ) → ChecksAlone (map S.text words.now) name → result ≡ DONE →
+        Checks (W.contents writer.old) (W.contents writer.new) }
+    ensures unchecked { (name : List ℕ) → ChecksAlone (map S.text words.now) name → result ≡ REFUSED_TEXT →
+        Keeps (W.contents writer.old) (W.contents writer.new) }
 {
     match order_of(alloc, words) {
-        Ok(Answer::Ordered(Order::Rehearse)) => match rehearse_whole(alloc, reader, writer) {
-            Ok(()) => DONE,
-            Err(fault) => tell(fault, errors),
-        },
+        Ok(Answer::Ordered(order)) => obey(alloc, files, order, reader, writer, errors),
         Ok(Answer::Shown { text }) => match show(text.as_str(), writer) {
             Ok(()) => DONE,
             Err(fault) => tell(fault, errors),
@@ -59,23 +74,69 @@ pub fn run<S: AsStr, R: Read, W: Write, E: Write>(
             let _ = send(errors, text.as_bytes());
             REFUSED_WORDS
         }
-        Err(_) => {
-            let _ = send(errors, b"arena: memory\n");
-            NO_MEMORY
-        }
+        Err(_) => lacks_memory(errors),
     }
 }
 
-fn rehearse_whole<R: Read, W: Write>(
+fn obey<F: Files, R: Read, W: Write, E: Write>(
     alloc: Global,
+    files: &F,
+    order: Order,
+    reader: &mut R,
+    writer: &mut W,
+    errors: &mut E,
+) -> u8
+    ensures exits { order ≡ Order.Rehearse None →
+        Exits (opening_of texts.built_in) MAX_TURNS (R.remaining reader.old) (R.remaining reader.new) (W.contents writer.old) (W.contents writer.new) result }
+    ensures file { (name : List ℕ) → order ≡ Order.Rehearse (Some name) → result ≡ DONE →
+        PlaysFile (R.remaining reader.old) (R.remaining reader.new) (W.contents writer.old) (W.contents writer.new) }
+    ensures checked { (name : List ℕ) → order ≡ Order.Check name → result ≡ DONE →
+        Checks (W.contents writer.old) (W.contents writer.new) }
+    ensures unchecked { (name : List ℕ) → order ≡ Order.Check name → result ≡ REFUSED_TEXT →
+        Keeps (W.contents writer.old) (W.contents writer.new) }
+{
+    match order {
+        Order::Rehearse { tournament: None } => match built_in(alloc) {
+            Ok(lineup) => rehearse_whole(alloc, lineup, reader, writer, errors),
+            Err(_) => lacks_memory(errors),
+        },
+        Order::Rehearse {
+            tournament: Some(name),
+        } => match lineup_of(alloc, files, name.as_str(), errors) {
+            Ok(lineup) => rehearse_whole(alloc, lineup, reader, writer, errors),
+            Err(status) => status,
+        },
+        Order::Check { tournament } => check(alloc, files, tournament.as_str(), writer, errors),
+    }
+}
+
+// Rehearses, and tells the fault that ended it.
+fn rehearse_whole<R: Read, W: Write, E: Write>(
+    alloc: Global,
+    lineup: Lineup,
+    reader: &mut R,
+    writer: &mut W,
+    errors: &mut E,
+) -> u8
+    ensures { Exits (opening lineup) MAX_TURNS (R.remaining reader.old) (R.remaining reader.new) (W.contents writer.old) (W.contents writer.new) result }
+{
+    match rehearse_out(alloc, lineup, reader, writer) {
+        Ok(()) => DONE,
+        Err(fault) => tell(fault, errors),
+    }
+}
+
+// Rehearses, and sees that all is out.
+fn rehearse_out<R: Read, W: Write>(
+    alloc: Global,
+    lineup: Lineup,
     reader: &mut R,
     writer: &mut W,
 ) -> Result<(), PlayFault>
-    ensures played { OnOk result (Plays (R.remaining reader.old) (R.remaining reader.new) (W.contents writer.old) (W.contents writer.new)) }
-    ensures refused { IfErr result (λ fault. status fault ≡ REFUSED_SCRIPT → Keeps (W.contents writer.old) (W.contents writer.new)) }
-    ensures ended { IfErr result (Ends MAX_TURNS (R.remaining reader.old) (R.remaining reader.new) (W.contents writer.old) (W.contents writer.new)) }
+    ensures played { OnOk result (Plays (opening lineup) (R.remaining reader.old) (R.remaining reader.new) (W.contents writer.old) (W.contents writer.new)) }
+    ensures ended { IfErr result (EndsBy (opening lineup) MAX_TURNS (R.remaining reader.old) (R.remaining reader.new) (W.contents writer.old) (W.contents writer.new)) }
 {
-    rehearse(alloc, reader, writer, MAX_TURNS)?;
+    rehearse(alloc, lineup, reader, writer, MAX_TURNS)?;
     finish(writer)?;
     Ok(())
 }
@@ -98,8 +159,15 @@ fn tell<E: Write>(fault: PlayFault, errors: &mut E) -> u8
     };
     let _ = writeln!(errors, "{stream}: {fault}");
     match fault {
-        PlayFault::Text | PlayFault::Line { .. } => REFUSED_SCRIPT,
+        PlayFault::Text | PlayFault::Line { .. } => REFUSED_TEXT,
         PlayFault::Memory => NO_MEMORY,
         PlayFault::Read | PlayFault::Write | PlayFault::Turns => FAILED_STREAM,
     }
+}
+
+fn lacks_memory<E: Write>(errors: &mut E) -> u8
+    ensures { result ≡ NO_MEMORY }
+{
+    let _ = send(errors, b"arena: memory\n");
+    NO_MEMORY
 }

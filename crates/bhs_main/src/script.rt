@@ -1,93 +1,177 @@
-ghost use Rattle.std.specs.Prelude.{◌≡◌, ◌+◌, ◌<◌, ◌≤◌, ◌∷◌, [], length, IfOk, IfSome, MatchResult};
-ghost use Rattle.bhs_main.specs.Script.{said, meaning, is_line_feed, lines_of, events_of};
-ghost use Rattle.bhs_main.specs.PlayFault.{Refuses};
-ghost use Rattle.std.specs.List.{position_from};
+ghost use Rattle.std.specs.Prelude.{◌≡◌, ◌+◌, ◌<◌, ◌≤◌, ◌∷◌, [], length, IfOk, IfSome, MatchResult, option_map, map};
+ghost use Rattle.std.specs.List.{position};
 ghost use Rattle.std.specs.Option.{option_map_or};
-ghost use Rattle.bhs_wire.specs.First.{says};
-ghost use Rattle.bhs_model.specs.declared.events.Event.TheVariants.{Tell};
-ghost use Rattle.bhs_main.specs.declared.meanings.Meaning.TheVariants.{Happens};
+ghost use Rattle.bhs_main.specs.Script.{meaning, lines_of, is_space, instructions_of, instruction_in, parted, number_below, bytes_of, feeds_line, feeds_bytes, ends_input, draws, closes};
+ghost use Rattle.bhs_main.specs.Instructions.{seen, seen_as};
+ghost use Rattle.bhs_main.specs.declared.instructions.TheConstants.{CONNECTIONS};
+ghost use Rattle.bhs_main.specs.PlayFault.{Refuses};
 
 use crate::faults::PlayFault;
+use crate::instructions::{CONNECTIONS, Instruction};
 use crate::meanings::Meaning;
 use crate::numbers::number_of;
-use bhs_model::{Command, Event};
 use bhs_net::Memory;
-use bhs_wire::{First, read_line};
+use bhs_wire::split_line;
+use hex::FromHexError;
 use std::alloc::Global;
 
-/// The number of the one agent.
-const AGENT: u16 = 0;
-
-/// What a line of a script means, given without its line feed.
-pub fn meaning_of(alloc: Global, line: &[u8]) -> Result<Meaning, Memory>
-    ensures { IfOk result (λ m. m ≡ meaning line.now) }
+/// What a line of a script means in a rehearsal of so many matches. The line is given without its line feed.
+pub fn meaning_of(alloc: Global, games: usize, line: &[u8]) -> Result<Meaning, Memory>
+    ensures { IfOk result (λ m. seen_as m ≡ meaning games line.now) }
 {
     if let [] | [b'#', ..] = line {
-        return Ok(Meaning::Nothing);
+        return Ok(Meaning::Skipped);
     }
-    if let Some(rest) = line.strip_prefix(b"0 ") {
-        return said_by(alloc, rest);
-    }
-    let word = line.strip_prefix(b"draw 0 ").and_then(number_of);
-    Ok(match word {
-        Some(_) => Meaning::Happens(Event::Deliver { agent: AGENT }),
+    Ok(match instruction_in(alloc, games, line)? {
+        Some(instruction) => Meaning::Gives(instruction),
         None => Meaning::Refused,
     })
 }
 
-fn said_by(alloc: Global, line: &[u8]) -> Result<Meaning, Memory>
-    ensures { IfOk result (λ m. m ≡ said (says line.now)) }
+fn instruction_in(alloc: Global, games: usize, line: &[u8]) -> Result<Option<Instruction>, Memory>
+    ensures { IfOk result (λ found. option_map seen found ≡ instruction_in games line.now) }
 {
-    Ok(match read_line(alloc, line)? {
-        None => Meaning::Nothing,
-        Some(First::Enter { key: _key }) => tells(Command::Enter),
-        Some(First::Tell(command)) => tells(command),
-    })
+    let Some((word, rest)) = parted(line) else {
+        return Ok(None);
+    };
+    if word == b"hex".as_slice() {
+        feed_bytes(alloc, rest)
+    } else if word == b"end".as_slice() {
+        Ok(end_input(rest))
+    } else if word == b"draw".as_slice() {
+        Ok(draw(games, rest))
+    } else if word == b"close".as_slice() {
+        Ok(close(games, rest))
+    } else {
+        feed_line(alloc, word, rest)
+    }
 }
 
-fn tells(command: Command) -> Meaning
-    ensures { result ≡ Happens (Tell 0 command) }
+// What stands before the first space, and behind it.
+fn parted(text: &[u8]) -> Option<(&[u8], &[u8])>
+    ensures { option_map (λ parts. (parts.0.now, parts.1.now)) result ≡ parted text.now }
 {
-    Meaning::Happens(Event::Tell {
-        agent: AGENT,
-        command,
-    })
+    match space_in(text) {
+        Some(end) => Some((&text[..end], &text[end + 1..])),
+        None => None,
+    }
 }
 
-/// The events that a script means, or its first line that is none of a script.
-pub fn events_in(alloc: Global, script: &[u8]) -> Result<Vec<Event>, PlayFault>
-    ensures meant { MatchResult result (λ events. events_of script.now ≡ Ok events.items) (Refuses (events_of script.now)) }
-    ensures few { IfOk result (λ events. length events.items ≤ length script.now + 1) }
+fn space_in(text: &[u8]) -> Option<usize>
+    ensures place { result ≡ position is_space text.now }
+    ensures within { IfSome result (λ end. end < length text.now) }
 {
-    let mut events = Vec::new(alloc);
+    text.iter().position(|byte| *byte == b' ')
+}
+
+fn feed_line(alloc: Global, word: &[u8], rest: &[u8]) -> Result<Option<Instruction>, Memory>
+    ensures { IfOk result (λ found. option_map seen found ≡ feeds_line word.now rest.now) }
+{
+    let Some(conn) = connection_in(word) else {
+        return Ok(None);
+    };
+    let mut bytes = Vec::with_capacity(alloc, rest.len() + 1)?;
+    bytes.extend_from_slice(rest)?;
+    bytes.push(b'\n')?;
+    Ok(Some(Instruction::Feed { conn, bytes }))
+}
+
+fn feed_bytes(alloc: Global, rest: &[u8]) -> Result<Option<Instruction>, Memory>
+    ensures { IfOk result (λ found. option_map seen found ≡ feeds_bytes rest.now) }
+{
+    let Some((number, digits)) = parted(rest) else {
+        return Ok(None);
+    };
+    let Some(conn) = connection_in(number) else {
+        return Ok(None);
+    };
+    let Some(bytes) = bytes_of(alloc, digits)? else {
+        return Ok(None);
+    };
+    Ok(Some(Instruction::Feed { conn, bytes }))
+}
+
+fn bytes_of(alloc: Global, digits: &[u8]) -> Result<Option<Vec<u8>>, Memory>
+    ensures { IfOk result (λ found. option_map (λ bytes. bytes.items) found ≡ bytes_of digits.now) }
+{
+    if digits.is_empty() {
+        return Ok(None);
+    }
+    match hex::decode(alloc, digits) {
+        Ok(bytes) => Ok(Some(bytes)),
+        Err(FromHexError::OutOfMemory) => Err(Memory),
+        Err(_) => Ok(None),
+    }
+}
+
+fn end_input(rest: &[u8]) -> Option<Instruction>
+    ensures { option_map seen result ≡ ends_input rest.now }
+{
+    let conn = connection_in(rest)?;
+    Some(Instruction::End { conn })
+}
+
+fn draw(games: usize, rest: &[u8]) -> Option<Instruction>
+    ensures { option_map seen result ≡ draws games rest.now }
+{
+    let (number, digits) = parted(rest)?;
+    let game = number_below(games, number)?;
+    let word = number_of(digits)?;
+    Some(Instruction::Draw { game, word })
+}
+
+fn close(games: usize, rest: &[u8]) -> Option<Instruction>
+    ensures { option_map seen result ≡ closes games rest.now }
+{
+    let game = number_below(games, rest)?;
+    Some(Instruction::Close { game })
+}
+
+fn connection_in(text: &[u8]) -> Option<u16>
+    ensures { result ≡ number_below CONNECTIONS text.now }
+{
+    let number = number_below(usize::from(CONNECTIONS), text)?;
+    Some(number as u16)
+}
+
+fn number_below(bound: usize, text: &[u8]) -> Option<u32>
+    ensures number { result ≡ number_below bound text.now }
+    ensures below { IfSome result (λ n. n < bound) }
+{
+    number_of(text).filter(|number| (*number as usize) < bound)
+}
+
+/// The instructions of a script in a rehearsal of so many matches, or its first line that is none of a script.
+pub fn instructions_in(
+    alloc: Global,
+    games: usize,
+    script: &[u8],
+) -> Result<Vec<Instruction>, PlayFault>
+    ensures { MatchResult result (λ found. instructions_of games script.now ≡ Ok (map seen found.items))
+        (Refuses (instructions_of games script.now)) }
+{
+    let mut found = Vec::new(alloc);
     let mut rest = Some(script);
     let mut number = 0;
     while let Some(text) = rest {
         let (line, others) = first_line(text);
         number += 1;
-        match meaning_of(alloc, line)? {
-            Meaning::Nothing => {}
-            Meaning::Happens(event) => events.push(event)?,
+        match meaning_of(alloc, games, line)? {
+            Meaning::Skipped => {}
+            Meaning::Gives(instruction) => found.push(instruction)?,
             Meaning::Refused => return Err(PlayFault::Line { line: number }),
         }
         rest = others;
     }
-    Ok(events)
+    Ok(found)
 }
 
 fn first_line(text: &[u8]) -> (&[u8], Option<&[u8]>)
     ensures lines { lines_of text.now ≡ result.0.now ∷ option_map_or (λ rest. lines_of rest.now) result.1 [] }
     ensures shorter { IfSome result.1 (λ rest. length rest.now < length text.now) }
 {
-    match line_feed_in(text) {
-        Some(end) => (&text[..end], Some(&text[end + 1..])),
+    match split_line(text) {
+        Some((line, rest)) => (line, Some(rest)),
         None => (text, None),
     }
-}
-
-fn line_feed_in(text: &[u8]) -> Option<usize>
-    ensures place { result ≡ position_from is_line_feed 0 text.now }
-    ensures within { IfSome result (λ end. end < length text.now) }
-{
-    text.iter().position(|byte| *byte == b'\n')
 }

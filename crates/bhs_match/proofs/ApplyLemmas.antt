@@ -1,6 +1,6 @@
 -- A match stays in order: what it keeps follows from its log, and there is room for the next event.
 use Rattle.std.proofs.Common.{◌≡◌, ℕ, suc, ◌+◌, ◌*◌, ◌<◌, ◌≤◌, ◌^◌, append-nil, Bool, true, false, not, ◌&&◌, ◌||◌, Option, Some, None, List, [], ◌∷◌, ◌++◌, length, map, IsSome, refl, sym, ap, ◌∙◌, subst, inl, inr, arith, nat_lt, ◌==◌, if◌then◌else◌, slice_set, length-append, length-set}
-use Rattle.std.specs.Prelude.{slice_index_or}
+use Rattle.std.specs.Prelude.{slice_index_or, is_some}
 use Rattle.std.proofs.lemmas.List.{get_or_past}
 use Rattle.std.proofs.lemmas.Bool.{cond_both, cond-true, cond-false, eqb-true, eq-eqb}
 use Rattle.std.proofs.lemmas.Bool.Decides.{eqb_tells}
@@ -252,6 +252,25 @@ shown_same table log agent node stands is =
       | inr h ↦
           let home : Some table.setup.home ≡ Some node = sym (cond-false (nat_lt agent table.setup.agents) (node_seen_at table (agent_at table.agents agent).position) (Some table.setup.home) h.0) ∙ is in
           shown_there table log state node (state.position agent) (ap (node_seen_at table) ((fair_run (world_in table) (events_of log)).strange agent h.1) ∙ home)
+    ]
+
+-- what is kept of an agent says whether it is on a link
+is_link : (position : Position) → is_some (link_of position) ≡ is_bound position
+is_link Before = refl
+is_link (At node came) = refl
+is_link (OnLink node port) = refl
+is_link After = refl
+
+pub away_same : (table : Table) (log : List Kept) (agent : ℕ) → StandsFor table log →
+    is_some (link_at table agent) ≡ is_bound ((run (world_in table) (events_of log)).position agent)
+away_same table log agent stands =
+    elim (lt_tells agent table.setup.agents) [
+      | inl h ↦
+          ap (λ (link : Option (ℕ × ℕ)). is_some link) (cond-true (nat_lt agent table.setup.agents) (link_of (agent_at table.agents agent).position) None h.0)
+          ∙ is_link (agent_at table.agents agent).position ∙ ap is_bound (sym (stands.state.agents agent).position)
+      | inr h ↦
+          ap (λ (link : Option (ℕ × ℕ)). is_some link) (cond-false (nat_lt agent table.setup.agents) (link_of (agent_at table.agents agent).position) None h.0)
+          ∙ ap is_bound (sym ((fair_run (world_in table) (events_of log)).strange agent h.1))
     ]
 
 -- what is kept for an agent is its news

@@ -3,7 +3,7 @@ ghost use Rattle.bhs_net.specs.Network.{nodes_of};
 ghost use Rattle.bhs_model.specs.declared.limits.TheConstants.{MAX_AGENTS, MAX_QUOTA};
 ghost use Rattle.bhs_model.specs.Kept.{kept};
 ghost use Rattle.bhs_model.specs.Marks.{events_of, read, read_if, text_at, board_of};
-ghost use Rattle.bhs_model.specs.Runs.{run, reply, replies};
+ghost use Rattle.bhs_model.specs.Runs.{run, reply, replies, is_bound};
 ghost use Rattle.bhs_world.specs.Faults.{first_fault, IsWithinLimits};
 ghost use Rattle.bhs_world.specs.Tables.{keeps_next, log_after};
 ghost use Rattle.bhs_match.specs.Matches.{world_in, state_of, most_kept, arrivals, bounds, shown_at};
@@ -11,7 +11,7 @@ ghost use Rattle.bhs_match.specs.Keeping.{node_seen};
 
 use crate::answers::Answer;
 use crate::news::{News, no_news, note, places};
-use crate::pools::{Bound, link_by, settle};
+use crate::pools::{Bound, link, link_by, settle};
 use crate::reading;
 use crate::seals::Sealed;
 use bhs_agent::Standing;
@@ -129,6 +129,13 @@ impl Match {
             Some(node) => text_at(&self.log, self.world.last(node)),
             None => "",
         }
+    }
+
+    /// Whether the agent is on a link, destroyed or not. A number that is no agent's is on none.
+    pub fn is_away(&self, agent: u16) -> bool
+        ensures { result ≡ is_bound ((state_of self.now).position agent) }
+    {
+        link(&self.world, agent).is_some()
     }
 
     /// The text that the mark's whiteboard shows; the empty one for a mark without a whiteboard. The mark is one of

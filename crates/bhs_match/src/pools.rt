@@ -22,7 +22,8 @@ pub(crate) fn link_by(world: &World, event: &Event) -> Option<(u16, u16)>
     }
 }
 
-fn link(world: &World, agent: u16) -> Option<(u16, u16)>
+/// The departure node and port of the link that an agent is on; none for a number that is no agent's.
+pub(crate) fn link(world: &World, agent: u16) -> Option<(u16, u16)>
     ensures { result ≡ link_at world.now agent }
 {
     if agent >= world.setup().agents {

@@ -1,6 +1,13 @@
-pub mod Port
+pub mod Connections
+pub mod Examples
+pub mod Games
+pub mod Input
+pub mod Moves
 pub mod Phase
+pub mod Port
+pub mod RehearsalLaws
+pub mod Rehearsing
 pub mod Sent
 pub mod Session
-pub mod Moves
-pub mod Input
+pub mod Stages
+pub mod Takings

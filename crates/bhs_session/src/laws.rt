@@ -3,6 +3,7 @@ ghost use Rattle.bhs_wire.specs.Lines.{Line, lines};
 ghost use Rattle.bhs_session.specs.declared.endings.Ended.{Ended};
 ghost use Rattle.bhs_session.specs.Phase.{Finished};
 ghost use Rattle.bhs_session.specs.Session.{Point, Session, fresh};
+ghost use Rattle.bhs_session.specs.Rehearsing.{StandsForTheScript};
 
 use crate::endings::Ended;
 use crate::port::Port;
@@ -18,4 +19,10 @@ pub fn no_turns<P: Port>()
     ensures { (start : P) (p : Point P) (ended : Ended) → Session P.calls (fresh start 0) p
         → p.phase ≡ Finished ended
         → (ended ≡ Ended.Turns) × (p.port ≡ start) × (p.written ≡ []) × (p.read ≡ []) }
+{}
+
+/// A rehearsal whose calls were the instructions of a script stands for that script: its stage is the one that the
+/// script leads to, and its calls have sent what the script sends. One call more is one instruction more.
+pub fn stands_for_the_script()
+    ensures { StandsForTheScript }
 {}

@@ -100,7 +100,7 @@ fn take_later<W: Write, P: Port>(
 }
 
 // What a later line tells. The key of an enter is not looked at.
-fn command_in(first: First) -> Command
+pub(crate) fn command_in(first: First) -> Command
     ensures { result ≡ command_by first }
 {
     match first {

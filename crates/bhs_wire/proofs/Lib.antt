@@ -3,3 +3,4 @@ pub mod LineFeeds
 pub mod Members
 pub mod StreamLaws
 pub mod ReplyLines
+pub mod OnLiterals

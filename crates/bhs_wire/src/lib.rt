@@ -15,6 +15,6 @@ pub use commands::{First, command_of, read_line};
 pub use denials::{Denial, denial_of};
 pub use kinds::{LineKind, kind_of};
 pub use laws::{any_pieces, held_is_enough, line_by_line, one_meaning};
-pub use pieces::Raw;
+pub use pieces::{Raw, split_line};
 pub use replies::{line_of, value_of, word_of};
 pub use streams::Lines;

@@ -34,8 +34,8 @@ impl Raw {
     }
 }
 
-// The bytes before the first line feed, and those after it.
-pub(crate) fn split_line(bytes: &[u8]) -> Option<(&[u8], &[u8])>
+/// The bytes before the first line feed, and those after it; None where there is no line feed.
+pub fn split_line(bytes: &[u8]) -> Option<(&[u8], &[u8])>
     ensures { MatchOption result (list_any is_line_feed bytes.now ≡ false)
         (λ parts. (bytes.now ≡ parts.0.now ++ 10 ∷ parts.1.now) × (list_any is_line_feed parts.0.now ≡ false)) }
 {

@@ -89,3 +89,20 @@ fn network_faults(rt: HostRuntime) -> Result<(), Fail> {
     }
     Ok(())
 }
+
+#[test]
+fn networks_in_parts(rt: HostRuntime) -> Result<(), Fail> {
+    for (nodes, links, fault) in [
+        (
+            6,
+            "[0,0,1,0],[1,1,2,0],[2,1,0,1],[3,0,4,0],[4,1,5,0],[5,1,3,1]",
+            NetFault::Apart,
+        ),
+        (3, "[0,0,1,0],[1,1,2,0]", NetFault::CutNode { node: 1 }),
+    ] {
+        let text = format!(in rt.alloc(); "version = 1\nnodes = {nodes}\nlinks = [{links}]\n")?;
+        let found = read_network(rt.alloc(), text.as_str()).err();
+        assert_eq!(rt; found, Some(FileFault::Net(fault)), "at {links}");
+    }
+    Ok(())
+}

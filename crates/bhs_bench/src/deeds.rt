@@ -1,0 +1,34 @@
+//! What is done next in a match, by a word.
+
+use crate::torus::PORTS;
+use bhs_model::MAX_AGENTS;
+
+/// What is done next.
+#[derive(Clone, Copy, Debug, PartialEq, Eq)]
+pub enum Deed {
+    /// An agent looks.
+    Look { agent: u16 },
+    /// An agent writes over what it sees.
+    Write { agent: u16 },
+    /// An agent departs by a port.
+    Depart { agent: u16, port: u16 },
+    /// An agent accuses a port that no node has.
+    Accuse { agent: u16 },
+    /// A word is drawn.
+    Draw { word: u32 },
+}
+
+/// What a word picks: of sixteen words two look, two write, five depart, one accuses, and six draw.
+pub fn deed_of(word: u32) -> Deed {
+    let agent = (word / 16 % u32::from(MAX_AGENTS)) as u16;
+    match word % 16 {
+        0 | 1 => Deed::Look { agent },
+        2 | 3 => Deed::Write { agent },
+        4..=8 => Deed::Depart {
+            agent,
+            port: (word / 256 % u32::from(PORTS)) as u16,
+        },
+        9 => Deed::Accuse { agent },
+        _ => Deed::Draw { word: word / 16 },
+    }
+}

@@ -1,0 +1,82 @@
+use crate::faults::BenchFault;
+use crate::orders::{Order, USAGE, order_of};
+use crate::report::{print_counts, print_time};
+use crate::workload::Workload;
+use bhs_stream::{finish, send};
+use std::alloc::Global;
+use std::io::Write;
+use std::time::{Clock, Instant};
+
+/// The exit status where all was done.
+pub const DONE: u8 = 0;
+
+/// The exit status where the command line was refused.
+pub const REFUSED_WORDS: u8 = 2;
+
+/// The exit status where the match of the benchmark was refused.
+pub const REFUSED_MATCH: u8 = 3;
+
+/// The exit status where memory ran out.
+pub const NO_MEMORY: u8 = 5;
+
+/// The exit status where writing failed, or the clock.
+pub const FAILED_STREAM: u8 = 6;
+
+/// Does what the words after the program's name order, and answers the exit status. What is asked for goes to
+/// `writer`; why it could not be done goes to `errors`.
+pub fn run<C: Clock, W: Write, E: Write>(
+    alloc: Global,
+    clock: &C,
+    words: &[String],
+    writer: &mut W,
+    errors: &mut E,
+) -> u8 {
+    let done = match order_of(words) {
+        Some(Order::Help) => show(writer),
+        Some(Order::Step { events, is_timed }) => step(alloc, clock, writer, events, is_timed),
+        None => {
+            let _ = send(errors, USAGE.as_bytes());
+            return REFUSED_WORDS;
+        }
+    };
+    match done {
+        Ok(()) => DONE,
+        Err(fault) => tell(fault, errors),
+    }
+}
+
+fn show<W: Write>(writer: &mut W) -> Result<(), BenchFault> {
+    send(writer, USAGE.as_bytes())?;
+    finish(writer)?;
+    Ok(())
+}
+
+fn step<C: Clock, W: Write>(
+    alloc: Global,
+    clock: &C,
+    writer: &mut W,
+    events: u64,
+    is_timed: bool,
+) -> Result<(), BenchFault> {
+    let mut workload = Workload::new(alloc)?;
+    let begin = Instant::now(clock).map_err(|_| BenchFault::Clock)?;
+    for _ in 0..events {
+        workload.step(alloc)?;
+    }
+    let time = begin.elapsed(clock).map_err(|_| BenchFault::Clock)?;
+    print_counts(alloc, writer, events, workload.counts())?;
+    if is_timed {
+        print_time(alloc, writer, events, time)?;
+    }
+    finish(writer)?;
+    Ok(())
+}
+
+fn tell<E: Write>(fault: BenchFault, errors: &mut E) -> u8 {
+    let _ = writeln!(errors, "bhs_bench: {fault}");
+    match fault {
+        BenchFault::Network(_) | BenchFault::Setup(_) | BenchFault::Held(_) => REFUSED_MATCH,
+        BenchFault::Memory => NO_MEMORY,
+        BenchFault::Write | BenchFault::Clock => FAILED_STREAM,
+    }
+}

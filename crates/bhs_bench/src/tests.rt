@@ -1,0 +1,113 @@
+use crate::deeds::{Deed, deed_of};
+use crate::run::{DONE, REFUSED_WORDS, run};
+use crate::torus::{links, torus};
+use bhs_net::Link;
+use std::alloc::Global;
+use std::test::Fail;
+use std::time::Clock;
+
+#[test]
+fn the_last_is_joined_to_the_first(rt: HostRuntime) -> Result<(), Fail> {
+    let net = torus(rt.alloc())?;
+    assert_eq!(rt; (net.nodes(), net.links()), (256, 512));
+    let links = links(rt.alloc())?;
+    for (place, v, p, w, q) in [
+        (0, 0, 0, 1, 1),
+        (1, 0, 2, 16, 3),
+        (30, 15, 0, 0, 1),
+        (481, 240, 2, 0, 3),
+        (510, 255, 0, 240, 1),
+        (511, 255, 2, 15, 3),
+    ] {
+        assert_eq!(rt; links.get(place).copied(), Some(Link { v, p, w, q }));
+    }
+    Ok(())
+}
+
+#[test]
+fn words_pick_deeds(rt: HostRuntime) {
+    assert_eq!(rt; deed_of(0), Deed::Look { agent: 0 });
+    assert_eq!(rt; deed_of(19), Deed::Write { agent: 1 });
+    assert_eq!(rt;
+        deed_of(4 + 16 * 15 + 256 * 3),
+        Deed::Depart { agent: 15, port: 3 }
+    );
+    assert_eq!(rt; deed_of(9), Deed::Accuse { agent: 0 });
+    assert_eq!(rt; deed_of(u32::MAX), Deed::Draw { word: 0x0fff_ffff });
+}
+
+#[test]
+fn words_that_give_no_order_are_refused(rt: HostRuntime) -> Result<(), Fail> {
+    let alloc = rt.alloc();
+    for words in [
+        &[][..],
+        &["step"][..],
+        &["step", "+7"][..],
+        &["step", ""][..],
+        &["step", "18446744073709551616"][..],
+        &["step", "7", "times"][..],
+        &["--help", "step"][..],
+    ] {
+        let (status, written, told) = output_of(&rt, alloc, words)?;
+        assert_eq!(rt; (status, written.as_str()), (REFUSED_WORDS, ""));
+        assert!(rt; told.as_str().starts_with("usage: "));
+    }
+    Ok(())
+}
+
+#[test]
+fn help_is_shown(rt: HostRuntime) -> Result<(), Fail> {
+    let (status, written, told) = output_of(&rt, rt.alloc(), &["--help"])?;
+    assert_eq!(rt; (status, told.as_str()), (DONE, ""));
+    assert!(rt; written.as_str().starts_with("usage: "));
+    Ok(())
+}
+
+#[test]
+fn events_are_counted(rt: HostRuntime) -> Result<(), Fail> {
+    let (status, written, _told) = output_of(&rt, rt.alloc(), &["step", "16"])?;
+    assert_eq!(rt; status, DONE);
+    assert_eq!(rt;
+        written.as_str(),
+        "events 16\nkept 16\narrivals 0\nmatches 1\n"
+    );
+    Ok(())
+}
+
+// These counts were worked out apart from this code, by `tools/bench_counts.py`.
+#[test]
+fn a_match_is_followed_by_a_new_one(rt: HostRuntime) -> Result<(), Fail> {
+    let (status, written, _told) = output_of(&rt, rt.alloc(), &["step", "28001"])?;
+    assert_eq!(rt; status, DONE);
+    let counted = "events 28001\nkept 23042\narrivals 7024\nmatches 2\n";
+    assert_eq!(rt; written.as_str(), counted);
+    Ok(())
+}
+
+#[test]
+fn the_time_is_told_on_request(rt: HostRuntime) -> Result<(), Fail> {
+    let (status, written, _told) = output_of(&rt, rt.alloc(), &["step", "0", "time"])?;
+    assert_eq!(rt; status, DONE);
+    let counted = "events 0\nkept 0\narrivals 0\nmatches 1\nseconds ";
+    assert!(rt; written.as_str().starts_with(counted));
+    assert!(rt; written.as_str().ends_with("\nevents in a second 0\n"));
+    Ok(())
+}
+
+/// The exit status for these words, and what is written on the one side and on the other.
+fn output_of<C: Clock>(
+    clock: &C,
+    alloc: Global,
+    words: &[&str],
+) -> Result<(u8, String, String), Fail> {
+    let mut given = Vec::new(alloc);
+    for word in words {
+        given.push(String::from_str(alloc, word)?)?;
+    }
+    let mut writer = Vec::new(alloc);
+    let mut errors = Vec::new(alloc);
+    let status = run(alloc, clock, given.as_slice(), &mut writer, &mut errors);
+    let written = String::from_utf8(writer).map_err(|_| "the output is text")?;
+    let told = String::from_utf8(errors).map_err(|_| "the faults are text")?;
+    Ok((status, written, told))
+}

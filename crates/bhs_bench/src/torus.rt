@@ -1,0 +1,58 @@
+//! The network of the benchmark: a torus, a square of nodes in rows, each joined to the next in its row and in its
+//! column, and the last to the first.
+
+ghost use Rattle.std.specs.Prelude.{◌<◌};
+
+use crate::faults::BenchFault;
+use bhs_net::{Link, Net};
+use std::alloc::Global;
+
+/// How many nodes a row has, and a column.
+const SIDE: u16 = 16;
+
+/// How many nodes there are: the most that a network may have.
+pub const NODES: u16 = 256;
+
+/// How many ports each node has: to the right, to the left, down and up.
+pub const PORTS: u16 = 4;
+
+/// The node to the right of a node.
+fn right_of(node: u16) -> u16
+    requires { node < NODES }
+    ensures { result < NODES }
+{
+    node / SIDE * SIDE + (node % SIDE + 1) % SIDE
+}
+
+/// The node below a node.
+fn below(node: u16) -> u16
+    requires { node < NODES }
+    ensures { result < NODES }
+{
+    (node + SIDE) % NODES
+}
+
+/// The links of the torus: of each node those to the right and down.
+pub fn links(alloc: Global) -> Result<Vec<Link>, BenchFault> {
+    let mut links = Vec::new(alloc);
+    for node in 0..NODES {
+        links.push(Link {
+            v: node,
+            p: 0,
+            w: right_of(node),
+            q: 1,
+        })?;
+        links.push(Link {
+            v: node,
+            p: 2,
+            w: below(node),
+            q: 3,
+        })?;
+    }
+    Ok(links)
+}
+
+/// The torus.
+pub fn torus(alloc: Global) -> Result<Net, BenchFault> {
+    Ok(Net::try_new(alloc, NODES, links(alloc)?.as_slice())?)
+}

@@ -1,0 +1,132 @@
+//! Matches of the largest size, one after the other, whose events are picked by words.
+
+use crate::deeds::{Deed, deed_of};
+use crate::faults::BenchFault;
+use crate::torus::{NODES, PORTS, torus};
+use bhs_deal::{Dealer, Held, draw};
+use bhs_match::Match;
+use bhs_model::{Command, Event, MAX_AGENTS, MAX_BOARD, MAX_QUOTA, Setup, Text};
+use bhs_net::{Memory, Net};
+use std::alloc::Global;
+
+/// How many events a match has: about as many as use up the quotas of its agents. The first let each agent enter, and
+/// the last one closes the match.
+const EVENTS_OF_A_MATCH: u16 = 28_000;
+
+/// No node destroys and no link is held, so that each agent plays until its quota is spent.
+const SETUP: Setup = Setup {
+    home: 0,
+    hole: None,
+    agents: MAX_AGENTS,
+    quota: MAX_QUOTA,
+    board: MAX_BOARD,
+};
+
+/// The seed of the words.
+const SEED: [u8; 32] = [7; 32];
+
+/// What was counted. A count that would need more than 64 bits stays at the most that they hold.
+#[derive(Clone, Copy, Debug, PartialEq, Eq)]
+pub struct Counts {
+    /// The events that were kept in the logs.
+    pub kept: u64,
+    /// The arrivals of agents at nodes.
+    pub arrivals: u64,
+    /// The matches that were begun.
+    pub matches: u64,
+}
+
+impl Counts {
+    /// These and those of one match more.
+    fn with(self, game: &Match) -> Counts {
+        let mut arrivals = self.arrivals;
+        for agent in 0..MAX_AGENTS {
+            arrivals = arrivals.saturating_add(game.news(agent).len() as u64);
+        }
+        Counts {
+            kept: self.kept.saturating_add(game.log().len() as u64),
+            arrivals,
+            matches: self.matches.saturating_add(1),
+        }
+    }
+}
+
+/// A match that is played, and what was counted in those before it.
+#[derive(Debug, Drop)]
+pub struct Workload {
+    net: Net,
+    held: Held,
+    words: Dealer,
+    game: Match,
+    events: u16,
+    before: Counts,
+}
+
+impl Workload {
+    /// The first match, before its first event.
+    pub fn new(alloc: Global) -> Result<Workload, BenchFault> {
+        let net = torus(alloc)?;
+        let held = Held::new(alloc, &net, &[])?;
+        let game = Match::new(alloc, net.try_clone(alloc)?, SETUP)?;
+        Ok(Workload {
+            net,
+            held,
+            words: Dealer::new(SEED, 0),
+            game,
+            events: 0,
+            before: Counts {
+                kept: 0,
+                arrivals: 0,
+                matches: 0,
+            },
+        })
+    }
+
+    /// Plays one event, on a new match where the last one has ended.
+    pub fn step(&mut self, alloc: Global) -> Result<(), BenchFault> {
+        if self.events >= EVENTS_OF_A_MATCH {
+            let next = Match::new(alloc, self.net.try_clone(alloc)?, SETUP)?;
+            self.before = self.before.with(&self.game);
+            self.game = next;
+            self.events = 0;
+        }
+        self.events += 1;
+        if self.events <= MAX_AGENTS {
+            let agent = self.events - 1;
+            self.tell(agent, Command::Enter);
+        } else if self.events == EVENTS_OF_A_MATCH {
+            self.game.apply(Event::Close);
+        } else {
+            let deed = deed_of(self.words.next());
+            self.perform(alloc, deed)?;
+        }
+        Ok(())
+    }
+
+    fn tell(&mut self, agent: u16, command: Command) {
+        self.game.apply(Event::Tell { agent, command });
+    }
+
+    fn perform(&mut self, alloc: Global, deed: Deed) -> Result<(), Memory> {
+        match deed {
+            Deed::Look { agent } => self.tell(agent, Command::Look),
+            Deed::Write { agent } => {
+                let expect = Text::from(String::from_str(alloc, self.game.seen(agent))?);
+                let word = self.words.next();
+                let put = Text::from(format!(in alloc; "{word}")?);
+                self.tell(agent, Command::Write { expect, put });
+            }
+            Deed::Depart { agent, port } => self.tell(agent, Command::Depart { port }),
+            Deed::Accuse { agent } => self.tell(agent, Command::Accuse { port: PORTS }),
+            Deed::Draw { word } => {
+                draw(&mut self.game, &self.held, word);
+            }
+        }
+        Ok(())
+    }
+
+    /// What was counted so far.
+    pub fn counts(&self) -> Counts {
+        self.before.with(&self.game)
+    }
+}

@@ -1,0 +1,36 @@
+-- What a word draws in a match: nobody, an agent whose link is held and lets it stay, or an agent that arrives.
+use Rattle.std.specs.Prelude.{ℕ, ◌≡◌, Option, Some, None, if◌then◌else◌}
+use Rattle.bhs_model.specs.declared.events.Event.{Event}
+use Rattle.bhs_model.specs.declared.events.Event.TheVariants.{Deliver}
+use Rattle.bhs_model.specs.Runs.{State}
+use Rattle.bhs_model.specs.Draws.{Held, pool, pick, is_held, draw}
+use Rattle.bhs_match.specs.declared.answers.Answer.{Answer}
+use Rattle.bhs_match.specs.Matches.{Play}
+use Rattle.bhs_match.specs.Games.{IsPlayed}
+use Rattle.bhs_deal.specs.declared.draws.Drawn.{Drawn}
+use Rattle.bhs_deal.specs.declared.draws.Drawn.TheVariants.{Nobody, Stays, Delivered}
+
+-- what becomes of the agent that was picked, if one was
+abbrev pub drawn_of : Held → State → Option ℕ → Drawn
+drawn_of held state None = Nobody
+drawn_of held state (Some agent) = if is_held held (state.position agent) then Stays else Delivered agent
+
+-- what a word draws
+abbrev pub drawn : Held → State → (word : ℕ) → Drawn
+drawn held state word = if state.closed then Nobody else drawn_of held state (pick (pool state) word)
+
+-- what an event makes of a match, if there is one: without one the match is as it was
+abbrev pub IsPlayedIf : (old : Play) → Option Event → (new : Play) → Type 0
+IsPlayedIf old None new = new ≡ old
+IsPlayedIf old (Some event) new = (answer : Answer) × IsPlayed old event answer new
+
+-- the event by which it comes about, if any
+abbrev pub event_of : Drawn → Option Event
+event_of Nobody = None
+event_of Stays = None
+event_of (Delivered agent) = Some (Deliver agent)
+
+-- What is drawn is what the draw of the definitions makes happen: an agent is delivered exactly where that draw is
+-- the event that delivers it.
+abbrev pub DrawsAreThoseOfTheModel : Type 0
+DrawsAreThoseOfTheModel = (held : Held) (state : State) (word : ℕ) → draw held state word ≡ event_of (drawn held state word)

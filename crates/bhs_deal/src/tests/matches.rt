@@ -1,0 +1,103 @@
+use crate::{Dealer, Drawn, Held, draw};
+use bhs_match::Match;
+use bhs_model::{Command, Event, Reply, Setup, Text};
+use bhs_net::{Link, Net};
+use std::alloc::Global;
+use std::test::Fail;
+
+const SETUP: Setup = Setup {
+    home: 0,
+    hole: Some(2),
+    agents: 2,
+    quota: 10,
+    board: 8,
+};
+
+pub(super) fn network(alloc: Global) -> Result<Net, Fail> {
+    let links = [(0, 0, 1, 0), (1, 1, 2, 0), (2, 1, 0, 1)].map(|(v, p, w, q)| Link { v, p, w, q });
+    Ok(Net::try_new(alloc, 3, &links)?)
+}
+
+/// The triangle with the black hole at node 2, and the links held that are named.
+fn triangle(alloc: Global, pairs: &[(u16, u16)]) -> Result<(Match, Held), Fail> {
+    let net = network(alloc)?;
+    let held = Held::new(alloc, &net, pairs)?;
+    Ok((Match::new(alloc, net, SETUP)?, held))
+}
+
+fn tell(agent: u16, command: Command) -> Event {
+    Event::Tell { agent, command }
+}
+
+fn depart(agent: u16, port: u16) -> Event {
+    tell(agent, Command::Depart { port })
+}
+
+#[test]
+fn words_draw_from_the_pool(rt: HostRuntime) -> Result<(), Fail> {
+    let alloc = rt.alloc();
+    let (mut game, held) = triangle(alloc, &[])?;
+    assert_eq!(rt; draw(&mut game, &held, 7), Drawn::Nobody);
+    game.apply(tell(0, Command::Enter));
+    game.apply(tell(1, Command::Enter));
+    game.apply(depart(0, 1));
+    assert_eq!(rt; draw(&mut game, &held, 0), Drawn::Delivered { agent: 0 });
+    assert!(rt; game.news(0).is_empty());
+    game.apply(depart(1, 0));
+    assert_eq!(rt; draw(&mut game, &held, 4), Drawn::Delivered { agent: 0 });
+    assert!(rt; game.news(0).is_empty());
+    assert_eq!(rt; draw(&mut game, &held, 5), Drawn::Delivered { agent: 1 });
+    let last = game.log().last().expect(&rt, "the log has events");
+    assert_eq!(rt; last.event, Event::Deliver { agent: 1 });
+    let reply = Reply::Here {
+        ports: 2,
+        came: Some(0),
+        board: Text::from(String::new(alloc)),
+    };
+    let mark = last.mark.expect(&rt, "an arrival is answered");
+    assert_eq!(rt; game.reply(&mark)?, reply);
+    Ok(())
+}
+
+#[test]
+fn who_is_held_stays(rt: HostRuntime) -> Result<(), Fail> {
+    let (mut game, held) = triangle(rt.alloc(), &[(0, 0)])?;
+    game.apply(tell(0, Command::Enter));
+    game.apply(depart(0, 0));
+    for word in 0..3 {
+        assert_eq!(rt; draw(&mut game, &held, word), Drawn::Stays);
+        assert_eq!(rt; (game.log().len(), game.pool().len()), (2, 1));
+        assert!(rt; game.news(0).is_empty());
+    }
+    Ok(())
+}
+
+#[test]
+fn nobody_is_drawn_after_the_close(rt: HostRuntime) -> Result<(), Fail> {
+    let (mut game, held) = triangle(rt.alloc(), &[])?;
+    game.apply(tell(0, Command::Enter));
+    game.apply(depart(0, 0));
+    game.apply(Event::Close);
+    assert_eq!(rt; draw(&mut game, &held, 0), Drawn::Nobody);
+    assert_eq!(rt; (game.log().len(), game.pool().len()), (3, 1));
+    Ok(())
+}
+
+/// Once the match and the held links are made, nothing here asks for memory.
+#[test]
+fn two_agents_play_until_their_quotas_are_spent(rt: HostRuntime) -> Result<(), Fail> {
+    let (mut game, held) = triangle(rt.alloc(), &[(0, 1)])?;
+    let mut dealer = Dealer::new([0; 32], 0);
+    game.apply(tell(0, Command::Enter));
+    game.apply(tell(1, Command::Enter));
+    let mut somebody_arrived = false;
+    for turn in 0..10 {
+        game.apply(depart(turn % 2, (dealer.next() % 2) as u16));
+        let drawn = draw(&mut game, &held, dealer.next());
+        somebody_arrived = somebody_arrived || drawn != Drawn::Stays;
+    }
+    assert!(rt; somebody_arrived && game.log().len() > 4);
+    game.apply(Event::Close);
+    assert!(rt; game.closed());
+    Ok(())
+}

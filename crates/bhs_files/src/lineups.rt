@@ -1,0 +1,27 @@
+use crate::key_table::Keys;
+use crate::limits::SEED_BYTES;
+use bhs_deal::Held;
+use bhs_match::Match;
+use bhs_model::Text;
+
+/// A match that can be played.
+#[derive(Debug, Drop)]
+pub struct Ready {
+    /// The team that plays.
+    pub team: Text,
+    /// The match, before anything happens.
+    pub game: Match,
+    /// The links over which no draw lets an agent arrive.
+    pub held: Held,
+}
+
+/// A tournament that can be played.
+#[derive(Debug, Drop)]
+pub struct Lineup {
+    /// From what the deliveries are drawn.
+    pub seed: [u8; SEED_BYTES],
+    /// The matches, by number.
+    pub ready: Vec<Ready>,
+    /// Which agent of which match each key lets in.
+    pub keys: Keys,
+}

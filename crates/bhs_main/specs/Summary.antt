@@ -1,0 +1,39 @@
+-- What the order to check a tournament prints.
+use Rattle.std.specs.Prelude.{◌≡◌, ℕ, ◌+◌, ◌/◌, List, [], ◌∷◌, ◌++◌, codes, decimal, Option, Ok}
+use Rattle.std.specs.Io.KnownBytes.{Appends}
+use Rattle.bhs_net.specs.Network.{Network, nodes_of, ports_of}
+use Rattle.bhs_files.specs.declared.lineups.Ready.{Ready}
+use Rattle.bhs_files.specs.declared.lineups.Lineup.{Lineup}
+use Rattle.bhs_files.specs.Tournaments.{Plan, tournament_in}
+use Rattle.bhs_files.specs.Lineups.{contest, contest_in}
+
+-- how many links there are: each has two ports
+abbrev pub links_of : Network → ℕ
+links_of net = ports_of net / 2
+
+-- the line of a match: its number, its team, and how many nodes, links and agents there are
+abbrev pub match_line : (game : ℕ) → Ready → List ℕ
+match_line game ready =
+    codes "match " ++ (decimal game ++ (codes " " ++ (ready.team
+    ++ (codes " nodes " ++ (decimal (nodes_of ready.game.net)
+    ++ (codes " links " ++ (decimal (links_of ready.game.net)
+    ++ (codes " agents " ++ (decimal ready.game.setup.agents ++ codes "\n")))))))))
+
+-- the lines of matches, the first being of this number
+abbrev pub summary_from : (game : ℕ) → List Ready → List ℕ
+summary_from game [] = []
+summary_from game (ready ∷ others) = match_line game ready ++ summary_from (game + 1) others
+
+-- the lineup is made of a tournament that some text says, on some networks
+pub record IsAssembled (lineup : Lineup) : Type 0 where
+  pub text : List ℕ
+  pub plan : Plan
+  pub said : tournament_in text ≡ Ok plan
+  pub networks : List Network
+  pub made : contest_in plan networks ≡ Ok (contest lineup)
+
+-- the lines of a lineup were written
+pub record Checks (output output' : Option (List ℕ)) : Type 0 where
+  pub lineup : Lineup
+  pub assembled : IsAssembled lineup
+  pub written : Appends output output' (summary_from 0 lineup.ready.items)

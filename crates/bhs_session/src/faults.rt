@@ -1,0 +1,10 @@
+/// Why a rehearsal refuses a call.
+#[derive(Clone, Copy, Debug, PartialEq, Eq)]
+pub enum RehearsalFault {
+    /// There is no connection of this number.
+    Conn = 1,
+    /// There is no match of this number.
+    NoGame = 2,
+    /// Memory ran out, in this call or in an earlier one.
+    Memory = 3,
+}

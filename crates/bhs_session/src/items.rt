@@ -1,0 +1,10 @@
+use bhs_wire::Raw;
+
+// What a connection's input brings.
+#[derive(Debug, Drop)]
+pub(crate) enum Item {
+    // A line.
+    Says(Raw),
+    // Its end.
+    Ends,
+}
