@@ -157,6 +157,8 @@ fn a_match_shows_what_follows_from_its_log(rt: HostRuntime) -> Result<(), Fail> 
     };
     assert_eq!(rt; game.pool(), [bound].as_slice());
     assert_eq!(rt; (game.seen(0), game.seen(1), game.seen(2)), ("a", "", "a"));
+    let away = [0, 1, 2].map(|agent| game.is_away(agent));
+    assert_eq!(rt; away, [false, true, false]);
 
     let look = game.apply(tell(0, Command::Look)).mark;
     assert_eq!(rt; look, here(Some(0), Some(1)));
