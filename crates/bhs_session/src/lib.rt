@@ -11,6 +11,8 @@ mod instructions;
 mod items;
 mod laws;
 mod lines;
+#[cfg(test)]
+mod match_tests;
 mod moves;
 mod outs;
 mod port;
