@@ -214,8 +214,11 @@ held = [[0, 1], [1, 1]]
 "#;
 
 fn two_matches(alloc: Global) -> Result<Lineup, Fail> {
-    let networks = [read_network(alloc, NETWORK)?];
+    let networks = vec![in alloc; read_network(alloc, NETWORK)?]?;
     let tournament = read_tournament(alloc, TWO)?;
+    if tournament.networks(alloc)?.len() != networks.len() {
+        return Err(Fail::from("one network"));
+    }
     Ok(assemble(alloc, tournament, &networks)?)
 }
 
