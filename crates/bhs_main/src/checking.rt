@@ -64,7 +64,7 @@ pub(crate) fn lineup_of<F: Files, E: Write>(
         Ok(tournament) => tournament,
         Err(fault) => return Err(tell(name, fault, errors)),
     };
-    let networks = match networks_of(alloc, files, &tournament) {
+    let networks = match networks_of(alloc, files, name, &tournament) {
         Ok(networks) => networks,
         Err(blamed) => return Err(tell(blamed.name, blamed.fault, errors)),
     };
@@ -99,9 +99,11 @@ fn network_of<F: Files>(alloc: Global, files: &F, name: &str) -> Result<Net, Che
 }
 
 /// The networks that a tournament names, in the order of `Tournament::networks`, each judged before the next is read.
+/// `own` is the name of the tournament's file.
 fn networks_of<'a, F: Files>(
     alloc: Global,
     files: &F,
+    own: &'a str,
     tournament: &'a Tournament,
 ) -> Result<Vec<Net>, Blamed<'a>>
     ensures { IfOk result (λ networks. length networks.items ≡ length (first_seen (map (λ fixture. fixture.network) tournament.now.matches.items))) }
@@ -110,7 +112,7 @@ fn networks_of<'a, F: Files>(
     let names = match tournament.networks(alloc) {
         Ok(names) => names,
         Err(memory) => return Err(Blamed {
-            name: "tournament",
+            name: own,
             fault: CheckFault::from(memory),
         }),
     };
