@@ -27,6 +27,3 @@ pub use network_files::read_network;
 pub use shapes::is_team;
 pub use tournament_files::read_tournament;
 pub use tournaments::Tournament;
-
-#[cfg(test)]
-mod tests;

@@ -1,25 +1,7 @@
 //! The program `arena`: rehearses the matches of a tournament by a script, and checks the files of one.
 #![tactic(auto)]
 
-mod check_faults;
-mod checking;
-mod faults;
-mod instructions;
-mod meanings;
-mod numbers;
-mod playing;
-mod printing;
-mod rehearsing;
-mod run;
-mod script;
-mod standard;
-mod summaries;
-
-pub use check_faults::CheckFault;
-pub use checking::check;
-pub use faults::PlayFault;
-pub use rehearsing::rehearse;
-use run::{FAILED_STREAM, NO_MEMORY};
+use bhs_program::{FAILED_STREAM, NO_MEMORY, run};
 use std::io::{BufWriter, ErrorKind};
 use std::process::ExitCode;
 use std::{env, io};
@@ -37,7 +19,7 @@ fn started(rt: &HostRuntime) -> io::Result<u8> {
     let words: Vec<String> = env::args(rt)?.skip(1).collect(alloc)?;
     let mut writer = BufWriter::new(alloc, io::writer(rt))?;
     let mut errors = rt.stderr();
-    Ok(run::run(
+    Ok(run(
         alloc,
         rt,
         words.as_slice(),

@@ -1,5 +1,5 @@
 -- What was written, as a step of a session.
-use Rattle.std.proofs.Common.{◌≡◌, ◌≢◌, ℕ, Bool, true, false, List, [], None, Some, refl, subst, take}
+use Rattle.std.proofs.Common.{◌≡◌, ℕ, Bool, true, false, List, [], None, Some, refl, subst, take}
 use Rattle.std.specs.declared.option.Option.{Option}
 use Rattle.std.specs.Io.KnownBytes.{Appends}
 use Rattle.bhs_model.specs.declared.replies.Reply.{Reply}
@@ -39,16 +39,6 @@ waiting-false (replies.Here ports came board) = refl
 waiting-false replies.Written = refl
 waiting-false (replies.Changed board) = refl
 waiting-false (replies.No why) = refl
-
-pub waiting-other : (waits : Bool) (reply : Reply) → reply ≢ replies.Gone → waiting waits reply ≡ Ready
-waiting-other waits replies.Gone other = absurd (other refl)
-waiting-other waits replies.Bye other = refl
-waiting-other waits replies.Noted other = refl
-waiting-other waits replies.Over other = refl
-waiting-other waits (replies.Here ports came board) other = refl
-waiting-other waits replies.Written other = refl
-waiting-other waits (replies.Changed board) other = refl
-waiting-other waits (replies.No why) other = refl
 
 -- its agent is inside
 pub stopped-waiting : (waits : Bool) (reply : Reply) (cause : Ended) → stopped (waiting waits reply) cause ≡ Leaves cause

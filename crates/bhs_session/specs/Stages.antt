@@ -1,8 +1,8 @@
 -- A rehearsal: what a script makes of the matches and connections, and what it sends to each connection.
-use Rattle.std.specs.Prelude.{ℕ, ◌+◌, Bool, true, false, not, ◌&&◌, ◌==◌, nat_lt, Option, Some, None, List, [], ◌∷◌, ◌++◌, length, map, replicate, if◌then◌else◌, slice_index_or, slice_set}
+use Rattle.std.specs.Prelude.{ℕ, ◌+◌, Bool, true, false, ◌&&◌, ◌==◌, nat_lt, Option, Some, None, List, [], ◌∷◌, ◌++◌, length, map, replicate, if◌then◌else◌, slice_index_or, slice_set}
 use Rattle.std.specs.List.{list_any, position}
 use Rattle.bhs_model.specs.declared.events.Event.{Event}
-use Rattle.bhs_model.specs.declared.events.Event.TheVariants.{Tell, Deliver, Close}
+use Rattle.bhs_model.specs.declared.events.Event.TheVariants.{Deliver, Close}
 use Rattle.bhs_model.specs.declared.replies.Reply.{Reply}
 use Rattle.bhs_model.specs.declared.replies.Reply.TheVariants.{Over}
 use Rattle.bhs_wire.specs.declared.commands.First.{First}
@@ -13,7 +13,7 @@ use Rattle.bhs_wire.specs.Lines.{said_by, found_in, left_by}
 use Rattle.bhs_files.specs.KeyTable.{Seat, seat_at}
 use Rattle.bhs_session.specs.Phase.{text_of, denial_text}
 use Rattle.bhs_session.specs.Games.{Game, state_of, played, reply_to, is_away, drawn}
-use Rattle.bhs_session.specs.Connections.{Item, Says, Ends, Connection, fresh, shut, Taken, taken, after}
+use Rattle.bhs_session.specs.Connections.{Item, Says, Ends, Connection, fresh, shut, taken, after}
 
 -- the matches of a rehearsal, the keys that let agents enter them, and the connections
 pub record Stage : Type 0 where

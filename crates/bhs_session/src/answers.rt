@@ -1,5 +1,5 @@
-ghost use Rattle.std.specs.Prelude.{true};
-ghost use Rattle.bhs_session.specs.Phase.{Ready, Awaits, Owes, text_of, answered_by};
+ghost use Rattle.std.specs.Prelude.{◌≡◌, true, if◌then◌else◌};
+ghost use Rattle.bhs_session.specs.Phase.{Ready, Awaits, Owes, text_of, answered_by, waiting};
 ghost use Rattle.bhs_session.specs.Session.{Point};
 ghost use Rattle.bhs_session.specs.Moves.{Ends};
 
@@ -23,10 +23,18 @@ pub(crate) fn answer<W: Write, P: Port>(
         port.new p.taken (λ _. Ready) result }
 {
     write_reply(alloc, writer, reply)?;
-    match reply {
-        Reply::Gone => write_news(alloc, writer, port),
-        _ => Ok(()),
+    if waits_for_news(reply) {
+        write_news(alloc, writer, port)
+    } else {
+        Ok(())
     }
+}
+
+// Whether news are asked for after this answer.
+fn waits_for_news(reply: &Reply) -> bool
+    ensures { waiting true reply.now ≡ if result then Awaits else Ready }
+{
+    matches!(reply, Reply::Gone)
 }
 
 // Asks for news, and writes them.

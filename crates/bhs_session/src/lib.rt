@@ -11,21 +11,15 @@ mod instructions;
 mod items;
 mod laws;
 mod lines;
-#[cfg(test)]
-mod match_tests;
 mod moves;
 mod outs;
 mod port;
 mod reading;
 mod rehearsal_laws;
-#[cfg(test)]
-mod rehearsal_tests;
 mod rehearsals;
 mod replies;
 mod serving;
 mod takings;
-#[cfg(test)]
-mod tests;
 
 pub use endings::Ended;
 pub use faults::RehearsalFault;

@@ -1,8 +1,8 @@
 //! Tournaments in files, which each test lays where it runs and takes away again.
 
-use super::Full;
-use crate::run::run;
+use super::streams::Full;
 use bhs_model::MAX_TEXT;
+use bhs_program::run;
 use std::fs;
 use std::test::Fail;
 

@@ -1,6 +1,5 @@
-use crate::rehearsing::rehearse;
-use crate::standard::built_in;
 use bhs_files::{Lineup, assemble, read_network, read_tournament};
+use bhs_program::{built_in, rehearse};
 use std::alloc::Global;
 use std::test::Fail;
 

@@ -1,8 +1,9 @@
 //! The program as a whole, over memory.
 
-use super::{Broken, Full, ROAD, SEEN};
-use crate::run::run;
+use super::scripts::{ROAD, SEEN};
+use super::streams::{Broken, Full};
 use bhs_model::MAX_TEXT;
+use bhs_program::run;
 use std::fs;
 use std::test::Fail;
 

@@ -1,9 +1,0 @@
-pub mod Number
-pub mod Script
-pub mod Instructions
-pub mod BuiltIn
-pub mod PlayFault
-pub mod Transcript
-pub mod Summary
-pub mod CheckFault
-pub mod Rehearsal

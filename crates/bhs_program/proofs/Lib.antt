@@ -1,0 +1,5 @@
+pub mod PlayLemmas
+pub mod TriangleLemmas
+pub mod TextLemmas
+pub mod SummaryLemmas
+pub mod ExitLemmas

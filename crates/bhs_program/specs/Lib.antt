@@ -1,0 +1,4 @@
+pub mod BuiltIn
+pub mod Fault
+pub mod Summary
+pub mod Rehearsal

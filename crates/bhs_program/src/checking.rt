@@ -1,0 +1,144 @@
+//! Reading a tournament and its networks, and saying what its matches are.
+
+ghost use Rattle.std.specs.Prelude.{◌≡◌, ◌≢◌, IfOk, IfErr, OnOk, ℕ, List, Ok, length, map};
+ghost use Rattle.bhs_program.specs.declared.statuses.TheConstants.{REFUSED_TEXT};
+ghost use Rattle.std.specs.Io.KnownBytes.{Appends, Keeps};
+ghost use Rattle.bhs_files.specs.Names.{first_seen};
+ghost use Rattle.bhs_files.specs.Tournaments.{plan, tournament_in};
+ghost use Rattle.bhs_program.specs.Summary.{Checks, IsAssembled, summary_from};
+ghost use Rattle.bhs_program.specs.Fault.{status};
+
+use crate::faults::{Fault, tell};
+use crate::statuses::DONE;
+use crate::summaries::summary;
+use bhs_files::{Lineup, Ready, Tournament, assemble, read_network, read_tournament};
+use bhs_model::{MAX_TEXT, MAX_TURNS};
+use bhs_net::Net;
+use bhs_stream::{finish, read_text, send};
+use std::alloc::Global;
+use std::fs;
+use std::io::{ErrorKind, Write};
+use std::rt::Files;
+
+/// What is wrong, and with which file.
+#[derive(Clone, Copy)]
+struct Blamed<'a> {
+    name: &'a str,
+    fault: Fault,
+}
+
+/// Reads the tournament's file, then the files of the networks that it names, in the order in which its matches name
+/// them, and puts them together. Then a line for each match goes to `writer`. The first fault goes to `errors`, as a
+/// line `NAME: FAULT` with the name of the file, and ends it. The answer is the exit status.
+pub fn check<F: Files, W: Write, E: Write>(
+    alloc: Global,
+    files: &F,
+    name: &str,
+    writer: &mut W,
+    errors: &mut E,
+) -> u8
+    // 0 says that the matches of a tournament that was read and assembled were printed, and 3 that nothing was written.
+    ensures done { result ≡ DONE → Checks (W.contents writer.old) (W.contents writer.new) }
+    ensures refused { result ≡ REFUSED_TEXT → Keeps (W.contents writer.old) (W.contents writer.new) }
+{
+    match lineup_of(alloc, files, name, errors) {
+        Ok(lineup) => match print(alloc, &lineup.ready, writer) {
+            Ok(()) => DONE,
+            Err(fault) => tell("output", fault, errors),
+        },
+        Err(status) => status,
+    }
+}
+
+/// The tournament put together with its networks, or the exit status of a fault that was told.
+pub(crate) fn lineup_of<F: Files, E: Write>(
+    alloc: Global,
+    files: &F,
+    name: &str,
+    errors: &mut E,
+) -> Result<Lineup, u8>
+    ensures made { IfOk result IsAssembled }
+    ensures status { IfErr result (λ code. code ≢ DONE) }
+{
+    let tournament = match tournament_of(alloc, files, name) {
+        Ok(tournament) => tournament,
+        Err(fault) => return Err(tell(name, fault, errors)),
+    };
+    let networks = match networks_of(alloc, files, name, &tournament) {
+        Ok(networks) => networks,
+        Err(blamed) => return Err(tell(blamed.name, blamed.fault, errors)),
+    };
+    match assemble(alloc, tournament, &networks) {
+        Ok(lineup) => Ok(lineup),
+        Err(fault) => Err(tell(name, Fault::from(fault), errors)),
+    }
+}
+
+/// The text of a file.
+fn text_of<F: Files>(alloc: Global, files: &F, name: &str) -> Result<String, Fault> {
+    match fs::open(files, name) {
+        Ok(mut file) => {
+            let bytes = read_text(alloc, &mut file, MAX_TEXT, MAX_TURNS)?;
+            String::from_utf8(bytes).map_err(|_| Fault::Text)
+        }
+        Err(error) if error.kind() == ErrorKind::OutOfMemory => Err(Fault::Memory),
+        Err(_) => Err(Fault::Read),
+    }
+}
+
+fn tournament_of<F: Files>(alloc: Global, files: &F, name: &str) -> Result<Tournament, Fault>
+    ensures { IfOk result (λ tournament. (text : List ℕ) × (tournament_in text ≡ Ok (plan tournament))) }
+{
+    let text = text_of(alloc, files, name)?;
+    Ok(read_tournament(alloc, text.as_str())?)
+}
+
+fn network_of<F: Files>(alloc: Global, files: &F, name: &str) -> Result<Net, Fault> {
+    let text = text_of(alloc, files, name)?;
+    Ok(read_network(alloc, text.as_str())?)
+}
+
+/// The networks that a tournament names, in the order of `Tournament::networks`, each judged before the next is read.
+/// `own` is the name of the tournament's file.
+fn networks_of<'a, F: Files>(
+    alloc: Global,
+    files: &F,
+    own: &'a str,
+    tournament: &'a Tournament,
+) -> Result<Vec<Net>, Blamed<'a>>
+    ensures { IfOk result (λ networks. length networks.items ≡ length (first_seen (map (λ fixture. fixture.network) tournament.now.matches.items))) }
+{
+    let mut networks = Vec::new(alloc);
+    let names = match tournament.networks(alloc) {
+        Ok(names) => names,
+        Err(memory) => return Err(Blamed {
+            name: own,
+            fault: Fault::from(memory),
+        }),
+    };
+    for name in names.as_slice() {
+        let name = *name;
+        match network_of(alloc, files, name) {
+            Ok(network) => {
+                if networks.push(network).is_err() {
+                    return Err(Blamed {
+                        name,
+                        fault: Fault::Memory,
+                    });
+                }
+            }
+            Err(fault) => return Err(Blamed { name, fault }),
+        }
+    }
+    Ok(networks)
+}
+
+fn print<W: Write>(alloc: Global, ready: &[Ready], writer: &mut W) -> Result<(), Fault>
+    ensures ok { OnOk result (Appends (W.contents writer.old) (W.contents writer.new) (summary_from 0 ready.now)) }
+    ensures fault { IfErr result (λ fault. status fault ≢ REFUSED_TEXT) }
+{
+    let text = summary(alloc, ready)?;
+    send(writer, text.as_bytes())?;
+    finish(writer)?;
+    Ok(())
+}

@@ -1,0 +1,109 @@
+ghost use Rattle.std.specs.Prelude.{◌≡◌};
+ghost use Rattle.bhs_program.specs.declared.faults.Fault.TheVariants as faults;
+ghost use Rattle.bhs_program.specs.Fault.{of_file, of_read, of_script, status};
+
+use crate::statuses::{FAILED_STREAM, NO_MEMORY, REFUSED_TEXT};
+use bhs_files::FileFault;
+use bhs_net::Memory;
+use bhs_script::ScriptFault;
+use bhs_stream::{ReadFault, WriteFault};
+use std::io::Write;
+use thiserror::Error;
+
+/// Why an order was not done.
+#[derive(Clone, Copy, Debug, PartialEq, Eq, Error)]
+pub enum Fault {
+    /// A file could not be opened, or a read failed.
+    #[error("read")]
+    Read,
+    /// A script or a file is too long, or a file is no UTF-8.
+    #[error("text")]
+    Text,
+    /// More reads were needed than are allowed.
+    #[error("turns")]
+    Turns,
+    /// This line, counted from 1, is no line of a script.
+    #[error("line {line}")]
+    Line { line: usize },
+    /// A file, or what the files say together, is refused.
+    #[error("{0}")]
+    File(FileFault),
+    /// A write failed.
+    #[error("write")]
+    Write,
+    /// There was not enough memory.
+    #[error("memory")]
+    Memory,
+}
+
+impl Fault {
+    /// The exit status that tells the fault.
+    pub fn status(self) -> u8
+        ensures { result ≡ status self }
+    {
+        match self {
+            Fault::Text | Fault::Line { .. } | Fault::File(_) => REFUSED_TEXT,
+            Fault::Memory => NO_MEMORY,
+            Fault::Read | Fault::Turns | Fault::Write => FAILED_STREAM,
+        }
+    }
+}
+
+/// Tells a fault as a line `PLACE: FAULT`, and answers its exit status.
+pub fn tell<E: Write>(place: &str, fault: Fault, errors: &mut E) -> u8
+    ensures { result ≡ status fault }
+{
+    let _ = writeln!(errors, "{place}: {fault}");
+    fault.status()
+}
+
+impl From<Memory> for Fault {
+    ghost from_gives = { λ _ fault. fault ≡ faults.Memory };
+
+    fn from(_memory: Memory) -> Fault {
+        Fault::Memory
+    }
+}
+
+impl From<WriteFault> for Fault {
+    ghost from_gives = { λ _ fault. fault ≡ faults.Write };
+
+    fn from(_fault: WriteFault) -> Fault {
+        Fault::Write
+    }
+}
+
+impl From<ReadFault> for Fault {
+    ghost from_gives = { λ read fault. fault ≡ of_read read };
+
+    fn from(read: ReadFault) -> Fault {
+        match read {
+            ReadFault::Read => Fault::Read,
+            ReadFault::Text => Fault::Text,
+            ReadFault::Memory => Fault::Memory,
+            ReadFault::Turns => Fault::Turns,
+        }
+    }
+}
+
+impl From<FileFault> for Fault {
+    ghost from_gives = { λ file fault. fault ≡ of_file file };
+
+    fn from(file: FileFault) -> Fault {
+        match file {
+            FileFault::Memory => Fault::Memory,
+            _ => Fault::File(file),
+        }
+    }
+}
+
+impl From<ScriptFault> for Fault {
+    ghost from_gives = { λ script fault. fault ≡ of_script script };
+
+    fn from(script: ScriptFault) -> Fault {
+        match script {
+            ScriptFault::Line { line } => Fault::Line { line },
+            ScriptFault::Memory => Fault::Memory,
+        }
+    }
+}

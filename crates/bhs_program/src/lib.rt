@@ -1,0 +1,19 @@
+//! What the program does with the words that it is given: it rehearses the matches of a tournament by a script, and
+//! checks the files of one.
+#![tactic(auto)]
+
+mod built_in_tournament;
+mod checking;
+mod faults;
+mod orders;
+mod playing;
+mod rehearsing;
+mod statuses;
+mod summaries;
+
+pub use built_in_tournament::built_in;
+pub use checking::check;
+pub use faults::Fault;
+pub use orders::run;
+pub use rehearsing::rehearse;
+pub use statuses::{DONE, FAILED_STREAM, NO_MEMORY, REFUSED_TEXT, REFUSED_WORDS};

@@ -1,0 +1,75 @@
+ghost use Rattle.std.specs.Prelude.{◌≡◌, map, IfOk, IfErr, OnOk, length};
+ghost use Rattle.std.specs.Io.KnownBytes.{Appends};
+ghost use Rattle.bhs_session.specs.Stages.{step, stands_after};
+ghost use Rattle.bhs_session.specs.Rehearsing.{game_of, seen_out};
+ghost use Rattle.bhs_script.specs.Instructions.{seen};
+ghost use Rattle.bhs_script.specs.Transcript.{all_printed, transcript};
+ghost use Rattle.bhs_program.specs.Fault.{StopsPlaying};
+
+use crate::faults::Fault;
+use bhs_files::Ready;
+use bhs_net::Memory;
+use bhs_script::{Instruction, push_printed};
+use bhs_session::{Out, Rehearsal, RehearsalFault};
+use bhs_stream::send;
+use std::alloc::Global;
+use std::io::Write;
+
+/// Plays a script, and prints what each instruction sends before the next. Gives the matches back.
+pub fn play<W: Write>(
+    alloc: Global,
+    mut rehearsal: Rehearsal,
+    script: Vec<Instruction>,
+    writer: &mut W,
+) -> Result<Vec<Ready>, Fault>
+    ensures printed { OnOk result (Appends (W.contents writer.old) (W.contents writer.new) (transcript rehearsal.stage (map seen script.items))) }
+    ensures played { IfOk result (λ ready. map game_of ready.items ≡ (stands_after rehearsal.stage (map seen script.items)).games) }
+    ensures stopped { IfErr result (StopsPlaying (W.contents writer.old) (W.contents writer.new) (transcript rehearsal.stage (map seen script.items))) }
+{
+    for instruction in script {
+        let outs = obey(alloc, &mut rehearsal, instruction)?;
+        print(alloc, &outs, writer)?;
+    }
+    Ok(rehearsal.into_ready())
+}
+
+// Carries out an instruction. One for a connection or a match that is not there does nothing.
+fn obey(
+    alloc: Global,
+    rehearsal: &mut Rehearsal,
+    instruction: Instruction,
+) -> Result<Vec<Out>, Memory>
+    ensures outs { IfOk result (λ outs. map seen_out outs.items ≡ (step rehearsal.old.stage (seen instruction)).outs) }
+    ensures stage { OnOk result (rehearsal.new.stage ≡ (step rehearsal.old.stage (seen instruction)).stage) }
+{
+    let outs = match instruction {
+        Instruction::Feed { conn, bytes } => rehearsal.feed(conn, &bytes),
+        Instruction::End { conn } => rehearsal.end(conn),
+        Instruction::Draw { game, word } => rehearsal.draw(game, word),
+        Instruction::Close { game } => rehearsal.close(game),
+    };
+    match outs {
+        Ok(outs) => Ok(outs),
+        Err(RehearsalFault::Memory) => Err(Memory),
+        Err(RehearsalFault::Conn | RehearsalFault::NoGame) => Ok(Vec::new(alloc)),
+    }
+}
+
+fn print<W: Write>(alloc: Global, outs: &[Out], writer: &mut W) -> Result<(), Fault>
+    ensures ok { OnOk result (Appends (W.contents writer.old) (W.contents writer.new) (all_printed (map seen_out outs.now))) }
+    ensures err { IfErr result (StopsPlaying (W.contents writer.old) (W.contents writer.new) (all_printed (map seen_out outs.now))) }
+{
+    let text = printed(alloc, outs)?;
+    send(writer, &text)?;
+    Ok(())
+}
+
+fn printed(alloc: Global, outs: &[Out]) -> Result<Vec<u8>, Memory>
+    ensures { IfOk result (λ text. text.items ≡ all_printed (map seen_out outs.now)) }
+{
+    let mut text = Vec::new(alloc);
+    for out in outs {
+        push_printed(alloc, &mut text, out.conn, &out.bytes)?;
+    }
+    Ok(text)
+}

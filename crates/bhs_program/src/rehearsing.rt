@@ -1,0 +1,38 @@
+ghost use Rattle.std.specs.Prelude.{map, IfOk, OnOk, IfErr};
+ghost use Rattle.bhs_session.specs.Rehearsing.{game_of};
+ghost use Rattle.bhs_program.specs.Rehearsal.{opening, Plays, Leaves, Stops};
+
+use crate::faults::Fault;
+use crate::playing::play;
+use bhs_files::{Lineup, Ready};
+use bhs_model::MAX_TEXT;
+use bhs_script::{CONNECTIONS, instructions_in};
+use bhs_session::Rehearsal;
+use bhs_stream::read_text;
+use std::alloc::Global;
+use std::io::{Read, Write};
+
+/// Plays the script that a reader gives, in a rehearsal of the matches with `CONNECTIONS` connections. What a
+/// connection is sent is printed before the next line of the script is played, each line of it behind the
+/// connection's number and a space. At most `turns` reads are made. The matches come back as the script leaves them.
+///
+/// The whole script is read, and then judged, before anything is played: a script that is refused prints nothing.
+pub fn rehearse<R: Read, W: Write>(
+    alloc: Global,
+    lineup: Lineup,
+    reader: &mut R,
+    writer: &mut W,
+    turns: u32,
+) -> Result<Vec<Ready>, Fault>
+    ensures played { OnOk result (Plays (opening lineup) (R.remaining reader.old) (R.remaining reader.new)
+        (W.contents writer.old) (W.contents writer.new)) }
+    ensures left { IfOk result (λ ready. Leaves (opening lineup) (R.remaining reader.old) (R.remaining reader.new)
+        (map game_of ready.items)) }
+    ensures stopped { IfErr result (Stops (opening lineup) turns (R.remaining reader.old) (R.remaining reader.new)
+        (W.contents writer.old) (W.contents writer.new)) }
+{
+    let script = read_text(alloc, reader, MAX_TEXT, turns)?;
+    let instructions = instructions_in(alloc, lineup.ready.len(), &script)?;
+    let rehearsal = Rehearsal::new(alloc, lineup, CONNECTIONS)?;
+    play(alloc, rehearsal, instructions, writer)
+}

@@ -1,0 +1,14 @@
+/// The exit status where all was done.
+pub const DONE: u8 = 0;
+
+/// The exit status where the command line was refused.
+pub const REFUSED_WORDS: u8 = 2;
+
+/// The exit status where a script or a file was refused.
+pub const REFUSED_TEXT: u8 = 3;
+
+/// The exit status where memory ran out.
+pub const NO_MEMORY: u8 = 5;
+
+/// The exit status where reading or writing failed, or needed too many turns.
+pub const FAILED_STREAM: u8 = 6;

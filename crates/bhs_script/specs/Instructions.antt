@@ -1,0 +1,18 @@
+-- An instruction of the code, without where it lies in memory.
+use Rattle.bhs_session.specs.Stages as stages
+use Rattle.bhs_script.specs.declared.instructions.Instruction.{Instruction}
+use Rattle.bhs_script.specs.declared.instructions.Instruction.TheVariants.{Feed, End, Draw, Close}
+use Rattle.bhs_script.specs.declared.meanings.Meaning.{Meaning}
+use Rattle.bhs_script.specs.declared.meanings.Meaning.TheVariants as meanings
+use Rattle.bhs_script.specs.Script as script
+
+abbrev pub seen : Instruction → stages.Instruction
+seen (Feed conn bytes) = stages.Feeds conn bytes.items
+seen (End conn) = stages.EndsInput conn
+seen (Draw game word) = stages.Draws game word
+seen (Close game) = stages.Closes game
+
+abbrev pub seen_as : Meaning → script.Meaning
+seen_as meanings.Skipped = script.Skipped
+seen_as (meanings.Gives instruction) = script.Gives (seen instruction)
+seen_as meanings.Refused = script.Refused
