@@ -1,201 +1,317 @@
-use bhs_files::{Lineup, assemble, read_network, read_tournament};
-use bhs_program::{built_in, rehearse};
+//! Runs of the program, as rows of text.
+//!
+//! A row has a title and these lines: `>` of the script, `<` of what is printed, `!` of what is told as a fault. Where a
+//! fault is told the status is 3, else 0. After `$` stand the words after the program's name; without them they are
+//! `rehearse`. Rows are parted by empty lines.
+
+use super::files::TRIANGLE;
+use bhs_program::run;
 use std::alloc::Global;
+use std::fs;
+use std::process::Abort;
+use std::rt::Files;
 use std::test::Fail;
 
-const ENTER: &str = "0 {\"do\":\"enter\",\"key\":\"ka\"}\n";
+const BUILT_IN: &str = r#"An empty script prints nothing.
 
-const HERE: &str = "0 {\"board\":\"\",\"from\":null,\"ok\":\"here\",\"ports\":2}\n";
+The last line may lack its line feed.
+> 0 {"do":"enter","key":"ka"}
+< 0 {"board":"","from":null,"ok":"here","ports":2}
 
-const LOOK: &str = "0 {\"do\":\"look\"}\n";
+An arrival is told.
+> 0 {"do":"enter","key":"ka"}
+< 0 {"board":"","from":null,"ok":"here","ports":2}
+> 0 {"do":"depart","port":0}
+< 0 {"ok":"gone"}
+> draw 0 0
+< 0 {"board":"","from":0,"ok":"here","ports":2}
 
-// What a script prints that is played on the matches of a lineup.
-fn printed(alloc: Global, lineup: Lineup, script: &str) -> Result<Vec<u8>, Fail> {
-    let mut output = Vec::new(alloc);
-    rehearse(alloc, lineup, &mut script.as_bytes(), &mut output, 20)?;
-    Ok(output)
-}
+The black hole looks like a slow link. A line that is said on the way waits; the end of the match is told once.
+> 0 {"do":"enter","key":"ka"}
+< 0 {"board":"","from":null,"ok":"here","ports":2}
+> 0 {"do":"depart","port":1}
+< 0 {"ok":"gone"}
+> draw 0 4294967295
+> 0 {"do":"look"}
+> draw 0 0
+> close 0
+< 0 {"ok":"over"}
+> close 0
+> 0 {"do":"look"}
 
-#[test]
-fn plays_the_triangle(rt: HostRuntime) -> Result<(), Fail> {
-    for (script, want) in [
-        ("", ""),
-        (ENTER, HERE),
-        // The last line may lack its line feed.
-        ("0 {\"do\":\"enter\",\"key\":\"ka\"}", HERE),
-        (
-            r#"0 {"do":"enter","key":"ka"}
-0 {"do":"depart","port":0}
-draw 0 0
-"#,
-            r#"0 {"board":"","from":null,"ok":"here","ports":2}
-0 {"ok":"gone"}
-0 {"board":"","from":0,"ok":"here","ports":2}
-"#,
-        ),
-        // The black hole looks like a slow link. A line that is said on the way waits; the end of the match is told
-        // once.
-        (
-            r#"0 {"do":"enter","key":"ka"}
-0 {"do":"depart","port":1}
-draw 0 4294967295
-0 {"do":"look"}
-draw 0 0
-close 0
-close 0
-0 {"do":"look"}
-"#,
-            r#"0 {"board":"","from":null,"ok":"here","ports":2}
-0 {"ok":"gone"}
-0 {"ok":"over"}
-"#,
-        ),
-        // What was said on the way is answered after the arrival.
-        (
-            r#"0 {"do":"enter","key":"ka"}
-0 {"do":"depart","port":0}
-0 {"do":"look"}
-0 {"do":"depart","port":0}
-0 {"do":"look"}
-draw 0 3
-draw 0 3
-"#,
-            r#"0 {"board":"","from":null,"ok":"here","ports":2}
-0 {"ok":"gone"}
-0 {"board":"","from":0,"ok":"here","ports":2}
-0 {"board":"","from":0,"ok":"here","ports":2}
-0 {"ok":"gone"}
-0 {"board":"","from":0,"ok":"here","ports":2}
-0 {"board":"","from":0,"ok":"here","ports":2}
-"#,
-        ),
-        // The first write wins.
-        (
-            r#"0 {"do":"enter","key":"ka"}
-1 {"do":"enter","key":"kb"}
-0 {"do":"write","expect":"","put":"a"}
-1 {"do":"write","expect":"","put":"b"}
-"#,
-            r#"0 {"board":"","from":null,"ok":"here","ports":2}
-1 {"board":"","from":null,"ok":"here","ports":2}
-0 {"ok":"written"}
-1 {"board":"a","ok":"changed"}
-"#,
-        ),
-        // A whiteboard holds 8 bytes.
-        (
-            r#"0 {"do":"enter","key":"ka"}
-0 {"do":"write","expect":"","put":"12345678"}
-0 {"do":"write","expect":"12345678","put":"123456789"}
-0 {"do":"write","expect":"12345678","put":"abcde€"}
-0 {"do":"look"}
-"#,
-            r#"0 {"board":"","from":null,"ok":"here","ports":2}
-0 {"ok":"written"}
-0 {"no":"long"}
-0 {"ok":"written"}
-0 {"board":"abcde€","from":null,"ok":"here","ports":2}
-"#,
-        ),
-        // Who is present at the end is told at its next line, and is then done.
-        (
-            r#"0 {"do":"enter","key":"ka"}
-close 0
-0 {"do":"look"}
-0 {"do":"look"}
-1 {"do":"enter","key":"kb"}
-2 {"do":"enter","key":"kb"}
-"#,
-            r#"0 {"board":"","from":null,"ok":"here","ports":2}
-0 {"ok":"over"}
-1 {"ok":"over"}
-2 {"no":"taken"}
-"#,
-        ),
-        // Who is not let in is not heard again.
-        (
-            r#"0 {"do":"enter","key":"ka"}
-2 {"do":"enter","key":"zz"}
-3 {"do":"enter","key":"ka"}
-4 {"do":"look"}
-5 {"do":"enter"}
-2 {"do":"enter","key":"kb"}
-3 {"do":"enter","key":"kb"}
-4 {"do":"enter","key":"kb"}
-5 {"do":"enter","key":"kb"}
-"#,
-            r#"0 {"board":"","from":null,"ok":"here","ports":2}
-2 {"no":"key"}
-3 {"no":"taken"}
-4 {"no":"enter"}
-5 {"no":"enter"}
-"#,
-        ),
-        // Bytes in pieces; the end makes no line of what has no line feed, and tells Leave.
-        (
-            "hex 0 7b22646f223a22656e746572222c22\nhex 0 6b6579223a226B61227D\nhex 0 0a7b22646f223A226c6f6f6b227d0a7b\nend 0\n0 {\"do\":\"look\"}\n",
-            r#"0 {"board":"","from":null,"ok":"here","ports":2}
-0 {"board":"","from":null,"ok":"here","ports":2}
-"#,
-        ),
-        // An end on the way is taken after the arrival.
-        (
-            r#"0 {"do":"enter","key":"ka"}
-0 {"do":"depart","port":0}
-end 0
-draw 0 0
-draw 0 0
-1 {"do":"enter","key":"ka"}
-"#,
-            r#"0 {"board":"","from":null,"ok":"here","ports":2}
-0 {"ok":"gone"}
-0 {"board":"","from":0,"ok":"here","ports":2}
-1 {"no":"taken"}
-"#,
-        ),
-        // Lines that are skipped, by the script or as blank lines of a client.
-        (
-            "\n# 0 {\"do\":\"look\"}\n\n0 \n0  \t\r\ndraw 0 1\nend 7\nclose 0\n0 {\"do\":\"look\"}\r\n",
-            "0 {\"no\":\"enter\"}\n",
-        ),
-    ] {
-        let got = printed(rt.alloc(), built_in(rt.alloc())?, script)?;
-        assert_eq!(rt; got.as_slice(), want.as_bytes(), "at {script:?}");
-    }
-    Ok(())
-}
+What was said on the way is answered after the arrival.
+> 0 {"do":"enter","key":"ka"}
+< 0 {"board":"","from":null,"ok":"here","ports":2}
+> 0 {"do":"depart","port":0}
+< 0 {"ok":"gone"}
+> 0 {"do":"look"}
+> 0 {"do":"depart","port":0}
+> 0 {"do":"look"}
+> draw 0 3
+< 0 {"board":"","from":0,"ok":"here","ports":2}
+< 0 {"board":"","from":0,"ok":"here","ports":2}
+< 0 {"ok":"gone"}
+> draw 0 3
+< 0 {"board":"","from":0,"ok":"here","ports":2}
+< 0 {"board":"","from":0,"ok":"here","ports":2}
 
-#[test]
-fn what_is_refused_uses_the_quota(rt: HostRuntime) -> Result<(), Fail> {
-    let mut script = String::from_str(rt.alloc(), ENTER)?;
-    script.push_str("0 {\"do\":\"depart\",\"port\":2}\n0 {\"do\":\"jump\"}\n0 ")?;
-    for _ in 0..16_385 {
-        script.push('x')?;
-    }
-    script.push('\n')?;
-    let mut want = String::from_str(rt.alloc(), HERE)?;
-    want.push_str("0 {\"no\":\"port\"}\n0 {\"no\":\"line\"}\n0 {\"no\":\"line\"}\n")?;
-    for _ in 0..7 {
-        script.push_str(LOOK)?;
-        want.push_str(HERE)?;
-    }
-    script.push_str(LOOK)?;
-    script.push_str("0 {\"do\":\"leave\"}\n")?;
-    script.push_str(LOOK)?;
-    want.push_str("0 {\"no\":\"spent\"}\n0 {\"ok\":\"bye\"}\n")?;
-    let got = printed(rt.alloc(), built_in(rt.alloc())?, script.as_str())?;
-    assert_eq!(rt; got.as_slice(), want.as_bytes());
-    Ok(())
-}
+Who leaves behind an arrival is not heard of again.
+> 1 {"do":"enter","key":"kb"}
+< 1 {"board":"","from":null,"ok":"here","ports":2}
+> 1 {"do":"depart","port":0}
+< 1 {"ok":"gone"}
+> 1 {"do":"look"}
+> 1 {"do":"leave"}
+> end 1
+> draw 0 0
+< 1 {"board":"","from":0,"ok":"here","ports":2}
+< 1 {"board":"","from":0,"ok":"here","ports":2}
+< 1 {"ok":"bye"}
+> draw 0 0
 
-const NETWORK: &str = "version = 1\nnodes = 3\nlinks = [[0,0,1,0],[1,1,2,0],[2,1,0,1]]\n";
+The first write wins.
+> 0 {"do":"enter","key":"ka"}
+< 0 {"board":"","from":null,"ok":"here","ports":2}
+> 1 {"do":"enter","key":"kb"}
+< 1 {"board":"","from":null,"ok":"here","ports":2}
+> 0 {"do":"write","expect":"","put":"a"}
+< 0 {"ok":"written"}
+> 1 {"do":"write","expect":"","put":"b"}
+< 1 {"board":"a","ok":"changed"}
 
-// Two matches on the triangle: the black hole at node 2; and none, but the links into node 2 held.
+A whiteboard holds 8 bytes.
+> 0 {"do":"enter","key":"ka"}
+< 0 {"board":"","from":null,"ok":"here","ports":2}
+> 0 {"do":"write","expect":"","put":"12345678"}
+< 0 {"ok":"written"}
+> 0 {"do":"write","expect":"12345678","put":"123456789"}
+< 0 {"no":"long"}
+> 0 {"do":"write","expect":"12345678","put":"abcde€"}
+< 0 {"ok":"written"}
+> 0 {"do":"look"}
+< 0 {"board":"abcde€","from":null,"ok":"here","ports":2}
+
+Who is present at the end is told at its next line, and is then done.
+> 0 {"do":"enter","key":"ka"}
+< 0 {"board":"","from":null,"ok":"here","ports":2}
+> close 0
+> 0 {"do":"look"}
+< 0 {"ok":"over"}
+> 0 {"do":"look"}
+> 1 {"do":"enter","key":"kb"}
+< 1 {"ok":"over"}
+> 2 {"do":"enter","key":"kb"}
+< 2 {"no":"taken"}
+
+Who is not let in is not heard again.
+> 0 {"do":"enter","key":"ka"}
+< 0 {"board":"","from":null,"ok":"here","ports":2}
+> 2 {"do":"enter","key":"zz"}
+< 2 {"no":"key"}
+> 3 {"do":"enter","key":"ka"}
+< 3 {"no":"taken"}
+> 4 {"do":"look"}
+< 4 {"no":"enter"}
+> 5 {"do":"enter"}
+< 5 {"no":"enter"}
+> 2 {"do":"enter","key":"kb"}
+> 3 {"do":"enter","key":"kb"}
+> 4 {"do":"enter","key":"kb"}
+> 5 {"do":"enter","key":"kb"}
+
+Bytes come in pieces. The end makes no line of what has no line feed.
+> hex 0 7b22646f223a22656e746572222c22
+> hex 0 6b6579223a226B61227D
+> hex 0 0a7b22646f223A226c6f6f6b227d0a7b
+< 0 {"board":"","from":null,"ok":"here","ports":2}
+< 0 {"board":"","from":null,"ok":"here","ports":2}
+> end 0
+> 0 {"do":"look"}
+
+An end on the way is taken after the arrival.
+> 0 {"do":"enter","key":"ka"}
+< 0 {"board":"","from":null,"ok":"here","ports":2}
+> 0 {"do":"depart","port":0}
+< 0 {"ok":"gone"}
+> end 0
+> draw 0 0
+< 0 {"board":"","from":0,"ok":"here","ports":2}
+> draw 0 0
+> 1 {"do":"enter","key":"ka"}
+< 1 {"no":"taken"}
+
+The script skips empty lines and comments, and a client's blank lines are no lines.
+>
+> # 0 {"do":"look"}
+>
+> hex 0 0a
+> hex 0 20090d0a
+> draw 0 1
+> end 7
+> close 0
+> hex 0 7b22646f223a226c6f6f6b227d0d0a
+< 0 {"no":"enter"}
+
+A port is a whole number below 65,536.
+> 255 {"do":"enter","key":"kb"}
+< 255 {"board":"","from":null,"ok":"here","ports":2}
+> 255 {"do":"depart","port":65536}
+< 255 {"no":"line"}
+> 255 {"do":"depart","port":-1}
+< 255 {"no":"line"}
+> 255 {"do":"depart","port":1.0}
+< 255 {"no":"line"}
+
+A line is text.
+> 0 {"do":"enter","key":"ka"}
+< 0 {"board":"","from":null,"ok":"here","ports":2}
+> hex 0 ff0a
+< 0 {"no":"line"}
+
+What is refused uses the quota, and Leave needs none.
+> 0 {"do":"enter","key":"ka"}
+< 0 {"board":"","from":null,"ok":"here","ports":2}
+> 0 {"do":"depart","port":2}
+< 0 {"no":"port"}
+> 0 {"do":"jump"}
+< 0 {"no":"line"}
+> 0 {"do":"look"}
+< 0 {"board":"","from":null,"ok":"here","ports":2}
+> 0 {"do":"look"}
+< 0 {"board":"","from":null,"ok":"here","ports":2}
+> 0 {"do":"look"}
+< 0 {"board":"","from":null,"ok":"here","ports":2}
+> 0 {"do":"look"}
+< 0 {"board":"","from":null,"ok":"here","ports":2}
+> 0 {"do":"look"}
+< 0 {"board":"","from":null,"ok":"here","ports":2}
+> 0 {"do":"look"}
+< 0 {"board":"","from":null,"ok":"here","ports":2}
+> 0 {"do":"look"}
+< 0 {"board":"","from":null,"ok":"here","ports":2}
+> 0 {"do":"look"}
+< 0 {"board":"","from":null,"ok":"here","ports":2}
+> 0 {"do":"look"}
+< 0 {"no":"spent"}
+> 0 {"do":"leave"}
+< 0 {"ok":"bye"}
+> 0 {"do":"look"}
+
+A script is refused by its first line that is none, before anything is played.
+> 0 {"do":"enter","key":"ka"}
+> close 1
+> 0
+! script: line 2
+
+Lines are counted from 1, those that are skipped too.
+>
+> #
+> 0 {"do":"look"}
+> look
+> 1
+! script: line 4"#;
+
+// Scripts of one line that is none of a script.
+const REFUSED: &str = r#"0
+256 {"do":"look"}
+00 {"do":"look"}
+ 0 {"do":"look"}
+hex 0
+hex 0 7
+hex 0 7g
+hex 256 7b
+hex 0  7b
+HEX 0 7b
+end
+end 256
+end 0 1
+draw 0
+draw 0 00
+draw 0 01
+draw 0 +7
+draw 0 4294967296
+draw 0 99999999999999999999
+draw 0 1 1
+draw 1 0
+close
+close 1
+close 0 0"#;
+
+// The tournament of the file has two matches on the triangle: one with the black hole at node 2; and one without, in
+// which the links to node 2 are held.
+const TWO_MATCHES: &str = r#"The black hole is silent.
+$ rehearse two.toml
+> 0 {"do":"enter","key":"ka"}
+< 0 {"board":"","from":null,"ok":"here","ports":2}
+> 0 {"do":"depart","port":0}
+< 0 {"ok":"gone"}
+> draw 0 0
+< 0 {"board":"","from":0,"ok":"here","ports":2}
+> 0 {"do":"depart","port":1}
+< 0 {"ok":"gone"}
+> draw 0 0
+> 0 {"do":"look"}
+> draw 0 0
+> close 0
+< 0 {"ok":"over"}
+
+A link that is held sends the same.
+$ rehearse two.toml
+> 0 {"do":"enter","key":"kc"}
+< 0 {"board":"","from":null,"ok":"here","ports":2}
+> 0 {"do":"depart","port":0}
+< 0 {"ok":"gone"}
+> draw 1 0
+< 0 {"board":"","from":0,"ok":"here","ports":2}
+> 0 {"do":"depart","port":1}
+< 0 {"ok":"gone"}
+> draw 1 0
+> 0 {"do":"look"}
+> draw 1 0
+> close 1
+< 0 {"ok":"over"}
+
+A match alone.
+$ rehearse two.toml
+> 0 {"do":"enter","key":"ka"}
+< 0 {"board":"","from":null,"ok":"here","ports":2}
+> 0 {"do":"depart","port":0}
+< 0 {"ok":"gone"}
+> draw 0 0
+< 0 {"board":"","from":0,"ok":"here","ports":2}
+
+What happens in another match changes nothing of it.
+$ rehearse two.toml
+> 1 {"do":"enter","key":"kc"}
+< 1 {"board":"","from":null,"ok":"here","ports":2}
+> 0 {"do":"enter","key":"ka"}
+< 0 {"board":"","from":null,"ok":"here","ports":2}
+> 1 {"do":"write","expect":"","put":"x"}
+< 1 {"ok":"written"}
+> 0 {"do":"depart","port":0}
+< 0 {"ok":"gone"}
+> 1 {"do":"depart","port":0}
+< 1 {"ok":"gone"}
+> close 1
+< 1 {"ok":"over"}
+> draw 0 0
+< 0 {"board":"","from":0,"ok":"here","ports":2}
+
+The last match is match 1.
+$ rehearse two.toml
+> draw 2 0
+! script: line 1
+
+A tournament that is none plays nothing.
+$ rehearse links.toml
+> 0 {"do":"enter","key":"ka"}
+! links.toml: missing seed"#;
+
 const TWO: &str = r#"version = 1
 seed = "0000000000000000000000000000000000000000000000000000000000000000"
 [[match]]
 team = "red"
-network = "tri.toml"
+network = "links.toml"
 home = 0
 hole = 2
 quota = 10
@@ -203,7 +319,7 @@ board = 8
 keys = ["ka", "kb"]
 [[match]]
 team = "blue"
-network = "tri.toml"
+network = "links.toml"
 home = 0
 hole = "none"
 quota = 10
@@ -212,72 +328,84 @@ keys = ["kc", "kd"]
 held = [[0, 1], [1, 1]]
 "#;
 
-fn two_matches(alloc: Global) -> Result<Lineup, Fail> {
-    let networks = vec![in alloc; read_network(alloc, NETWORK)?]?;
-    let tournament = read_tournament(alloc, TWO)?;
-    if tournament.networks(alloc)?.len() != networks.len() {
-        return Err(Fail::from("one network"));
-    }
-    Ok(assemble(alloc, tournament, &networks)?)
+/// What a run is given, and what is to come of it.
+#[derive(Drop)]
+struct Row<'a> {
+    words: &'a str,
+    script: String,
+    printed: String,
+    told: String,
 }
 
-// The lines of a connection, without its number.
-fn lines_of<'a>(alloc: Global, printed: &'a [u8], conn: &str) -> Result<Vec<&'a [u8]>, Fail> {
-    let mut lines = Vec::new(alloc);
-    for line in printed.split(|byte| *byte == b'\n') {
-        if let Some(rest) = line.strip_prefix(conn.as_bytes()) {
-            lines.push(rest)?;
+impl<'a> Row<'a> {
+    fn new(alloc: Global) -> Row<'a> {
+        Row {
+            words: "rehearse",
+            script: String::new(alloc),
+            printed: String::new(alloc),
+            told: String::new(alloc),
         }
     }
-    Ok(lines)
+
+    fn take(&mut self, line: &'a str) -> Result<(), Fail> {
+        let (mark, rest) = line.split_once(' ').unwrap_or((line, ""));
+        let text = match mark {
+            "$" => {
+                self.words = rest;
+                return Ok(());
+            }
+            ">" => &mut self.script,
+            "<" => &mut self.printed,
+            "!" => &mut self.told,
+            _ => return Ok(()),
+        };
+        text.push_str(rest)?;
+        text.push('\n')?;
+        Ok(())
+    }
 }
 
-#[test]
-fn a_held_link_looks_like_the_black_hole(rt: HostRuntime) -> Result<(), Fail> {
-    let script = r#"0 {"do":"enter","key":"ka"}
-1 {"do":"enter","key":"kc"}
-0 {"do":"depart","port":0}
-1 {"do":"depart","port":0}
-draw 0 0
-draw 1 0
-0 {"do":"depart","port":1}
-1 {"do":"depart","port":1}
-draw 0 0
-draw 1 0
-0 {"do":"look"}
-1 {"do":"look"}
-draw 0 0
-draw 1 0
-close 0
-close 1
-"#;
-    let printed = printed(rt.alloc(), two_matches(rt.alloc())?, script)?;
-    let one = lines_of(rt.alloc(), &printed, "0 ")?;
-    let other = lines_of(rt.alloc(), &printed, "1 ")?;
-    assert_eq!(rt; one.len(), 5);
-    assert_eq!(rt; one.as_slice(), other.as_slice());
+/// Runs the program as a row says.
+fn plays<R: Abort + Files>(rt: &R, alloc: Global, text: &str) -> Result<(), Fail> {
+    let mut row = Row::new(alloc);
+    for line in text.lines() {
+        row.take(line)?;
+    }
+    let words: Vec<&str> = row.words.split(' ').collect(alloc)?;
+    let mut output = Vec::new(alloc);
+    let mut errors = Vec::new(alloc);
+    let status = run(
+        alloc,
+        rt,
+        words.as_slice(),
+        &mut row.script.as_bytes(),
+        &mut output,
+        &mut errors,
+    );
+    assert_eq!(rt; errors.as_slice(), row.told.as_bytes(), "{text}");
+    assert_eq!(rt; output.as_slice(), row.printed.as_bytes(), "{text}");
+    assert_eq!(rt; status, if errors.is_empty() { 0 } else { 3 }, "{text}");
     Ok(())
 }
 
 #[test]
-fn a_match_sees_no_other(rt: HostRuntime) -> Result<(), Fail> {
-    let alone = r#"0 {"do":"enter","key":"ka"}
-0 {"do":"depart","port":0}
-draw 0 0
-"#;
-    let beside = r#"1 {"do":"enter","key":"kc"}
-0 {"do":"enter","key":"ka"}
-1 {"do":"write","expect":"","put":"x"}
-0 {"do":"depart","port":0}
-1 {"do":"depart","port":0}
-close 1
-draw 0 0
-"#;
-    let one = printed(rt.alloc(), two_matches(rt.alloc())?, alone)?;
-    let other = printed(rt.alloc(), two_matches(rt.alloc())?, beside)?;
-    let one = lines_of(rt.alloc(), &one, "0 ")?;
-    let other = lines_of(rt.alloc(), &other, "0 ")?;
-    assert_eq!(rt; one.len(), 3);
-    assert_eq!(rt; one.as_slice(), other.as_slice());
+fn the_built_in_tournament(rt: HostRuntime) -> Result<(), Fail> {
+    for row in BUILT_IN.split("\n\n") {
+        plays(&rt, rt.alloc(), row)?;
+    }
+    for line in REFUSED.lines() {
+        let row = format!(in rt.alloc(); "> {line}\n! script: line 1")?;
+        plays(&rt, rt.alloc(), row.as_str())?;
+    }
+    Ok(())
+}
+
+#[test]
+fn a_tournament_of_files(rt: HostRuntime) -> Result<(), Fail> {
+    fs::write(&rt, "links.toml", TRIANGLE)?;
+    fs::write(&rt, "two.toml", TWO)?;
+    for row in TWO_MATCHES.split("\n\n") {
+        plays(&rt, rt.alloc(), row)?;
+    }
     Ok(())
 }

@@ -1,18 +1,22 @@
-//! Streams that fail.
+//! Streams that may fail.
 
 use std::io;
 use std::io::{Read, Write};
 
-// Gives `bytes` one by one, and then fails.
+/// Gives `bytes` one by one, and then ends or breaks.
 #[derive(Drop)]
 pub struct Broken<'a> {
     pub bytes: &'a [u8],
+    pub breaks: bool,
 }
 
 impl Read for Broken<'_> {
     fn read(&mut self, buf: &mut [u8]) -> io::Result<usize> {
         let Some((first, rest)) = self.bytes.split_first() else {
-            return Err(io::Error::from(io::ErrorKind::Other));
+            return match self.breaks {
+                true => Err(io::Error::from(io::ErrorKind::Other)),
+                false => Ok(0),
+            };
         };
         let Some(place) = buf.first_mut() else {
             return Ok(0);
@@ -23,7 +27,7 @@ impl Read for Broken<'_> {
     }
 }
 
-// Takes bytes one by one while it has room, and then fails.
+/// Takes bytes one by one while it has room, and then fails.
 #[derive(Drop)]
 pub struct Full {
     pub taken: Vec<u8>,
