@@ -1,9 +1,11 @@
 -- What the order to check a tournament prints.
 use Rattle.std.specs.Prelude.{◌≡◌, ℕ, ◌+◌, ◌/◌, List, [], ◌∷◌, ◌++◌, codes, decimal, Option, Ok}
 use Rattle.std.specs.Io.KnownBytes.{Appends}
+use Rattle.std.specs.List.{All}
 use Rattle.bhs_net.specs.Network.{Network, nodes_of, ports_of}
 use Rattle.bhs_files.specs.declared.lineups.Ready.{Ready}
 use Rattle.bhs_files.specs.declared.lineups.Lineup.{Lineup}
+use Rattle.bhs_files.specs.NetworkFiles.{listing_in, IsNetworkOf}
 use Rattle.bhs_files.specs.Tournaments.{Plan, tournament_in}
 use Rattle.bhs_files.specs.Lineups.{contest, contest_in}
 
@@ -24,12 +26,17 @@ abbrev pub summary_from : (game : ℕ) → List Ready → List ℕ
 summary_from game [] = []
 summary_from game (ready ∷ others) = match_line game ready ++ summary_from (game + 1) others
 
--- the lineup is made of a tournament that some text says, on some networks
+-- some text says this network
+abbrev pub IsRead : Network → Type 0
+IsRead net = (text : List ℕ) × IsNetworkOf (listing_in text) net
+
+-- the lineup is made of a tournament that some text says, on networks each of which some text says
 pub record IsAssembled (lineup : Lineup) : Type 0 where
   pub text : List ℕ
   pub plan : Plan
   pub said : tournament_in text ≡ Ok plan
   pub networks : List Network
+  pub read : All IsRead networks
   pub made : contest_in plan networks ≡ Ok (contest lineup)
 
 -- the lines of a lineup were written

@@ -3,9 +3,10 @@
 ghost use Rattle.std.specs.Prelude.{◌≡◌, ◌≢◌, IfOk, IfErr, OnOk, ℕ, List, Ok, length, map};
 ghost use Rattle.bhs_program.specs.declared.statuses.TheConstants.{REFUSED_TEXT};
 ghost use Rattle.std.specs.Io.KnownBytes.{Appends, Keeps};
+ghost use Rattle.std.specs.List.{All};
 ghost use Rattle.bhs_files.specs.Names.{first_seen};
 ghost use Rattle.bhs_files.specs.Tournaments.{plan, tournament_in};
-ghost use Rattle.bhs_program.specs.Summary.{Checks, IsAssembled, summary_from};
+ghost use Rattle.bhs_program.specs.Summary.{Checks, IsAssembled, IsRead, summary_from};
 ghost use Rattle.bhs_program.specs.Fault.{status};
 
 use crate::faults::{Fault, tell};
@@ -93,7 +94,9 @@ fn tournament_of<F: Files>(alloc: Global, files: &F, name: &str) -> Result<Tourn
     Ok(read_tournament(alloc, text.as_str())?)
 }
 
-fn network_of<F: Files>(alloc: Global, files: &F, name: &str) -> Result<Net, Fault> {
+fn network_of<F: Files>(alloc: Global, files: &F, name: &str) -> Result<Net, Fault>
+    ensures { IfOk result IsRead }
+{
     let text = text_of(alloc, files, name)?;
     Ok(read_network(alloc, text.as_str())?)
 }
@@ -106,7 +109,8 @@ fn networks_of<'a, F: Files>(
     own: &'a str,
     tournament: &'a Tournament,
 ) -> Result<Vec<Net>, Blamed<'a>>
-    ensures { IfOk result (λ networks. length networks.items ≡ length (first_seen (map (λ fixture. fixture.network) tournament.now.matches.items))) }
+    ensures count { IfOk result (λ networks. length networks.items ≡ length (first_seen (map (λ fixture. fixture.network) tournament.now.matches.items))) }
+    ensures read { IfOk result (λ networks. All IsRead networks.items) }
 {
     let mut networks = Vec::new(alloc);
     let names = match tournament.networks(alloc) {
