@@ -117,6 +117,3 @@ fn told(alloc: Global, error: &Error) -> Result<Answer, AllocError>
         Ok(Answer::Shown { text })
     }
 }
-
-#[cfg(test)]
-mod tests;

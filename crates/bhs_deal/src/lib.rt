@@ -9,8 +9,6 @@ mod held;
 mod laws;
 mod marking;
 mod picks;
-#[cfg(test)]
-mod tests;
 
 pub use dealers::Dealer;
 pub use draws::{Drawn, draw};

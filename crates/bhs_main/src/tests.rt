@@ -1,7 +1,11 @@
 //! What crosses crates, and what the crates below are slow to prove again: a crate with tests is proved twice.
 
+mod command_lines;
+mod draws;
 mod files;
 mod limits;
+mod lines;
+mod matches;
 mod rehearsals;
 mod rows;
 mod sessions;

@@ -15,6 +15,3 @@ pub use arenas::{Arena, ArenaFault};
 pub use games::Match;
 pub use pools::Bound;
 pub use seals::Sealed;
-
-#[cfg(test)]
-mod tests;

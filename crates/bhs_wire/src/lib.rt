@@ -8,8 +8,6 @@ mod laws;
 mod pieces;
 mod replies;
 mod streams;
-#[cfg(test)]
-mod tests;
 
 pub use commands::{First, command_of, read_line};
 pub use denials::{Denial, denial_of};

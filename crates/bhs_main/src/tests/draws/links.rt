@@ -1,5 +1,5 @@
 use super::matches::network;
-use crate::{Held, HeldFault};
+use bhs_deal::{Held, HeldFault};
 use std::test::Fail;
 
 #[test]

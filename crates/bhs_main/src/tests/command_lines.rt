@@ -1,4 +1,4 @@
-use crate::{Answer, Order, order_of};
+use bhs_command_line::{Answer, Order, order_of};
 use bhs_model::Text;
 use std::alloc::AllocError;
 use std::test::Fail;

@@ -1,9 +1,9 @@
-use crate::{
+use bhs_model::{Command, MAX_LINE, Reply, Text, Why};
+use bhs_net::Memory;
+use bhs_wire::{
     Denial, First, LineKind, Lines, Raw, command_of, denial_of, kind_of, line_of, read_line,
     value_of, word_of,
 };
-use bhs_model::{Command, MAX_LINE, Reply, Text, Why};
-use bhs_net::Memory;
 use std::alloc::Global;
 use std::test::Fail;
 

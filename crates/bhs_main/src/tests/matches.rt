@@ -1,6 +1,6 @@
 ghost use Rattle.std.specs.Prelude.{IfOk, ◌≡◌, []};
 
-use crate::{Arena, ArenaFault, Bound, Match};
+use bhs_match::{Arena, ArenaFault, Bound, Match};
 use bhs_model::{Command, Event, Mark, Reply, Setup, Text, Why};
 use bhs_net::{Link, Net};
 use bhs_world::SetupFault;

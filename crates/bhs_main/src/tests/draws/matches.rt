@@ -1,4 +1,4 @@
-use crate::{Dealer, Drawn, Held, draw};
+use bhs_deal::{Dealer, Drawn, Held, draw};
 use bhs_match::Match;
 use bhs_model::{Command, Event, Reply, Setup, Text};
 use bhs_net::{Link, Net};
