@@ -168,34 +168,11 @@ A line is text.
 > hex 0 ff0a
 < 0 {"no":"line"}
 
-What is refused uses the quota, and Leave needs none.
+A carriage return before the line feed is white space.
 > 0 {"do":"enter","key":"ka"}
 < 0 {"board":"","from":null,"ok":"here","ports":2}
-> 0 {"do":"depart","port":2}
-< 0 {"no":"port"}
-> 0 {"do":"jump"}
-< 0 {"no":"line"}
-> 0 {"do":"look"}
+> hex 0 7b22646f223a226c6f6f6b227d0d0a
 < 0 {"board":"","from":null,"ok":"here","ports":2}
-> 0 {"do":"look"}
-< 0 {"board":"","from":null,"ok":"here","ports":2}
-> 0 {"do":"look"}
-< 0 {"board":"","from":null,"ok":"here","ports":2}
-> 0 {"do":"look"}
-< 0 {"board":"","from":null,"ok":"here","ports":2}
-> 0 {"do":"look"}
-< 0 {"board":"","from":null,"ok":"here","ports":2}
-> 0 {"do":"look"}
-< 0 {"board":"","from":null,"ok":"here","ports":2}
-> 0 {"do":"look"}
-< 0 {"board":"","from":null,"ok":"here","ports":2}
-> 0 {"do":"look"}
-< 0 {"board":"","from":null,"ok":"here","ports":2}
-> 0 {"do":"look"}
-< 0 {"no":"spent"}
-> 0 {"do":"leave"}
-< 0 {"ok":"bye"}
-> 0 {"do":"look"}
 
 A script is refused by its first line that is none, before anything is played.
 > 0 {"do":"enter","key":"ka"}
@@ -408,4 +385,62 @@ fn a_tournament_of_files(rt: HostRuntime) -> Result<(), Fail> {
         plays(&rt, rt.alloc(), row)?;
     }
     Ok(())
+}
+
+const ENTERS: &str = r#"> 0 {"do":"enter","key":"ka"}
+< 0 {"board":"","from":null,"ok":"here","ports":2}
+"#;
+
+const LOOKS: &str = r#"> 0 {"do":"look"}
+< 0 {"board":"","from":null,"ok":"here","ports":2}
+"#;
+
+const IS_SPENT: &str = r#"> 0 {"do":"look"}
+< 0 {"no":"spent"}
+> 0 {"do":"leave"}
+< 0 {"ok":"bye"}
+> 0 {"do":"look"}
+"#;
+
+/// The row of an agent that enters, is answered so, looks so many times, and has then spent its quota.
+fn spends(alloc: Global, first: &str, looks: usize) -> Result<String, Fail> {
+    let mut row = String::from_str(alloc, ENTERS)?;
+    row.push_str(first)?;
+    for _ in 0..looks {
+        row.push_str(LOOKS)?;
+    }
+    row.push_str(IS_SPENT)?;
+    Ok(row)
+}
+
+#[test]
+fn a_quota_is_used_up(rt: HostRuntime) -> Result<(), Fail> {
+    let alloc = rt.alloc();
+    let row = spends(alloc, "", 10)?;
+    plays(&rt, alloc, row.as_str())?;
+    let port = "> 0 {\"do\":\"depart\",\"port\":2}\n< 0 {\"no\":\"port\"}\n";
+    let row = spends(alloc, port, 9)?;
+    plays(&rt, alloc, row.as_str())?;
+    let mut lines = String::from_str(alloc, "> 0 {\"do\":\"jump\"}\n< 0 {\"no\":\"line\"}\n> 0 ")?;
+    for _ in 0..16_385 {
+        lines.push('x')?;
+    }
+    lines.push_str("\n< 0 {\"no\":\"line\"}\n")?;
+    let row = spends(alloc, lines.as_str(), 8)?;
+    plays(&rt, alloc, row.as_str())
+}
+
+#[test]
+fn bytes_may_come_one_by_one(rt: HostRuntime) -> Result<(), Fail> {
+    let alloc = rt.alloc();
+    let mut row = String::new(alloc);
+    for byte in b"{\"do\":\"enter\",\"key\":\"ka\"}\n{\"do\":\"look\"}\n{\"do\":\"look\"}" {
+        let line = format!(in alloc; "> hex 0 {byte:02x}\n")?;
+        row.push_str(line.as_str())?;
+    }
+    row.push_str("> end 0\n")?;
+    for _ in 0..2 {
+        row.push_str("< 0 {\"board\":\"\",\"from\":null,\"ok\":\"here\",\"ports\":2}\n")?;
+    }
+    plays(&rt, alloc, row.as_str())
 }
