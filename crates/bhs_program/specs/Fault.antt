@@ -1,5 +1,5 @@
 -- Why an order was not done.
-use Rattle.std.specs.Prelude.{ℕ, List, Option}
+use Rattle.std.specs.Prelude.{◌≡◌, ℕ, List, Option}
 use Rattle.bhs_stream.specs.Known.{AppendsPart, AppendsPrefix}
 use Rattle.bhs_stream.specs.declared.reading.ReadFault.{ReadFault}
 use Rattle.bhs_stream.specs.declared.reading.ReadFault.TheVariants as reads
@@ -37,6 +37,10 @@ status (Line line) = REFUSED_TEXT
 status (File fault) = REFUSED_TEXT
 status Write = FAILED_STREAM
 status Memory = NO_MEMORY
+
+-- an exit status that tells some fault
+abbrev pub TellsFault : ℕ → Type 0
+TellsFault code = (fault : Fault) × (code ≡ status fault)
 
 -- Playing stopped with this fault before the whole text was written: a failed write leaves out the end of the
 -- text; memory may also run out behind its end, at an instruction that sends nothing.
