@@ -11,3 +11,4 @@ mod rows;
 mod sessions;
 mod sessions_on_matches;
 mod streams;
+mod triangle;

@@ -1,5 +1,5 @@
 -- Why an order was not done.
-use Rattle.std.specs.Prelude.{◌≡◌, ℕ, List, Option}
+use Rattle.std.specs.Prelude.{◌≡◌, ◌⊎◌, ℕ, List, Option}
 use Rattle.bhs_stream.specs.Known.{AppendsPart, AppendsPrefix}
 use Rattle.bhs_stream.specs.declared.reading.ReadFault.{ReadFault}
 use Rattle.bhs_stream.specs.declared.reading.ReadFault.TheVariants as reads
@@ -9,7 +9,7 @@ use Rattle.bhs_script.specs.declared.faults.ScriptFault.{ScriptFault}
 use Rattle.bhs_script.specs.declared.faults.ScriptFault.TheVariants as scripts
 use Rattle.bhs_program.specs.declared.faults.Fault.{Fault}
 use Rattle.bhs_program.specs.declared.faults.Fault.TheVariants.{Read, Text, Turns, Line, File, Write, Memory}
-use Rattle.bhs_program.specs.declared.statuses.TheConstants.{REFUSED_TEXT, NO_MEMORY, FAILED_STREAM}
+use Rattle.bhs_program.specs.declared.statuses.TheConstants.{DONE, REFUSED_TEXT, NO_MEMORY, FAILED_STREAM}
 
 -- a fault of reading
 abbrev pub of_read : ReadFault → Fault
@@ -41,6 +41,10 @@ status Memory = NO_MEMORY
 -- an exit status that tells some fault
 abbrev pub TellsFault : ℕ → Type 0
 TellsFault code = (fault : Fault) × (code ≡ status fault)
+
+-- the exit status of an order that was carried out, or that of a fault
+abbrev pub IsTold : ℕ → Type 0
+IsTold code = (code ≡ DONE) ⊎ TellsFault code
 
 -- Playing stopped with this fault before the whole text was written: a failed write leaves out the end of the
 -- text; memory may also run out behind its end, at an instruction that sends nothing.

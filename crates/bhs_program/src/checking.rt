@@ -7,7 +7,7 @@ ghost use Rattle.std.specs.List.{All};
 ghost use Rattle.bhs_files.specs.Names.{first_seen};
 ghost use Rattle.bhs_files.specs.Tournaments.{plan, tournament_in};
 ghost use Rattle.bhs_program.specs.Summary.{Checks, IsAssembled, IsRead, summary_from};
-ghost use Rattle.bhs_program.specs.Fault.{status, TellsFault};
+ghost use Rattle.bhs_program.specs.Fault.{status, IsTold, TellsFault};
 
 use crate::faults::{Fault, tell};
 use crate::statuses::DONE;
@@ -41,8 +41,8 @@ pub fn check<F: Files, W: Write, E: Write>(
     // 0 says that the matches of a tournament that was read and assembled were printed, and 3 that nothing was written.
     ensures done { result ≡ DONE → Checks (W.contents writer.old) (W.contents writer.new) }
     ensures refused { result ≡ REFUSED_TEXT → Keeps (W.contents writer.old) (W.contents writer.new) }
-    // Any other tells a fault.
-    ensures told { result ≢ DONE → TellsFault result }
+    // Any status but 0 tells a fault.
+    ensures told { IsTold result }
 {
     match lineup_of(alloc, files, name, errors) {
         Ok(lineup) => match print(alloc, &lineup.ready, writer) {

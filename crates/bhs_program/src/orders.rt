@@ -1,9 +1,10 @@
-ghost use Rattle.std.specs.Prelude.{◌≡◌, ℕ, List, None, Some, map, OnOk, IfErr};
+ghost use Rattle.std.specs.Prelude.{◌≡◌, ◌⊎◌, ℕ, List, None, Some, map, OnOk, IfErr};
 ghost use Rattle.std.specs.Io.KnownBytes.{Appends, Keeps};
 ghost use Rattle.bhs_command_line.specs.CommandLine.{ChecksAlone, Rehearses};
 ghost use Rattle.bhs_program.specs.Summary.{Checks};
 ghost use Rattle.bhs_program.specs.BuiltIn as texts;
-ghost use Rattle.bhs_program.specs.declared.statuses.TheConstants.{REFUSED_TEXT};
+ghost use Rattle.bhs_program.specs.declared.statuses.TheConstants.{REFUSED_TEXT, REFUSED_WORDS};
+ghost use Rattle.bhs_program.specs.Fault.{IsTold};
 ghost use Rattle.bhs_program.specs.Rehearsal.{opening, opening_of, Plays, EndsBy, Exits, RehearsesFile, PlaysFile};
 
 use crate::built_in_tournament::built_in;
@@ -48,6 +49,9 @@ pub fn run<S: AsStr, F: Files, R: Read, W: Write, E: Write>(
         Checks (W.contents writer.old) (W.contents writer.new) }
     ensures unchecked { (name : List ℕ) → ChecksAlone (map S.text words.now) name → result ≡ REFUSED_TEXT →
         Keeps (W.contents writer.old) (W.contents writer.new) }
+
+    // Whatever they order, a status but 0 says that the words were refused, or tells a fault.
+    ensures told { (result ≡ REFUSED_WORDS) ⊎ IsTold result }
 {
     match order_of(alloc, words) {
         Ok(Answer::Ordered(order)) => obey(alloc, files, order, reader, writer, errors),
@@ -79,6 +83,7 @@ fn obey<F: Files, R: Read, W: Write, E: Write>(
         Checks (W.contents writer.old) (W.contents writer.new) }
     ensures unchecked { (name : List ℕ) → order ≡ Order.Check name → result ≡ REFUSED_TEXT →
         Keeps (W.contents writer.old) (W.contents writer.new) }
+    ensures told { IsTold result }
 {
     match order {
         Order::Rehearse { tournament: None } => match built_in(alloc) {
@@ -103,7 +108,8 @@ fn rehearse_whole<R: Read, W: Write, E: Write>(
     writer: &mut W,
     errors: &mut E,
 ) -> u8
-    ensures { Exits (opening lineup) MAX_TURNS (R.remaining reader.old) (R.remaining reader.new) (W.contents writer.old) (W.contents writer.new) result }
+    ensures exits { Exits (opening lineup) MAX_TURNS (R.remaining reader.old) (R.remaining reader.new) (W.contents writer.old) (W.contents writer.new) result }
+    ensures told { IsTold result }
 {
     match rehearse_out(alloc, lineup, reader, writer) {
         Ok(()) => DONE,

@@ -1,6 +1,6 @@
 //! What `arena check` tells of files, as rows of text, and calls on the files' crate.
 
-use bhs_files::{Keys, assemble, is_team, read_network, read_tournament};
+use bhs_files::{FileFault, FileKey, Keys, assemble, is_team, read_network, read_tournament};
 use bhs_program::run;
 use std::alloc::Global;
 use std::fs;
@@ -18,7 +18,7 @@ nodes = 4
 links = [[0,0,1,0],[1,1,2,0],[2,1,3,0],[3,1,0,1]]
 ";
 
-const CUP: &str = r#"version = 1
+pub const CUP: &str = r#"version = 1
 seed = "0000000000000000000000000000000000000000000000000000000000000000"
 
 [[match]]
@@ -180,7 +180,7 @@ fn unfolded(alloc: Global, text: &str) -> Result<String, Fail> {
 }
 
 /// The text that a row changes, and the line that is told of it.
-fn changed<'a>(alloc: Global, text: &str, row: &'a str) -> Result<(String, &'a str), Fail> {
+pub fn changed<'a>(alloc: Global, text: &str, row: &'a str) -> Result<(String, &'a str), Fail> {
     let (old, rest) = row.split_once(" => ").ok_or("OLD => NEW => LINE")?;
     let (new, line) = rest.split_once(" => ").ok_or("OLD => NEW => LINE")?;
     let old = unfolded(alloc, old)?;
@@ -256,34 +256,47 @@ fn files_are_judged(rt: HostRuntime) -> Result<(), Fail> {
     Ok(())
 }
 
+// Why the tournament of a text is refused.
+fn fault_of(alloc: Global, text: &str) -> Option<FileFault> {
+    read_tournament(alloc, text).err()
+}
+
 #[test]
 fn names_have_255_bytes(rt: HostRuntime) -> Result<(), Fail> {
     let alloc = rt.alloc();
-    let mut row = String::from_str(alloc, "tri.toml => ")?;
+    let (before, after) = CUP.split_once("tri.toml").ok_or("a name")?;
+    let mut name = String::new(alloc);
     for _ in 0..255 {
-        row.push('n')?;
+        name.push('n')?;
     }
-    let longest = format!(in alloc; "{row} => right")?;
-    let too_long = format!(in alloc; "{row}n => shape")?;
-    let (longest, _) = changed(alloc, CUP, longest.as_str())?;
-    let (too_long, _) = changed(alloc, CUP, too_long.as_str())?;
-    assert!(rt; read_tournament(alloc, longest.as_str()).is_ok());
-    assert!(rt; read_tournament(alloc, too_long.as_str()).is_err());
+    let longest = format!(in alloc; "{before}{name}{after}")?;
+    let too_long = format!(in alloc; "{before}{name}n{after}")?;
+    let shape = FileFault::Shape {
+        game: Some(0),
+        key: FileKey::Network,
+    };
+    assert_eq!(rt; fault_of(alloc, longest.as_str()), None);
+    assert_eq!(rt; fault_of(alloc, too_long.as_str()), Some(shape));
     Ok(())
 }
 
 #[test]
 fn tournaments_have_64_matches(rt: HostRuntime) -> Result<(), Fail> {
+    let alloc = rt.alloc();
     let (head, game) = CUP.split_once("[[match]]").ok_or("a match")?;
-    let mut text = String::from_str(rt.alloc(), head)?;
+    let mut text = String::from_str(alloc, head)?;
     for _ in 0..64 {
         text.push_str("[[match]]")?;
         text.push_str(game)?;
     }
-    assert!(rt; read_tournament(rt.alloc(), text.as_str()).is_ok());
+    assert_eq!(rt; fault_of(alloc, text.as_str()), None);
     text.push_str("[[match]]")?;
     text.push_str(game)?;
-    assert!(rt; read_tournament(rt.alloc(), text.as_str()).is_err());
+    let shape = FileFault::Shape {
+        game: None,
+        key: FileKey::Match,
+    };
+    assert_eq!(rt; fault_of(alloc, text.as_str()), Some(shape));
     Ok(())
 }
 

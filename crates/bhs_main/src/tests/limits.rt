@@ -1,7 +1,7 @@
 //! Long lines, long texts, and streams that fail.
 
-use super::files::TRIANGLE;
-use super::streams::{Broken, Full};
+use super::files::{CUP, TRIANGLE, changed};
+use super::streams::{Narrow, Pieces};
 use bhs_model::{MAX_LINE, MAX_TEXT};
 use bhs_program::{Fault, built_in, rehearse, run};
 use std::alloc::Global;
@@ -74,7 +74,7 @@ struct Case<'a> {
     words: &'a [&'static str],
     script: &'a [u8],
     // whether reading fails behind the script
-    breaks: bool,
+    fails: bool,
     // how many bytes go out before writing fails
     room: usize,
     told: &'a str,
@@ -87,11 +87,12 @@ fn ends<R: Abort + Files>(
     case: &Case<'_>,
     printed: &[u8],
 ) -> Result<(), Fail> {
-    let mut reader = Broken {
-        bytes: case.script,
-        breaks: case.breaks,
+    let mut reader = Pieces {
+        left: case.script,
+        piece: 1,
+        fails: case.fails,
     };
-    let mut writer = Full {
+    let mut writer = Narrow {
         taken: Vec::new(alloc),
         room: case.room,
     };
@@ -108,19 +109,19 @@ fn streams_that_fail_are_told(rt: HostRuntime) -> Result<(), Fail> {
     let plays = Case {
         words: &["rehearse"],
         script: ROAD.as_bytes(),
-        breaks: false,
+        fails: false,
         room: 1000,
         told: "",
         status: 0,
     };
     ends(&rt, rt.alloc(), &plays, SEEN.as_bytes())?;
-    let breaks = Case {
-        breaks: true,
+    let fails = Case {
+        fails: true,
         told: "script: read\n",
         status: 6,
         ..plays
     };
-    ends(&rt, rt.alloc(), &breaks, b"")?;
+    ends(&rt, rt.alloc(), &fails, b"")?;
     for room in [0, 1, 49, 50, 100] {
         let full = Case {
             room,
@@ -159,7 +160,7 @@ fn a_script_has_so_many_bytes(rt: HostRuntime) -> Result<(), Fail> {
     let longest = Case {
         words: &["rehearse"],
         script: &script,
-        breaks: false,
+        fails: false,
         room: 1000,
         told: "",
         status: 0,
@@ -178,9 +179,10 @@ fn a_script_has_so_many_bytes(rt: HostRuntime) -> Result<(), Fail> {
 
 #[test]
 fn turns_may_run_out(rt: HostRuntime) -> Result<(), Fail> {
-    let mut reader = Broken {
-        bytes: ROAD.as_bytes(),
-        breaks: false,
+    let mut reader = Pieces {
+        left: ROAD.as_bytes(),
+        piece: 1,
+        fails: false,
     };
     let mut output = Vec::new(rt.alloc());
     let played = rehearse(
@@ -200,7 +202,7 @@ fn a_file_has_so_many_bytes(rt: HostRuntime) -> Result<(), Fail> {
     let checks = Case {
         words: &["check", "long.toml"],
         script: b"",
-        breaks: false,
+        fails: false,
         room: 1000,
         told: "long.toml: version\n",
         status: 3,
@@ -220,23 +222,13 @@ fn a_file_has_so_many_bytes(rt: HostRuntime) -> Result<(), Fail> {
 
 #[test]
 fn a_check_that_is_cut_is_told(rt: HostRuntime) -> Result<(), Fail> {
-    let cup = r#"version = 1
-seed = "0000000000000000000000000000000000000000000000000000000000000000"
-[[match]]
-team = "red"
-network = "cut-tri.toml"
-home = 0
-hole = 2
-quota = 10
-board = 8
-keys = ["ka"]
-"#;
-    fs::write(&rt, "--cut.toml", cup)?;
+    let (cup, _) = changed(rt.alloc(), CUP, "tri.toml => cut-tri.toml => right")?;
+    fs::write(&rt, "--cut.toml", cup.as_str())?;
     fs::write(&rt, "cut-tri.toml", TRIANGLE)?;
     let cut = Case {
         words: &["check", "--", "--cut.toml"],
         script: b"",
-        breaks: false,
+        fails: false,
         room: 7,
         told: "output: write\n",
         status: 6,

@@ -1,8 +1,8 @@
 ghost use Rattle.std.specs.Prelude.{IfOk, ◌≡◌, []};
 
+use super::triangle::{SETUP, network};
 use bhs_match::{Arena, ArenaFault, Bound, Match};
 use bhs_model::{Command, Event, Mark, Reply, Setup, Text, Why};
-use bhs_net::{Link, Net};
 use bhs_world::SetupFault;
 use std::alloc::{AllocError, Global};
 use std::test::Fail;
@@ -11,19 +11,6 @@ use std::test::Fail;
 fn triangle(alloc: Global) -> Result<Match, Fail> {
     Ok(Match::new(alloc, network(alloc)?, SETUP)?)
 }
-
-fn network(alloc: Global) -> Result<Net, Fail> {
-    let links = [(0, 0, 1, 0), (1, 1, 2, 0), (2, 1, 0, 1)].map(|(v, p, w, q)| Link { v, p, w, q });
-    Ok(Net::try_new(alloc, 3, &links)?)
-}
-
-const SETUP: Setup = Setup {
-    home: 0,
-    hole: Some(2),
-    agents: 2,
-    quota: 10,
-    board: 8,
-};
 
 fn tell(agent: u16, command: Command) -> Event {
     Event::Tell { agent, command }

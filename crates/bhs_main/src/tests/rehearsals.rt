@@ -1,22 +1,10 @@
 //! Rehearsals, call by call: what a script cannot say.
 
-use super::files::TRIANGLE;
+use super::files::{CUP, TRIANGLE};
 use bhs_files::{assemble, read_network, read_tournament};
 use bhs_session::{Out, Rehearsal, RehearsalFault};
 use std::alloc::Global;
 use std::test::Fail;
-
-const TOURNAMENT: &str = r#"version = 1
-seed = "0000000000000000000000000000000000000000000000000000000000000000"
-[[match]]
-team = "red"
-network = "tri.toml"
-home = 0
-hole = 2
-quota = 10
-board = 8
-keys = ["ka", "kb"]
-"#;
 
 const ENTER: &[u8] = b"{\"do\":\"enter\",\"key\":\"ka\"}\n";
 
@@ -29,7 +17,7 @@ const GONE: &[u8] = b"{\"ok\":\"gone\"}\n";
 const COME: &[u8] = b"{\"board\":\"\",\"from\":0,\"ok\":\"here\",\"ports\":2}\n";
 
 fn rehearsal(alloc: Global) -> Result<Rehearsal, Fail> {
-    let tournament = read_tournament(alloc, TOURNAMENT)?;
+    let tournament = read_tournament(alloc, CUP)?;
     let networks = vec![in alloc; read_network(alloc, TRIANGLE)?]?;
     if tournament.networks(alloc)?.len() != networks.len() {
         return Err(Fail::from("one network"));

@@ -1,10 +1,9 @@
 // Whole sessions over memory, with a port that answers from a list.
+use super::streams::{Narrow, Pieces};
 use bhs_model::{Command, Reply, Text};
 use bhs_net::Memory;
 use bhs_session::{Ended, Entered, Port, serve};
 use std::alloc::Global;
-use std::io;
-use std::io::{Read, Write};
 use std::process::Abort;
 use std::test::Fail;
 
@@ -85,49 +84,6 @@ fn reply_of(alloc: Global, word: &str) -> Result<Reply, Memory> {
         came,
         board: Text::from(String::new(alloc)),
     })
-}
-
-/// A reader that gives its bytes `piece` at a time, and then ends or fails.
-#[derive(Drop)]
-struct Pieces<'a> {
-    left: &'a [u8],
-    piece: usize,
-    fails: bool,
-}
-
-impl Read for Pieces<'_> {
-    fn read(&mut self, buf: &mut [u8]) -> io::Result<usize> {
-        if self.left.is_empty() && self.fails {
-            return Err(io::Error::other("the line went dead"));
-        }
-        let count = self.left.len().min(self.piece).min(buf.len());
-        buf[..count].copy_from_slice(&self.left[..count]);
-        self.left = &self.left[count..];
-        Ok(count)
-    }
-}
-
-/// A writer that takes bytes while it has room, and then fails.
-#[derive(Drop)]
-struct Narrow {
-    taken: Vec<u8>,
-    room: usize,
-}
-
-impl Write for Narrow {
-    fn write(&mut self, buf: &[u8]) -> io::Result<usize> {
-        if self.room == 0 {
-            return Err(io::Error::other("the line went dead"));
-        }
-        let count = buf.len().min(self.room);
-        self.taken.extend_from_slice(&buf[..count])?;
-        self.room -= count;
-        Ok(count)
-    }
-
-    fn flush(&mut self) -> io::Result<()> {
-        Ok(())
-    }
 }
 
 /// A session, and what it comes to.

@@ -1,8 +1,9 @@
 // Whole sessions over memory, with a port that plays one agent of a match.
+use super::triangle::{SETUP, network};
 use bhs_deal::{Held, draw};
 use bhs_match::Match;
 use bhs_model::{Command, Event, Mark, Reply, Setup};
-use bhs_net::{Link, Memory, Net};
+use bhs_net::Memory;
 use bhs_session::{Ended, Entered, Port, serve};
 use std::alloc::Global;
 use std::test::Fail;
@@ -57,16 +58,9 @@ impl Port for OneMatch {
 }
 
 fn triangle(alloc: Global) -> Result<OneMatch, Fail> {
-    let links = [(0, 0, 1, 0), (1, 1, 2, 0), (2, 1, 0, 1)].map(|(v, p, w, q)| Link { v, p, w, q });
-    let net = Net::try_new(alloc, 3, &links)?;
+    let net = network(alloc)?;
     let held = Held::new(alloc, &net, &[])?;
-    let setup = Setup {
-        home: 0,
-        hole: Some(2),
-        agents: 1,
-        quota: 10,
-        board: 8,
-    };
+    let setup = Setup { agents: 1, ..SETUP };
     Ok(OneMatch {
         game: Match::new(alloc, net, setup)?,
         held,

@@ -3,47 +3,42 @@
 use std::io;
 use std::io::{Read, Write};
 
-/// Gives `bytes` one by one, and then ends or breaks.
+/// A reader that gives its bytes `piece` at a time, and then ends or fails.
 #[derive(Drop)]
-pub struct Broken<'a> {
-    pub bytes: &'a [u8],
-    pub breaks: bool,
+pub struct Pieces<'a> {
+    pub left: &'a [u8],
+    pub piece: usize,
+    pub fails: bool,
 }
 
-impl Read for Broken<'_> {
+impl Read for Pieces<'_> {
     fn read(&mut self, buf: &mut [u8]) -> io::Result<usize> {
-        let Some((first, rest)) = self.bytes.split_first() else {
-            return match self.breaks {
-                true => Err(io::Error::from(io::ErrorKind::Other)),
-                false => Ok(0),
-            };
-        };
-        let Some(place) = buf.first_mut() else {
-            return Ok(0);
-        };
-        *place = *first;
-        self.bytes = rest;
-        Ok(1)
+        if self.left.is_empty() && self.fails {
+            return Err(io::Error::other("the line went dead"));
+        }
+        let count = self.left.len().min(self.piece).min(buf.len());
+        buf[..count].copy_from_slice(&self.left[..count]);
+        self.left = &self.left[count..];
+        Ok(count)
     }
 }
 
-/// Takes bytes one by one while it has room, and then fails.
+/// A writer that takes bytes while it has room, and then fails.
 #[derive(Drop)]
-pub struct Full {
+pub struct Narrow {
     pub taken: Vec<u8>,
     pub room: usize,
 }
 
-impl Write for Full {
+impl Write for Narrow {
     fn write(&mut self, buf: &[u8]) -> io::Result<usize> {
-        let Some(first) = buf.first() else {
-            return Ok(0);
-        };
-        if self.taken.len() >= self.room {
-            return Err(io::Error::from(io::ErrorKind::Other));
+        if self.room == 0 {
+            return Err(io::Error::other("the line went dead"));
         }
-        self.taken.push(*first)?;
-        Ok(1)
+        let count = buf.len().min(self.room);
+        self.taken.extend_from_slice(&buf[..count])?;
+        self.room -= count;
+        Ok(count)
     }
 
     fn flush(&mut self) -> io::Result<()> {

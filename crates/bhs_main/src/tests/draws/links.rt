@@ -1,4 +1,4 @@
-use super::matches::network;
+use super::super::triangle::network;
 use bhs_deal::{Held, HeldFault};
 use std::test::Fail;
 

@@ -1,22 +1,9 @@
+use super::super::triangle::{SETUP, network};
 use bhs_deal::{Dealer, Drawn, Held, draw};
 use bhs_match::Match;
-use bhs_model::{Command, Event, Reply, Setup, Text};
-use bhs_net::{Link, Net};
+use bhs_model::{Command, Event, Reply, Text};
 use std::alloc::Global;
 use std::test::Fail;
-
-const SETUP: Setup = Setup {
-    home: 0,
-    hole: Some(2),
-    agents: 2,
-    quota: 10,
-    board: 8,
-};
-
-pub(super) fn network(alloc: Global) -> Result<Net, Fail> {
-    let links = [(0, 0, 1, 0), (1, 1, 2, 0), (2, 1, 0, 1)].map(|(v, p, w, q)| Link { v, p, w, q });
-    Ok(Net::try_new(alloc, 3, &links)?)
-}
 
 /// The triangle with the black hole at node 2, and the links held that are named.
 fn triangle(alloc: Global, pairs: &[(u16, u16)]) -> Result<(Match, Held), Fail> {
