@@ -1,16 +1,15 @@
 //! The program `arena`: rehearses the matches of a tournament by a script, and checks the files of one.
 #![tactic(auto)]
 
-use bhs_program::{FAILED_STREAM, NO_MEMORY, run};
-use std::io::{BufWriter, ErrorKind};
+use bhs_program::{Fault, run, tell};
+use std::io::BufWriter;
 use std::process::ExitCode;
 use std::{env, io};
 
 fn main(rt: HostRuntime) -> ExitCode {
     ExitCode::from(match started(&rt) {
         Ok(status) => status,
-        Err(error) if error.kind() == ErrorKind::OutOfMemory => NO_MEMORY,
-        Err(_) => FAILED_STREAM,
+        Err(error) => tell("arena", Fault::from(error), &mut rt.stderr()),
     })
 }
 

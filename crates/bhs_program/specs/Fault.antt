@@ -1,5 +1,7 @@
 -- Why an order was not done.
 use Rattle.std.specs.Prelude.{◌≡◌, ◌⊎◌, ℕ, List, Option}
+use Rattle.std.specs.declared.io.ErrorKind.{ErrorKind}
+use Rattle.std.specs.declared.io.ErrorKind.TheVariants.{OutOfMemory}
 use Rattle.bhs_stream.specs.Known.{AppendsPart, AppendsPrefix}
 use Rattle.bhs_stream.specs.declared.reading.ReadFault.{ReadFault}
 use Rattle.bhs_stream.specs.declared.reading.ReadFault.TheVariants as reads
@@ -10,6 +12,11 @@ use Rattle.bhs_script.specs.declared.faults.ScriptFault.TheVariants as scripts
 use Rattle.bhs_program.specs.declared.faults.Fault.{Fault}
 use Rattle.bhs_program.specs.declared.faults.Fault.TheVariants.{Read, Text, Turns, Line, File, Write, Memory}
 use Rattle.bhs_program.specs.declared.statuses.TheConstants.{DONE, REFUSED_TEXT, NO_MEMORY, FAILED_STREAM}
+
+-- an error of opening or reading
+abbrev pub of_kind : ErrorKind → Fault
+of_kind OutOfMemory = Memory
+of_kind kind = Read
 
 -- a fault of reading
 abbrev pub of_read : ReadFault → Fault

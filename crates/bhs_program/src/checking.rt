@@ -18,7 +18,7 @@ use bhs_net::Net;
 use bhs_stream::{finish, read_text, send};
 use std::alloc::Global;
 use std::fs;
-use std::io::{ErrorKind, Write};
+use std::io::Write;
 use std::rt::Files;
 
 /// What is wrong, and with which file.
@@ -80,14 +80,9 @@ pub(crate) fn lineup_of<F: Files, E: Write>(
 
 /// The text of a file.
 fn text_of<F: Files>(alloc: Global, files: &F, name: &str) -> Result<String, Fault> {
-    match fs::open(files, name) {
-        Ok(mut file) => {
-            let bytes = read_text(alloc, &mut file, MAX_TEXT, MAX_TURNS)?;
-            String::from_utf8(bytes).map_err(|_| Fault::Text)
-        }
-        Err(error) if error.kind() == ErrorKind::OutOfMemory => Err(Fault::Memory),
-        Err(_) => Err(Fault::Read),
-    }
+    let mut file = fs::open(files, name)?;
+    let bytes = read_text(alloc, &mut file, MAX_TEXT, MAX_TURNS)?;
+    String::from_utf8(bytes).map_err(|_| Fault::Text)
 }
 
 fn tournament_of<F: Files>(alloc: Global, files: &F, name: &str) -> Result<Tournament, Fault>

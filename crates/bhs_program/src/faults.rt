@@ -1,13 +1,15 @@
 ghost use Rattle.std.specs.Prelude.{◌≡◌};
 ghost use Rattle.bhs_program.specs.declared.faults.Fault.TheVariants as faults;
-ghost use Rattle.bhs_program.specs.Fault.{of_file, of_read, of_script, status};
+ghost use Rattle.std.specs.IoError.{error_kind};
+ghost use Rattle.bhs_program.specs.Fault.{of_file, of_kind, of_read, of_script, status};
 
 use crate::statuses::{FAILED_STREAM, NO_MEMORY, REFUSED_TEXT};
 use bhs_files::FileFault;
 use bhs_net::Memory;
 use bhs_script::ScriptFault;
 use bhs_stream::{ReadFault, WriteFault};
-use std::io::Write;
+use std::io;
+use std::io::{ErrorKind, Write};
 use thiserror::Error;
 
 /// Why an order was not done.
@@ -62,6 +64,18 @@ impl From<Memory> for Fault {
 
     fn from(_memory: Memory) -> Fault {
         Fault::Memory
+    }
+}
+
+/// An error of opening a file, or of reading what the system gives a program.
+impl From<io::Error> for Fault {
+    ghost from_gives = { λ error fault. fault ≡ of_kind (error_kind error) };
+
+    fn from(error: io::Error) -> Fault {
+        match error.kind() {
+            ErrorKind::OutOfMemory => Fault::Memory,
+            _ => Fault::Read,
+        }
     }
 }
 

@@ -13,7 +13,7 @@ mod summaries;
 
 pub use built_in_tournament::built_in;
 pub use checking::check;
-pub use faults::Fault;
+pub use faults::{Fault, tell};
 pub use orders::run;
 pub use rehearsing::rehearse;
 pub use statuses::{DONE, FAILED_STREAM, NO_MEMORY, REFUSED_TEXT, REFUSED_WORDS};

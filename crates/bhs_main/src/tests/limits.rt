@@ -3,7 +3,7 @@
 use super::files::{CUP, TRIANGLE, changed};
 use super::streams::{Narrow, Pieces};
 use bhs_model::{MAX_LINE, MAX_TEXT};
-use bhs_program::{Fault, built_in, rehearse, run};
+use bhs_program::{Fault, built_in, rehearse, run, tell};
 use std::alloc::Global;
 use std::fs;
 use std::process::Abort;
@@ -234,4 +234,17 @@ fn a_check_that_is_cut_is_told(rt: HostRuntime) -> Result<(), Fail> {
         status: 6,
     };
     ends(&rt, rt.alloc(), &cut, b"match 0")
+}
+
+#[test]
+fn faults_that_no_file_makes_have_names(rt: HostRuntime) -> Result<(), Fail> {
+    for (fault, told, status) in [
+        (Fault::Turns, "script: turns\n", 6),
+        (Fault::Memory, "script: memory\n", 5),
+    ] {
+        let mut errors = Vec::new(rt.alloc());
+        assert_eq!(rt; tell("script", fault, &mut errors), status);
+        assert_eq!(rt; errors.as_slice(), told.as_bytes());
+    }
+    Ok(())
 }
