@@ -96,11 +96,15 @@ is_asked DisplayHelp = true
 is_asked DisplayVersion = true
 is_asked _ = false
 
+-- some fault of the words is more than a question for help
+abbrev pub AreRefused : List Text → Type 0
+AreRefused words = IsTrue (list_any (λ kind. not (is_asked kind)) (faults words))
+
 -- the words get this answer
 abbrev pub Answers : List Text → Answer → Type 0
 Answers words (Ordered order) = order_in words ≡ Some order
 Answers words (Shown text) = IsTrue (list_any is_asked (faults words))
-Answers words (Refused text) = IsTrue (list_any (λ kind. not (is_asked kind)) (faults words))
+Answers words (Refused text) = AreRefused words
 
 -- the words that ask for help and do nothing else
 abbrev pub AsksHelp : List Text → Type 0

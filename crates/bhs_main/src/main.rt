@@ -1,6 +1,9 @@
 //! The program `arena`: rehearses the matches of a tournament by a script, and checks the files of one.
 #![tactic(auto)]
 
+ghost use Rattle.std.specs.Prelude.{IfOk};
+ghost use Rattle.bhs_program.specs.Fault.{IsStatus};
+
 use bhs_program::{Fault, run, tell};
 use std::io::BufWriter;
 use std::process::ExitCode;
@@ -13,7 +16,9 @@ fn main(rt: HostRuntime) -> ExitCode {
     })
 }
 
-fn started(rt: &HostRuntime) -> io::Result<u8> {
+fn started(rt: &HostRuntime) -> io::Result<u8>
+    ensures { IfOk result IsStatus }
+{
     let alloc = rt.alloc();
     let words: Vec<String> = env::args(rt)?.skip(1).collect(alloc)?;
     let mut writer = BufWriter::new(alloc, io::writer(rt))?;

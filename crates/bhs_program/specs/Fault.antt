@@ -11,7 +11,7 @@ use Rattle.bhs_script.specs.declared.faults.ScriptFault.{ScriptFault}
 use Rattle.bhs_script.specs.declared.faults.ScriptFault.TheVariants as scripts
 use Rattle.bhs_program.specs.declared.faults.Fault.{Fault}
 use Rattle.bhs_program.specs.declared.faults.Fault.TheVariants.{Read, Text, Turns, Line, File, Write, Memory}
-use Rattle.bhs_program.specs.declared.statuses.TheConstants.{DONE, REFUSED_TEXT, NO_MEMORY, FAILED_STREAM}
+use Rattle.bhs_program.specs.declared.statuses.TheConstants.{DONE, REFUSED_WORDS, REFUSED_TEXT, NO_MEMORY, FAILED_STREAM}
 
 -- an error of opening or reading
 abbrev pub of_kind : ErrorKind → Fault
@@ -52,6 +52,10 @@ TellsFault code = (fault : Fault) × (code ≡ status fault)
 -- the exit status of an order that was carried out, or that of a fault
 abbrev pub IsTold : ℕ → Type 0
 IsTold code = (code ≡ DONE) ⊎ TellsFault code
+
+-- an exit status of the program: that of refused words, or of an order
+abbrev pub IsStatus : ℕ → Type 0
+IsStatus code = (code ≡ REFUSED_WORDS) ⊎ IsTold code
 
 -- Playing stopped with this fault before the whole text was written: a failed write leaves out the end of the
 -- text; memory may also run out behind its end, at an instruction that sends nothing.

@@ -61,7 +61,6 @@ pub(crate) fn lineup_of<F: Files, E: Write>(
     errors: &mut E,
 ) -> Result<Lineup, u8>
     ensures made { IfOk result IsAssembled }
-    ensures status { IfErr result (λ code. code ≢ DONE) }
     ensures told { IfErr result TellsFault }
 {
     let tournament = match tournament_of(alloc, files, name) {

@@ -1,10 +1,10 @@
-ghost use Rattle.std.specs.Prelude.{◌≡◌, ◌⊎◌, ℕ, List, None, Some, map, OnOk, IfErr};
+ghost use Rattle.std.specs.Prelude.{◌≡◌, ℕ, List, None, Some, map, OnOk, IfErr};
 ghost use Rattle.std.specs.Io.KnownBytes.{Appends, Keeps};
-ghost use Rattle.bhs_command_line.specs.CommandLine.{ChecksAlone, Rehearses};
+ghost use Rattle.bhs_command_line.specs.CommandLine.{AreRefused, ChecksAlone, Rehearses};
 ghost use Rattle.bhs_program.specs.Summary.{Checks};
 ghost use Rattle.bhs_program.specs.BuiltIn as texts;
 ghost use Rattle.bhs_program.specs.declared.statuses.TheConstants.{REFUSED_TEXT, REFUSED_WORDS};
-ghost use Rattle.bhs_program.specs.Fault.{IsTold};
+ghost use Rattle.bhs_program.specs.Fault.{IsStatus, IsTold};
 ghost use Rattle.bhs_program.specs.Rehearsal.{opening, opening_of, Plays, EndsBy, Exits, RehearsesFile, PlaysFile};
 
 use crate::built_in_tournament::built_in;
@@ -50,8 +50,9 @@ pub fn run<S: AsStr, F: Files, R: Read, W: Write, E: Write>(
     ensures unchecked { (name : List ℕ) → ChecksAlone (map S.text words.now) name → result ≡ REFUSED_TEXT →
         Keeps (W.contents writer.old) (W.contents writer.new) }
 
-    // Whatever they order, a status but 0 says that the words were refused, or tells a fault.
-    ensures told { (result ≡ REFUSED_WORDS) ⊎ IsTold result }
+    // Whatever they order, any status but 0 tells a fault, or is 2, which says that the words are refused.
+    ensures told { IsStatus result }
+    ensures refused_words { result ≡ REFUSED_WORDS → AreRefused (map S.text words.now) }
 {
     match order_of(alloc, words) {
         Ok(Answer::Ordered(order)) => obey(alloc, files, order, reader, writer, errors),
