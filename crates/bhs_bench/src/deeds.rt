@@ -1,7 +1,7 @@
 //! What is done next in a match, by a word.
 
 use crate::torus::PORTS;
-use bhs_model::MAX_AGENTS;
+const AGENTS: u16 = 16;
 
 /// What is done next.
 #[derive(Clone, Copy, Debug, PartialEq, Eq)]
@@ -20,7 +20,7 @@ pub enum Deed {
 
 /// What a word picks: of sixteen words two look, two write, five depart, one accuses, and six draw.
 pub fn deed_of(word: u32) -> Deed {
-    let agent = (word / 16 % u32::from(MAX_AGENTS)) as u16;
+    let agent = (word / 16 % u32::from(AGENTS)) as u16;
     match word % 16 {
         0 | 1 => Deed::Look { agent },
         2 | 3 => Deed::Write { agent },

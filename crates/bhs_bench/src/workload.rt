@@ -5,7 +5,7 @@ use crate::faults::BenchFault;
 use crate::torus::{NODES, PORTS, torus};
 use bhs_deal::{Dealer, Held, draw};
 use bhs_match::Match;
-use bhs_model::{Command, Event, MAX_AGENTS, MAX_BOARD, MAX_QUOTA, Setup, Text};
+use bhs_model::{Command, DarkLinks, Event, Holes, MAX_QUOTA, Setup, Text};
 use bhs_net::{Memory, Net};
 use std::alloc::Global;
 
@@ -13,14 +13,20 @@ use std::alloc::Global;
 /// the last one closes the match.
 const EVENTS_OF_A_MATCH: u16 = 28_000;
 
+/// How many agents play.
+const AGENTS: u16 = 16;
+
 /// No node destroys and no link is held, so that each agent plays until its quota is spent.
-const SETUP: Setup = Setup {
-    home: 0,
-    hole: None,
-    agents: MAX_AGENTS,
-    quota: MAX_QUOTA,
-    board: MAX_BOARD,
-};
+fn setup(alloc: Global) -> Setup {
+    Setup {
+        home: 0,
+        holes: Holes::from(Vec::new(alloc)),
+        dark: DarkLinks::from(Vec::new(alloc)),
+        agents: AGENTS,
+        quota: MAX_QUOTA,
+        board: 1024,
+    }
+}
 
 /// The seed of the words.
 const SEED: [u8; 32] = [7; 32];
@@ -40,7 +46,7 @@ impl Counts {
     /// These and those of one match more.
     fn with(self, game: &Match) -> Counts {
         let mut arrivals = self.arrivals;
-        for agent in 0..MAX_AGENTS {
+        for agent in 0..AGENTS {
             arrivals = arrivals.saturating_add(game.news(agent).len() as u64);
         }
         Counts {
@@ -67,7 +73,7 @@ impl Workload {
     pub fn new(alloc: Global) -> Result<Workload, BenchFault> {
         let net = torus(alloc)?;
         let held = Held::new(alloc, &net, &[])?;
-        let game = Match::new(alloc, net.try_clone(alloc)?, SETUP)?;
+        let game = Match::new(alloc, net.try_clone(alloc)?, setup(alloc))?;
         Ok(Workload {
             net,
             held,
@@ -85,13 +91,13 @@ impl Workload {
     /// Plays one event, on a new match where the last one has ended.
     pub fn step(&mut self, alloc: Global) -> Result<(), BenchFault> {
         if self.events >= EVENTS_OF_A_MATCH {
-            let next = Match::new(alloc, self.net.try_clone(alloc)?, SETUP)?;
+            let next = Match::new(alloc, self.net.try_clone(alloc)?, setup(alloc))?;
             self.before = self.before.with(&self.game);
             self.game = next;
             self.events = 0;
         }
         self.events += 1;
-        if self.events <= MAX_AGENTS {
+        if self.events <= AGENTS {
             let agent = self.events - 1;
             self.tell(agent, Command::Enter);
         } else if self.events == EVENTS_OF_A_MATCH {

@@ -48,6 +48,13 @@ goes_over make fs i done total x a all lt is made grown so_far =
     let e : map planned (drop i fs) ≡ planned x ∷ rest = ap (map planned) (drop_more fs i x lt) ∙ ap (λ y. planned y ∷ rest) (sym is) in
     rw grown (goes_on make i done total (planned x) rest a made (ap (λ ps. then done (each_in make i ps)) (sym e) ∙ so_far))
 
+pub stops_over : {A : Type 0} (make : ℕ → Planned → Result A FileFault) (fs : List Fixture) (i : ℕ) (done : List A) (total : Result (List A) FileFault) (x : Fixture) (fault : FileFault) → i < length fs → x ≡ get_or fs i x
+    → Fails fault (make i (planned x)) → then done (each_in make i (map planned (drop i fs))) ≡ total → Fails fault total
+stops_over make fs i done total x fault lt is failed so_far =
+    let rest = map planned (drop (i + 1) fs) in
+    let e : map planned (drop i fs) ≡ planned x ∷ rest = ap (map planned) (drop_more fs i x lt) ∙ ap (λ y. planned y ∷ rest) (sym is) in
+    stops make i done total (planned x) rest fault failed (ap (λ ps. then done (each_in make i ps)) (sym e) ∙ so_far)
+
 -- two lists side by side
 module _ (i : ℕ) (done : List Ready) (total : Result (List Ready) FileFault) (fs rest : List Fixture) (games others : List Play) (f : Fixture) (g : Play) (first : fs ≡ f ∷ rest) (second : games ≡ g ∷ others) (so_far : then done (each_in readied i (zip fs games)) ≡ total) where
   here : then done (each_in readied i ((f, g) ∷ zip rest others)) ≡ total

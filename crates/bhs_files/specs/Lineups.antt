@@ -1,9 +1,10 @@
 -- What a tournament and its networks make: matches that can be played, and the keys; or the first fault.
-use Rattle.std.specs.Prelude.{ℕ, ◌+◌, List, [], ◌∷◌, map, length, slice_index_or, Option, Some, None, option_map, Result, Ok, Err}
+use Rattle.std.specs.Prelude.{ℕ, ◌+◌, List, [], ◌∷◌, map, length, slice_index_or, Option, Some, None, option_map, option_to_list, Result, Ok, Err}
 use Rattle.std.specs.List.{position_or_len}
 use Rattle.std.specs.Option.{option_or}
 use Rattle.bhs_net.specs.Network.{Network}
 use Rattle.bhs_model.specs.declared.setups.Setup.{Setup}
+use Rattle.bhs_model.specs.Setups.{normal}
 use Rattle.bhs_world.specs.Faults.{first_fault}
 use Rattle.bhs_world.specs.declared.faults.SetupFault.{SetupFault}
 use Rattle.bhs_world.specs.declared.faults.SetupFault.TheVariants as setup_faults
@@ -30,11 +31,14 @@ network_named names networks name = slice_index_or networks (position_or_len (sa
 
 -- how a match is set up: an agent for each key
 abbrev pub setup_of : Planned → Setup
-setup_of planned = record { home = planned.home; hole = planned.hole; agents = length planned.keys; quota = planned.quota; board = planned.board }
+setup_of planned = record { home = planned.home; holes = option_to_list planned.hole; dark = []; agents = length planned.keys; quota = planned.quota; board = planned.board }
 
 -- a match on a network, before anything happens
+abbrev pub begins : Network → Setup → Play
+begins net setup = record { net = net; setup = normal net setup; log = [] }
+
 abbrev pub start_of : Network → Planned → Play
-start_of net planned = record { net = net; setup = setup_of planned; log = [] }
+start_of net planned = begins net (setup_of planned)
 
 -- a match that can be played
 abbrev pub ready_of : Network → Planned → Ready

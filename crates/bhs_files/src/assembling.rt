@@ -3,11 +3,12 @@
 ghost use Rattle.std.specs.Prelude.{◌≡◌, ◌<◌, ◌^◌, length, map, option_map, IfOk, Ok, vec_len, IsTrue};
 ghost use Rattle.std.specs.List.{zip};
 ghost use Rattle.bhs_deal.specs.Links.{first_strange};
+ghost use Rattle.bhs_world.specs.Faults.{first_fault};
 ghost use Rattle.bhs_files.specs.declared.faults.FileFault.TheVariants as faults;
 ghost use Rattle.bhs_files.specs.Names.{first_seen, is_among};
 ghost use Rattle.bhs_files.specs.Reading.{GivesUnlessMemory};
 ghost use Rattle.bhs_files.specs.Tournaments.{plan, planned};
-ghost use Rattle.bhs_files.specs.Lineups.{network_named, setup_of, start_of, of_setup, setup_fault, unless, contest, contest_in, all_ready};
+ghost use Rattle.bhs_files.specs.Lineups.{network_named, setup_of, start_of, begins, of_setup, setup_fault, unless, contest, contest_in, all_ready};
 ghost use Rattle.bhs_files.specs.Passes.{each_in, begun, readied};
 
 use crate::faults::FileFault;
@@ -17,11 +18,11 @@ use crate::lineups::{Lineup, Ready};
 use crate::tournaments::Tournament;
 use bhs_deal::{Held, HeldFault};
 use bhs_match::Match;
-use bhs_model::Setup;
+use bhs_model::{DarkLinks, Holes, Setup};
 use bhs_net::Net;
 use bhs_world::SetupFault;
 use indexmap::IndexSet;
-use std::alloc::Global;
+use std::alloc::{AllocError, Global};
 
 /// Puts a tournament and its networks together. There is one network for each name, in the order of
 /// `Tournament::networks`.
@@ -75,16 +76,21 @@ fn network_of<'a>(names: &IndexSet<&str>, networks: &'a [Net], name: &str) -> &'
     }
 }
 
-fn setup_of(fixture: &Fixture) -> Setup
-    ensures { result ≡ setup_of (planned fixture.now) }
+fn setup_of(alloc: Global, fixture: &Fixture) -> Result<Setup, AllocError>
+    ensures { IfOk result (λ setup. setup ≡ setup_of (planned fixture.now)) }
 {
-    Setup {
+    let mut holes = Vec::new(alloc);
+    if let Some(hole) = fixture.hole {
+        holes.push(hole)?;
+    }
+    Ok(Setup {
         home: fixture.home,
-        hole: fixture.hole,
+        holes: Holes::from(holes),
+        dark: DarkLinks::from(Vec::new(alloc)),
         agents: fixture.keys.len() as u16,
         quota: fixture.quota,
         board: fixture.board,
-    }
+    })
 }
 
 /// The match before anything happens.
@@ -93,7 +99,16 @@ fn begun(alloc: Global, game: u32, net: &Net, fixture: &Fixture) -> Result<Match
         (unless (setup_fault net.now game (planned fixture.now)) (Ok (start_of net.now (planned fixture.now)))) }
 {
     let net = net.try_clone(alloc)?;
-    Match::new(alloc, net, setup_of(fixture)).map_err(|fault| of_setup(game, fault))
+    let setup = setup_of(alloc, fixture)?;
+    started(alloc, game, net, setup)
+}
+
+/// The match that is set up so.
+fn started(alloc: Global, game: u32, net: Net, setup: Setup) -> Result<Match, FileFault>
+    ensures { GivesUnlessMemory (λ game. game) result
+        (unless (option_map (faults.Setup game) (first_fault net setup)) (Ok (begins net setup))) }
+{
+    Match::new(alloc, net, setup).map_err(|fault| of_setup(game, fault))
 }
 
 fn of_setup(game: u32, fault: SetupFault) -> FileFault

@@ -12,7 +12,7 @@ use Rattle.bhs_match.specs.Laws.{IsLogOf}
 
 -- no match
 abbrev nothing : Play
-nothing = record { net = []; setup = record { home = 0; hole = None; agents = 0; quota = 0; board = 0 }; log = [] }
+nothing = record { net = []; setup = record { home = 0; holes = []; dark = []; agents = 0; quota = 0; board = 0 }; log = [] }
 
 -- the match of a number
 abbrev pub play_at : List Play → (game : ℕ) → Play

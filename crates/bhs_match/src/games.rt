@@ -4,6 +4,7 @@ ghost use Rattle.bhs_model.specs.declared.limits.TheConstants.{MAX_AGENTS, MAX_Q
 ghost use Rattle.bhs_model.specs.Kept.{kept};
 ghost use Rattle.bhs_model.specs.Marks.{events_of, read, read_if, text_at, board_of};
 ghost use Rattle.bhs_model.specs.Runs.{run, reply, replies, is_bound};
+ghost use Rattle.bhs_model.specs.Setups.{normal, IsNormal};
 ghost use Rattle.bhs_world.specs.Faults.{first_fault, IsWithinLimits};
 ghost use Rattle.bhs_world.specs.Tables.{keeps_next, log_after};
 ghost use Rattle.bhs_match.specs.Matches.{world_in, state_of, most_kept, arrivals, bounds, shown_at};
@@ -45,17 +46,19 @@ impl Model for Match {
 }
 
 impl Match {
-    /// A match with an empty log. The first fault of the setup is told; Memory is told only where memory was refused.
+    /// A match with an empty log, set up by the normal form of the setup. The first fault of the setup is told; Memory is told only where memory was refused.
     /// All memory that the match needs is taken here.
     pub fn new(alloc: Global, net: Net, setup: Setup) -> Result<Match, SetupFault>
         ensures fit { OnOk result ((first_fault net setup ≡ None) × IsWithinLimits net setup) }
-        ensures given { IfOk result (λ game. game ≡ record { net = net; setup = setup; log = [] }) }
+        ensures given { IfOk result (λ game. game ≡ record { net = net; setup = normal net setup; log = [] }) }
         ensures fault { IfErr result (λ fault. (fault ≡ SetupFault.Memory) ⊎ (first_fault net setup ≡ Some fault)) }
     {
         let world = World::new(alloc, net, setup)?;
-        let log = Vec::with_capacity(alloc, most_kept(setup.agents, setup.quota))?;
-        let pool = Vec::with_capacity(alloc, usize::from(setup.agents))?;
-        let news = no_news(alloc, setup.agents, setup.quota)?;
+        let agents = world.setup().agents;
+        let quota = world.setup().quota;
+        let log = Vec::with_capacity(alloc, most_kept(agents, quota))?;
+        let pool = Vec::with_capacity(alloc, usize::from(agents))?;
+        let news = no_news(alloc, agents, quota)?;
         Ok(Match {
             world,
             log,
@@ -167,9 +170,10 @@ impl Match {
         self.world.net()
     }
 
-    /// How the match is set up.
+    /// How the match is set up, in normal form.
     pub fn setup(&self) -> &Setup
         ensures setup { result.now ≡ self.now.setup }
+        ensures normal { IsNormal self.now.net self.now.setup }
         ensures within { IsWithinLimits self.now.net self.now.setup }
     {
         self.world.setup()

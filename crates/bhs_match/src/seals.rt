@@ -2,6 +2,7 @@ ghost use Rattle.std.specs.Prelude.{◌≡◌, ◌≤◌, true, length, map, IfO
 ghost use Rattle.bhs_model.specs.Kept.{kept};
 ghost use Rattle.bhs_model.specs.Marks.{events_of, read, read_if, text_at, board_of};
 ghost use Rattle.bhs_model.specs.Runs.{replies};
+ghost use Rattle.bhs_model.specs.Setups.{IsNormal};
 ghost use Rattle.bhs_world.specs.Faults.{IsWithinLimits};
 ghost use Rattle.bhs_match.specs.Matches.{world_in, state_of, most_kept};
 
@@ -63,9 +64,10 @@ impl Sealed {
         self.game.net()
     }
 
-    /// How the match was set up.
+    /// How the match was set up, in normal form.
     pub fn setup(&self) -> &Setup
         ensures setup { result.now ≡ self.now.setup }
+        ensures normal { IsNormal self.now.net self.now.setup }
         ensures within { IsWithinLimits self.now.net self.now.setup }
     {
         self.game.setup()

@@ -10,3 +10,7 @@ pub mod ArenaLemmas
 pub mod ClosedLemmas
 pub mod SufficeLemmas
 pub mod AddLemmas
+pub mod PortMarkLemmas
+pub mod DoomLemmas
+pub mod NormalLemmas
+pub mod SameDoomLemmas

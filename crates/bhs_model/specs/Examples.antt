@@ -22,7 +22,8 @@ abbrev pub triangle : World
 triangle = record {
   net = network_of (((1, 0) ∷ (2, 1) ∷ []) ∷ ((0, 0) ∷ (2, 0) ∷ []) ∷ ((1, 1) ∷ (0, 1) ∷ []) ∷ []);
   home = 0;
-  hole = Some 2;
+  holes = 2 ∷ [];
+  dark = [];
   agents = 2;
   quota = 10;
   board = 8;
@@ -30,7 +31,7 @@ triangle = record {
 
 -- the same without a black hole
 abbrev pub practice : World
-practice = record triangle { hole = None }
+practice = record triangle { holes = [] }
 
 -- no link is held
 abbrev pub none_held : Held
@@ -86,6 +87,33 @@ abbrev pub HeldLinksLookAlike : Type 0
 HeldLinksLookAlike =
     replies_to triangle 0 (played triangle none_held to_the_hole)
     ≡ replies_to practice 0 (played practice held_into_2 to_the_hole)
+
+-- the triangle where no node is a black hole, and the link between the nodes 0 and 2 is dark
+abbrev pub dark_triangle : World
+dark_triangle = record triangle { holes = []; dark = (0, 1) ∷ [] }
+
+-- round the triangle, and then over the dark link from its other end
+abbrev pub round_to_the_dark_link : List Act
+round_to_the_dark_link =
+    Says 0 Enter ∷ Says 0 (Depart 0) ∷ Draws 0
+    ∷ Says 0 (Depart 1) ∷ Draws 0
+    ∷ Says 0 (Depart 1) ∷ Draws 0 ∷ Says 0 Look ∷ []
+
+-- a dark link destroys in both directions
+abbrev pub ADarkLinkIsSilent : Type 0
+ADarkLinkIsSilent =
+    (answers dark_triangle (Says 0 Enter ∷ Says 0 (Depart 1) ∷ Draws 0 ∷ Closes ∷ []) ≡ entered ∷ Some Gone ∷ None ∷ None ∷ [])
+    × (answers dark_triangle round_to_the_dark_link
+    ≡ entered ∷ Some Gone ∷ come_by_0 ∷ Some Gone ∷ come_by_0 ∷ Some Gone ∷ None ∷ Some (No Away) ∷ [])
+
+-- and looks like one that is held in both
+abbrev pub held_between_0_and_2 : Held
+held_between_0_and_2 node port = (node == 0 && port == 1) || (node == 2 && port == 1)
+
+abbrev pub ADarkLinkLooksHeld : Type 0
+ADarkLinkLooksHeld =
+    replies_to dark_triangle 0 (played dark_triangle none_held round_to_the_dark_link)
+    ≡ replies_to practice 0 (played practice held_between_0_and_2 round_to_the_dark_link)
 
 -- right or wrong, an accusation is noted
 abbrev pub AnAccusationIsNoted : Type 0
@@ -254,7 +282,7 @@ WhoIsLost = (lost triangle destroyed 0 ≡ true) × (lost triangle destroyed 1 �
 
 -- the triangle where node 1 is the black hole
 abbrev pub other_hole : World
-other_hole = record triangle { hole = Some 1 }
+other_hole = record triangle { holes = 1 ∷ [] }
 
 -- while nobody has arrived at node 1, it may as well be the black hole
 abbrev pub AnUnreachedNodeMayBeTheHole : Type 0

@@ -1,5 +1,5 @@
 -- The laws of the model, each over every world and every list of events.
-use Rattle.std.specs.Prelude.{ℕ, Bool, true, false, ◌≡◌, ◌<◌, ◌↔◌, IsTrue, ◌||◌, Some, None, List, [], ◌∷◌, ◌++◌, if◌then◌else◌, slice_get}
+use Rattle.std.specs.Prelude.{ℕ, Bool, true, false, ◌≡◌, ◌<◌, ◌↔◌, IsTrue, ◌||◌, Some, List, [], ◌∷◌, ◌++◌, if◌then◌else◌, slice_get}
 use Rattle.bhs_model.specs.declared.commands.Command.{Command}
 use Rattle.bhs_model.specs.declared.events.Event.{Event}
 use Rattle.bhs_model.specs.declared.events.Event.TheVariants.{Tell}
@@ -131,7 +131,7 @@ pub record LooksSlow (world : World) (held : Held) (slow : World) (still : Held)
 abbrev pub HasSlowTwin : Type 0
 HasSlowTwin = (world : World) (held : Held) →
     SlowInstead world held
-    (record world { hole = None }) (λ node port. held node port || doomed world node port)
+    (record world { holes = []; dark = [] }) (λ node port. held node port || doomed world node port)
 
 abbrev pub HoleLooksSlow : Type 0
 HoleLooksSlow = (world : World) (held : Held) (slow : World) (still : Held) (acts : List Act) →

@@ -1,3 +1,4 @@
+pub mod Ends
 pub mod Views
 pub mod Replying
 pub mod Worlds
@@ -11,3 +12,5 @@ pub mod Arenas
 pub mod Examples
 pub mod Marks
 pub mod Setups
+pub mod PortMarks
+pub mod Dooms

@@ -1,5 +1,6 @@
 -- The world that a match is played in.
-use Rattle.std.specs.Prelude.{ℕ, Bool, false, Option, Some, None, ◌==◌, ◌≡◌, ◌<◌}
+use Rattle.std.specs.Prelude.{ℕ, Bool, ◌||◌, List, ◌==◌, ◌&&◌, ◌≡◌, ◌<◌}
+use Rattle.std.specs.List.{list_any}
 
 -- a network: its nodes are numbered from 0, and so are the ports of a node. far gives the node at the
 -- other end of the link at a port, and the label of that link there.
@@ -8,25 +9,33 @@ pub record Network : Type 0 where
   pub degree : ℕ → ℕ
   pub far : ℕ → ℕ → ℕ × ℕ
 
--- a network with the home base, the black hole (None in a practice match), and the limits: how many
--- agents there are, how many commands each may use, and how many bytes a whiteboard holds
+-- a network with the home base, the black holes, the dark links (each named by the node and the port of one of its
+-- ends), and the limits: how many agents there are, how many commands each may use, and how many bytes a whiteboard holds
 pub record World : Type 0 where
   pub net : Network
   pub home : ℕ
-  pub hole : Option ℕ
+  pub holes : List ℕ
+  pub dark : List (ℕ × ℕ)
   pub agents : ℕ
   pub quota : ℕ
   pub board : ℕ
 
--- whether this node is the black hole
-abbrev pub is_hole : Option ℕ → ℕ → Bool
-is_hole None node = false
-is_hole (Some hole) node = hole == node
+-- whether this node is one of these holes
+abbrev pub is_hole : List ℕ → (node : ℕ) → Bool
+is_hole holes node = list_any (λ hole. hole == node) holes
+
+-- whether an end is this port of this node
+abbrev pub names : (node port : ℕ) → (end : ℕ × ℕ) → Bool
+names node port end = end.0 == node && (end.1 == port)
+
+-- whether the link at this port is one of the dark links: one of them has this end, or this at its far end
+abbrev pub is_dark : (far : ℕ → ℕ → ℕ × ℕ) → List (ℕ × ℕ) → (node port : ℕ) → Bool
+is_dark far dark node port = list_any (λ end. names node port end || names node port (far end.0 end.1)) dark
 
 -- whether the link that leaves the node by the port destroys who travels on it. Nothing else says what
--- destroys: here it is that the link leads to the black hole.
+-- destroys: the link leads to a black hole, or is dark.
 abbrev pub doomed : World → (node port : ℕ) → Bool
-doomed world node port = is_hole world.hole (world.net.far node port).0
+doomed world node port = is_hole world.holes (world.net.far node port).0 || is_dark world.net.far world.dark node port
 
 -- two worlds that are equal but for what destroys
 pub record SameButDoom (one two : World) : Type 0 where

@@ -11,7 +11,7 @@ impl Setup {
     pub fn try_clone(&self) -> Result<Setup, Memory>
         ensures { IfOk result (λ copy. copy ≡ self.now) }
     {
-        Ok(*self)
+        Setup::clone(self)
     }
 }
 
@@ -44,7 +44,7 @@ impl Reply {
 
 #[cfg(test)]
 mod tests {
-    use crate::{Command, Event, Reply, Setup, Text};
+    use crate::{Command, DarkLinks, Event, Holes, Reply, Setup, Text};
     use std::alloc::{AllocError, Global};
     use std::test::Fail;
 
@@ -56,7 +56,8 @@ mod tests {
     fn copies_are_equal(rt: HostRuntime) -> Result<(), Fail> {
         let setup = Setup {
             home: 0,
-            hole: Some(2),
+            holes: Holes::from(vec![in rt.alloc(); 2]?),
+            dark: DarkLinks::from(vec![in rt.alloc(); (0, 0)]?),
             agents: 2,
             quota: 10,
             board: 8,

@@ -15,6 +15,8 @@ ghost use Rattle.bhs_model.specs.Examples.{
   AnAgentEnters,
   AnArrivalGivesItAway,
   AnArrivalShowsTheLabelThere,
+  ADarkLinkIsSilent,
+  ADarkLinkLooksHeld,
   AnUnreachedNodeMayBeTheHole,
   EachMatchHasItsOwnEvents,
   HeldLinksLookAlike,
@@ -121,6 +123,8 @@ pub fn worked_examples()
     ensures the_black_hole_is_silent { TheBlackHoleIsSilent }
     ensures on_a_link_all_but_leave_is_away { OnALinkAllButLeaveIsAway }
     ensures held_links_look_alike { HeldLinksLookAlike }
+    ensures a_dark_link_is_silent { ADarkLinkIsSilent }
+    ensures a_dark_link_looks_held { ADarkLinkLooksHeld }
     ensures an_accusation_is_noted { AnAccusationIsNoted }
     ensures a_write_expects_what_it_replaces { AWriteExpectsWhatItReplaces }
     ensures a_whiteboard_holds_so_many_bytes { AWhiteboardHoldsSoManyBytes }

@@ -4,20 +4,26 @@
 
 mod clones;
 mod commands;
+mod dark_links;
 mod dooms;
 mod events;
+mod holes;
 pub mod laws;
 mod limits;
 mod marks;
+mod port_marks;
 mod replies;
 mod setups;
 mod texts;
 
 pub use commands::Command;
-pub use dooms::is_doomed;
+pub use dark_links::DarkLinks;
+pub use dooms::Dooms;
 pub use events::Event;
+pub use holes::Holes;
 pub use limits::{MAX_AGENTS, MAX_BOARD, MAX_LINE, MAX_QUOTA, MAX_TEXT, MAX_TURNS};
 pub use marks::{Kept, Mark, read, text_at};
+pub use port_marks::{is_port_marked, mark_port, no_port_marks};
 pub use replies::{Reply, Why};
 pub use setups::Setup;
 pub use texts::Text;

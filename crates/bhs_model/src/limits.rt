@@ -1,14 +1,14 @@
 /// The most agents that a match may have. The least is 1.
-pub const MAX_AGENTS: u16 = 16;
+pub const MAX_AGENTS: u16 = 64;
 
 /// The most commands that an agent may be granted, Enter and Leave not counted. The least is 1.
 pub const MAX_QUOTA: u16 = 1000;
 
 /// The most bytes that a whiteboard may be set up to hold. The least is 0.
-pub const MAX_BOARD: u16 = 1024;
+pub const MAX_BOARD: u16 = 4096;
 
 /// The most bytes of a client's line, without its line feed.
-pub const MAX_LINE: usize = 16_384;
+pub const MAX_LINE: usize = 65_536;
 
 /// The most bytes of a text that is read whole, as a script.
 pub const MAX_TEXT: usize = 1_048_576;

@@ -1,10 +1,15 @@
+use crate::dark_links::DarkLinks;
+use crate::holes::Holes;
+
 /// How a match is set up, beside its network.
-#[derive(Clone, Copy, Debug, PartialEq, Eq)]
+#[derive(Clone, Debug, PartialEq, Eq, Drop)]
 pub struct Setup {
     /// The node at which every agent enters.
     pub home: u16,
-    /// The node that destroys each agent that arrives; None in a practice match.
-    pub hole: Option<u16>,
+    /// The nodes that destroy each agent that arrives; none in a practice match.
+    pub holes: Holes,
+    /// The links that destroy whoever is delivered over them, in either direction.
+    pub dark: DarkLinks,
     /// The number of agents.
     pub agents: u16,
     /// How many commands each agent may use, Enter and Leave not counted.

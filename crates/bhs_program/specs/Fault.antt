@@ -2,6 +2,8 @@
 use Rattle.std.specs.Prelude.{◌≡◌, ◌⊎◌, ℕ, List, Option}
 use Rattle.std.specs.declared.io.ErrorKind.{ErrorKind}
 use Rattle.std.specs.declared.io.ErrorKind.TheVariants.{OutOfMemory}
+use Rattle.bhs_stream.specs.Streams.{Taken}
+use Rattle.bhs_stream.specs.Sending.{Puts, PutsPart}
 use Rattle.bhs_stream.specs.Known.{AppendsPart, AppendsPrefix}
 use Rattle.bhs_stream.specs.declared.reading.ReadFault.{ReadFault}
 use Rattle.bhs_stream.specs.declared.reading.ReadFault.TheVariants as reads
@@ -63,3 +65,9 @@ abbrev pub StopsPlaying : (output output' : Option (List ℕ)) → (text : List 
 StopsPlaying output output' text Write = AppendsPart output output' text
 StopsPlaying output output' text Memory = AppendsPrefix output output' text
 StopsPlaying output output' text fault = ⊥
+
+-- The same of an output whose writes are seen: a fault of writing stands only where the last write failed or took nothing.
+abbrev pub StopsPuts : {O : Type 0} → (O → List ℕ → Taken → O → Type 0) → (old : O) → (text : List ℕ) → (new : O) → Fault → Type 0
+StopsPuts takes old text new Write = PutsPart takes old text new
+StopsPuts takes old text new Memory = (count : ℕ) × Puts takes old text count new
+StopsPuts takes old text new fault = ⊥

@@ -17,7 +17,11 @@ use Rattle.bhs_script.specs.declared.instructions.TheConstants.{CONNECTIONS}
 use Rattle.bhs_program.specs.declared.faults.Fault.{Fault}
 use Rattle.bhs_program.specs.declared.faults.Fault.TheVariants.{Read, Text, Line, File, Write, Memory, Turns}
 use Rattle.bhs_program.specs.declared.statuses.TheConstants.{DONE, NO_MEMORY}
-use Rattle.bhs_program.specs.Fault.{StopsPlaying, status}
+use Rattle.bhs_stream.specs.Streams.{Chunk, End, Taken}
+use Rattle.bhs_stream.specs.Reading.{Closes}
+use Rattle.bhs_stream.specs.Reading as reading
+use Rattle.bhs_stream.specs.Sending.{PutsAll}
+use Rattle.bhs_program.specs.Fault.{StopsPlaying, StopsPuts, status}
 use Rattle.bhs_program.specs.Summary.{IsAssembled}
 use Rattle.bhs_script.specs.Script.{instructions_of}
 use Rattle.bhs_script.specs.Transcript.{transcript}
@@ -101,3 +105,40 @@ pub record PlaysFile (input input' output output' : Option (List ℕ)) : Type 0 
   pub lineup : Lineup
   pub assembled : IsAssembled lineup
   pub plays : Plays (opening lineup) input input' output output'
+
+-- ---- the same of an input and an output whose calls are seen
+
+-- the input was read to its end by at most so many reads, and means these instructions
+pub record MeansBy {I : Type 0} (gives : I → Chunk → I → Type 0) (stage : Stage) (turns : ℕ) (input input' : I) (instructions : List Instruction) : Type 0 where
+  pub script : List ℕ
+  pub read : Closes gives input MAX_TEXT turns script End input'
+  pub meant : instructions_on stage script ≡ Ok instructions
+
+-- the whole script was played: all that it sends was written
+pub record PlaysBy {I O : Type 0} (gives : I → Chunk → I → Type 0) (takes : O → List ℕ → Taken → O → Type 0) (stage : Stage) (turns : ℕ) (input input' : I) (output output' : O) : Type 0 where
+  pub instructions : List Instruction
+  pub means : MeansBy gives stage turns input input' instructions
+  pub written : PutsAll takes output (transcript stage instructions) output'
+
+-- the script was played until this fault
+pub record PlaysUntilBy {I O : Type 0} (gives : I → Chunk → I → Type 0) (takes : O → List ℕ → Taken → O → Type 0) (fault : Fault) (stage : Stage) (turns : ℕ) (input input' : I) (output output' : O) : Type 0 where
+  pub instructions : List Instruction
+  pub means : MeansBy gives stage turns input input' instructions
+  pub stopped : StopsPuts takes output (transcript stage instructions) output' fault
+
+-- reading stopped with this fault, and nothing was written
+abbrev pub StopsReadingBy : {I O : Type 0} → (I → Chunk → I → Type 0) → ℕ → I → I → O → O → ReadFault → Type 0
+StopsReadingBy gives turns input input' output output' fault = reading.EndsBy gives input MAX_TEXT turns fault input' × (output' ≡ output)
+
+-- what a fault means and leaves. Memory may run out while the script is read, judged or played.
+abbrev pub StopsBy : {I O : Type 0} → (I → Chunk → I → Type 0) → (O → List ℕ → Taken → O → Type 0) → Stage → ℕ → I → I → O → O → Fault → Type 0
+StopsBy gives takes stage turns input input' output output' Read = StopsReadingBy gives turns input input' output output' reads.Read
+StopsBy gives takes stage turns input input' output output' Text = StopsReadingBy gives turns input input' output output' reads.Text
+StopsBy gives takes stage turns input input' output output' Turns = StopsReadingBy gives turns input input' output output' reads.Turns
+StopsBy gives takes stage turns input input' output output' (Line line) =
+    (script : List ℕ) × Closes gives input MAX_TEXT turns script End input' × (instructions_on stage script ≡ Err line) × (output' ≡ output)
+StopsBy gives takes stage turns input input' output output' (File fault) = ⊥
+StopsBy gives takes stage turns input input' output output' Write = PlaysUntilBy gives takes Write stage turns input input' output output'
+StopsBy gives takes stage turns input input' output output' Memory =
+    StopsReadingBy gives turns input input' output output' reads.Memory
+    ⊎ (((script : List ℕ) × Closes gives input MAX_TEXT turns script End input' × (output' ≡ output)) ⊎ PlaysUntilBy gives takes Memory stage turns input input' output output')

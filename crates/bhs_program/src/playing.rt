@@ -1,30 +1,29 @@
 ghost use Rattle.std.specs.Prelude.{◌≡◌, map, IfOk, IfErr, OnOk, length};
-ghost use Rattle.std.specs.Io.KnownBytes.{Appends};
+ghost use Rattle.bhs_stream.specs.Sending.{PutsAll};
 ghost use Rattle.bhs_session.specs.Stages.{step, stands_after};
 ghost use Rattle.bhs_session.specs.Rehearsing.{game_of, seen_out};
 ghost use Rattle.bhs_script.specs.Instructions.{seen};
 ghost use Rattle.bhs_script.specs.Transcript.{all_printed, transcript};
-ghost use Rattle.bhs_program.specs.Fault.{StopsPlaying};
+ghost use Rattle.bhs_program.specs.Fault.{StopsPuts};
 
 use crate::faults::Fault;
 use bhs_files::Ready;
 use bhs_net::Memory;
 use bhs_script::{Instruction, push_printed};
 use bhs_session::{Out, Rehearsal, RehearsalFault};
-use bhs_stream::send;
+use bhs_stream::{Output, send};
 use std::alloc::Global;
-use std::io::Write;
 
 /// Plays a script, and prints what each instruction sends before the next. Gives the matches back.
-pub fn play<W: Write>(
+pub fn play<W: Output>(
     alloc: Global,
     mut rehearsal: Rehearsal,
     script: Vec<Instruction>,
     writer: &mut W,
 ) -> Result<Vec<Ready>, Fault>
-    ensures printed { OnOk result (Appends (W.contents writer.old) (W.contents writer.new) (transcript rehearsal.stage (map seen script.items))) }
+    ensures printed { OnOk result (PutsAll W.takes writer.old (transcript rehearsal.stage (map seen script.items)) writer.new) }
     ensures played { IfOk result (λ ready. map game_of ready.items ≡ (stands_after rehearsal.stage (map seen script.items)).games) }
-    ensures stopped { IfErr result (StopsPlaying (W.contents writer.old) (W.contents writer.new) (transcript rehearsal.stage (map seen script.items))) }
+    ensures stopped { IfErr result (StopsPuts W.takes writer.old (transcript rehearsal.stage (map seen script.items)) writer.new) }
 {
     for instruction in script {
         let outs = obey(alloc, &mut rehearsal, instruction)?;
@@ -55,9 +54,9 @@ fn obey(
     }
 }
 
-fn print<W: Write>(alloc: Global, outs: &[Out], writer: &mut W) -> Result<(), Fault>
-    ensures ok { OnOk result (Appends (W.contents writer.old) (W.contents writer.new) (all_printed (map seen_out outs.now))) }
-    ensures err { IfErr result (StopsPlaying (W.contents writer.old) (W.contents writer.new) (all_printed (map seen_out outs.now))) }
+fn print<W: Output>(alloc: Global, outs: &[Out], writer: &mut W) -> Result<(), Fault>
+    ensures ok { OnOk result (PutsAll W.takes writer.old (all_printed (map seen_out outs.now)) writer.new) }
+    ensures err { IfErr result (StopsPuts W.takes writer.old (all_printed (map seen_out outs.now)) writer.new) }
 {
     let text = printed(alloc, outs)?;
     send(writer, &text)?;

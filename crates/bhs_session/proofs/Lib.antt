@@ -22,3 +22,4 @@ pub mod Taking
 pub mod TurnLemmas
 pub mod WorkedScripts
 pub mod Writing
+pub mod KnownLemmas

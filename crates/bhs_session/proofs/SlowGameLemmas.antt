@@ -117,7 +117,7 @@ module _ (game slow : Game) (is : IsSlowFor game slow) where
   reply_slow event unstruck =
       let is_other = other_world (world_in game) (world_in slow) is.worlds in
       subst (λ (there : World). reply (world_in game) (state_of game) event ≡ reply there (state_of game) event) is_other
-      (reply_alike (world_in game) (world_in slow).hole (state_of game) event
+      (reply_alike (world_in game) (world_in slow) (state_of game) event
       (subst (λ (there : World). is_struck (world_in game) there (state_of game) event ≡ false) (sym is_other) unstruck))
       ∙ ap (λ (state : State). reply (world_in slow) state event) is.stands
 
@@ -220,5 +220,5 @@ begin_lemma game held none holds = record {
   harmless = λ node port. refl;
   held_too = holds;
   stands = ap (run_from (world_in game) initial) none
-      ∙ sym (ap (run_from (world_in (record game { setup = record game.setup { hole = None }; held = held })) initial) none);
+      ∙ sym (ap (run_from (world_in (record game { setup = record game.setup { holes = []; dark = [] }; held = held })) initial) none);
 }

@@ -12,14 +12,14 @@ use Rattle.bhs_session.specs.RehearsalLaws.{bytes_to, IsSlowFor}
 abbrev pub triangle : Game
 triangle = record {
   net = ((1, 0) ∷ (2, 1) ∷ []) ∷ ((0, 0) ∷ (2, 0) ∷ []) ∷ ((1, 1) ∷ (0, 1) ∷ []) ∷ [];
-  setup = record { home = 0; hole = Some 2; agents = 2; quota = 10; board = 8 };
+  setup = record { home = 0; holes = 2 ∷ []; dark = []; agents = 2; quota = 10; board = 8 };
   held = [];
   log = [];
 }
 
 -- the same without a black hole, where the links into node 2 are held
 abbrev pub slow : Game
-slow = record triangle { setup = record triangle.setup { hole = None }; held = (0, 1) ∷ (1, 1) ∷ [] }
+slow = record triangle { setup = record triangle.setup { holes = []; dark = [] }; held = (0, 1) ∷ (1, 1) ∷ [] }
 
 -- `ka` lets in agent 0, and `kb` agent 1
 abbrev pub keys : List Seat

@@ -1,5 +1,5 @@
 -- Where a session stands between two of its steps.
-use Rattle.std.specs.Prelude.{ℕ, ◌<◌, Bool, true, if◌then◌else◌, List, [], ◌∷◌, ◌++◌, length, take, Option, Some, None, Ok, Err}
+use Rattle.std.specs.Prelude.{ℕ, Bool, true, if◌then◌else◌, List, [], ◌∷◌, ◌++◌, take, Option, Some, None, Ok, Err}
 use Rattle.std.specs.declared.result.Result.{Result}
 use Rattle.bhs_model.specs.declared.replies.Reply.{Reply}
 use Rattle.bhs_model.specs.declared.replies.Reply.TheVariants as replies
@@ -7,6 +7,8 @@ use Rattle.bhs_wire.specs.declared.denials.Denial.{Denial}
 use Rattle.bhs_wire.specs.declared.denials.Denial.TheVariants as denials
 use Rattle.bhs_wire.specs.Denial.{denial_line}
 use Rattle.bhs_wire.specs.Reply.{line}
+use Rattle.bhs_stream.specs.Streams.{Taken}
+use Rattle.bhs_stream.specs.Sending.{PutsAll, PutsPart}
 use Rattle.bhs_session.specs.declared.endings.Ended.{Ended}
 use Rattle.bhs_session.specs.declared.endings.Ended.TheVariants as endings
 use Rattle.bhs_session.specs.declared.endings.Stop.{Stop}
@@ -99,12 +101,13 @@ stopped (Finished ended) cause = Finished cause
 
 -- ---- writing
 
--- In this phase these bytes are written, and this phase follows: the whole text, less of it at a fault, or none
--- where there is no memory for it.
-pub data Sends : Phase → List ℕ → Phase → Type 0 where
-  all : (text : List ℕ) (next : Phase) → Sends (Owes text next) text next
-  part : (text : List ℕ) (next : Phase) (count : ℕ) → count < length text → Sends (Owes text next) (take count text) (stopped next endings.WriteFault)
-  none : (text : List ℕ) (next : Phase) → Sends (Owes text next) [] (stopped next endings.Memory)
+-- In this phase these bytes are written, the output going from one state to the next, and this phase follows: the
+-- whole text, less of it where a write failed or took nothing, or none where there is no memory for it.
+pub data Sends {O : Type 0} (takes : O → List ℕ → Taken → O → Type 0) (old : O) : Phase → List ℕ → O → Phase → Type 0 where
+  all : (text : List ℕ) (next : Phase) (new : O) → PutsAll takes old text new → Sends takes old (Owes text next) text new next
+  part : (text : List ℕ) (next : Phase) (new : O) (some : PutsPart takes old text new)
+      → Sends takes old (Owes text next) (take some.sent text) new (stopped next endings.WriteFault)
+  none : (text : List ℕ) (next : Phase) → Sends takes old (Owes text next) [] old (stopped next endings.Memory)
 
 -- ---- what the code knows of a phase
 

@@ -183,7 +183,7 @@ LinksCanBeHeld = (game : Game) → (held : List (ℕ × ℕ)) × HoldsAsWell gam
 abbrev pub SlowMatchesBegin : Type 0
 SlowMatchesBegin =
     (game : Game) (held : List (ℕ × ℕ)) → game.log ≡ [] → HoldsAsWell game held →
-    IsSlowFor game (record game { setup = record game.setup { hole = None }; held = held })
+    IsSlowFor game (record game { setup = record game.setup { holes = []; dark = [] }; held = held })
 
 -- two stages are the same but for one match, which is slow in the second
 pub record IsSlowStageFor (game : ℕ) (one two : Stage) : Type 0 where

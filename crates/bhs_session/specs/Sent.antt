@@ -1,12 +1,11 @@
 -- What was written of a text where it did not go out whole.
-use Rattle.std.specs.Prelude.{ℕ, List}
-use Rattle.std.specs.declared.option.Option.{Option}
-use Rattle.std.specs.Io.KnownBytes.{Keeps}
-use Rattle.bhs_stream.specs.Known.{AppendsPart}
+use Rattle.std.specs.Prelude.{◌≡◌, ℕ, List}
+use Rattle.bhs_stream.specs.Streams.{Taken}
+use Rattle.bhs_stream.specs.Sending.{PutsPart}
 use Rattle.bhs_session.specs.declared.endings.Ended.{Ended}
 use Rattle.bhs_session.specs.declared.endings.Ended.TheVariants.{Memory, WriteFault}
 
-abbrev pub SentBut : Ended → Option (List ℕ) → Option (List ℕ) → List ℕ → Type 0
-SentBut Memory old new text = Keeps old new
-SentBut WriteFault old new text = AppendsPart old new text
-SentBut cause old new text = ⊥
+abbrev pub SentBut : {O : Type 0} → (O → List ℕ → Taken → O → Type 0) → Ended → (old : O) → List ℕ → (new : O) → Type 0
+SentBut takes Memory old text new = new ≡ old
+SentBut takes WriteFault old text new = PutsPart takes old text new
+SentBut takes cause old text new = ⊥

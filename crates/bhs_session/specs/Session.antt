@@ -1,8 +1,7 @@
 -- A session, step by step.
-use Rattle.std.specs.Prelude.{◌≡◌, ℕ, ◌-◌, ◌<◌, ◌≤◌, true, false, List, [], ◌∷◌, ◌++◌, length}
-use Rattle.std.specs.declared.option.Option.{Option}
-use Rattle.std.specs.Io.KnownBytes.{Appends, Consumes}
-use Rattle.bhs_stream.specs.declared.reading.TheConstants.{BUFFER}
+use Rattle.std.specs.Prelude.{◌≡◌, ℕ, ◌-◌, ◌<◌, true, false, List, [], ◌∷◌, ◌++◌, length}
+use Rattle.bhs_stream.specs.Streams.{Chunk, Bytes, End, Fails, Taken}
+use Rattle.bhs_stream.specs.Reading.{IsPiece}
 use Rattle.bhs_model.specs.declared.commands.Command.{Command}
 use Rattle.bhs_model.specs.declared.commands.Command.TheVariants as commands
 use Rattle.bhs_wire.specs.declared.commands.First.{First}
@@ -15,7 +14,8 @@ use Rattle.bhs_session.specs.Port.{Asked, Enters, Tells, News, Heard}
 use Rattle.bhs_session.specs.Phase.{Phase, Fresh, Ready, Awaits, Owes, Leaves, Finished, denied, after_enter, after_answer, stopped, Sends}
 
 -- how far a session has come
-pub record Point (P : Type 0) : Type 0 where
+pub record Point (O P : Type 0) : Type 0 where
+  pub output : O
   pub port : P
   -- how many reads are left to it
   pub turns : ℕ
@@ -45,63 +45,72 @@ TakesLines (Finished ended) = ⊥
 abbrev pub IsNext : List ℕ → List Line → Line → Type 0
 IsNext read taken line = (more : List Line) × (lines read ≡ taken ++ line ∷ more)
 
--- what one read gives
-abbrev pub IsPiece : List ℕ → Type 0
-IsPiece piece = (0 < length piece) × (length piece ≤ BUFFER)
+-- where a session that takes lines has come by a read that brought this
+abbrev pub after_read : {O P : Type 0} → Chunk → Point O P → Point O P
+after_read (Bytes piece) p = record p { turns = p.turns - 1; read = p.read ++ piece }
+after_read End p = record p { turns = p.turns - 1; phase = stopped p.phase endings.InputEnded }
+after_read Fails p = record p { turns = p.turns - 1; phase = stopped p.phase endings.ReadFault }
 
--- what stops a session that takes lines: its reader, its turns, or want of memory for what was read
-abbrev pub StopsBy : Ended → (turns : ℕ) (read : List ℕ) (taken : List Line) → Type 0
-StopsBy endings.InputEnded turns read taken = (taken ≡ lines read) × (0 < turns)
-StopsBy endings.ReadFault turns read taken = (taken ≡ lines read) × (0 < turns)
-StopsBy endings.Turns turns read taken = (taken ≡ lines read) × (turns ≡ 0)
-StopsBy endings.Memory turns read taken = 0 < length read
-StopsBy cause turns read taken = ⊥
+-- what one read brings
+abbrev pub IsChunk : Chunk → Type 0
+IsChunk (Bytes piece) = IsPiece piece
+IsChunk End = Unit {0}
+IsChunk Fails = Unit {0}
 
--- The steps of a session on a port that may answer so.
-pub data Step {P : Type 0} (calls : P → Asked → Heard → P → Type 0) : Point P → Point P → Type 0 where
-  -- more is read, where every whole line was taken and a turn is left
-  reads : (p : Point P) (piece : List ℕ) → TakesLines p.phase → p.taken ≡ lines p.read → 0 < p.turns → IsPiece piece
-      → Step calls p (record p { turns = p.turns - 1; read = p.read ++ piece })
+-- The steps of a session that reads nothing, on an output and a port that may answer so.
+pub data Step {O P : Type 0} (takes : O → List ℕ → Taken → O → Type 0) (calls : P → Asked → Heard → P → Type 0) : Point O P → Point O P → Type 0 where
   -- the first line is an enter, and the port is asked for its key
-  enters : (p : Point P) (line : Line) (key : List ℕ) (heard : Heard) (port : P) → p.phase ≡ Fresh → IsNext p.read p.taken line → said_by line ≡ Enter key
+  enters : (p : Point O P) (line : Line) (key : List ℕ) (heard : Heard) (port : P) → p.phase ≡ Fresh → IsNext p.read p.taken line → said_by line ≡ Enter key
       → calls p.port (Enters key) heard port
-      → Step calls p (record p { port = port; taken = p.taken ++ line ∷ []; phase = after_enter heard })
+      → Step takes calls p (record p { port = port; taken = p.taken ++ line ∷ []; phase = after_enter heard })
   -- the first line is any other
-  denies : (p : Point P) (line : Line) (command : Command) → p.phase ≡ Fresh → IsNext p.read p.taken line → said_by line ≡ Tell command
-      → Step calls p (record p { taken = p.taken ++ line ∷ []; phase = denied denials.Enter })
+  denies : (p : Point O P) (line : Line) (command : Command) → p.phase ≡ Fresh → IsNext p.read p.taken line → said_by line ≡ Tell command
+      → Step takes calls p (record p { taken = p.taken ++ line ∷ []; phase = denied denials.Enter })
   -- a later line is told
-  tells : (p : Point P) (line : Line) (heard : Heard) (port : P) → p.phase ≡ Ready → IsNext p.read p.taken line
+  tells : (p : Point O P) (line : Line) (heard : Heard) (port : P) → p.phase ≡ Ready → IsNext p.read p.taken line
       → calls p.port (Tells (command_by (said_by line))) heard port
-      → Step calls p (record p { port = port; taken = p.taken ++ line ∷ []; phase = after_answer true heard })
+      → Step takes calls p (record p { port = port; taken = p.taken ++ line ∷ []; phase = after_answer true heard })
   -- the port is asked for news
-  awaits : (p : Point P) (heard : Heard) (port : P) → p.phase ≡ Awaits → calls p.port News heard port
-      → Step calls p (record p { port = port; phase = after_answer false heard })
+  awaits : (p : Point O P) (heard : Heard) (port : P) → p.phase ≡ Awaits → calls p.port News heard port
+      → Step takes calls p (record p { port = port; phase = after_answer false heard })
   -- what is owed is written
-  sends : (p : Point P) (bytes : List ℕ) (next : Phase) → Sends p.phase bytes next
-      → Step calls p (record p { written = p.written ++ bytes; phase = next })
-  -- something else stops it
-  stops : (p : Point P) (cause : Ended) → TakesLines p.phase → StopsBy cause p.turns p.read p.taken
-      → Step calls p (record p { phase = stopped p.phase cause })
+  sends : (p : Point O P) (bytes : List ℕ) (output : O) (next : Phase) → Sends takes p.output p.phase bytes output next
+      → Step takes calls p (record p { output = output; written = p.written ++ bytes; phase = next })
+  -- there is no memory for what was read
+  lacks : (p : Point O P) → TakesLines p.phase → 0 < length p.read
+      → Step takes calls p (record p { phase = stopped p.phase endings.Memory })
+  -- no turn is left
+  tires : (p : Point O P) → TakesLines p.phase → p.taken ≡ lines p.read → p.turns ≡ 0
+      → Step takes calls p (record p { phase = stopped p.phase endings.Turns })
   -- its agent leaves, and what is answered is not written
-  leaves : (p : Point P) (ended : Ended) (heard : Heard) (port : P) → p.phase ≡ Leaves ended → calls p.port (Tells commands.Leave) heard port
-      → Step calls p (record p { port = port; phase = Finished ended })
+  leaves : (p : Point O P) (ended : Ended) (heard : Heard) (port : P) → p.phase ≡ Leaves ended → calls p.port (Tells commands.Leave) heard port
+      → Step takes calls p (record p { port = port; phase = Finished ended })
 
--- the second point is reached from the first, by steps
-pub data Session {P : Type 0} (calls : P → Asked → Heard → P → Type 0) (start : Point P) : Point P → Type 0 where
-  begins : Session calls start start
-  goes_on : (p q : Point P) → Session calls start p → Step calls p q → Session calls start q
+-- the second point is reached from the first, by steps that read nothing
+pub data Talk {O P : Type 0} (takes : O → List ℕ → Taken → O → Type 0) (calls : P → Asked → Heard → P → Type 0) (start : Point O P) : Point O P → Type 0 where
+  begins : Talk takes calls start start
+  goes_on : (p q : Point O P) → Talk takes calls start p → Step takes calls p q → Talk takes calls start q
+
+-- an input and a point are reached from others, by reads and steps; more is read where every whole line was taken
+-- and a turn is left
+pub data Session {I O P : Type 0} (gives : I → Chunk → I → Type 0) (takes : O → List ℕ → Taken → O → Type 0) (calls : P → Asked → Heard → P → Type 0) (from : I) (start : Point O P) : I → Point O P → Type 0 where
+  opens : Session gives takes calls from start from start
+  reads : (input next : I) (p : Point O P) (chunk : Chunk) → Session gives takes calls from start input p
+      → TakesLines p.phase → p.taken ≡ lines p.read → 0 < p.turns → IsChunk chunk → gives input chunk next
+      → Session gives takes calls from start next (after_read chunk p)
+  steps : (input : I) (p q : Point O P) → Session gives takes calls from start input p → Step takes calls p q → Session gives takes calls from start input q
 
 -- a session before its first step
-abbrev pub fresh : {P : Type 0} → P → (turns : ℕ) → Point P
-fresh port turns = record { port = port; turns = turns; read = []; taken = []; written = []; phase = Fresh }
+abbrev pub fresh : {O P : Type 0} → O → P → (turns : ℕ) → Point O P
+fresh output port turns = record { output = output; port = port; turns = turns; read = []; taken = []; written = []; phase = Fresh }
 
--- What a session makes of a port, a reader and a writer that it is lent: it came by steps from its start to this
--- phase, has read what the reader gave, and written what the writer took.
-pub record Serves {P : Type 0} (calls : P → Asked → Heard → P → Type 0) (old new : P) (turns : ℕ) (input_old input_new output_old output_new : Option (List ℕ)) (phase : Phase) : Type 0 where
+-- What a session makes of an input, an output and a port that it is lent: by reads and steps it came from its start to
+-- this phase.
+pub record Serves {I O P : Type 0} (gives : I → Chunk → I → Type 0) (takes : O → List ℕ → Taken → O → Type 0) (calls : P → Asked → Heard → P → Type 0)
+    (input_old input_new : I) (output_old output_new : O) (port_old port_new : P) (turns : ℕ) (phase : Phase) : Type 0 where
   pub left : ℕ
   pub read : List ℕ
   pub taken : List Line
   pub written : List ℕ
-  pub session : Session calls (fresh old turns) (record { port = new; turns = left; read = read; taken = taken; written = written; phase = phase })
-  pub consumed : Consumes input_old input_new read
-  pub appended : Appends output_old output_new written
+  pub session : Session gives takes calls input_old (fresh output_old port_old turns) input_new
+      (record { output = output_new; port = port_new; turns = left; read = read; taken = taken; written = written; phase = phase })

@@ -23,7 +23,7 @@ pub record Stage : Type 0 where
 
 -- no match is there
 abbrev no_game : Game
-no_game = record { net = []; setup = record { home = 0; hole = None; agents = 0; quota = 0; board = 0 }; held = []; log = [] }
+no_game = record { net = []; setup = record { home = 0; holes = []; dark = []; agents = 0; quota = 0; board = 0 }; held = []; log = [] }
 
 -- the match of a number
 abbrev pub game_at : Stage → (game : ℕ) → Game

@@ -8,19 +8,19 @@ use crate::port::Port;
 use crate::replies::write_reply;
 use bhs_model::Reply;
 use bhs_net::Memory;
+use bhs_stream::Output;
 use std::alloc::Global;
-use std::io::Write;
 
 // Writes an answer, and the news that it waits for.
-pub(crate) fn answer<W: Write, P: Port>(
+pub(crate) fn answer<W: Output, P: Port>(
     alloc: Global,
     writer: &mut W,
     port: &mut P,
     reply: &Reply,
 ) -> Result<(), Stop>
-    ensures { (p : Point P) → Ends P.calls (W.contents writer.old) (W.contents writer.new)
-        (record p { port = port.old; phase = Owes (text_of reply.now) (answered_by true reply.now) })
-        port.new p.taken (λ _. Ready) result }
+    ensures { (p : Point W P) → Ends W.takes P.calls
+        (record p { output = writer.old; port = port.old; phase = Owes (text_of reply.now) (answered_by true reply.now) })
+        writer.new port.new p.taken (λ _. Ready) result }
 {
     write_reply(alloc, writer, reply)?;
     if waits_for_news(reply) {
@@ -38,9 +38,9 @@ fn waits_for_news(reply: &Reply) -> bool
 }
 
 // Asks for news, and writes them.
-fn write_news<W: Write, P: Port>(alloc: Global, writer: &mut W, port: &mut P) -> Result<(), Stop>
-    ensures { (p : Point P) → Ends P.calls (W.contents writer.old) (W.contents writer.new)
-        (record p { port = port.old; phase = Awaits }) port.new p.taken (λ _. Ready) result }
+fn write_news<W: Output, P: Port>(alloc: Global, writer: &mut W, port: &mut P) -> Result<(), Stop>
+    ensures { (p : Point W P) → Ends W.takes P.calls
+        (record p { output = writer.old; port = port.old; phase = Awaits }) writer.new port.new p.taken (λ _. Ready) result }
 {
     match port.news() {
         Ok(news) => write_reply(alloc, writer, &news),

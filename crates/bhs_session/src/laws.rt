@@ -7,18 +7,19 @@ ghost use Rattle.bhs_session.specs.Rehearsing.{StandsForTheScript};
 
 use crate::endings::Ended;
 use crate::port::Port;
+use bhs_stream::{Input, Output};
 
 /// The lines that a session took are the first of the lines that it read, in order.
-pub fn lines_in_order<P: Port>()
-    ensures { (start : P) (turns : ℕ) (p : Point P) → Session P.calls (fresh start turns) p
+pub fn lines_in_order<I: Input, O: Output, P: Port>()
+    ensures { (from input : I) (output : O) (start : P) (turns : ℕ) (p : Point O P) → Session I.gives O.takes P.calls from (fresh output start turns) input p
         → (left : List Line) × (lines p.read ≡ p.taken ++ left) }
 {}
 
 /// A session that may not read at all asks its port nothing and writes nothing. It ends by its turns.
-pub fn no_turns<P: Port>()
-    ensures { (start : P) (p : Point P) (ended : Ended) → Session P.calls (fresh start 0) p
+pub fn no_turns<I: Input, O: Output, P: Port>()
+    ensures { (from input : I) (output : O) (start : P) (p : Point O P) (ended : Ended) → Session I.gives O.takes P.calls from (fresh output start 0) input p
         → p.phase ≡ Finished ended
-        → (ended ≡ Ended.Turns) × (p.port ≡ start) × (p.written ≡ []) × (p.read ≡ []) }
+        → (ended ≡ Ended.Turns) × (input ≡ from) × (p.output ≡ output) × (p.port ≡ start) × (p.written ≡ []) × (p.read ≡ []) }
 {}
 
 /// A rehearsal whose calls were the instructions of a script stands for that script: its stage is the one that the

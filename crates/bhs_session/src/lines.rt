@@ -10,22 +10,22 @@ use crate::port::{Entered, Port};
 use crate::replies::write_denial;
 use bhs_model::Command;
 use bhs_net::Memory;
+use bhs_stream::Output;
 use bhs_wire::{Denial, First, Raw};
 use std::alloc::Global;
-use std::io::Write;
 
 // Takes lines in order. Says whether the session has entered.
-pub(crate) fn take_lines<W: Write, P: Port>(
+pub(crate) fn take_lines<W: Output, P: Port>(
     alloc: Global,
     writer: &mut W,
     port: &mut P,
     has_entered: bool,
     found: &[Raw],
 ) -> Result<bool, Stop>
-    ensures { (p : Point P) → lines p.read ≡ p.taken ++ map seen found.now
-        → Ends P.calls (W.contents writer.old) (W.contents writer.new)
-        (record p { port = port.old; phase = between has_entered })
-        port.new (lines p.read) between result }
+    ensures { (p : Point W P) → lines p.read ≡ p.taken ++ map seen found.now
+        → Ends W.takes P.calls
+        (record p { output = writer.old; port = port.old; phase = between has_entered })
+        writer.new port.new (lines p.read) between result }
 {
     let mut entered = has_entered;
     for line in found {
@@ -36,17 +36,17 @@ pub(crate) fn take_lines<W: Write, P: Port>(
 }
 
 // Takes one line, with the news that its answer waits for.
-fn take_line<W: Write, P: Port>(
+fn take_line<W: Output, P: Port>(
     alloc: Global,
     writer: &mut W,
     port: &mut P,
     has_entered: bool,
     line: &Raw,
 ) -> Result<(), Stop>
-    ensures { (p : Point P) → IsNext p.read p.taken (seen line.now)
-        → Ends P.calls (W.contents writer.old) (W.contents writer.new)
-        (record p { port = port.old; phase = between has_entered })
-        port.new (p.taken ++ seen line.now ∷ []) (λ _. Ready) result }
+    ensures { (p : Point W P) → IsNext p.read p.taken (seen line.now)
+        → Ends W.takes P.calls
+        (record p { output = writer.old; port = port.old; phase = between has_entered })
+        writer.new port.new (p.taken ++ seen line.now ∷ []) (λ _. Ready) result }
 {
     let Ok(first) = line.said(alloc) else {
         return Err(Stop::between_lines(has_entered, Ended::Memory));
@@ -59,16 +59,16 @@ fn take_line<W: Write, P: Port>(
 }
 
 // Takes the first line, which lets the session in or not.
-fn take_first<W: Write, P: Port>(
+fn take_first<W: Output, P: Port>(
     alloc: Global,
     writer: &mut W,
     port: &mut P,
     first: First,
 ) -> Result<(), Stop>
-    ensures { (p : Point P) (line : Line) → IsNext p.read p.taken line → said_by line ≡ first
-        → Ends P.calls (W.contents writer.old) (W.contents writer.new)
-        (record p { port = port.old; phase = Fresh })
-        port.new (p.taken ++ line ∷ []) (λ _. Ready) result }
+    ensures { (p : Point W P) (line : Line) → IsNext p.read p.taken line → said_by line ≡ first
+        → Ends W.takes P.calls
+        (record p { output = writer.old; port = port.old; phase = Fresh })
+        writer.new port.new (p.taken ++ line ∷ []) (λ _. Ready) result }
 {
     let First::Enter { key } = first else {
         return Err(write_denial(writer, Denial::Enter));
@@ -82,16 +82,16 @@ fn take_first<W: Write, P: Port>(
 }
 
 // Takes a line after the first.
-fn take_later<W: Write, P: Port>(
+fn take_later<W: Output, P: Port>(
     alloc: Global,
     writer: &mut W,
     port: &mut P,
     first: First,
 ) -> Result<(), Stop>
-    ensures { (p : Point P) (line : Line) → IsNext p.read p.taken line → said_by line ≡ first
-        → Ends P.calls (W.contents writer.old) (W.contents writer.new)
-        (record p { port = port.old; phase = Ready })
-        port.new (p.taken ++ line ∷ []) (λ _. Ready) result }
+    ensures { (p : Point W P) (line : Line) → IsNext p.read p.taken line → said_by line ≡ first
+        → Ends W.takes P.calls
+        (record p { output = writer.old; port = port.old; phase = Ready })
+        writer.new port.new (p.taken ++ line ∷ []) (λ _. Ready) result }
 {
     match port.tell(command_in(first)) {
         Ok(reply) => answer(alloc, writer, port, &reply),

@@ -1,6 +1,5 @@
 ghost use Rattle.std.specs.Prelude.{◌≡◌, ℕ, List, Bool, OnOk, OnErr, IfErr, ◌++◌, ◌∷◌, [], string_bytes, IfOk};
-ghost use Rattle.std.specs.Io.KnownBytes.{Appends};
-ghost use Rattle.bhs_stream.specs.Known.{AppendsPart};
+ghost use Rattle.bhs_stream.specs.Sending.{PutsAll, PutsPart};
 ghost use Rattle.bhs_session.specs.Phase.{text_of, denial_text, answered_by, waiting, reached, Sends, Owes, Finished, phase_of};
 ghost use Rattle.bhs_session.specs.Moves.{StopsAtLines};
 ghost use Rattle.bhs_session.specs.Sent.{SentBut};
@@ -8,20 +7,18 @@ ghost use Rattle.bhs_session.specs.Sent.{SentBut};
 use crate::endings::{Ended, Stop, ending_of};
 use bhs_model::Reply;
 use bhs_net::Memory;
-use bhs_stream::{WriteFault, send};
+use bhs_stream::{Output, WriteFault, send};
 use bhs_wire::{Denial, denial_of, line_of};
 use std::alloc::Global;
-use std::io::Write;
 
 // Writes the line of an answer. It stops the session where the answer ends it, or a fault does.
-pub(crate) fn write_reply<W: Write>(
+pub(crate) fn write_reply<W: Output>(
     alloc: Global,
     writer: &mut W,
     reply: &Reply,
 ) -> Result<(), Stop>
     ensures sends { (waits : Bool) → (more : List ℕ)
-        × Appends (W.contents writer.old) (W.contents writer.new) more
-        × Sends (Owes (text_of reply.now) (answered_by waits reply.now)) more
+        × Sends W.takes writer.old (Owes (text_of reply.now) (answered_by waits reply.now)) more writer.new
         (reached (waiting waits reply.now) result) }
     ensures cause { IfErr result StopsAtLines }
 {
@@ -33,10 +30,9 @@ pub(crate) fn write_reply<W: Write>(
     }
 }
 
-fn send_reply<W: Write>(alloc: Global, writer: &mut W, reply: &Reply) -> Result<(), Ended>
-    ensures ok { OnOk result (Appends (W.contents writer.old) (W.contents writer.new) (text_of reply.now)) }
-    ensures err { IfErr result (λ cause. SentBut cause (W.contents writer.old) (W.contents writer.new)
-        (text_of reply.now)) }
+fn send_reply<W: Output>(alloc: Global, writer: &mut W, reply: &Reply) -> Result<(), Ended>
+    ensures ok { OnOk result (PutsAll W.takes writer.old (text_of reply.now) writer.new) }
+    ensures err { IfErr result (λ cause. SentBut W.takes cause writer.old (text_of reply.now) writer.new) }
 {
     let Ok(text) = reply_text(alloc, reply) else {
         return Err(Ended::Memory);
@@ -57,9 +53,9 @@ pub(crate) fn reply_text(alloc: Global, reply: &Reply) -> Result<String, Memory>
 }
 
 // Writes the line that tells a client why it is not let in.
-pub(crate) fn write_denial<W: Write>(writer: &mut W, denial: Denial) -> Stop
-    ensures sends { (more : List ℕ) × Appends (W.contents writer.old) (W.contents writer.new) more
-        × Sends (Owes (denial_text denial) (Finished Ended.Denied)) more (phase_of result) }
+pub(crate) fn write_denial<W: Output>(writer: &mut W, denial: Denial) -> Stop
+    ensures sends { (more : List ℕ)
+        × Sends W.takes writer.old (Owes (denial_text denial) (Finished Ended.Denied)) more writer.new (phase_of result) }
     ensures cause { StopsAtLines result }
 {
     match send_denial(writer, denial) {
@@ -68,11 +64,9 @@ pub(crate) fn write_denial<W: Write>(writer: &mut W, denial: Denial) -> Stop
     }
 }
 
-fn send_denial<W: Write>(writer: &mut W, denial: Denial) -> Result<(), WriteFault>
-    ensures ok { OnOk result
-        (Appends (W.contents writer.old) (W.contents writer.new) (denial_text denial)) }
-    ensures err { OnErr result
-        (AppendsPart (W.contents writer.old) (W.contents writer.new) (denial_text denial)) }
+fn send_denial<W: Output>(writer: &mut W, denial: Denial) -> Result<(), WriteFault>
+    ensures ok { OnOk result (PutsAll W.takes writer.old (denial_text denial) writer.new) }
+    ensures err { OnErr result (PutsPart W.takes writer.old (denial_text denial) writer.new) }
 {
     send(writer, denial_of(denial).as_bytes())?;
     send(writer, b"\n")

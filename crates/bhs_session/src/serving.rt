@@ -1,6 +1,4 @@
-ghost use Rattle.std.specs.Prelude.{◌≡◌};
-ghost use Rattle.std.specs.Io.KnownBytes.{IsAtEnd};
-ghost use Rattle.bhs_session.specs.Phase.{Finished, phase_of, cause_of};
+ghost use Rattle.bhs_session.specs.Phase.{Finished, phase_of};
 ghost use Rattle.bhs_session.specs.Session.{Serves};
 
 use crate::endings::{Ended, Stop};
@@ -8,10 +6,9 @@ use crate::lines::take_lines;
 use crate::port::Port;
 use crate::reading::read_lines;
 use bhs_model::Command;
-use bhs_stream::BUFFER;
+use bhs_stream::{BUFFER, Input, Output};
 use bhs_wire::Lines;
 use std::alloc::Global;
-use std::io::{Read, Write};
 
 /// Serves one client to its end, by at most `turns` reads: takes its lines one by one, tells them to the port,
 /// and writes what the port answers.
@@ -24,17 +21,15 @@ use std::io::{Read, Write};
 ///
 /// No clause says that `ReadFault` comes only where a read failed, or `WriteFault` where a write failed or
 /// took nothing: tests show it.
-pub fn serve<R: Read, W: Write, P: Port>(
+pub fn serve<R: Input, W: Output, P: Port>(
     alloc: Global,
     reader: &mut R,
     writer: &mut W,
     port: &mut P,
     turns: u32,
 ) -> Ended
-    ensures session { Serves P.calls port.old port.new turns
-        (R.remaining reader.old) (R.remaining reader.new)
-        (W.contents writer.old) (W.contents writer.new) (Finished result) }
-    ensures input_ended { result ≡ Ended.InputEnded → IsAtEnd (R.remaining reader.new) }
+    ensures { Serves R.gives W.takes P.calls reader.old reader.new
+        writer.old writer.new port.old port.new turns (Finished result) }
 {
     match play(alloc, reader, writer, port, turns) {
         Stop::Finished(ended) => ended,
@@ -46,17 +41,15 @@ pub fn serve<R: Read, W: Write, P: Port>(
 }
 
 // Takes lines until the session stops.
-fn play<R: Read, W: Write, P: Port>(
+fn play<R: Input, W: Output, P: Port>(
     alloc: Global,
     reader: &mut R,
     writer: &mut W,
     port: &mut P,
     turns: u32,
 ) -> Stop
-    ensures session { Serves P.calls port.old port.new turns
-        (R.remaining reader.old) (R.remaining reader.new)
-        (W.contents writer.old) (W.contents writer.new) (phase_of result) }
-    ensures input_ended { cause_of result ≡ Ended.InputEnded → IsAtEnd (R.remaining reader.new) }
+    ensures { Serves R.gives W.takes P.calls reader.old reader.new
+        writer.old writer.new port.old port.new turns (phase_of result) }
 {
     let mut lines = Lines::new(alloc);
     let mut buffer = [0u8; BUFFER];

@@ -1,1 +1,4 @@
 pub mod Known
+pub mod ChunkLemmas
+pub mod OverMemory
+pub mod PutsLemmas

@@ -1,2 +1,5 @@
 pub mod ReadFault
 pub mod Known
+pub mod Streams
+pub mod Reading
+pub mod Sending

@@ -3,6 +3,8 @@
 
 mod reading;
 mod sending;
+mod streams;
 
 pub use reading::{BUFFER, ReadFault, read_text};
 pub use sending::{WriteFault, finish, send};
+pub use streams::{Input, Output};

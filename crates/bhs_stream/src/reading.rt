@@ -1,10 +1,10 @@
 // A text read to the end of its input.
-ghost use Rattle.std.specs.Prelude.{◌≡◌, ℕ, ◌<◌, ◌≤◌, List, length, IfOk, IfErr, IfSome, OnOk, IsErrOf};
-ghost use Rattle.std.specs.Io.KnownBytes.{Consumes, IsAtEnd, Keeps};
-ghost use Rattle.bhs_stream.specs.ReadFault.{GivenBefore, StoppedBy};
+ghost use Rattle.std.specs.Prelude.{IfOk, IfErr};
+ghost use Rattle.bhs_stream.specs.Streams.{End};
+ghost use Rattle.bhs_stream.specs.Reading.{Closes, EndsBy};
 
+use crate::streams::Input;
 use std::alloc::Global;
-use std::io::Read;
 use thiserror::Error;
 
 /// The most bytes that one read asks for.
@@ -33,37 +33,19 @@ pub enum ReadFault {
 ///
 /// No clause says that `ReadFault::Read` comes only where a read failed, since `Read::read` names nothing
 /// that a failed read leaves behind: tests show it.
-pub fn read_text<R: Read>(
+pub fn read_text<I: Input>(
     alloc: Global,
-    reader: &mut R,
+    reader: &mut I,
     limit: usize,
     turns: u32,
 ) -> Result<Vec<u8>, ReadFault>
-    // The text is all that the reader had left.
-    ensures text { IfOk result
-        (λ text. Consumes (R.remaining reader.old) (R.remaining reader.new) text.items) }
-    ensures end { OnOk result (IsAtEnd (R.remaining reader.new)) }
-    ensures within { IfOk result (λ text. length text.items ≤ limit) }
-    ensures given { IfOk result (λ text. GivenBefore turns text.items) }
-
-    // A fault says which bytes were read before it. The rest is left.
-    ensures fault { IfErr result (λ fault. (bytes : List ℕ)
-        × Consumes (R.remaining reader.old) (R.remaining reader.new) bytes
-        × StoppedBy fault limit turns bytes) }
-    ensures no_turns { turns ≡ 0 → IsErrOf result ReadFault.Turns
-        × Keeps (R.remaining reader.old) (R.remaining reader.new) }
-
-    // Where the reader's bytes are known they decide, but for a read that fails and want of memory.
-    ensures all { IfOk result (λ text. IfSome (R.remaining reader.old) (λ input. text.items ≡ input)) }
-    ensures long { IsErrOf result ReadFault.Text
-        → IfSome (R.remaining reader.old) (λ input. limit < length input) }
-    ensures turns { IsErrOf result ReadFault.Turns
-        → IfSome (R.remaining reader.old) (λ input. turns ≤ length input) }
+    ensures text { IfOk result (λ text. Closes I.gives reader.old limit turns text.items End reader.new) }
+    ensures fault { IfErr result (λ fault. EndsBy I.gives reader.old limit turns fault reader.new) }
 {
     let mut text = Vec::new(alloc);
     let mut buffer = [0u8; BUFFER];
     for _ in 0..turns {
-        let Ok(count) = reader.read(&mut buffer) else {
+        let Ok(count) = reader.read_some(&mut buffer) else {
             return Err(ReadFault::Read);
         };
         if count == 0 {

@@ -1,9 +1,8 @@
 // Bytes sent to a writer.
-ghost use Rattle.std.specs.Prelude.{OnOk, OnErr};
-ghost use Rattle.std.specs.Io.KnownBytes.{Appends, Keeps};
-ghost use Rattle.bhs_stream.specs.Known.{AppendsPart};
+ghost use Rattle.std.specs.Prelude.{true, false, OnOk, OnErr};
+ghost use Rattle.bhs_stream.specs.Sending.{PutsAll, PutsPart};
 
-use std::io::Write;
+use crate::streams::Output;
 use thiserror::Error;
 
 /// A write failed, or took none of the bytes that were left. A write that a signal interrupted is not made
@@ -16,14 +15,13 @@ pub struct WriteFault;
 ///
 /// At a fault the writer has the first of the bytes, those that its writes took, and never all. No clause
 /// says that the fault comes only where a write failed or took nothing: tests show it.
-pub fn send<W: Write>(writer: &mut W, bytes: &[u8]) -> Result<(), WriteFault>
-    ensures ok { OnOk result (Appends (W.contents writer.old) (W.contents writer.new) bytes.now) }
-    ensures err { OnErr result
-        (AppendsPart (W.contents writer.old) (W.contents writer.new) bytes.now) }
+pub fn send<O: Output>(writer: &mut O, bytes: &[u8]) -> Result<(), WriteFault>
+    ensures ok { OnOk result (PutsAll O.takes writer.old bytes.now writer.new) }
+    ensures err { OnErr result (PutsPart O.takes writer.old bytes.now writer.new) }
 {
     let mut sent = 0;
     while sent < bytes.len() {
-        match writer.write(&bytes[sent..]) {
+        match writer.write_some(&bytes[sent..]) {
             Ok(0) | Err(_) => return Err(WriteFault),
             Ok(count) => sent += count,
         }
@@ -33,10 +31,11 @@ pub fn send<W: Write>(writer: &mut W, bytes: &[u8]) -> Result<(), WriteFault>
 
 /// Has a writer that holds bytes back, as a `BufWriter` does, pass them on. Where such a writer is dropped
 /// it passes them on too, and a write that then fails goes unseen. Standard output itself holds none back.
-pub fn finish<W: Write>(writer: &mut W) -> Result<(), WriteFault>
-    ensures { Keeps (W.contents writer.old) (W.contents writer.new) }
+pub fn finish<O: Output>(writer: &mut O) -> Result<(), WriteFault>
+    ensures ok { OnOk result (O.flushes writer.old true writer.new) }
+    ensures err { OnErr result (O.flushes writer.old false writer.new) }
 {
-    writer.flush().map_err(|_| WriteFault)
+    writer.pass_on().map_err(|_| WriteFault)
 }
 
 #[cfg(test)]

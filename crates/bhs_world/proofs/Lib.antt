@@ -5,3 +5,4 @@ pub mod GrowthLemmas
 pub mod MarkLemmas
 pub mod AgreeLemmas
 pub mod AwayLemmas
+pub mod JudgeLemmas

@@ -88,6 +88,7 @@ sound_heard table log agent command sound within =
     let position = (agent_at table.agents agent).position in
     record {
       within = sound.within;
+      ordered = sound.ordered;
       agents = length-set table.agents agent _ ∙ sound.agents;
       boards = counted_boards log table.boards position command ∙ sound.boards;
       limits = limited_boards table.net table.setup.board log table.boards position command sound.boards (sound.places agent) sound.limits;

@@ -4,7 +4,11 @@ use Rattle.bhs_model.specs.declared.commands.Command.{Command}
 use Rattle.bhs_model.specs.declared.events.Event.{Event}
 use Rattle.bhs_model.specs.declared.events.Event.TheVariants.{Tell}
 use Rattle.bhs_model.specs.Views.{used}
-use Rattle.bhs_model.specs.Worlds.{World}
+use Rattle.bhs_net.specs.Network as networks
+use Rattle.bhs_model.specs.declared.setups.Setup.{Setup}
+use Rattle.bhs_model.specs.Worlds.{World, is_hole, is_dark, doomed}
+use Rattle.bhs_model.specs.Setups.{world_of, normal}
+use Rattle.bhs_world.specs.Faults.{IsWithinLimits}
 use Rattle.bhs_model.specs.Runs.{is_bound, run, past, reply}
 
 -- an agent of the match is on a link
@@ -23,3 +27,20 @@ AwayAlike = (world : World) (events : List Event) (agent other : ℕ) (command :
     IsAway world events agent → IsAway world events other →
     has_room world events agent ≡ has_room world events other →
     reply world (run world events) (Tell agent command) ≡ reply world (run world events) (Tell other command)
+
+-- two setups that are equal but for the order in which they list their black holes and dark links, and for the end by
+-- which they name a dark link
+pub record HaveEqualSets (net : networks.Network) (one two : Setup) : Type 0 where
+  pub home : one.home ≡ two.home
+  pub nodes : (node : ℕ) → is_hole one.holes node ≡ is_hole two.holes node
+  pub links : (node port : ℕ) → is_dark (networks.far_of net) one.dark node port ≡ is_dark (networks.far_of net) two.dark node port
+  pub agents : one.agents ≡ two.agents
+  pub quota : one.quota ≡ two.quota
+  pub board : one.board ≡ two.board
+
+abbrev pub EqualSetsAreOneSetup : Type 0
+EqualSetsAreOneSetup = (net : networks.Network) (one two : Setup) → HaveEqualSets net one two → normal net one ≡ normal net two
+
+abbrev pub NormalFormsDestroyAlike : Type 0
+NormalFormsDestroyAlike = (net : networks.Network) (setup : Setup) → networks.IsNetwork net → IsWithinLimits net setup →
+    (node port : ℕ) → doomed (world_of net (normal net setup)) node port ≡ doomed (world_of net setup) node port

@@ -15,6 +15,7 @@ use Rattle.bhs_model.specs.Views as views
 use Rattle.bhs_model.specs.Replying.{may, refusal}
 use Rattle.bhs_model.specs.Worlds.{World, doomed}
 use Rattle.bhs_model.specs.Runs.{Position, Before, At, Bound, After, position_after}
+use Rattle.bhs_model.specs.Setups.{IsNormal}
 use Rattle.bhs_model.specs.Marks.{text_at}
 use Rattle.bhs_agent.specs.Agents.{Course}
 use Rattle.bhs_board.specs.declared.swaps.Swap.{Swap}
@@ -157,6 +158,7 @@ IsPlaced net position = Unit {0}
 -- what is true of each table that a world keeps
 pub record IsSound (table : Table) : Type 0 where
   pub within : IsWithinLimits table.net table.setup
+  pub ordered : IsNormal table.net table.setup
   pub agents : length table.agents ≡ table.setup.agents
   pub boards : length table.boards ≡ nodes_of table.net
   pub limits : (node : ℕ) → node < length table.boards → (board_at table.boards node).limit ≡ table.setup.board

@@ -10,7 +10,7 @@ pub enum SetupFault {
     /// The home base is not a node.
     #[error("home")]
     Home,
-    /// The black hole is not a node, or is the home base.
+    /// A black hole is not a node, or is the home base, or stands twice.
     #[error("hole")]
     Hole,
     /// The number of agents is not from 1 to `MAX_AGENTS`.
@@ -22,6 +22,9 @@ pub enum SetupFault {
     /// A whiteboard holds more than `MAX_BOARD` bytes.
     #[error("board")]
     Board,
+    /// An end of a dark link is no port of a node, or a dark link stands twice.
+    #[error("dark")]
+    Dark,
     /// Memory ran out.
     #[error("memory")]
     Memory,

@@ -1,33 +1,73 @@
-ghost use Rattle.std.specs.Prelude.{◌≡◌, IfOk, OnOk, None, Ok, Err, replicate};
+ghost use Rattle.std.specs.Prelude.{◌≡◌, ◌⊎◌, IfOk, IfErr, OnOk, IsTrue, None, Some, [], replicate};
+ghost use Rattle.bhs_net.specs.Network.{nodes_of};
+ghost use Rattle.bhs_model.specs.Dooms.{AreSignsOf};
+ghost use Rattle.bhs_model.specs.Setups.{normal};
 ghost use Rattle.bhs_agent.specs.Agents.{newcomer};
-ghost use Rattle.bhs_world.specs.Faults.{first_fault, is_hole_fit, judged, IsWithinLimits};
+ghost use Rattle.bhs_world.specs.Faults.{first_fault, is_hole_fit, are_holes_fit, is_port_of, are_links_fit, IsWithinLimits};
 
 use crate::faults::SetupFault;
 use bhs_agent::Agent;
 use bhs_board::Board;
-use bhs_model::{MAX_AGENTS, MAX_BOARD, MAX_QUOTA, Setup};
+use bhs_model::{Dooms, MAX_AGENTS, MAX_BOARD, MAX_QUOTA, Setup};
 use bhs_net::Net;
 use std::alloc::{AllocError, Global};
 
-/// Whether the black hole is a node other than home, or there is none.
-fn is_hole_fit(nodes: u16, home: u16, hole: Option<u16>) -> bool
+/// Whether a black hole is a node other than home.
+fn is_hole_fit(nodes: u16, home: u16, hole: u16) -> bool
     ensures { result ≡ is_hole_fit nodes home hole }
 {
-    match hole {
-        None => true,
-        Some(hole) => hole < nodes && hole != home,
-    }
+    hole < nodes && hole != home
 }
 
-/// Refuses a setup that is not within the limits, by its first fault.
-pub(crate) fn check(net: &Net, setup: &Setup) -> Result<(), SetupFault>
-    ensures first { result ≡ judged (first_fault net.now setup.now) }
-    ensures within { OnOk result (IsWithinLimits net.now setup.now) }
+/// Marks the black holes. Tells whether each is a node other than home, and stands but once.
+fn mark_holes(dooms: &mut Dooms, net: &Net, home: u16, holes: &[u16]) -> bool
+    requires { AreSignsOf net.now [] [] dooms.old }
+    ensures fit { result ≡ are_holes_fit (nodes_of net.now) home [] holes.now }
+    ensures signs { IsTrue result → AreSignsOf net.now holes.now [] dooms.new }
 {
+    for hole in holes {
+        if !is_hole_fit(net.nodes(), home, *hole) || dooms.is_hole(*hole) {
+            return false;
+        }
+        dooms.add_hole(*hole);
+    }
+    true
+}
+
+fn is_port(net: &Net, end: (u16, u16)) -> bool
+    ensures { result ≡ is_port_of net.now end }
+{
+    let (node, port) = end;
+    node < net.nodes() && port < net.degree(node)
+}
+
+/// Marks the dark links. Tells whether each end is a port of a node, and each link stands but once.
+fn mark_links(dooms: &mut Dooms, net: &Net, setup: &Setup) -> bool
+    requires { AreSignsOf net.now setup.now.holes [] dooms.old }
+    ensures fit { result ≡ are_links_fit net.now [] setup.now.dark }
+    ensures signs { IsTrue result → AreSignsOf net.now setup.now.holes setup.now.dark dooms.new }
+{
+    for end in setup.dark.ends() {
+        if !is_port(net, *end) || dooms.is_dark(end.0, end.1) {
+            return false;
+        }
+        dooms.add_link(net, end.0, end.1);
+    }
+    true
+}
+
+/// What destroys, where the setup is within the limits; else its first fault. Memory is told only where memory was
+/// refused.
+pub(crate) fn judged(alloc: Global, net: &Net, setup: &Setup) -> Result<Dooms, SetupFault>
+    ensures fit { OnOk result ((first_fault net.now setup.now ≡ None) × IsWithinLimits net.now setup.now) }
+    ensures signs { IfOk result (AreSignsOf net.now setup.now.holes setup.now.dark) }
+    ensures fault { IfErr result (λ fault. (fault ≡ SetupFault.Memory) ⊎ (first_fault net.now setup.now ≡ Some fault)) }
+{
+    let mut dooms = Dooms::none(alloc, net)?;
     if setup.home >= net.nodes() {
         return Err(SetupFault::Home);
     }
-    if !is_hole_fit(net.nodes(), setup.home, setup.hole) {
+    if !mark_holes(&mut dooms, net, setup.home, setup.holes.nodes()) {
         return Err(SetupFault::Hole);
     }
     if !(1..=MAX_AGENTS).contains(&setup.agents) {
@@ -39,7 +79,25 @@ pub(crate) fn check(net: &Net, setup: &Setup) -> Result<(), SetupFault>
     if setup.board > MAX_BOARD {
         return Err(SetupFault::Board);
     }
-    Ok(())
+    if !mark_links(&mut dooms, net, setup) {
+        return Err(SetupFault::Dark);
+    }
+    Ok(dooms)
+}
+
+/// The normal form of a setup.
+pub(crate) fn in_order(alloc: Global, net: &Net, dooms: &Dooms, setup: &Setup) -> Result<Setup, AllocError>
+    requires { AreSignsOf net.now setup.now.holes setup.now.dark dooms.now }
+    ensures { IfOk result (λ ordered. ordered ≡ normal net.now setup.now) }
+{
+    Ok(Setup {
+        home: setup.home,
+        holes: dooms.holes(alloc, net)?,
+        dark: dooms.dark(alloc, net)?,
+        agents: setup.agents,
+        quota: setup.quota,
+        board: setup.board,
+    })
 }
 
 /// As many agents, none of which has entered.

@@ -3,16 +3,17 @@ ghost use Rattle.bhs_net.specs.Network.{nodes_of};
 ghost use Rattle.bhs_model.specs.declared.marks.Kept.{Kept as KeptData};
 ghost use Rattle.bhs_model.specs.Marks.{events_of, read_if};
 ghost use Rattle.bhs_model.specs.Runs.{run, reply};
+ghost use Rattle.bhs_model.specs.Setups.{normal, IsNormal};
 ghost use Rattle.bhs_world.specs.Faults.{first_fault, IsWithinLimits};
 ghost use Rattle.bhs_world.specs.Tables.{agent_at, board_at, world_in, StandsFor, keeps_next, log_after};
 ghost use Rattle.bhs_world.specs.Steps.{IsSound, IsPlaced, standing_at, refusal_of, hears_in, table_heard, mark_heard, table_after, mark_after, mark_of_command, heard_in, keeps_delivered, keeps_in};
 
 use crate::faults::SetupFault;
 use crate::hearing::{advance, answer, here, refusal};
-use crate::making::{check, empty_boards, newcomers};
+use crate::making::{empty_boards, in_order, judged, newcomers};
 use bhs_agent::Agent;
 use bhs_board::Board;
-use bhs_model::{Command, Event, Kept, Mark, Setup, Why, is_doomed};
+use bhs_model::{Command, Dooms, Event, Kept, Mark, Setup, Why};
 use bhs_net::Net;
 use std::alloc::Global;
 use std::marker::Model;
@@ -23,6 +24,7 @@ use std::marker::Model;
 pub struct World {
     net: Net,
     setup: Setup,
+    dooms: Dooms,
     agents: Vec<Agent>,
     boards: Vec<Board>,
     closed: bool,
@@ -34,27 +36,30 @@ impl Model for World {
     ghost Value = { Table };
 
     ghost use Rattle.bhs_world.specs.Steps.{IsSound};
+    ghost use Rattle.bhs_model.specs.Dooms.{AreSignsOf};
 
     ghost view = { λ world. record { net = world.net; setup = world.setup; agents = world.agents.items; boards = world.boards.items; closed = world.closed } };
 
-    ghost invariant = { λ world. IsSound (record { net = world.net; setup = world.setup; agents = world.agents.items; boards = world.boards.items; closed = world.closed }) };
+    ghost invariant = { λ world. IsSound (record { net = world.net; setup = world.setup; agents = world.agents.items; boards = world.boards.items; closed = world.closed }) × AreSignsOf world.net world.setup.holes world.setup.dark world.dooms };
 }
 
 impl World {
-    /// A world at the start of a match. The first fault of the setup is told; Memory is told only where memory
+    /// A world at the start of a match, set up by the normal form of the setup. The first fault of the setup is told; Memory is told only where memory
     /// was refused.
     pub fn new(alloc: Global, net: Net, setup: Setup) -> Result<World, SetupFault>
         ensures fit { OnOk result ((first_fault net setup ≡ None) × IsWithinLimits net setup) }
-        ensures given { IfOk result (λ world. (world.net ≡ net) × (world.setup ≡ setup)) }
+        ensures given { IfOk result (λ world. (world.net ≡ net) × (world.setup ≡ normal net setup)) }
         ensures stands { IfOk result (λ world. StandsFor world []) }
         ensures fault { IfErr result (λ fault. (fault ≡ SetupFault.Memory) ⊎ (first_fault net setup ≡ Some fault)) }
     {
-        check(&net, &setup)?;
+        let dooms = judged(alloc, &net, &setup)?;
+        let setup = in_order(alloc, &net, &dooms, &setup)?;
         let agents = newcomers(alloc, setup.agents)?;
         let boards = empty_boards(alloc, net.nodes(), setup.board)?;
         Ok(World {
             net,
             setup,
+            dooms,
             agents,
             boards,
             closed: false,
@@ -68,9 +73,10 @@ impl World {
         &self.net
     }
 
-    /// How the match is set up.
+    /// How the match is set up, in normal form.
     pub fn setup(&self) -> &Setup
         ensures setup { result.now ≡ self.now.setup }
+        ensures normal { IsNormal self.now.net self.now.setup }
         ensures within { IsWithinLimits self.now.net self.now.setup }
     {
         &self.setup
@@ -185,7 +191,7 @@ impl World {
         }
         let agent = &mut self.agents[usize::from(agent)];
         let (node, port) = agent.bound()?;
-        if is_doomed(&self.net, &self.setup, node, port) {
+        if self.dooms.is_doomed(&self.net, node, port) {
             agent.lose();
             return None;
         }
@@ -232,7 +238,7 @@ impl World {
     {
         let agent = &self.agents[usize::from(agent)];
         match agent.bound() {
-            Some((node, port)) => !is_doomed(&self.net, &self.setup, node, port) || !agent.lost(),
+            Some((node, port)) => !self.dooms.is_doomed(&self.net, node, port) || !agent.lost(),
             None => false,
         }
     }

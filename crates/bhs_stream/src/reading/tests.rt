@@ -1,6 +1,7 @@
 // Texts read from memory and from readers that fail.
 use super::*;
 use std::io;
+use std::io::Read;
 use std::test::Fail;
 
 /// A reader that gives its bytes `piece` at a time, counts its reads, and then ends or fails.
@@ -117,5 +118,31 @@ fn faults_have_texts(rt: HostRuntime) -> Result<(), Fail> {
     ] {
         assert_eq!(rt; fault.to_string(rt.alloc())?.as_str(), want);
     }
+    Ok(())
+}
+
+/// An input of its own, which is no `Read`.
+#[derive(Drop)]
+struct Dead {
+    asked: u64,
+}
+
+impl Input for Dead {
+    ghost use Rattle.std.specs.Prelude.{◌≡◌};
+    ghost use Rattle.bhs_stream.specs.Streams.{Fails};
+
+    ghost gives = { λ old chunk new. chunk ≡ Fails };
+
+    fn read_some(&mut self, _buffer: &mut [u8]) -> io::Result<usize> {
+        self.asked = self.asked.saturating_add(1);
+        Err(io::Error::other("the line went dead"))
+    }
+}
+
+#[test]
+fn a_dead_input_is_asked_once(rt: HostRuntime) -> Result<(), Fail> {
+    let mut dead = Dead { asked: 0 };
+    assert_eq!(rt; read_text(rt.alloc(), &mut dead, 10, 5).err(), Some(ReadFault::Read));
+    assert_eq!(rt; dead.asked, 1);
     Ok(())
 }

@@ -1,7 +1,7 @@
 // Bytes sent to memory and to writers that fail.
 use super::*;
 use std::io;
-use std::io::BufWriter;
+use std::io::{BufWriter, Write};
 use std::test::Fail;
 
 /// A writer that takes at most `piece` bytes at a time while it has room, counts its writes, and then

@@ -2,24 +2,29 @@ ghost use Rattle.std.specs.Prelude.{◌≡◌, [], OnOk, IfOk};
 ghost use Rattle.bhs_world.specs.Tables.{StandsFor};
 
 use super::*;
-use bhs_model::{Text, text_at};
+use bhs_model::{DarkLinks, Holes, Text, text_at};
 use bhs_net::Link;
 use std::alloc::AllocError;
 use std::process::Abort;
 use std::test::Fail;
 
-/// The triangle with the black hole at node 2, or without one.
-fn triangle(alloc: Global, hole: Option<u16>) -> Result<World, Fail>
-    ensures { IfOk result (λ world. StandsFor world []) }
-{
-    let setup = Setup {
+/// A setup with these black holes and these dark links.
+fn setup_of(alloc: Global, holes: &[u16], dark: &[(u16, u16)]) -> Result<Setup, AllocError> {
+    Ok(Setup {
         home: 0,
-        hole,
+        holes: Holes::from(Vec::from_slice(alloc, holes)?),
+        dark: DarkLinks::from(Vec::from_slice(alloc, dark)?),
         agents: 2,
         quota: 10,
         board: 8,
-    };
-    Ok(World::new(alloc, network(alloc)?, setup)?)
+    })
+}
+
+/// The triangle with these black holes.
+fn triangle(alloc: Global, holes: &[u16]) -> Result<World, Fail>
+    ensures { IfOk result (λ world. StandsFor world []) }
+{
+    Ok(World::new(alloc, network(alloc)?, setup_of(alloc, holes, &[])?)?)
 }
 
 fn network(alloc: Global) -> Result<Net, Fail> {
@@ -51,10 +56,10 @@ fn play(
 fn assert_answers(
     rt: &impl Abort,
     alloc: Global,
-    hole: Option<u16>,
+    holes: &[u16],
     script: Vec<(Event, Option<Mark>)>,
 ) -> Result<Vec<Kept>, Fail> {
-    let mut world = triangle(alloc, hole)?;
+    let mut world = triangle(alloc, holes)?;
     let mut log = Vec::new(alloc);
     for (event, mark) in script {
         assert_eq!(rt;
@@ -91,67 +96,40 @@ fn here(came: Option<u16>, board: Option<u32>) -> Option<Mark> {
 
 #[test]
 fn setups_are_judged_in_order(rt: HostRuntime) -> Result<(), Fail> {
-    let fit = Setup {
-        home: 0,
-        hole: Some(2),
-        agents: 2,
-        quota: 10,
-        board: 8,
-    };
-    for (setup, fault) in [
-        (
-            Setup {
-                home: 3,
-                agents: 0,
-                ..fit
-            },
-            Some(SetupFault::Home),
-        ),
-        (
-            Setup {
-                hole: Some(0),
-                board: 1025,
-                ..fit
-            },
-            Some(SetupFault::Hole),
-        ),
-        (
-            Setup {
-                hole: Some(3),
-                ..fit
-            },
-            Some(SetupFault::Hole),
-        ),
-        (
-            Setup {
-                agents: 0,
-                quota: 0,
-                ..fit
-            },
-            Some(SetupFault::Agents),
-        ),
-        (Setup { agents: 17, ..fit }, Some(SetupFault::Agents)),
-        (Setup { quota: 1001, ..fit }, Some(SetupFault::Quota)),
-        (Setup { quota: 0, ..fit }, Some(SetupFault::Quota)),
-        (Setup { board: 1025, ..fit }, Some(SetupFault::Board)),
-        (fit, None),
-        (
-            Setup {
-                hole: None,
-                agents: 16,
-                quota: 1000,
-                board: 1024,
-                ..fit
-            },
-            None,
-        ),
+    let alloc = rt.alloc();
+    for (home, holes, agents, quota, board, dark, fault) in [
+        (3, &[2][..], 0, 10, 8, &[][..], Some(SetupFault::Home)),
+        (0, &[0][..], 2, 10, 4097, &[][..], Some(SetupFault::Hole)),
+        (0, &[3][..], 2, 10, 8, &[][..], Some(SetupFault::Hole)),
+        (0, &[2, 2][..], 2, 10, 8, &[][..], Some(SetupFault::Hole)),
+        (0, &[2][..], 0, 0, 8, &[][..], Some(SetupFault::Agents)),
+        (0, &[2][..], 65, 10, 8, &[][..], Some(SetupFault::Agents)),
+        (0, &[2][..], 2, 1001, 8, &[][..], Some(SetupFault::Quota)),
+        (0, &[2][..], 2, 0, 8, &[][..], Some(SetupFault::Quota)),
+        (0, &[2][..], 2, 10, 4097, &[(0, 2)][..], Some(SetupFault::Board)),
+        (0, &[2][..], 2, 10, 8, &[(0, 2)][..], Some(SetupFault::Dark)),
+        (0, &[][..], 2, 10, 8, &[(0, 1), (2, 1)][..], Some(SetupFault::Dark)),
+        (0, &[2][..], 2, 10, 8, &[][..], None),
+        (0, &[2, 1][..], 64, 1000, 4096, &[(0, 1), (2, 0)][..], None),
     ] {
-        assert_eq!(rt;
-            World::new(rt.alloc(), network(rt.alloc())?, setup).err(),
-            fault,
-            "at {setup:?}"
-        );
+        let setup = Setup {
+            home,
+            agents,
+            quota,
+            board,
+            ..setup_of(alloc, holes, dark)?
+        };
+        assert_eq!(rt; World::new(alloc, network(alloc)?, setup).err(), fault, "at {holes:?}, {dark:?}");
     }
+    Ok(())
+}
+
+#[test]
+fn setups_are_put_in_order(rt: HostRuntime) -> Result<(), Fail> {
+    let alloc = rt.alloc();
+    let setup = setup_of(alloc, &[2, 1], &[(2, 1), (2, 0)])?;
+    let world = World::new(alloc, network(alloc)?, setup)?;
+    assert_eq!(rt; world.setup(), &setup_of(alloc, &[1, 2], &[(0, 1), (1, 1)])?);
     Ok(())
 }
 
@@ -175,7 +153,7 @@ fn a_write_compares_and_puts(rt: HostRuntime) -> Result<(), Fail> {
             Some(Mark::Changed { board: Some(2) })
         ),
     ]?;
-    let log = assert_answers(&rt, alloc, Some(2), script)?;
+    let log = assert_answers(&rt, alloc, &[2], script)?;
     assert_eq!(rt; text_at(&log, Some(2)), "a");
     Ok(())
 }
@@ -196,7 +174,7 @@ fn a_whiteboard_counts_bytes(rt: HostRuntime) -> Result<(), Fail> {
         ),
         (tell(0, Command::Look), here(None, Some(3))),
     ]?;
-    let log = assert_answers(&rt, alloc, Some(2), script)?;
+    let log = assert_answers(&rt, alloc, &[2], script)?;
     assert_eq!(rt; text_at(&log, Some(3)), "abcde€");
     Ok(())
 }
@@ -215,7 +193,7 @@ fn a_quota_is_spent_by_refused_commands_too(rt: HostRuntime) -> Result<(), Fail>
     // A team has no common quota.
     script.push((tell(1, Command::Enter), here(None, None)))?;
     script.push((tell(1, Command::Look), here(None, None)))?;
-    assert_answers(&rt, alloc, Some(2), script)?;
+    assert_answers(&rt, alloc, &[2], script)?;
     Ok(())
 }
 
@@ -228,7 +206,7 @@ fn an_agent_leaves_with_its_quota_spent(rt: HostRuntime) -> Result<(), Fail> {
     }
     script.push((tell(0, Command::Look), no(Why::Spent)))?;
     script.push((tell(0, Command::Leave), Some(Mark::Bye)))?;
-    assert_answers(&rt, alloc, Some(2), script)?;
+    assert_answers(&rt, alloc, &[2], script)?;
     Ok(())
 }
 
@@ -243,7 +221,7 @@ fn an_arrival_tells_the_label_at_the_node(rt: HostRuntime) -> Result<(), Fail> {
         (deliver(0), here(Some(0), None)),
         (deliver(0), None),
     ]?;
-    assert_answers(&rt, alloc, None, script)?;
+    assert_answers(&rt, alloc, &[], script)?;
     Ok(())
 }
 
@@ -263,7 +241,7 @@ fn a_lost_agent_is_answered_as_one_in_transit(rt: HostRuntime) -> Result<(), Fai
         (tell(1, Command::Look), no(Why::Away)),
         (tell(1, Command::Leave), Some(Mark::Bye)),
     ]?;
-    let log = assert_answers(&rt, alloc, Some(2), script)?;
+    let log = assert_answers(&rt, alloc, &[2], script)?;
     // Kept are the commands, and of the Delivers the one that destroys agent 1.
     assert_eq!(rt; log.len(), 9);
     Ok(())
@@ -291,14 +269,14 @@ fn refusals_come_in_order(rt: HostRuntime) -> Result<(), Fail> {
         (tell(2, Command::Look), no(Why::Agent)),
         (Event::Close, None),
     ]?;
-    assert_answers(&rt, alloc, Some(2), script)?;
+    assert_answers(&rt, alloc, &[2], script)?;
     Ok(())
 }
 
 #[test]
 fn a_world_shows_what_it_keeps(rt: HostRuntime) -> Result<(), Fail> {
     let alloc = rt.alloc();
-    let mut world = triangle(alloc, Some(2))?;
+    let mut world = triangle(alloc, &[2])?;
     let mut log = Vec::new(alloc);
     play(&rt, &mut world, &mut log, tell(0, Command::Enter))?;
     play(&rt, &mut world, &mut log, tell(0, write(alloc, "", "a")?))?;

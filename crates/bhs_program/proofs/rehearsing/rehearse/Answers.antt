@@ -3,7 +3,7 @@ use Rattle.std.proofs.lemmas.List.{length-map}
 use Rattle.bhs_session.specs.Rehearsing.{Rehearsing, game_of}
 use Rattle.bhs_script.specs.Instructions.{seen}
 use Rattle.bhs_program.specs.Rehearsal.{opening, Means}
-use Rattle.bhs_program.proofs.PlayLemmas.{plays_all, stops_all, leaves_all}
+use Rattle.bhs_program.proofs.PlayLemmas.{known_all, known_stops, plays_all, stops_all, leaves_all}
 use Rattle.bhs_program.proofs.rehearsing.rehearse.Goals as goal
 
 pub returns-clause-played : goal.returns-clause-played
@@ -12,12 +12,12 @@ returns-clause-played g c =
     let instructions = map seen c.in_ok-instructions.instructions.items in
     let same : c.in_ok-rehearsal.rehearsal.stage ≡ stage = ap (λ (r : Rehearsing). r.stage) c.in_ok-rehearsal.ensures in
     let counted : c.len.result ≡ length c.args.lineup.ready.items = omega (arith, c.len.ensures, c.args.lineup.ready.ok.0) in
-    let means : Means stage (g.R.Read.remaining c.args.reader.now) (g.R.Read.remaining c.read_text.new.reader) instructions = record {
+    let means : Means stage (g.R.Read.remaining c.args.reader.now) (g.R.Read.remaining c.script_of.new.reader) instructions = record {
       script = c.in_ok-script.script.items;
       read = record { taken = c.in_ok-script.ensures.text; end = c.in_ok-script.ensures.end; within = c.in_ok-script.ensures.within };
       meant = rw (length-map c.args.lineup.ready.items game_of) (rw (c.deref.ensures.value, counted) at c.in_ok-instructions.ensures);
     } in
-    plays_all stage _ _ _ _ instructions means c.play.result (rw same at c.play.ensures.printed)
+    plays_all stage _ _ _ _ instructions means c.play.result (known_all g.W.Write.contents _ _ _ c.play.result (rw same at c.play.ensures.printed))
 
 pub returns-clause-left : goal.returns-clause-left
 returns-clause-left g c =
@@ -25,7 +25,7 @@ returns-clause-left g c =
     let instructions = map seen c.in_ok-instructions.instructions.items in
     let same : c.in_ok-rehearsal.rehearsal.stage ≡ stage = ap (λ (r : Rehearsing). r.stage) c.in_ok-rehearsal.ensures in
     let counted : c.len.result ≡ length c.args.lineup.ready.items = omega (arith, c.len.ensures, c.args.lineup.ready.ok.0) in
-    let means : Means stage (g.R.Read.remaining c.args.reader.now) (g.R.Read.remaining c.read_text.new.reader) instructions = record {
+    let means : Means stage (g.R.Read.remaining c.args.reader.now) (g.R.Read.remaining c.script_of.new.reader) instructions = record {
       script = c.in_ok-script.script.items;
       read = record { taken = c.in_ok-script.ensures.text; end = c.in_ok-script.ensures.end; within = c.in_ok-script.ensures.within };
       meant = rw (length-map c.args.lineup.ready.items game_of) (rw (c.deref.ensures.value, counted) at c.in_ok-instructions.ensures);
@@ -38,9 +38,9 @@ returns-clause-stopped g c =
     let instructions = map seen c.in_ok-instructions.instructions.items in
     let same : c.in_ok-rehearsal.rehearsal.stage ≡ stage = ap (λ (r : Rehearsing). r.stage) c.in_ok-rehearsal.ensures in
     let counted : c.len.result ≡ length c.args.lineup.ready.items = omega (arith, c.len.ensures, c.args.lineup.ready.ok.0) in
-    let means : Means stage (g.R.Read.remaining c.args.reader.now) (g.R.Read.remaining c.read_text.new.reader) instructions = record {
+    let means : Means stage (g.R.Read.remaining c.args.reader.now) (g.R.Read.remaining c.script_of.new.reader) instructions = record {
       script = c.in_ok-script.script.items;
       read = record { taken = c.in_ok-script.ensures.text; end = c.in_ok-script.ensures.end; within = c.in_ok-script.ensures.within };
       meant = rw (length-map c.args.lineup.ready.items game_of) (rw (c.deref.ensures.value, counted) at c.in_ok-instructions.ensures);
     } in
-    stops_all stage _ _ _ _ instructions means c.args.turns c.play.result (rw same at c.play.ensures.stopped)
+    stops_all stage _ _ _ _ instructions means c.args.turns c.play.result (known_stops g.W.Write.contents _ _ _ c.play.result (rw same at c.play.ensures.stopped))

@@ -10,36 +10,36 @@ use Rattle.bhs_session.proofs.lines.take_first.Goals as goal
 
 pub returns-in_default : goal.returns-in_default
 returns-in_default g c p line next says =
-    let start = record p { port = c.args.port.now; phase = Fresh } in
+    let start = record p { output = c.args.writer.now; port = c.args.port.now; phase = Fresh } in
     let taken = p.taken ++ line ∷ [] in (
       c.write_denial.ensures.cause,
       (
         taken,
-        Stops-step g.P.Port.calls _ _ start c.args.port.now taken (denied denials.Enter)
+        Stops-step g.W.Output.takes g.P.Port.calls _ start c.args.port.now taken (denied denials.Enter)
             (denies start line c.in_default.field-0 refl next (says ∙ c.in_default.is)) c.write_denial.result c.write_denial.ensures.sends,
       ),
     )
 
 pub returns-in-Ok-In : goal.returns-in-Ok-In
 returns-in-Ok-In g c p line next says =
-    let start = record p { port = c.args.port.now; phase = Fresh } in
+    let start = record p { output = c.args.writer.now; port = c.args.port.now; phase = Fresh } in
     let taken = p.taken ++ line ∷ [] in
     let reply = c.in-Ok-In.reply in
     let owes = Owes (text_of reply) (answered_by true reply) in
     let asked = rw (c.as_str.ensures, c.in-Ok-In.field-0-is) at c.in-Ok-In.ensures in
-    Ends-step g.P.Port.calls _ _ start c.enter.new.self taken owes
+    Ends-step g.W.Output.takes g.P.Port.calls _ start c.enter.new.self taken owes
     (enters start line c.in-Enter.key (LetIn (entries.In reply)) c.enter.new.self refl next (says ∙ c.in-Enter.is) asked)
     (λ _. Ready) c.answer.new.port taken c.answer.result (λ w. c.answer.ensures (record p { taken = taken; written = w }))
 
 pub returns-in-Ok-Key : goal.returns-in-Ok-Key
 returns-in-Ok-Key g c p line next says =
-    let start = record p { port = c.args.port.now; phase = Fresh } in
+    let start = record p { output = c.args.writer.now; port = c.args.port.now; phase = Fresh } in
     let taken = p.taken ++ line ∷ [] in
     let asked = rw (c.as_str.ensures, c.in-Ok-Key.field-0-is) at c.in-Ok-Key.ensures in (
       c.write_denial-in-Ok-Key.ensures.cause,
       (
         taken,
-        Stops-step g.P.Port.calls _ _ start c.enter.new.self taken (denied denials.Key)
+        Stops-step g.W.Output.takes g.P.Port.calls _ start c.enter.new.self taken (denied denials.Key)
             (enters start line c.in-Enter.key (LetIn entries.Key) c.enter.new.self refl next (says ∙ c.in-Enter.is) asked)
             c.write_denial-in-Ok-Key.result c.write_denial-in-Ok-Key.ensures.sends,
       ),
@@ -47,13 +47,13 @@ returns-in-Ok-Key g c p line next says =
 
 pub returns-in-Ok-Taken : goal.returns-in-Ok-Taken
 returns-in-Ok-Taken g c p line next says =
-    let start = record p { port = c.args.port.now; phase = Fresh } in
+    let start = record p { output = c.args.writer.now; port = c.args.port.now; phase = Fresh } in
     let taken = p.taken ++ line ∷ [] in
     let asked = rw (c.as_str.ensures, c.in-Ok-Taken.field-0-is) at c.in-Ok-Taken.ensures in (
       c.write_denial-in-Ok-Taken.ensures.cause,
       (
         taken,
-        Stops-step g.P.Port.calls _ _ start c.enter.new.self taken (denied denials.Taken)
+        Stops-step g.W.Output.takes g.P.Port.calls _ start c.enter.new.self taken (denied denials.Taken)
             (enters start line c.in-Enter.key (LetIn entries.Taken) c.enter.new.self refl next (says ∙ c.in-Enter.is) asked)
             c.write_denial-in-Ok-Taken.result c.write_denial-in-Ok-Taken.ensures.sends,
       ),
@@ -61,13 +61,13 @@ returns-in-Ok-Taken g c p line next says =
 
 pub returns : goal.returns
 returns g c p line next says =
-    let start = record p { port = c.args.port.now; phase = Fresh } in
+    let start = record p { output = c.args.writer.now; port = c.args.port.now; phase = Fresh } in
     let taken = p.taken ++ line ∷ [] in
     let asked = rw c.as_str.ensures at c.in-Err.ensures in (
       tt,
       (
         taken,
-        Moves-step g.P.Port.calls _ start c.enter.new.self taken (Finished Memory)
+        Moves-step g.W.Output.takes g.P.Port.calls start c.enter.new.self taken (Finished Memory)
             (enters start line c.in-Enter.key NoMemory c.enter.new.self refl next (says ∙ c.in-Enter.is) asked),
       ),
     )

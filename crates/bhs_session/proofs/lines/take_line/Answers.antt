@@ -9,11 +9,11 @@ use Rattle.bhs_session.proofs.lines.take_line.Goals as goal
 pub returns-in_default : goal.returns-in_default
 returns-in_default g c p next =
     let entered = c.args.has_entered in
-    let start = record p { port = c.args.port.now; phase = between entered } in (
+    let start = record p { output = c.args.writer.now; port = c.args.port.now; phase = between entered } in (
       StopsAtLines-of c.between_lines.result entered Memory c.between_lines.ensures tt,
       (
         p.taken,
-        rw c.between_lines.ensures (Moves-step g.P.Port.calls _ start c.args.port.now p.taken (stopped (between entered) Memory)
-            (session.stops start Memory (TakesLines-between entered) (IsNext-some p.read p.taken (seen c.args.line.now) next))),
+        rw c.between_lines.ensures (Moves-step g.W.Output.takes g.P.Port.calls start c.args.port.now p.taken (stopped (between entered) Memory)
+            (session.lacks start (TakesLines-between entered) (IsNext-some p.read p.taken (seen c.args.line.now) next))),
       ),
     )

@@ -1,18 +1,23 @@
-use Rattle.std.proofs.Common.{ℕ, ◌+◌, ◌-◌, List, rules, sym, subst, length, take, drop, take-add}
+use Rattle.std.proofs.Common.{ℕ, ◌+◌, ◌<◌, ◌≤◌, List, [], length, drop, arith, rules, sym, subst, length-drop, append-nil}
 use Rattle.std.proofs.lemmas.List.{take_rest}
-use Rattle.std.specs.declared.option.Option.{Option}
-use Rattle.std.specs.Io.KnownBytes.{Appends}
-use Rattle.std.proofs.KnownBytes.{Appends-trans}
+use Rattle.bhs_stream.specs.Streams.{Takes}
+use Rattle.bhs_stream.specs.Sending.{begins, goes_on, IsOffered}
 use Rattle.bhs_stream.proofs.sending.send.Goals as goal
 
--- a write took `count` more of the bytes, from place `sent` on
-took_more : (a b c : Option (List ℕ)) (sent count : ℕ) (bytes : List ℕ) → Appends a b (take sent bytes) → Appends b c (take count (take (length bytes - sent) (drop sent bytes)))
-    → Appends a c (take (sent + count) bytes)
-took_more a b c sent count bytes before took =
-    let more = subst (λ (rest : List ℕ). Appends b c (take count rest)) (take_rest bytes sent) took in
-    subst (Appends a c) (sym (take-add sent count bytes)) (Appends-trans a b c _ _ before more)
+-- all that is left is offered
+is_offered : (bytes : List ℕ) (sent : ℕ) → sent < length bytes → IsOffered bytes sent (drop sent bytes)
+is_offered bytes sent short = record { rest = []; front = sym (append-nil (drop sent bytes)); some = let left = length-drop sent bytes in omega arith }
+
+pub loop-sent-init : goal.loop-sent-init
+loop-sent-init g c = (search rules, begins)
 
 pub loop-sent-preserved : goal.loop-sent-preserved
 loop-sent-preserved g c =
-    let contents = g.W.Write.contents in
-    (search rules, took_more (contents c.args.writer.now) (contents c.loop-sent.writer) (contents c.write.new.self) c.loop-sent.sent c.in-Ok.count _ c.loop-sent.invariant.1 c.in-Ok.ensures.bytes)
+    let takes = g.O.Output.takes in
+    let bytes = c.args.bytes.now in
+    let sent = c.loop-sent.sent in
+    let count = c.in-Ok.count in
+    let within : sent + count ≤ length bytes = search rules in
+    let left = length-drop sent bytes in
+    let took = subst (λ (rest : List ℕ). takes c.loop-sent.writer rest (Takes c.in-Ok.count) c.write_some.new.self) (take_rest bytes sent) c.in-Ok.ensures.takes in
+    (within, goes_on sent count (drop sent bytes) c.loop-sent.writer c.write_some.new.self c.loop-sent.invariant.1 (is_offered bytes sent (omega arith)) (omega arith) (omega arith) took)

@@ -1,11 +1,10 @@
--- The writer took the bytes up to `sent`.
-use Rattle.std.proofs.Common.{◌-◌, ◌≤◌, length, take}
-use Rattle.std.specs.Io.KnownBytes.{Appends}
+-- The bytes up to `sent` went out.
+use Rattle.std.proofs.Common.{◌-◌, ◌≤◌, length}
+use Rattle.bhs_stream.specs.Sending.{Puts}
 use Rattle.bhs_stream.proofs.sending.send.Given as goal
 
 abbrev pub invariant-loop-sent : goal.invariant-loop-sent
-invariant-loop-sent g l = (l.sent ≤ length l.bytes)
-    × Appends (g.W.Write.contents l.initial.writer) (g.W.Write.contents l.writer) (take l.sent l.bytes)
+invariant-loop-sent g l = (l.sent ≤ length l.bytes) × Puts g.O.Output.takes l.initial.writer l.bytes l.sent l.writer
 
 abbrev pub decreases-loop-sent : goal.decreases-loop-sent
 decreases-loop-sent g l = length l.bytes - l.sent

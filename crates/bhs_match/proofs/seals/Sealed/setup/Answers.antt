@@ -1,0 +1,4 @@
+use Rattle.bhs_match.proofs.seals.Sealed.setup.Goals as goal
+
+pub returns-clause-normal : goal.returns-clause-normal
+returns-clause-normal c = rw (← c.self.view_is) c.setup.ensures.normal

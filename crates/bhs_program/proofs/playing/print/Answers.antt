@@ -1,0 +1,14 @@
+use Rattle.bhs_stream.specs.Sending.{begins}
+use Rattle.bhs_program.specs.declared.faults.Fault.TheVariants.{Write, Memory}
+use Rattle.bhs_program.proofs.PlayLemmas.{fault_is}
+use Rattle.bhs_program.proofs.playing.print.Goals as goal
+
+pub returns-in_err-send-clause-err : goal.returns-in_err-send-clause-err
+returns-in_err-send-clause-err g c =
+    fault_is c.from_residual-in_err-send.result Write _ c.from_residual-in_err-send.ensures.1 (rw (c.deref.ensures.value, c.in_ok-text.ensures) at c.in_err-send.ensures.err)
+
+pub returns-clause-ok : goal.returns-clause-ok
+returns-clause-ok g c = rw (c.deref.ensures.value, c.in_ok-text.ensures) at c.in_ok-send.ensures.ok
+
+pub returns-in_err-text-clause-err : goal.returns-in_err-text-clause-err
+returns-in_err-text-clause-err g c = fault_is c.from_residual.result Memory _ c.from_residual.ensures.1 (0, begins)

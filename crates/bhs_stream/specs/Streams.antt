@@ -1,0 +1,50 @@
+-- What one call of an input or an output answers.
+use Rattle.std.specs.Prelude.{ℕ, Bool, true, false, List, [], ◌∷◌, take, Ok, Err}
+use Rattle.std.specs.declared.result.Result.{Result}
+use Rattle.std.specs.declared.option.Option.{Option}
+use Rattle.std.specs.Io.KnownBytes.{Consumes, Appends, Keeps, IsAtEnd}
+
+-- what a read brings
+pub data Chunk : Type 0 where
+  -- some bytes
+  Bytes : (bytes : List ℕ) → Chunk
+  -- no byte, since none is left
+  End : Chunk
+  -- the read failed
+  Fails : Chunk
+
+abbrev pub chunk_by : List ℕ → Chunk
+chunk_by [] = End
+chunk_by (byte ∷ more) = Bytes (byte ∷ more)
+
+-- what `read_some` brought, in the front of a buffer
+abbrev pub chunk_of : {E : Type 0} → Result ℕ E → List ℕ → Chunk
+chunk_of (Ok count) buffer = chunk_by (take count buffer)
+chunk_of (Err error) buffer = Fails
+
+-- what a write answers
+pub data Taken : Type 0 where
+  -- it took so many bytes; none is 0
+  Takes : (count : ℕ) → Taken
+  -- the write failed
+  Refuses : Taken
+
+abbrev pub taken_by : {E : Type 0} → Result ℕ E → Taken
+taken_by (Ok count) = Takes count
+taken_by (Err error) = Refuses
+
+-- whether a flush succeeded
+abbrev pub went : {T E : Type 0} → Result T E → Bool
+went (Ok done) = true
+went (Err error) = false
+
+-- ---- where the bytes of a reader or a writer are known
+
+abbrev pub Gives : Option (List ℕ) → Chunk → Option (List ℕ) → Type 0
+Gives old (Bytes bytes) new = Consumes old new bytes
+Gives old End new = Consumes old new [] × IsAtEnd new
+Gives old Fails new = Keeps old new
+
+abbrev pub TakesKnown : Option (List ℕ) → List ℕ → Taken → Option (List ℕ) → Type 0
+TakesKnown old bytes (Takes count) new = Appends old new (take count bytes)
+TakesKnown old bytes Refuses new = Keeps old new
