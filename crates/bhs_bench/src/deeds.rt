@@ -1,6 +1,7 @@
 //! What is done next in a match, by a word.
 
 use crate::torus::PORTS;
+
 const AGENTS: u16 = 16;
 
 /// What is done next.

@@ -7,7 +7,7 @@ use Rattle.std.proofs.lemmas.Option.{slice_get-get_or}
 use Rattle.bhs_model.specs.declared.events.Event.{Event}
 use Rattle.bhs_model.specs.declared.events.Event.TheVariants.{Deliver}
 use Rattle.bhs_model.specs.Runs.{Position, Before, At, Bound as OnLink, After, State, is_bound}
-use Rattle.bhs_model.specs.Draws.{Held, pool, pick, is_held, let_go, draw}
+use Rattle.bhs_model.specs.Draws.{Held, pool, pick, is_held, delivery_to, draw}
 use Rattle.bhs_match.specs.declared.pools.Bound.{Bound}
 use Rattle.bhs_match.specs.Matches.{bound_at, bounds}
 use Rattle.bhs_deal.specs.declared.draws.Drawn.{Drawn}
@@ -19,7 +19,7 @@ event_if : (is_there : Bool) (agent : ℕ) → (if is_there then None else Some 
 event_if true agent = refl
 event_if false agent = refl
 
-event_of_pick : (held : Held) (state : State) (agent : Option ℕ) → let_go held state agent ≡ event_of (drawn_of held state agent)
+event_of_pick : (held : Held) (state : State) (agent : Option ℕ) → delivery_to held state agent ≡ event_of (drawn_of held state agent)
 event_of_pick held state None = refl
 event_of_pick held state (Some agent) = event_if (is_held held (state.position agent)) agent
 

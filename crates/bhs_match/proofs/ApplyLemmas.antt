@@ -235,7 +235,7 @@ pub has_room_after : (setup setup' : Setup) (for_log for_log' for_pool for_pool'
 has_room_after setup setup' for_log for_log' for_pool for_pool' same_setup same_log same_pool room = rw (same_setup, same_log, same_pool) room
 
 -- what is shown at the node that an agent sees is the text of the definitions
-shown_there : (table : Table) (log : List Kept) (state : State) (node : ℕ) (position : Position) → node_seen_at table position ≡ Some node → text table.setup.board (state.trace node) ≡ shown_at (world_in table) state position
+shown_there : (table : Table) (log : List Kept) (state : State) (node : ℕ) (position : Position) → node_seen_at table position ≡ Some node → text table.setup.board (state.last_write node) ≡ shown_at (world_in table) state position
 shown_there table log state node Before is = cc
 shown_there table log state node (At there came) is = cc
 shown_there table log state node (OnLink there port) is = cc

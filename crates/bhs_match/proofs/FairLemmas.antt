@@ -8,7 +8,7 @@ use Rattle.bhs_model.specs.declared.commands.Command.{Command}
 use Rattle.bhs_model.specs.declared.events.Event.{Event}
 use Rattle.bhs_model.specs.declared.events.Event.TheVariants.{Tell, Deliver, Close}
 use Rattle.bhs_model.specs.Views.{View, Told, Arrived, Standing, standing, used}
-use Rattle.bhs_model.specs.Replying.{may, hears}
+use Rattle.bhs_model.specs.Replying.{accepts, hears}
 use Rattle.bhs_model.specs.Worlds.{World, doomed}
 use Rattle.bhs_model.specs.Runs.{Position, Before, At, Bound, After, State, initial, changed, glance, position_after, told, is_bound, is_doomed, is_let_through, arrives, arrived, delivered, heard, next, run, run_from}
 use Rattle.bhs_model.specs.Kept.{destroys, lost_after, lost, lost_from, nobody}
@@ -28,7 +28,7 @@ pub record IsFair (world : World) (state : State) (lost : ℕ → Bool) : Type 0
 pub record IsHeard (world : World) (state : State) (agent : ℕ) (command : Command) : Type 0 where
   pub within : agent < world.agents
   pub open_match : state.closed ≡ false
-  pub free : may (standing_at (state.position agent)) (nat_lt (used (state.past agent)) world.quota) command ≡ true
+  pub free : accepts (standing_at (state.position agent)) (nat_lt (used (state.past agent)) world.quota) command ≡ true
 
 pub heard_means : (world : World) (state : State) (lost : ℕ → Bool) (agent : ℕ) (command : Command) → IsFair world state lost → heard world state agent command ≡ true → IsHeard world state agent command
 heard_means world state lost agent command fair is_heard =
@@ -37,7 +37,7 @@ heard_means world state lost agent command fair is_heard =
     record {
       within = ltb-true agent world.agents outer.0;
       open_match = not-true state.closed inner.0;
-      free = ap (λ (standing : Standing). may standing (nat_lt (used (state.past agent)) world.quota) command) (sym (fair.legal agent).standing) ∙ inner.1;
+      free = ap (λ (standing : Standing). accepts standing (nat_lt (used (state.past agent)) world.quota) command) (sym (fair.legal agent).standing) ∙ inner.1;
     }
 
 pub moves_of : (world : World) (state : State) (lost : ℕ → Bool) (agent : ℕ) (command : Command) → IsHeard world state agent command →

@@ -4,7 +4,7 @@ use Rattle.std.proofs.lemmas.Bool.{ltb-true}
 use Rattle.bhs_model.specs.declared.commands.Command.{Command}
 use Rattle.bhs_model.specs.declared.commands.Command.TheVariants.{Enter, Look, Write, Depart, Accuse, Leave, Bad}
 use Rattle.bhs_model.specs.Views.{Standing, Outside, Present, Away, Ended, counts}
-use Rattle.bhs_model.specs.Replying.{may}
+use Rattle.bhs_model.specs.Replying.{accepts}
 use Rattle.bhs_model.specs.Worlds.{World, doomed}
 use Rattle.bhs_model.specs.Runs.{Position, Before, At, Bound, After, position_after}
 use Rattle.bhs_world.specs.Steps.{standing_at}
@@ -61,7 +61,7 @@ from_node world is_lost node came new before =
 on_link : (world : World) (is_lost : Bool) (node port : ℕ) (before : ℕ) → Moves world is_lost (Bound node port) (Bound node port) before (before + 1)
 on_link world is_lost node port before = record { weight = omega arith; flight = omega arith; gone = λ gone. gone; linked = refl }
 
-pub moves : (world : World) (is_lost room : Bool) (position : Position) (command : Command) (before : ℕ) → may (standing_at position) room command ≡ true →
+pub moves : (world : World) (is_lost room : Bool) (position : Position) (command : Command) (before : ℕ) → accepts (standing_at position) room command ≡ true →
     Moves world is_lost position (position_after world position command) before (if counts command then before + 1 else before)
 moves world is_lost room Before Enter before heard = record { weight = omega arith; flight = omega arith; gone = λ none. absurd none; linked = tt }
 moves world is_lost room Before Look before heard = cc
@@ -95,7 +95,7 @@ moves world is_lost room After Leave before heard = cc
 moves world is_lost room After Bad before heard = cc
 
 -- a command that counts is heard only where there is room for it
-room_left : (standing : Standing) (room : Bool) (command : Command) → may standing room command ≡ true → counts command ≡ true → room ≡ true
+room_left : (standing : Standing) (room : Bool) (command : Command) → accepts standing room command ≡ true → counts command ≡ true → room ≡ true
 room_left Outside room Enter heard counted = cc
 room_left Outside room Look heard counted = cc
 room_left Outside room (Write expect put) heard counted = cc
@@ -119,7 +119,7 @@ room_left Away room Leave heard counted = cc
 room_left Away room Bad heard counted = heard
 room_left Ended room command heard counted = cc
 
-pub within_quota : (quota before : ℕ) (standing : Standing) (command : Command) → may standing (nat_lt before quota) command ≡ true → before ≤ quota →
+pub within_quota : (quota before : ℕ) (standing : Standing) (command : Command) → accepts standing (nat_lt before quota) command ≡ true → before ≤ quota →
     (if counts command then before + 1 else before) ≤ quota
 within_quota quota before standing command heard few =
     by_count (counts command) (λ counted. ltb-true before quota (room_left standing (nat_lt before quota) command heard counted))

@@ -15,7 +15,7 @@ use Rattle.bhs_match.specs.Matches.{most_kept, arrivals, bounds}
 abbrev pub IsLogOf : World → List Event → List Kept → Type 0
 IsLogOf world events log = kept world events ≡ events_of log
 
--- The log tells what all that happened does: the same pasts, positions, traces and pool, whether the match has
+-- The log tells what all that happened does: the same pasts, positions, last writes and pool, whether the match has
 -- ended, and who is lost.
 pub record TellsAll (world : World) (events : List Event) (log : List Kept) : Type 0 where
   pub state : run world events ≡ run world (events_of log)

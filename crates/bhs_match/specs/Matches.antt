@@ -62,6 +62,6 @@ bounds state = map (λ agent. bound_at agent (state.position agent)) (pool state
 -- the whiteboard that an agent at this position sees: where it is; that of the home base before it enters; none
 -- on a link and after its end
 abbrev pub shown_at : World → State → Position → List ℕ
-shown_at world state Before = text world.board (state.trace world.home)
-shown_at world state (At node came) = text world.board (state.trace node)
+shown_at world state Before = text world.board (state.last_write world.home)
+shown_at world state (At node came) = text world.board (state.last_write node)
 shown_at world state position = []

@@ -2,7 +2,7 @@
 
 ghost use Rattle.bhs_match.specs.Laws.{ArrivalsAreBounded, LogsAreBounded, LogsGrow, LogsTellAll, PoolsAreOfAgents};
 
-/// What a match does not keep in its log changes nothing: pasts, positions, traces and the pool of all that happened
+/// What a match does not keep in its log changes nothing: pasts, positions, last writes and the pool of all that happened
 /// are those of the log.
 pub fn logs_tell_all()
     ensures { LogsTellAll }

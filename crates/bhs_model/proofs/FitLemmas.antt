@@ -6,7 +6,7 @@ use Rattle.bhs_model.specs.declared.commands.Command.TheVariants.{Enter, Look, W
 use Rattle.bhs_model.specs.declared.events.Event.{Event}
 use Rattle.bhs_model.specs.declared.events.Event.TheVariants.{Tell, Deliver, Close}
 use Rattle.bhs_model.specs.Views.{View, Told, Arrived, Nothing, Standing, Outside, Present, Away, Ended, standing, standing_after, ports, used}
-use Rattle.bhs_model.specs.Replying.{may}
+use Rattle.bhs_model.specs.Replying.{accepts}
 use Rattle.bhs_model.specs.Worlds.{World, StaysInRange}
 use Rattle.bhs_model.specs.Runs.{Position, Before, At, Bound, After, State, initial, changed, glance, position_after, sight_at, heard, arrives, is_let_through, delivered, next, run_from}
 use Rattle.bhs_model.specs.Laws.{Fits, PastsFitPositions}
@@ -14,9 +14,9 @@ use Rattle.bhs_model.proofs.StepLemmas.{by_cases, next_heard, next_unheard, next
 
 -- who is not heard does not get here
 pub unheard : (standing stands : Standing) (room : Bool) (command : Command) (P : Type 0) →
-    standing ≡ stands → may standing room command ≡ true → may stands room command ≡ false → P
+    standing ≡ stands → accepts standing room command ≡ true → accepts stands room command ≡ false → P
 unheard standing stands room command P is_so is_heard not_heard =
-    absurd (false≢true (sym not_heard ∙ ap (λ (one : Standing). may one room command) (sym is_so) ∙ is_heard))
+    absurd (false≢true (sym not_heard ∙ ap (λ (one : Standing). accepts one room command) (sym is_so) ∙ is_heard))
 
 -- a Depart at a node, or an Accuse, by whether there is such a port
 pub departs : (world : World) (view : View) (node port : ℕ) (came : Option ℕ) (is_port : Bool) →
@@ -38,7 +38,7 @@ pub stands_after : (view : View) (stands : Standing) (degree : ℕ) (command : C
 stands_after view stands degree command is_so same_ports = ap₂ (λ (one : Standing) (count : ℕ). standing_after one count command) is_so same_ports
 
 pub told_fits : (world : World) (state : State) (view : View) (position : Position) (room : Bool) (command : Command) → StaysInRange world →
-    may (standing view) room command ≡ true → Fits world view position →
+    accepts (standing view) room command ≡ true → Fits world view position →
     Fits world (Told view command (glance world state position command)) (position_after world position command)
 told_fits world state view Before room Enter range is_heard fits = (refl, refl, range.home)
 told_fits world state view Before room Look range is_heard fits = unheard _ Outside room Look _ fits is_heard refl

@@ -80,8 +80,8 @@ same_holes net holes within node =
     any_filter (λ (hole : ℕ). hole == node) (is_hole holes) (range_with_len 0 (nodes_of net))
     ∙ iff_same _ _
     (λ listed. let found = range_out _ (nodes_of net) listed in
-        let parts = and_parts (is_hole holes found.0) _ found.2 in
-        subst (λ (k : ℕ). is_hole holes k ≡ true) (eqb-true found.0 node parts.1) parts.0)
+    let parts = and_parts (is_hole holes found.0) _ found.2 in
+    subst (λ (k : ℕ). is_hole holes k ≡ true) (eqb-true found.0 node parts.1) parts.0)
     (λ is. range_in _ (nodes_of net) node (within node is) (and_from _ _ is (eq-eqb node node refl)))
 
 -- dark links

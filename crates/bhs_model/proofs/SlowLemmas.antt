@@ -6,8 +6,8 @@ use Rattle.bhs_model.specs.declared.events.Event.TheVariants.{Tell, Deliver, Clo
 use Rattle.bhs_model.specs.Worlds.{World}
 use Rattle.bhs_model.specs.Runs.{Position, Before, At, Bound, After, State, initial, arrives, next}
 use Rattle.bhs_model.specs.Runs.{is_doomed}
-use Rattle.bhs_model.specs.Twins.{is_struck, strike_from, gives_away, IsDiscreet, Twins}
-use Rattle.bhs_model.specs.Draws.{Held, is_held, pool, pick, let_go, Act, Says, Draws, Closes, made, next_if, played_from, played, SlowInstead}
+use Rattle.bhs_model.specs.Twins.{is_struck, strike_from, reveals, RevealsNothing, Twins}
+use Rattle.bhs_model.specs.Draws.{Held, is_held, pool, pick, delivery_to, Act, Says, Draws, Closes, event_of_act, next_if, played_from, played, SlowInstead}
 use Rattle.bhs_model.specs.Laws.{HoleLooksSlow}
 use Rattle.bhs_model.proofs.StepLemmas.{next_no_arrival}
 use Rattle.bhs_model.proofs.TwinLemmas.{doomed_not_through, next_twin, twins_look_alike_lemma}
@@ -15,8 +15,8 @@ use Rattle.bhs_model.proofs.TwinLemmas.{doomed_not_through, next_twin, twins_loo
 -- two lists of events that meet the twin condition from one state on
 pub record InStep (world other : World) (state : State) (events others : List Event) : Type 0 where
   pub struck : strike_from world other state events ≡ strike_from other world state others
-  pub discreet : IsDiscreet world other state events
-  pub other_discreet : IsDiscreet other world state others
+  pub reveals_nothing : RevealsNothing world other state events
+  pub other_reveals_nothing : RevealsNothing other world state others
 
 -- what an act makes in the two matches: nothing; or one event, which neither destroys; or here a Deliver that destroys and there nothing
 abbrev pub MadeAlike : (world other : World) → State → Option Event → Option Event → Type 0
@@ -50,19 +50,19 @@ module _ (world : World) (held : Held) (slow : World) (still : Held) (instead : 
       (refl, or_from _ _ lost (harmless_at (state.position agent)))
 
   pub draw_alike : (state : State) (closed : Bool) (picked : Option ℕ) →
-      MadeAlike world slow state (if closed then None else let_go held state picked) (if closed then None else let_go still state picked)
+      MadeAlike world slow state (if closed then None else delivery_to held state picked) (if closed then None else delivery_to still state picked)
   draw_alike state true picked = tt
   draw_alike state false None = tt
   draw_alike state false (Some agent) = let_go_alike state agent _ _ _ (held_at (state.position agent)) refl
 
-  pub made_alike : (state : State) (act : Act) → MadeAlike world slow state (made held state act) (made still state act)
+  pub made_alike : (state : State) (act : Act) → MadeAlike world slow state (event_of_act held state act) (event_of_act still state act)
   made_alike state (Says agent command) = (refl, refl)
   made_alike state (Draws word) = draw_alike state state.closed (pick (pool state) word)
   made_alike state Closes = (refl, refl)
 
   -- what neither destroys gives nothing away, and is struck from neither side
   pub none_given : (state : State) (event : Event) → is_struck world slow state event ≡ false →
-      (gives_away world slow state event ≡ false) × (gives_away slow world state event ≡ false) × (is_struck slow world state event ≡ false)
+      (reveals world slow state event ≡ false) × (reveals slow world state event ≡ false) × (is_struck slow world state event ≡ false)
   none_given state (Tell agent command) unstruck = (refl, refl, refl)
   none_given state (Deliver agent) unstruck =
       let parts = or_parts (is_doomed world (state.position agent)) (is_doomed slow (state.position agent)) unstruck in (
@@ -87,11 +87,11 @@ module _ (world : World) (held : Held) (slow : World) (still : Held) (instead : 
       record {
         struck = cond-true (is_struck world slow state (Deliver agent)) _ _ (or_left _ _ alike)
             ∙ ap (λ (later : State). strike_from world slow later (played_from world held later acts)) stays ∙ (rest state).struck;
-        discreet = (
+        reveals_nothing = (
           and_right (arrives world state agent) _ (harmless_at (state.position agent)),
-          subst (λ (later : State). IsDiscreet world slow later (played_from world held later acts)) (sym stays) (rest state).discreet,
+          subst (λ (later : State). RevealsNothing world slow later (played_from world held later acts)) (sym stays) (rest state).reveals_nothing,
         );
-        other_discreet = (rest state).other_discreet;
+        other_reveals_nothing = (rest state).other_reveals_nothing;
       }
   one_act state acts (Some event) (Some twin) alike rest =
       subst (λ (there : Event). InStep world slow state (event ∷ played_from world held (next world state event) acts)
@@ -111,13 +111,13 @@ module _ (world : World) (held : Held) (slow : World) (still : Held) (instead : 
             struck = cond-false (is_struck world slow state event) _ _ alike.1
                 ∙ ap (λ (others : List Event). event ∷ others) (same.struck ∙ ap (λ (later : State). strike_from slow world later (played_from slow still (next world state event) acts)) same_next)
                 ∙ sym (cond-false (is_struck slow world state event) _ _ given.2);
-            discreet = (given.0, same.discreet);
-            other_discreet = (given.1, subst (λ (later : State). IsDiscreet slow world later (played_from slow still (next world state event) acts)) same_next same.other_discreet);
+            reveals_nothing = (given.0, same.reveals_nothing);
+            other_reveals_nothing = (given.1, subst (λ (later : State). RevealsNothing slow world later (played_from slow still (next world state event) acts)) same_next same.other_reveals_nothing);
           }
 
   pub in_step : (state : State) (acts : List Act) → InStep world slow state (played_from world held state acts) (played_from slow still state acts)
-  in_step state [] = record { struck = refl; discreet = tt; other_discreet = tt }
-  in_step state (act ∷ acts) = one_act state acts (made held state act) (made still state act) (made_alike state act) (λ later. in_step later acts)
+  in_step state [] = record { struck = refl; reveals_nothing = tt; other_reveals_nothing = tt }
+  in_step state (act ∷ acts) = one_act state acts (event_of_act held state act) (event_of_act still state act) (made_alike state act) (λ later. in_step later acts)
 
 pub hole_looks_slow_lemma : HoleLooksSlow
 hole_looks_slow_lemma world held slow still acts instead =
@@ -125,8 +125,8 @@ hole_looks_slow_lemma world held slow still acts instead =
     let are_twins : Twins world (played world held acts) slow (played slow still acts) = record {
       worlds = instead.worlds;
       struck = together.struck;
-      discreet = together.discreet;
-      other_discreet = together.other_discreet;
+      reveals_nothing = together.reveals_nothing;
+      other_reveals_nothing = together.other_reveals_nothing;
     } in
     record {
       twins = are_twins;

@@ -7,7 +7,7 @@ use Rattle.bhs_model.specs.declared.events.Event.TheVariants.{Tell, Deliver, Clo
 use Rattle.bhs_model.specs.declared.replies.Reply.{Reply}
 use Rattle.bhs_model.specs.Worlds.{World}
 use Rattle.bhs_model.specs.Runs.{State, initial, next, run_from, reply, replies_from, is_of, replies_to_from}
-use Rattle.bhs_model.specs.Cuts.{at_places, Note, note, notes_from, notes, asks, is_closed, HasAllOf, cut}
+use Rattle.bhs_model.specs.Cuts.{at_places, Footprint, footprint, footprints_from, footprints, needs, is_closed, HasAllOf, cut}
 use Rattle.bhs_model.specs.Laws.{CutsSuffice}
 use Rattle.bhs_model.proofs.StepLemmas.{by_cases}
 use Rattle.bhs_model.proofs.LeastCutLemmas.{at_none, closed_none, cut_closed, cut_own}
@@ -30,7 +30,7 @@ read_all world state agent [] = refl
 read_all world state agent (event ∷ events) =
     ap (λ (others : List Reply). read (is_of agent event) (reply world state event) ++ others) (read_all world (next world state event) agent events)
 
-pub own_note : (world : World) (state : State) (agent : ℕ) (event : Event) → is_of agent event ≡ true → (note world state event).who ≡ Some agent
+pub own_note : (world : World) (state : State) (agent : ℕ) (event : Event) → is_of agent event ≡ true → (footprint world state event).who ≡ Some agent
 own_note world state agent (Tell other command) own = ap Some (sym (eqb-true agent other own))
 own_note world state agent (Deliver other) own = ap Some (sym (eqb-true agent other own))
 own_note world state agent Close own = absurd (false≢true own)
@@ -43,14 +43,14 @@ strangers agent other not_own =
 
 -- nothing is read at a place that is not chosen
 pub unread : (world : World) (state : State) (agent : ℕ) (event : Event) (others : List Reply) →
-    ((note world state event).who ≡ Some agent → false ≡ true) → others ≡ read (is_of agent event) (reply world state event) ++ others
+    ((footprint world state event).who ≡ Some agent → false ≡ true) → others ≡ read (is_of agent event) (reply world state event) ++ others
 unread world state agent event others not_own =
     by_cases (is_of agent event) _
     (λ own. absurd (false≢true (not_own (own_note world state agent event own))))
     (λ strange. ap (λ (is_own : Bool). read is_own (reply world state event) ++ others) (sym strange))
 
 pub read_at_places : (world : World) (state : State) (agent : ℕ) (events : List Event) (places : List Bool) →
-    HasAllOf agent (notes_from world state events) places →
+    HasAllOf agent (footprints_from world state events) places →
     read_of agent (at_places events places) (at_places (replies_from world state events) places) ≡ read_of agent events (replies_from world state events)
 read_at_places world state agent [] places own = refl
 read_at_places world state agent (event ∷ events) [] own =
@@ -65,7 +65,7 @@ read_at_places world state agent (event ∷ events) (false ∷ places) own =
     ∙ unread world state agent event _ (own zero)
 
 -- what is left of an event for one agent alone
-abbrev pub alone : (agent : ℕ) → Note
+abbrev pub alone : (agent : ℕ) → Footprint
 alone agent = record { who = Some agent; seen = None; written = None; closes = false }
 
 -- two states have the agent at the same place with the same past
@@ -77,13 +77,13 @@ pub same_agree : (agent : ℕ) (whole part : State) → SameAgent agent whole pa
 same_agree agent whole part same closed = record {
   past = λ other is_who. subst (λ (one : ℕ). whole.past one ≡ part.past one) (some_same agent other is_who) same.past;
   position = λ other is_who. subst (λ (one : ℕ). whole.position one ≡ part.position one) (some_same agent other is_who) same.position;
-  trace = λ node is_seen. none_there node _ is_seen;
+  last_write = λ node is_seen. none_there node _ is_seen;
   closed = closed;
 }
 
 -- after an event that is chosen it still is
 pub same_after_chosen : (world : World) (agent : ℕ) (whole part : State) (event : Event) →
-    Agree whole part (note world whole event) → SameAgent agent whole part →
+    Agree whole part (footprint world whole event) → SameAgent agent whole part →
     SameAgent agent (next world whole event) (next world part event)
 same_after_chosen world agent whole part event own same =
     let after = next_agree world whole part event (alone agent) own (same_agree agent whole part same own.closed) in
@@ -91,7 +91,7 @@ same_after_chosen world agent whole part event own same =
 
 -- and after one that is not the agent's
 pub same_after_left_out : (world : World) (agent : ℕ) (whole part : State) (event : Event) →
-    ((note world whole event).who ≡ Some agent → false ≡ true) → SameAgent agent whole part →
+    ((footprint world whole event).who ≡ Some agent → false ≡ true) → SameAgent agent whole part →
     SameAgent agent (next world whole event) part
 same_after_left_out world agent whole part (Tell other command) not_own same =
     let after = next_untouched world whole (Tell other command) (alone agent) (or_from _ _ (strangers agent other not_own) refl) in
@@ -103,42 +103,42 @@ same_after_left_out world agent whole part Close not_own same = record { past = 
 
 -- the agent ends the same by the chosen events as by all
 pub same_at_places : (world : World) (agent : ℕ) (whole part : State) (events : List Event) (places : List Bool) →
-    is_closed (notes_from world whole events) places ≡ true → HasAllOf agent (notes_from world whole events) places →
-    AgreeOnAll whole part (at_places (notes_from world whole events) places) → SameAgent agent whole part →
+    is_closed (footprints_from world whole events) places ≡ true → HasAllOf agent (footprints_from world whole events) places →
+    AgreeOnAll whole part (at_places (footprints_from world whole events) places) → SameAgent agent whole part →
     SameAgent agent (run_from world whole events) (run_from world part (at_places events places))
 same_at_places world agent whole part [] places closed own agree same = same
 same_at_places world agent whole part (event ∷ events) [] closed own agree same =
     let after = next world whole event in
     subst (λ (chosen : List Event). SameAgent agent (run_from world after events) (run_from world part chosen)) (at_none events)
-    (same_at_places world agent after part events [] (closed_none (notes_from world after events)) (λ place. own (suc place))
-    (subst (λ (chosen : List Note). AgreeOnAll after part chosen) (sym (at_none (notes_from world after events))) tt)
+    (same_at_places world agent after part events [] (closed_none (footprints_from world after events)) (λ place. own (suc place))
+    (subst (λ (chosen : List Footprint). AgreeOnAll after part chosen) (sym (at_none (footprints_from world after events))) tt)
     (same_after_left_out world agent whole part event (own zero) same))
 same_at_places world agent whole part (event ∷ events) (true ∷ places) closed own agree same =
     same_at_places world agent (next world whole event) (next world part event) events places closed (λ place. own (suc place))
-    (all_after_chosen world whole part event (at_places (notes_from world (next world whole event) events) places) agree.0 agree.1)
+    (all_after_chosen world whole part event (at_places (footprints_from world (next world whole event) events) places) agree.0 agree.1)
     (same_after_chosen world agent whole part event agree.0 same)
 same_at_places world agent whole part (event ∷ events) (false ∷ places) closed own agree same =
-    let rest = at_places (notes_from world (next world whole event) events) places in
-    let parts = and_parts (not (list_any (asks (note world whole event)) rest)) _ closed in
+    let rest = at_places (footprints_from world (next world whole event) events) places in
+    let parts = and_parts (not (list_any (needs (footprint world whole event)) rest)) _ closed in
     same_at_places world agent (next world whole event) part events places parts.1 (λ place. own (suc place))
     (all_after_left_out world whole part event rest (not-true _ parts.0) agree)
     (same_after_left_out world agent whole part event (own zero) same)
 
 pub cut_answers : (world : World) (events : List Event) (agent : ℕ) →
-    replies_to_from world initial agent (at_places events (cut agent (notes world events))) ≡ replies_to_from world initial agent events
+    replies_to_from world initial agent (at_places events (cut agent (footprints world events))) ≡ replies_to_from world initial agent events
 cut_answers world events agent =
-    let places = cut agent (notes world events) in
+    let places = cut agent (footprints world events) in
     read_all world initial agent (at_places events places)
     ∙ ap (λ (replies : List (Option Reply)). read_of agent (at_places events places) replies)
-    (closed_sets_stand_alone_lemma world events places (cut_closed agent (notes world events)))
-    ∙ read_at_places world initial agent events places (cut_own agent (notes world events))
+    (closed_sets_stand_alone_lemma world events places (cut_closed agent (footprints world events)))
+    ∙ read_at_places world initial agent events places (cut_own agent (footprints world events))
     ∙ sym (read_all world initial agent events)
 
 pub cuts_suffice_lemma : CutsSuffice
 cuts_suffice_lemma world events agent =
-    let places = cut agent (notes world events) in
-    let same = same_at_places world agent initial initial events places (cut_closed agent (notes world events)) (cut_own agent (notes world events))
-    (agree_at_first initial (at_places (notes world events) places)) (record { past = refl; position = refl }) in
+    let places = cut agent (footprints world events) in
+    let same = same_at_places world agent initial initial events places (cut_closed agent (footprints world events)) (cut_own agent (footprints world events))
+    (agree_at_first initial (at_places (footprints world events) places)) (record { past = refl; position = refl }) in
     record {
       past = sym same.past;
       position = sym same.position;

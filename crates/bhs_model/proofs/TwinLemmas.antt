@@ -8,7 +8,7 @@ use Rattle.bhs_model.specs.Replying.{rep}
 use Rattle.bhs_model.specs.Worlds.{World, SameButDoom}
 use Rattle.bhs_model.specs.Runs.{Position, Before, At, Bound, After, State, initial, run_from, run, is_bound, arrives, is_let_through, delivered, next, reply, is_of, replies_to_from}
 use Rattle.bhs_model.specs.Runs.{is_doomed}
-use Rattle.bhs_model.specs.Twins.{is_struck, strike_from, strike, gives_away, IsDiscreet}
+use Rattle.bhs_model.specs.Twins.{is_struck, strike_from, strike, reveals, RevealsNothing}
 use Rattle.bhs_model.specs.Laws.{TwinsLookAlike}
 use Rattle.bhs_model.proofs.StepLemmas.{next_no_arrival, no_arrival_no_reply}
 
@@ -18,11 +18,11 @@ doomed_not_through world position is_lost = and_right (is_bound position) _ (ap 
 
 -- a struck event that gives nothing away makes nobody arrive
 pub struck_no_arrival : (world other : World) (state : State) (agent : ℕ) →
-    is_struck world other state (Deliver agent) ≡ true → gives_away world other state (Deliver agent) ≡ false → arrives world state agent ≡ false
-struck_no_arrival world other state agent struck discreet =
+    is_struck world other state (Deliver agent) ≡ true → reveals world other state (Deliver agent) ≡ false → arrives world state agent ≡ false
+struck_no_arrival world other state agent struck reveals_nothing =
     elim (or_cases (is_doomed world (state.position agent)) (is_doomed other (state.position agent)) struck) [
       | inl here ↦ and_right (not state.closed) _ (doomed_not_through world (state.position agent) here)
-      | inr there ↦ elim (and_cases (arrives world state agent) (is_doomed other (state.position agent)) discreet) [
+      | inr there ↦ elim (and_cases (arrives world state agent) (is_doomed other (state.position agent)) reveals_nothing) [
         | inl no_arrival ↦ no_arrival
         | inr harmless ↦ absurd (true≢false (sym there ∙ harmless))
       ]
@@ -30,16 +30,16 @@ struck_no_arrival world other state agent struck discreet =
 
 -- a struck event leaves the state itself, and nobody is answered
 pub struck_state : (world other : World) (state : State) (event : Event) →
-    is_struck world other state event ≡ true → gives_away world other state event ≡ false → next world state event ≡ state
-struck_state world other state (Tell agent command) struck discreet = absurd (true≢false (sym struck))
-struck_state world other state (Deliver agent) struck discreet = next_no_arrival world state agent (struck_no_arrival world other state agent struck discreet)
-struck_state world other state Close struck discreet = absurd (true≢false (sym struck))
+    is_struck world other state event ≡ true → reveals world other state event ≡ false → next world state event ≡ state
+struck_state world other state (Tell agent command) struck reveals_nothing = absurd (true≢false (sym struck))
+struck_state world other state (Deliver agent) struck reveals_nothing = next_no_arrival world state agent (struck_no_arrival world other state agent struck reveals_nothing)
+struck_state world other state Close struck reveals_nothing = absurd (true≢false (sym struck))
 
 pub struck_reply : (world other : World) (state : State) (event : Event) →
-    is_struck world other state event ≡ true → gives_away world other state event ≡ false → reply world state event ≡ None
-struck_reply world other state (Tell agent command) struck discreet = absurd (true≢false (sym struck))
-struck_reply world other state (Deliver agent) struck discreet = no_arrival_no_reply world state agent (struck_no_arrival world other state agent struck discreet)
-struck_reply world other state Close struck discreet = absurd (true≢false (sym struck))
+    is_struck world other state event ≡ true → reveals world other state event ≡ false → reply world state event ≡ None
+struck_reply world other state (Tell agent command) struck reveals_nothing = absurd (true≢false (sym struck))
+struck_reply world other state (Deliver agent) struck reveals_nothing = no_arrival_no_reply world state agent (struck_no_arrival world other state agent struck reveals_nothing)
+struck_reply world other state Close struck reveals_nothing = absurd (true≢false (sym struck))
 
 -- no event of the list is struck
 abbrev pub NoneStruck : (world other : World) → State → List Event → Type 0
@@ -52,17 +52,17 @@ pub record IsStrike (world other : World) (state : State) (events chosen : List 
   pub replies : (agent : ℕ) → replies_to_from world state agent chosen ≡ replies_to_from world state agent events
   pub none : NoneStruck world other state chosen
 
-pub strike_is : (world other : World) (state : State) (events : List Event) → IsDiscreet world other state events →
+pub strike_is : (world other : World) (state : State) (events : List Event) → RevealsNothing world other state events →
     IsStrike world other state events (strike_from world other state events)
-strike_is world other state [] discreet = record { ends = refl; replies = λ agent. refl; none = tt }
-strike_is world other state (event ∷ events) discreet =
+strike_is world other state [] reveals_nothing = record { ends = refl; replies = λ agent. refl; none = tt }
+strike_is world other state (event ∷ events) reveals_nothing =
     let after = next world state event in
     let rest = strike_from world other after events in
-    let same = strike_is world other after events discreet.1 in
+    let same = strike_is world other after events reveals_nothing.1 in
     cond_both (is_struck world other state event) rest (event ∷ rest) (λ (chosen : List Event). IsStrike world other state (event ∷ events) chosen)
     (λ struck.
-    let stays : after ≡ state = struck_state world other state event struck discreet.0 in
-    let silent : reply world state event ≡ None = struck_reply world other state event struck discreet.0 in
+    let stays : after ≡ state = struck_state world other state event struck reveals_nothing.0 in
+    let silent : reply world state event ≡ None = struck_reply world other state event struck reveals_nothing.0 in
     record {
       ends = ap (λ (start : State). run_from world start rest) (sym stays) ∙ same.ends;
       replies = λ agent. ap (λ (start : State). replies_to_from world start agent rest) (sym stays) ∙ same.replies agent
@@ -156,8 +156,8 @@ run_alike world other state events same none =
 
 pub twins_look_alike_lemma : TwinsLookAlike
 twins_look_alike_lemma world events other others twins =
-    let here = strike_is world other initial events twins.discreet in
-    let there = strike_is other world initial others twins.other_discreet in
+    let here = strike_is world other initial events twins.reveals_nothing in
+    let there = strike_is other world initial others twins.other_reveals_nothing in
     let both = run_alike world other initial (strike world other events) twins.worlds here.none in
     let same_state : run world events ≡ run other others =
     sym here.ends ∙ both.ends ∙ ap (λ (chosen : List Event). run other chosen) twins.struck ∙ there.ends in

@@ -17,7 +17,7 @@ at_places (x ∷ xs) (chosen ∷ places) = if chosen then x ∷ at_places xs pla
 
 -- what an event has to do with others: whose it is, the node that is seen, the node that is written (also
 -- by a write that fails), and whether it ends the match
-pub record Note : Type 0 where
+pub record Footprint : Type 0 where
   pub who : Option ℕ
   pub seen : Option ℕ
   pub written : Option ℕ
@@ -40,28 +40,28 @@ abbrev pub node_reached : World → Position → Option ℕ
 node_reached world (Bound node port) = Some (world.net.far node port).0
 node_reached world position = None
 
-abbrev pub note : World → State → Event → Note
-note world state (Tell agent command) = record {
+abbrev pub footprint : World → State → Event → Footprint
+footprint world state (Tell agent command) = record {
   who = Some agent;
   seen = if heard world state agent command then node_seen world (state.position agent) command else None;
   written = if heard world state agent command then node_written (state.position agent) command else None;
   closes = false;
 }
-note world state (Deliver agent) = record {
+footprint world state (Deliver agent) = record {
   who = Some agent;
   seen = if arrives world state agent then node_reached world (state.position agent) else None;
   written = None;
   closes = false;
 }
-note world state Close = record { who = None; seen = None; written = None; closes = true }
+footprint world state Close = record { who = None; seen = None; written = None; closes = true }
 
-abbrev pub notes_from : World → State → List Event → List Note
-notes_from world state [] = []
-notes_from world state (event ∷ events) =
-    note world state event ∷ notes_from world (next world state event) events
+abbrev pub footprints_from : World → State → List Event → List Footprint
+footprints_from world state [] = []
+footprints_from world state (event ∷ events) =
+    footprint world state event ∷ footprints_from world (next world state event) events
 
-abbrev pub notes : World → List Event → List Note
-notes world events = notes_from world initial events
+abbrev pub footprints : World → List Event → List Footprint
+footprints world events = footprints_from world initial events
 
 -- whether both are there and equal
 abbrev pub meet : Option ℕ → Option ℕ → Bool
@@ -70,15 +70,15 @@ meet one two = false
 
 -- whether a later place needs an earlier one: the earlier one is a Close, or of the same agent, or it
 -- writes the node that the later one sees
-abbrev pub asks : (early late : Note) → Bool
-asks early late = early.closes || (meet late.who early.who || meet late.seen early.written)
+abbrev pub needs : (early late : Footprint) → Bool
+needs early late = early.closes || (meet late.who early.who || meet late.seen early.written)
 
 -- whether a set of places is closed: with a place it has each earlier one that this place needs
-abbrev pub is_closed : List Note → List Bool → Bool
+abbrev pub is_closed : List Footprint → List Bool → Bool
 is_closed [] places = true
-is_closed (early ∷ notes) [] = true
-is_closed (early ∷ notes) (chosen ∷ places) =
-    (chosen || not (list_any (asks early) (at_places notes places))) && is_closed notes places
+is_closed (early ∷ footprints) [] = true
+is_closed (early ∷ footprints) (chosen ∷ places) =
+    (chosen || not (list_any (needs early) (at_places footprints places))) && is_closed footprints places
 
 -- whether a place is chosen
 abbrev pub has_place : List Bool → (place : ℕ) → Bool
@@ -91,14 +91,14 @@ abbrev pub IsWithin : (places others : List Bool) → Type 0
 IsWithin places others = (place : ℕ) → has_place places place ≡ true → has_place others place ≡ true
 
 -- the set has all places of the agent
-abbrev pub HasAllOf : (agent : ℕ) → List Note → List Bool → Type 0
-HasAllOf agent notes places = (place : ℕ) →
-    option_and_then (λ one. one.who) (slice_get notes place) ≡ Some agent → has_place places place ≡ true
+abbrev pub HasAllOf : (agent : ℕ) → List Footprint → List Bool → Type 0
+HasAllOf agent footprints places = (place : ℕ) →
+    option_and_then (λ one. one.who) (slice_get footprints place) ≡ Some agent → has_place places place ≡ true
 
 -- the cut of an agent: walking back from the end, its own places, and each place that a chosen later one
 -- needs
-abbrev pub cut : (agent : ℕ) → List Note → List Bool
+abbrev pub cut : (agent : ℕ) → List Footprint → List Bool
 cut agent [] = []
-cut agent (early ∷ notes) =
-    let places = cut agent notes in
-    (meet (Some agent) early.who || list_any (asks early) (at_places notes places)) ∷ places
+cut agent (early ∷ footprints) =
+    let places = cut agent footprints in
+    (meet (Some agent) early.who || list_any (needs early) (at_places footprints places)) ∷ places

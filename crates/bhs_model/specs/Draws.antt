@@ -25,14 +25,14 @@ is_held held (Bound node port) = held node port
 is_held held position = false
 
 -- the event by which the picked agent's link lets it arrive; none where it is held
-abbrev pub let_go : Held → State → Option ℕ → Option Event
-let_go held state None = None
-let_go held state (Some agent) =
+abbrev pub delivery_to : Held → State → Option ℕ → Option Event
+delivery_to held state None = None
+delivery_to held state (Some agent) =
     if is_held held (state.position agent) then None else Some (Deliver agent)
 
 -- the event that a word draws, if any
 abbrev pub draw : Held → State → (word : ℕ) → Option Event
-draw held state word = if state.closed then None else let_go held state (pick (pool state) word)
+draw held state word = if state.closed then None else delivery_to held state (pick (pool state) word)
 
 -- what is done with a match from outside
 pub data Act : Type 0 where
@@ -44,10 +44,10 @@ pub data Act : Type 0 where
   Closes : Act
 
 -- the event that an act makes, if any
-abbrev pub made : Held → State → Act → Option Event
-made held state (Says agent command) = Some (Tell agent command)
-made held state (Draws word) = draw held state word
-made held state Closes = Some Close
+abbrev pub event_of_act : Held → State → Act → Option Event
+event_of_act held state (Says agent command) = Some (Tell agent command)
+event_of_act held state (Draws word) = draw held state word
+event_of_act held state Closes = Some Close
 
 -- the state after the event, if there is one
 abbrev pub next_if : World → State → Option Event → State
@@ -58,7 +58,7 @@ next_if world state (Some event) = next world state event
 abbrev pub played_from : World → Held → State → List Act → List Event
 played_from world held state [] = []
 played_from world held state (act ∷ acts) =
-    let event = made held state act in
+    let event = event_of_act held state act in
     option_to_list event ++ played_from world held (next_if world state event) acts
 
 abbrev pub played : World → Held → List Act → List Event

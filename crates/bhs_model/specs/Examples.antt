@@ -6,13 +6,13 @@ use Rattle.bhs_model.specs.declared.events.Event.TheVariants.{Tell, Deliver, Clo
 use Rattle.bhs_model.specs.declared.replies.Reply.{Reply}
 use Rattle.bhs_model.specs.declared.replies.Reply.TheVariants.{Here, Written, Changed, Gone, Noted, Bye, Over, No}
 use Rattle.bhs_model.specs.declared.replies.Why.TheVariants.{Agent, Outside, Twice, Ended, Spent, Away, Line, Port, Long}
-use Rattle.bhs_model.specs.Views.{Start, Told, Saw, Seen, Blank, Last}
+use Rattle.bhs_model.specs.Views.{Start, Told, Saw, Seen, Unwritten, WrittenBy}
 use Rattle.bhs_model.specs.Worlds.{World}
 use Rattle.bhs_model.specs.Setups.{network_of}
 use Rattle.bhs_model.specs.Runs.{run, replies, replies_to}
 use Rattle.bhs_model.specs.Kept.{kept, lost}
-use Rattle.bhs_model.specs.Twins.{Twins, gives_away}
-use Rattle.bhs_model.specs.Cuts.{at_places, notes, is_closed, cut}
+use Rattle.bhs_model.specs.Twins.{Twins, reveals}
+use Rattle.bhs_model.specs.Cuts.{at_places, footprints, is_closed, cut}
 use Rattle.bhs_model.specs.Arenas.{Happening, events_of, arena_replies}
 use Rattle.bhs_model.specs.Draws.{Held, Act, Says, Draws, Closes, pool, played}
 
@@ -202,42 +202,42 @@ met = apart ++ Tell 0 (Depart 0) ∷ Deliver 0 ∷ Tell 1 (Depart 0) ∷ Close �
 
 abbrev pub WhoNeverMeetsIsNotInTheCut : Type 0
 WhoNeverMeetsIsNotInTheCut =
-    cut 0 (notes triangle (apart ++ Close ∷ []))
+    cut 0 (footprints triangle (apart ++ Close ∷ []))
     ≡ true ∷ false ∷ false ∷ false ∷ false ∷ true ∷ false ∷ []
 
 abbrev pub WhoWroteWhatIsSeenIsInTheCut : Type 0
-WhoWroteWhatIsSeenIsInTheCut = cut 0 (notes triangle met) ≡ replicate 8 true ++ false ∷ false ∷ []
+WhoWroteWhatIsSeenIsInTheCut = cut 0 (footprints triangle met) ≡ replicate 8 true ++ false ∷ false ∷ []
 
 -- a write that fails is the last one on the whiteboard all the same, and who sees the whiteboard has it
 -- in its past
 abbrev pub failing : Event
 failing = Tell 1 (Write (codes "x") (codes "b"))
 
-abbrev pub AFailedWriteLeavesATrace : Type 0
-AFailedWriteLeavesATrace =
-    (run triangle (Tell 1 Enter ∷ failing ∷ [])).trace 0
-    ≡ Last (Told
-    (Told Start Enter (Saw (Seen 2 None Blank)))
-    (Write (codes "x") (codes "b")) (Saw (Seen 2 None Blank)))
+abbrev pub AFailedWriteCounts : Type 0
+AFailedWriteCounts =
+    (run triangle (Tell 1 Enter ∷ failing ∷ [])).last_write 0
+    ≡ WrittenBy (Told
+    (Told Start Enter (Saw (Seen 2 None Unwritten)))
+    (Write (codes "x") (codes "b")) (Saw (Seen 2 None Unwritten)))
 
 abbrev pub AFailedWriteIsInTheCut : Type 0
 AFailedWriteIsInTheCut =
-    cut 0 (notes triangle (Tell 0 Enter ∷ Tell 1 Enter ∷ failing ∷ Tell 0 Look ∷ [])) ≡ replicate 4 true
+    cut 0 (footprints triangle (Tell 0 Enter ∷ Tell 1 Enter ∷ failing ∷ Tell 0 Look ∷ [])) ≡ replicate 4 true
 
 -- what an agent that was never met left out, the other is answered as before
 abbrev pub TheCutStandsAlone : Type 0
 TheCutStandsAlone =
-    replies triangle (at_places apart (cut 0 (notes triangle apart))) ≡ entered ∷ entered ∷ []
+    replies triangle (at_places apart (cut 0 (footprints triangle apart))) ≡ entered ∷ entered ∷ []
 
 -- a write without the steps of its agent before it
 abbrev pub AStepNeedsTheStepsBefore : Type 0
 AStepNeedsTheStepsBefore =
-    is_closed (notes triangle apart) (false ∷ false ∷ false ∷ false ∷ true ∷ []) ≡ false
+    is_closed (footprints triangle apart) (false ∷ false ∷ false ∷ false ∷ true ∷ []) ≡ false
 
 -- an arrival at a node without the write that is seen there
 abbrev pub ASightNeedsTheWrite : Type 0
 ASightNeedsTheWrite =
-    is_closed (notes triangle met) (true ∷ false ∷ false ∷ false ∷ false ∷ true ∷ true ∷ true ∷ [])
+    is_closed (footprints triangle met) (true ∷ false ∷ false ∷ false ∷ false ∷ true ∷ true ∷ true ∷ [])
     ≡ false
 
 -- the agent left node 1 by port 1, and the link has label 0 at node 2
@@ -294,7 +294,7 @@ AnUnreachedNodeMayBeTheHole =
 -- an arrival there gives it away
 abbrev pub AnArrivalGivesItAway : Type 0
 AnArrivalGivesItAway =
-    gives_away triangle other_hole (run triangle (Tell 0 Enter ∷ Tell 0 (Depart 0) ∷ [])) (Deliver 0) ≡ true
+    reveals triangle other_hole (run triangle (Tell 0 Enter ∷ Tell 0 (Depart 0) ∷ [])) (Deliver 0) ≡ true
 
 -- a number that is no agent's; outside; entering twice; after the end; after the close, where the number
 -- still comes first

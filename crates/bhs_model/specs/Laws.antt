@@ -11,7 +11,7 @@ use Rattle.bhs_model.specs.Kept.{keeps, kept, lost, lost_after}
 use Rattle.bhs_model.specs.Twins.{Twins}
 use Rattle.bhs_model.specs.Draws.{Held, Act, played, pool, SlowInstead}
 use Rattle.bhs_model.specs.Arenas.{Happening, events_of, arena, arena_replies}
-use Rattle.bhs_model.specs.Cuts.{at_places, Note, asks, notes, is_closed, has_place, HasAllOf, IsWithin, cut}
+use Rattle.bhs_model.specs.Cuts.{at_places, Footprint, needs, footprints, is_closed, has_place, HasAllOf, IsWithin, cut}
 
 -- the agent is one of the match, and the match has not ended
 pub record IsPlaying (world : World) (events : List Event) (agent : ℕ) : Type 0 where
@@ -56,7 +56,7 @@ pub record AddsOne (world : World) (events : List Event) (event : Event) : Type 
 abbrev pub EventsAdd : Type 0
 EventsAdd = (world : World) (events : List Event) (event : Event) → AddsOne world events event
 
--- What is not kept changes nothing: the kept events lead to the same pasts, positions, traces and pool,
+-- What is not kept changes nothing: the kept events lead to the same pasts, positions, last writes and pool,
 -- the same agents are lost, and keeping twice is keeping once.
 pub record KeepsAll (world : World) (events : List Event) : Type 0 where
   pub state : run world (kept world events) ≡ run world events
@@ -80,34 +80,34 @@ TwinsLookAlike = (world : World) (events : List Event) (other : World) (others :
 
 -- A set of places is closed exactly where, with each of its places, it has each earlier one that this
 -- place needs.
-abbrev pub HasWhatIsAsked : List Note → List Bool → Type 0
-HasWhatIsAsked notes places = (early late : ℕ) (one other : Note) → early < late →
-    slice_get notes early ≡ Some one → slice_get notes late ≡ Some other → asks one other ≡ true →
+abbrev pub HasWhatIsAsked : List Footprint → List Bool → Type 0
+HasWhatIsAsked footprints places = (early late : ℕ) (one other : Footprint) → early < late →
+    slice_get footprints early ≡ Some one → slice_get footprints late ≡ Some other → needs one other ≡ true →
     has_place places late ≡ true → has_place places early ≡ true
 
 abbrev pub ClosedMeans : Type 0
-ClosedMeans = (notes : List Note) (places : List Bool) →
-    IsTrue (is_closed notes places) ↔ HasWhatIsAsked notes places
+ClosedMeans = (footprints : List Footprint) (places : List Bool) →
+    IsTrue (is_closed footprints places) ↔ HasWhatIsAsked footprints places
 
 -- A closed set of places can stand alone: by themselves its events are answered as they are among all.
 abbrev pub ClosedSetsStandAlone : Type 0
 ClosedSetsStandAlone = (world : World) (events : List Event) (places : List Bool) →
-    is_closed (notes world events) places ≡ true →
+    is_closed (footprints world events) places ≡ true →
     replies world (at_places events places) ≡ at_places (replies world events) places
 
 -- The cut of an agent is closed, has all places of the agent, and lies in each set of which both is
 -- true.
 pub record IsLeastCut (world : World) (events : List Event) (agent : ℕ) (places : List Bool) :
     Type 0 where
-  pub closed : is_closed (notes world events) places ≡ true
-  pub own : HasAllOf agent (notes world events) places
+  pub closed : is_closed (footprints world events) places ≡ true
+  pub own : HasAllOf agent (footprints world events) places
   pub least : (others : List Bool) →
-      is_closed (notes world events) others ≡ true → HasAllOf agent (notes world events) others →
+      is_closed (footprints world events) others ≡ true → HasAllOf agent (footprints world events) others →
       IsWithin places others
 
 abbrev pub CutsAreLeast : Type 0
 CutsAreLeast = (world : World) (events : List Event) (agent : ℕ) →
-    IsLeastCut world events agent (cut agent (notes world events))
+    IsLeastCut world events agent (cut agent (footprints world events))
 
 -- The events in the cut of an agent suffice: by themselves they give it the past, the position and the
 -- answers that all events give it. The other events change none of them.
@@ -118,7 +118,7 @@ pub record IsGivenAll (world : World) (events chosen : List Event) (agent : ℕ)
 
 abbrev pub CutsSuffice : Type 0
 CutsSuffice = (world : World) (events : List Event) (agent : ℕ) →
-    IsGivenAll world events (at_places events (cut agent (notes world events))) agent
+    IsGivenAll world events (at_places events (cut agent (footprints world events))) agent
 
 -- A match with a black hole, and the match where the links into it are only slow, are twins, whatever is
 -- said and drawn; and their pools are equal, so that each word picks alike.

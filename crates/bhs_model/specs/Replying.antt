@@ -6,7 +6,7 @@ use Rattle.bhs_model.specs.declared.replies.Reply.{Reply}
 use Rattle.bhs_model.specs.declared.replies.Reply.TheVariants.{Here, Written, Changed, Gone, Noted, Bye, No}
 use Rattle.bhs_model.specs.declared.replies.Why.{Why}
 use Rattle.bhs_model.specs.declared.replies.Why.TheVariants.{Outside as NotEntered, Twice, Ended as HasEnded, Spent, Away as OnLink, Line, Port, Long}
-use Rattle.bhs_model.specs.Views.{View, Start, Told, Arrived, Glance, Nothing, Saw, Sight, Seen, Trace, Blank, Last, Standing, Outside, Away, Ended, ports, standing, used}
+use Rattle.bhs_model.specs.Views.{View, Start, Told, Arrived, Glance, Nothing, Saw, Sight, Seen, LastWrite, Unwritten, WrittenBy, Standing, Outside, Away, Ended, ports, standing, used}
 
 -- what a whiteboard shows after a write: the new text, where it showed the expected one and the new one
 -- fits; else what it showed
@@ -16,19 +16,19 @@ swapped limit shown expect put =
 
 abbrev mutual
   -- what a whiteboard shows: nothing, or what its last write left
-  pub text : (limit : ℕ) → Trace → List ℕ
-  text limit Blank = []
-  text limit (Last view) = text_left limit view
+  pub text : (limit : ℕ) → LastWrite → List ℕ
+  text limit Unwritten = []
+  text limit (WrittenBy view) = text_left limit view
 
   -- what is left on the whiteboard by a past that ends in a write
   pub text_left : (limit : ℕ) → View → List ℕ
-  text_left limit (Told view (Write expect put) (Saw (Seen ports came trace))) =
-      swapped limit (text limit trace) expect put
+  text_left limit (Told view (Write expect put) (Saw (Seen ports came last_write))) =
+      swapped limit (text limit last_write) expect put
   text_left limit view = []
 
 -- "you are here"
 abbrev pub here : (limit : ℕ) → Sight → Reply
-here limit (Seen ports came trace) = Here ports came (text limit trace)
+here limit (Seen ports came last_write) = Here ports came (text limit last_write)
 
 -- the answer to a write on a whiteboard that shows this text
 abbrev pub write_answer : (limit : ℕ) → (shown expect put : List ℕ) → Reply
@@ -37,8 +37,8 @@ write_answer limit shown expect put =
 
 -- the answer to a command that looks at the node. Only an agent that is on a link sees nothing.
 abbrev pub sight_answer : (limit : ℕ) → Command → Glance → Reply
-sight_answer limit (Write expect put) (Saw (Seen ports came trace)) =
-    write_answer limit (text limit trace) expect put
+sight_answer limit (Write expect put) (Saw (Seen ports came last_write)) =
+    write_answer limit (text limit last_write) expect put
 sight_answer limit command (Saw sight) = here limit sight
 sight_answer limit command Nothing = No OnLink
 
@@ -65,17 +65,17 @@ reps limit (Told view command glance) =
 reps limit (Arrived view sight) = reps limit view ++ option_to_list (rep limit (Arrived view sight))
 
 -- whether an agent in this standing is heard; room says that its quota is not used up
-abbrev pub may : Standing → (room : Bool) → Command → Bool
-may Outside room Enter = true
-may Outside room command = false
-may Ended room command = false
-may standing room Enter = false
-may standing room Leave = true
-may standing room command = room
+abbrev pub accepts : Standing → (room : Bool) → Command → Bool
+accepts Outside room Enter = true
+accepts Outside room command = false
+accepts Ended room command = false
+accepts standing room Enter = false
+accepts standing room Leave = true
+accepts standing room command = room
 
 -- whether an agent with this past is heard
 abbrev pub hears : (quota : ℕ) → View → Command → Bool
-hears quota view command = may (standing view) (nat_lt (used view) quota) command
+hears quota view command = accepts (standing view) (nat_lt (used view) quota) command
 
 -- why an agent in this standing is not heard
 abbrev pub refusal : Standing → Command → Why

@@ -7,7 +7,7 @@ use Rattle.bhs_model.specs.declared.events.Event.TheVariants.{Tell, Deliver, Clo
 use Rattle.bhs_model.specs.declared.replies.Reply.{Reply}
 use Rattle.bhs_model.specs.declared.replies.Reply.TheVariants.{Over, No}
 use Rattle.bhs_model.specs.declared.replies.Why.TheVariants.{Agent}
-use Rattle.bhs_model.specs.Views.{View, Start, Told, Arrived, Glance, Nothing, Saw, Sight, Seen, Trace, Blank, Last, standing}
+use Rattle.bhs_model.specs.Views.{View, Start, Told, Arrived, Glance, Nothing, Saw, Sight, Seen, LastWrite, Unwritten, WrittenBy, standing}
 use Rattle.bhs_model.specs.Replying.{rep, hears, refusal}
 use Rattle.bhs_model.specs.Worlds.{World, doomed}
 
@@ -22,12 +22,12 @@ pub data Position : Type 0 where
   -- it has ended
   After : Position
 
--- how a match stands: of each agent its past and position, of each node the trace on its whiteboard,
+-- how a match stands: of each agent its past and position, of each node the last write on its whiteboard,
 -- the agents that departed, in order of their last departure, and whether the match has ended
 pub record State : Type 0 where
   pub past : ℕ → View
   pub position : ℕ → Position
-  pub trace : ℕ → Trace
+  pub last_write : ℕ → LastWrite
   pub departed : List ℕ
   pub closed : Bool
 
@@ -36,7 +36,7 @@ abbrev pub initial : State
 initial = record {
   past = λ agent. Start;
   position = λ agent. Before;
-  trace = λ node. Blank;
+  last_write = λ node. Unwritten;
   departed = [];
   closed = false;
 }
@@ -47,7 +47,7 @@ changed f place value other = if other == place then value else f other
 
 -- the node as an agent sees it that came by this label
 abbrev pub sight_at : World → State → (node : ℕ) → (came : Option ℕ) → Sight
-sight_at world state node came = Seen (world.net.degree node) came (state.trace node)
+sight_at world state node came = Seen (world.net.degree node) came (state.last_write node)
 
 -- what a heard command shows: Enter the home base, Look and Write the node where the agent is
 abbrev pub glance : World → State → Position → Command → Glance
@@ -66,11 +66,11 @@ position_after world (At node came) (Accuse port) =
     if nat_lt port (world.net.degree node) then After else At node came
 position_after world position command = position
 
--- the traces after a heard command, where the agent's past with it is this one: a write at a node is
+-- the last writes after a heard command, where the agent's past with it is this one: a write at a node is
 -- the last one there, also a write that fails
-abbrev pub traces_after : (ℕ → Trace) → Position → Command → View → ℕ → Trace
-traces_after traces (At node came) (Write expect put) past = changed traces node (Last past)
-traces_after traces position command past = traces
+abbrev pub last_writes_after : (ℕ → LastWrite) → Position → Command → View → ℕ → LastWrite
+last_writes_after last_writes (At node came) (Write expect put) past = changed last_writes node (WrittenBy past)
+last_writes_after last_writes position command past = last_writes
 
 -- whether an agent is on a link
 abbrev pub is_bound : Position → Bool
@@ -91,7 +91,7 @@ told world state agent command =
     record {
       past = changed state.past agent past;
       position = changed state.position agent (position_after world position command);
-      trace = traces_after state.trace position command past;
+      last_write = last_writes_after state.last_write position command past;
       departed = departed_after state.departed agent position (position_after world position command);
       closed = state.closed;
     }

@@ -24,17 +24,17 @@ abbrev pub strike : (world other : World) → List Event → List Event
 strike world other events = strike_from world other initial events
 
 -- whether an event makes its agent arrive over a link that destroys in the other world
-abbrev pub gives_away : (world other : World) → State → Event → Bool
-gives_away world other state (Deliver agent) =
+abbrev pub reveals : (world other : World) → State → Event → Bool
+reveals world other state (Deliver agent) =
     arrives world state agent && is_doomed other (state.position agent)
-gives_away world other state event = false
+reveals world other state event = false
 
 -- no event gives it away which of the two worlds it is
-abbrev pub IsDiscreet : (world other : World) → State → List Event → Type 0
-IsDiscreet world other state [] = Unit {0}
-IsDiscreet world other state (event ∷ events) =
-    (gives_away world other state event ≡ false)
-    × IsDiscreet world other (next world state event) events
+abbrev pub RevealsNothing : (world other : World) → State → List Event → Type 0
+RevealsNothing world other state [] = Unit {0}
+RevealsNothing world other state (event ∷ events) =
+    (reveals world other state event ≡ false)
+    × RevealsNothing world other (next world state event) events
 
 -- the twin condition: but for the struck events the lists are equal, and each struck one does nothing in
 -- its own world
@@ -42,5 +42,5 @@ pub record Twins (world : World) (events : List Event) (other : World) (others :
     Type 0 where
   pub worlds : SameButDoom world other
   pub struck : strike world other events ≡ strike other world others
-  pub discreet : IsDiscreet world other initial events
-  pub other_discreet : IsDiscreet other world initial others
+  pub reveals_nothing : RevealsNothing world other initial events
+  pub other_reveals_nothing : RevealsNothing other world initial others

@@ -22,13 +22,13 @@ mutual
   -- a node as an agent sees it: how many ports it has, the label of the link by which the agent came
   -- (None where it entered there), and what the whiteboard shows
   pub data Sight : Type 0 where
-    Seen : ℕ → Option ℕ → Trace → Sight
+    Seen : ℕ → Option ℕ → LastWrite → Sight
 
   -- who wrote on a whiteboard last: nobody, or an agent whose past, up to and with that write, is this
   -- one. A write that failed counts.
-  pub data Trace : Type 0 where
-    Blank : Trace
-    Last : View → Trace
+  pub data LastWrite : Type 0 where
+    Unwritten : LastWrite
+    WrittenBy : View → LastWrite
 
 -- what an agent may be doing
 pub data Standing : Type 0 where
@@ -43,7 +43,7 @@ pub data Standing : Type 0 where
 
 -- how many ports the node has that is seen
 abbrev pub ports_seen : Sight → ℕ
-ports_seen (Seen ports came trace) = ports
+ports_seen (Seen ports came last_write) = ports
 
 -- how many ports the node had that the agent saw last
 abbrev pub ports : View → ℕ

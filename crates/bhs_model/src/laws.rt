@@ -4,7 +4,7 @@ ghost use Rattle.bhs_model.specs.Examples.{
   ABadLineIsUsedUp,
   ADepartureAndItsArrival,
   AFailedWriteIsInTheCut,
-  AFailedWriteLeavesATrace,
+  AFailedWriteCounts,
   AMatchSeesNoOther,
   AMissingPortIsUsedUp,
   ASightNeedsTheWrite,
@@ -136,7 +136,7 @@ pub fn worked_examples()
     ensures the_destroyed_stay_in_the_pool { TheDestroyedStayInThePool }
     ensures who_never_meets_is_not_in_the_cut { WhoNeverMeetsIsNotInTheCut }
     ensures who_wrote_what_is_seen_is_in_the_cut { WhoWroteWhatIsSeenIsInTheCut }
-    ensures a_failed_write_leaves_a_trace { AFailedWriteLeavesATrace }
+    ensures a_failed_write_counts { AFailedWriteCounts }
     ensures a_failed_write_is_in_the_cut { AFailedWriteIsInTheCut }
     ensures the_cut_stands_alone { TheCutStandsAlone }
     ensures a_step_needs_the_steps_before { AStepNeedsTheStepsBefore }

@@ -44,9 +44,11 @@ module _ {O : Type 0} (takes : O → List ℕ → Taken → O → Type 0) where
   sent_until a b c text bytes left Write so_far part =
       subst (λ (whole : List ℕ). PutsPart takes a whole c) so_far.whole
       (PutsPart-trans takes so_far.front (bytes ++ left) a b c so_far.sent (PutsPart-front takes bytes left b c part))
-  sent_until a b c text bytes left Memory so_far (count, some) =
-      (length so_far.front + count, subst (λ (whole : List ℕ). Puts takes a whole (length so_far.front + count) c) so_far.whole
-      (Puts-trans takes so_far.front (bytes ++ left) a b c count so_far.sent (Puts-front takes bytes left b c count some)))
+  sent_until a b c text bytes left Memory so_far (count, some) = (
+    length so_far.front + count,
+    subst (λ (whole : List ℕ). Puts takes a whole (length so_far.front + count) c) so_far.whole
+        (Puts-trans takes so_far.front (bytes ++ left) a b c count so_far.sent (Puts-front takes bytes left b c count some)),
+  )
   sent_until a b c text bytes left Read so_far none = absurd none
   sent_until a b c text bytes left Text so_far none = absurd none
   sent_until a b c text bytes left (Line line) so_far none = absurd none
@@ -159,9 +161,12 @@ module _ {R W : Type 0} (remaining : R → Option (List ℕ)) (contents : W → 
   stops_known Text stops = reading_known reads.Text stops
   stops_known Turns stops = reading_known reads.Turns stops
   stops_known (Line line) (script, closes, refused, kept) =
-      let all = Consumes-from_closes remaining input input' MAX_TEXT turns script closes in
-      (script, record { taken = all.0; end = all.1; within = closes.fits }, refused,
-      subst (λ (w : W). Keeps (contents output) (contents w)) (sym kept) (Keeps-refl (contents output)))
+      let all = Consumes-from_closes remaining input input' MAX_TEXT turns script closes in (
+        script,
+        record { taken = all.0; end = all.1; within = closes.fits },
+        refused,
+        subst (λ (w : W). Keeps (contents output) (contents w)) (sym kept) (Keeps-refl (contents output)),
+      )
   stops_known (File fault) stops = absurd stops
   stops_known Write stops = record {
     instructions = stops.instructions;

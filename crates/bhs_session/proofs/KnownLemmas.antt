@@ -18,12 +18,12 @@ module _ {R W P : Type 0} (remaining : R → Option (List ℕ)) (contents : W �
 
   Sends-known : (a : W) (phase : Phase) (bytes : List ℕ) (b : W) (next : Phase) → Sends takes a phase bytes b next → Appends (contents a) (contents b) bytes
   Sends-known a _ _ _ _ (all text next new puts) = memory.Appends-from_all contents text a new puts
-  Sends-known a _ _ _ _ (part text next new some) = 
+  Sends-known a _ _ _ _ (part text next new some) =
       let front = memory.Appends-from_puts contents text a some.before some.sent some.puts in
       elim some.last [
-        inl refused ↦ Appends-kept _ _ _ (take some.sent text) front refused
+        | inl refused ↦ Appends-kept _ _ _ (take some.sent text) front refused
         | inr zero ↦ subst (Appends (contents a) (contents new)) (append-nil (take some.sent text)) (Appends-trans _ _ _ _ _ front zero)
-        ]
+      ]
   Sends-known a _ _ _ _ (none text next) = Appends-nil (contents a)
 
   abbrev Known : Option (List ℕ) → Option (List ℕ) → R → Point W P → Type 0

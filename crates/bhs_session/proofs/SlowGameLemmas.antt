@@ -10,7 +10,7 @@ use Rattle.bhs_model.specs.Worlds.{World, doomed}
 use Rattle.bhs_model.specs.Runs.{State, initial, Position, Before, At, Bound, After, changed, position_after, heard, told, delivered, is_bound, is_doomed, arrives, next, run_from, reply}
 use Rattle.bhs_model.specs.Twins.{is_struck}
 use Rattle.bhs_model.specs.Kept.{keeps, lost}
-use Rattle.bhs_model.specs.Draws.{Held, SlowInstead, is_held, let_go, draw, pool, pick}
+use Rattle.bhs_model.specs.Draws.{Held, SlowInstead, is_held, delivery_to, draw, pool, pick}
 use Rattle.bhs_model.proofs.StepLemmas.{next_no_arrival, no_arrival_no_reply}
 use Rattle.bhs_model.proofs.KeptLemmas.{unkept_state}
 use Rattle.bhs_model.proofs.AddLemmas.{run-append}
@@ -148,7 +148,7 @@ module _ (game slow : Game) (is : IsSlowFor game slow) where
   held_alike (At node came) on = refl
   held_alike After on = refl
 
-  let_go_same : (picked : Option ℕ) → let_go held_or_doomed (state_of game) picked ≡ let_go (held_in slow.held) (state_of game) picked
+  let_go_same : (picked : Option ℕ) → delivery_to held_or_doomed (state_of game) picked ≡ delivery_to (held_in slow.held) (state_of game) picked
   let_go_same None = refl
   let_go_same (Some agent) =
       ap (λ (back : Bool). cond back None (Some (Deliver agent))) (held_alike ((state_of game).position agent) (on_ports game agent))

@@ -25,9 +25,11 @@ module _ {R : Type 0} (remaining : R → Option (List ℕ)) where
 
   pub Consumes-from_closes : (old new : R) (limit turns : ℕ) (text : List ℕ) → Closes gives old limit turns text End new
       → Consumes (remaining old) (remaining new) text × IsAtEnd (remaining new)
-  Consumes-from_closes old new limit turns text closes =
-      (subst (Consumes (remaining old) (remaining new)) (append-nil text)
-      (Consumes-trans _ _ _ text [] (Consumes-from_gathers old closes.before closes.reads text closes.gathered) closes.last.0), closes.last.1)
+  Consumes-from_closes old new limit turns text closes = (
+    subst (Consumes (remaining old) (remaining new)) (append-nil text)
+        (Consumes-trans _ _ _ text [] (Consumes-from_gathers old closes.before closes.reads text closes.gathered) closes.last.0),
+    closes.last.1,
+  )
 
 -- so many reads give so many bytes
 pub GivenBy-from_gathers : {I : Type 0} (gives : I → Chunk → I → Type 0) (old new : I) (reads : ℕ) (bytes : List ℕ) → Gathers gives old reads bytes new → GivenBy reads bytes
@@ -41,23 +43,29 @@ GivenBy-from_gathers gives old new reads bytes (goes_on some before piece here n
 -- the bytes that were read when a fault ended the reading
 pub StoppedBy-from_ends : {R : Type 0} (remaining : R → Option (List ℕ)) (old new : R) (limit turns : ℕ) (fault : ReadFault) → EndsBy (gives remaining) old limit turns fault new
     → (bytes : List ℕ) × Consumes (remaining old) (remaining new) bytes × StoppedBy fault limit turns bytes
-StoppedBy-from_ends remaining old new limit turns faults.Read (bytes, closes) =
-    (bytes, Consumes-kept _ _ _ bytes (Consumes-from_gathers remaining old closes.before closes.reads bytes closes.gathered) closes.last,
-    (closes.fits, (closes.reads, closes.turn_left, GivenBy-from_gathers (gives remaining) old closes.before closes.reads bytes closes.gathered)))
+StoppedBy-from_ends remaining old new limit turns faults.Read (bytes, closes) = (
+  bytes,
+  Consumes-kept _ _ _ bytes (Consumes-from_gathers remaining old closes.before closes.reads bytes closes.gathered) closes.last,
+  (closes.fits, (closes.reads, closes.turn_left, GivenBy-from_gathers (gives remaining) old closes.before closes.reads bytes closes.gathered)),
+)
 StoppedBy-from_ends remaining old new limit turns faults.Text (whole, long, over) =
     let close = over.closes in
     let all = goes_on close.reads over.bytes over.piece close.before new close.gathered over.is_piece close.last in
     let given = GivenBy-from_gathers (gives remaining) old new (close.reads + 1) (over.bytes ++ over.piece) all in
-    let joined = length-append over.bytes over.piece in let fits = close.fits in let full = over.is_piece.1 in
-    ((over.bytes ++ over.piece), Consumes-from_gathers remaining old new (close.reads + 1) (over.bytes ++ over.piece) all,
-    (subst (λ (bytes : List ℕ). limit < length bytes) over.joined long, omega arith, (close.reads + 1, let left = close.turn_left in omega arith, given)))
+    let joined = length-append over.bytes over.piece in let fits = close.fits in let full = over.is_piece.1 in (
+      (over.bytes ++ over.piece),
+      Consumes-from_gathers remaining old new (close.reads + 1) (over.bytes ++ over.piece) all,
+      (subst (λ (bytes : List ℕ). limit < length bytes) over.joined long, omega arith, (close.reads + 1, let left = close.turn_left in omega arith, given)),
+    )
 StoppedBy-from_ends remaining old new limit turns faults.Memory (whole, fits, over) =
     let close = over.closes in
     let all = goes_on close.reads over.bytes over.piece close.before new close.gathered over.is_piece close.last in
     let given = GivenBy-from_gathers (gives remaining) old new (close.reads + 1) (over.bytes ++ over.piece) all in
-    let joined = length-append over.bytes over.piece in let some = over.is_piece.0 in
-    ((over.bytes ++ over.piece), Consumes-from_gathers remaining old new (close.reads + 1) (over.bytes ++ over.piece) all,
-    (omega arith, subst (λ (bytes : List ℕ). length bytes ≤ limit) over.joined fits, (close.reads + 1, let left = close.turn_left in omega arith, given)))
+    let joined = length-append over.bytes over.piece in let some = over.is_piece.0 in (
+      (over.bytes ++ over.piece),
+      Consumes-from_gathers remaining old new (close.reads + 1) (over.bytes ++ over.piece) all,
+      (omega arith, subst (λ (bytes : List ℕ). length bytes ≤ limit) over.joined fits, (close.reads + 1, let left = close.turn_left in omega arith, given)),
+    )
 StoppedBy-from_ends remaining old new limit turns faults.Turns (bytes, fits, gathered) =
     (bytes, Consumes-from_gathers remaining old new turns bytes gathered, (fits, GivenBy-from_gathers (gives remaining) old new turns bytes gathered))
 
@@ -83,7 +91,7 @@ module _ {W : Type 0} (contents : W → Option (List ℕ)) (bytes : List ℕ) wh
         count = part.sent;
         short = offered-short bytes part.sent part.offered part.is_offered;
         grown = elim part.last [
-          inl refused ↦ Appends-kept _ _ _ (take part.sent bytes) front refused
+          | inl refused ↦ Appends-kept _ _ _ (take part.sent bytes) front refused
           | inr none ↦ subst (Appends (contents old) (contents new)) (append-nil (take part.sent bytes)) (Appends-trans _ _ _ _ _ front none)
-          ];
+        ];
       }

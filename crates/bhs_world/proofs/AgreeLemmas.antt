@@ -15,10 +15,10 @@ use Rattle.bhs_model.specs.declared.replies.Reply.TheVariants as replies
 use Rattle.bhs_model.specs.declared.replies.Why.{Why}
 use Rattle.bhs_model.specs.declared.replies.Why.TheVariants as whys
 use Rattle.bhs_model.specs.Views.{View, Told, Standing, standing, ports, used, counts}
-use Rattle.bhs_model.specs.Replying.{rep, answer, may, hears, refusal, text}
+use Rattle.bhs_model.specs.Replying.{rep, answer, accepts, hears, refusal, text}
 use Rattle.bhs_model.specs.Worlds.{World, doomed}
 use Rattle.bhs_model.specs.Setups.{world_of}
-use Rattle.bhs_model.specs.Runs.{Position, Before, At, Bound, After, State, changed, initial, glance, position_after, traces_after, told, heard, is_doomed, is_let_through, arrives, arrived, delivered, next, run, reply, replies}
+use Rattle.bhs_model.specs.Runs.{Position, Before, At, Bound, After, State, changed, initial, glance, position_after, last_writes_after, told, heard, is_doomed, is_let_through, arrives, arrived, delivered, next, run, reply, replies}
 use Rattle.bhs_model.specs.Kept.{destroys, lost_after, keeps, lost, nobody}
 use Rattle.bhs_model.specs.Marks.{events_of, read, read_if}
 use Rattle.bhs_agent.specs.Agents.{Course, newcomer}
@@ -99,8 +99,8 @@ pub hears_same : (table : Table) (log : List Kept) (state : State) (lost : ℕ �
     hears table.setup.quota (state.past agent) command ≡ hears_in table agent command
 hears_same table log state lost agent command agrees legal =
     let is_of = agrees.agents agent in
-    ap (λ (standing : Standing). may standing (nat_lt (used (state.past agent)) table.setup.quota) command) ((legal agent).standing ∙ ap standing_at is_of.position)
-    ∙ ap (λ (used : ℕ). may (standing_at (agent_at table.agents agent).position) (nat_lt used table.setup.quota) command) is_of.used
+    ap (λ (standing : Standing). accepts standing (nat_lt (used (state.past agent)) table.setup.quota) command) ((legal agent).standing ∙ ap standing_at is_of.position)
+    ∙ ap (λ (used : ℕ). accepts (standing_at (agent_at table.agents agent).position) (nat_lt used table.setup.quota) command) is_of.used
 
 pub heard_same : (table : Table) (log : List Kept) (state : State) (lost : ℕ → Bool) (agent : ℕ) (command : Command) → Agrees table log state lost → AllLegal (world_in table) state →
     heard (world_in table) state agent command ≡ heard_in table agent command
@@ -142,7 +142,7 @@ command_named table log state lost agent command agrees =
     either named (nat_lt agent table.setup.agents) _ _
     (either named table.closed _ _ tt
     (either named (hears_in table agent command) _ _
-    (told_named table.setup.board (world_in table) state.trace log table.boards (agent_at table.agents agent).position command agrees.boards) tt)) tt
+    (told_named table.setup.board (world_in table) state.last_write log table.boards (agent_at table.agents agent).position command agrees.boards) tt)) tt
 
 limits_of : (table : Table) → IsSound table → HasLimit table.setup.board table.net table.boards
 limits_of table sound node within = sound.limits node (omega (arith, sound.boards))
@@ -216,7 +216,7 @@ told_agrees table log state lost agent command mark sound agrees legal within =
     record {
       agents = told_agents table log state lost agent command agrees within;
       boards = subst (λ (at : Position). (k : ℕ) → Shows (grown log (Tell agent command) mark) (board_at (boards_told log table.boards position command) k).last
-          (text table.setup.board ((traces_after state.trace at command (Told (state.past agent) command (glance world state at command))) k))) (sym same) shows;
+          (text table.setup.board ((last_writes_after state.last_write at command (Told (state.past agent) command (glance world state at command))) k))) (sym same) shows;
       closed = agrees.closed;
     }
 
@@ -393,7 +393,7 @@ arrived_played table log agent node port stood within is_open on is_safe =
     chosen_true (arrives world state agent) (delivered world state agent (state.position agent)) state arrival ∙ ap (delivered world state agent) at in
     let same_lost : lost_after world state lost (Deliver agent) ≡ lost = chosen_false (destroys world state agent) (changed lost agent true) lost no_destruction in
     let is_kept : keeps world state lost (Deliver agent) ≡ true = ap (λ (arrival : Bool). arrival || (destroys world state agent && not (lost agent))) arrival in
-    let named : IsNamed log mark = here_named table.setup.board world state.trace log table.boards there (Some label) agrees.boards in
+    let named : IsNamed log mark = here_named table.setup.board world state.last_write log table.boards there (Some label) agrees.boards in
     let reads : read_if log mark ≡ rep world.board ((arrived world state agent there label).past agent) =
     ap Some (here_reads world state log table.boards there (Some label) agrees.boards) ∙ ap (rep world.board) (sym (changed_same state.past agent _)) in
     let replied : read_if log mark ≡ reply world state (Deliver agent) =

@@ -7,7 +7,7 @@ use Rattle.bhs_model.specs.declared.events.Event.TheVariants.{Tell}
 use Rattle.bhs_model.specs.declared.replies.Reply.{Reply}
 use Rattle.bhs_model.specs.declared.replies.Reply.TheVariants as replies
 use Rattle.bhs_model.specs.Views.{View, Told, Glance, Nothing, Standing, Away, standing, ports, used}
-use Rattle.bhs_model.specs.Replying.{rep, answer, may, hears, refusal}
+use Rattle.bhs_model.specs.Replying.{rep, answer, accepts, hears, refusal}
 use Rattle.bhs_model.specs.Worlds.{World}
 use Rattle.bhs_model.specs.Runs.{Position, Before, At, Bound, After, State, is_bound, glance, told, heard, next, run, reply}
 use Rattle.bhs_world.specs.Steps.{standing_at}
@@ -35,7 +35,7 @@ same_answer limit seen Bad sight = refl
 -- what an agent is answered that is on a link
 abbrev away_answer : (limit : ℕ) → (closed room : Bool) → Command → Option Reply
 away_answer limit closed room command =
-    if closed then Some replies.Over else (if may Away room command then Some (answer limit Away 0 command Nothing) else Some (replies.No (refusal Away command)))
+    if closed then Some replies.Over else (if accepts Away room command then Some (answer limit Away 0 command Nothing) else Some (replies.No (refusal Away command)))
 
 away_reply : (world : World) (state : State) (agent : ℕ) (command : Command) → agent < world.agents → is_bound (state.position agent) ≡ true → IsLegal world (state.past agent) (state.position agent) →
     reply world state (Tell agent command) ≡ away_answer world.board state.closed (nat_lt (used (state.past agent)) world.quota) command
@@ -43,7 +43,7 @@ away_reply world state agent command within bound legal =
     let view : View = state.past agent in
     let room : Bool = nat_lt (used view) world.quota in
     let is_away : standing view ≡ Away = legal.standing ∙ standing_bound (state.position agent) bound in
-    let same_hears : hears world.quota view command ≡ may Away room command = ap (λ (standing : Standing). may standing room command) is_away in
+    let same_hears : hears world.quota view command ≡ accepts Away room command = ap (λ (standing : Standing). accepts standing room command) is_away in
     let sight : Glance = glance world state (state.position agent) command in
     let heard_by : heard world state agent command ≡ (not state.closed && hears world.quota view command) = ap (λ (is_agent : Bool). is_agent && (not state.closed && hears world.quota view command)) (lt-ltb agent world.agents within) in
     chosen_true (nat_lt agent world.agents) _ _ (lt-ltb agent world.agents within)
@@ -59,11 +59,11 @@ away_reply world state agent command within bound legal =
     ap (rep world.board) past
     ∙ ap (λ (standing : Standing). Some (answer world.board standing (ports view) command sight)) is_away
     ∙ ap Some (same_answer world.board (ports view) command sight) in
-    chosen_true (hears world.quota view command) _ _ heard_it ∙ answered ∙ sym (chosen_false state.closed _ _ is_open ∙ chosen_true (may Away room command) _ _ (sym same_hears ∙ heard_it)))
+    chosen_true (hears world.quota view command) _ _ heard_it ∙ answered ∙ sym (chosen_false state.closed _ _ is_open ∙ chosen_true (accepts Away room command) _ _ (sym same_hears ∙ heard_it)))
     (λ unheard.
     chosen_false (hears world.quota view command) _ _ unheard
     ∙ ap (λ (standing : Standing). Some (replies.No (refusal standing command))) is_away
-    ∙ sym (chosen_false state.closed _ _ is_open ∙ chosen_false (may Away room command) _ _ (sym same_hears ∙ unheard))))
+    ∙ sym (chosen_false state.closed _ _ is_open ∙ chosen_false (accepts Away room command) _ _ (sym same_hears ∙ unheard))))
 
 pub away_alike : AwayAlike
 away_alike world events agent other command is_away is_other same_room =

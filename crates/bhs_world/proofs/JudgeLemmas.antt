@@ -80,9 +80,9 @@ links_within net before (end ∷ ends) labelled fit node port is =
     let has : end.1 < degree_of net end.0 = ltb-true end.1 (degree_of net end.0) (and_parts (is_port_of net end) (not (is_dark (far_of net) before end.0 end.1)) parts.0).0 in
     elim (or_cases (names node port end || names node port (far_of net end.0 end.1)) (is_dark (far_of net) ends node port) is) [
       | inl here ↦ elim (or_cases (names node port end) (names node port (far_of net end.0 end.1)) here) [
-          | inl near ↦ subst (λ (e : ℕ × ℕ). e.1 < degree_of net e.0) (is_named node port end near) has
-          | inr far ↦ subst (λ (e : ℕ × ℕ). e.1 < degree_of net e.0) (is_named node port (far_of net end.0 end.1) far) (labelled.within end.0 end.1 has)
-        ]
+        | inl near ↦ subst (λ (e : ℕ × ℕ). e.1 < degree_of net e.0) (is_named node port end near) has
+        | inr far ↦ subst (λ (e : ℕ × ℕ). e.1 < degree_of net e.0) (is_named node port (far_of net end.0 end.1) far) (labelled.within end.0 end.1 has)
+      ]
       | inr there ↦ links_within net (before ++ end ∷ []) ends labelled parts.1 node port there
     ]
 
@@ -141,7 +141,7 @@ link_marked net holes ends lent i signs new whole same within fit unmarked are a
     let at : get_or lent i (0, 0) ≡ get_or ends i (0, 0) = ap (λ (list : List (ℕ × ℕ)). get_or list i (0, 0)) same in (
       rw (take_more ends i (0, 0) lt, ← at) after,
       link_passes net ends i whole lt (ap (is_port_of net) (sym at) ∙ sym fit)
-      (ap (λ (end : ℕ × ℕ). is_dark (far_of net) (take i ends) end.0 end.1) (sym at) ∙ sym (are.marked_ports _ _) ∙ sym unmarked) is,
+          (ap (λ (end : ℕ × ℕ). is_dark (far_of net) (take i ends) end.0 end.1) (sym at) ∙ sym (are.marked_ports _ _) ∙ sym unmarked) is,
     )
 
 pub all_fit : (net : Network) (setup : Setup) → IsPortLabelled net → setup.home < nodes_of net → are_holes_fit (nodes_of net) setup.home [] setup.holes ≡ true →

@@ -11,11 +11,11 @@ use Rattle.bhs_model.specs.declared.marks.Mark.TheVariants as marks
 use Rattle.bhs_model.specs.declared.marks.Kept.{Kept}
 use Rattle.bhs_model.specs.declared.replies.Reply.TheVariants as replies
 use Rattle.bhs_model.specs.declared.replies.Why.TheVariants as whys
-use Rattle.bhs_model.specs.Views.{View, Told, Trace, Last, Saw}
-use Rattle.bhs_model.specs.Replying.{swapped, text, write_answer, here, answer, may}
+use Rattle.bhs_model.specs.Views.{View, Told, LastWrite, WrittenBy, Saw}
+use Rattle.bhs_model.specs.Replying.{swapped, text, write_answer, here, answer, accepts}
 use Rattle.bhs_model.specs.Worlds.{World}
 use Rattle.bhs_model.specs.Setups.{world_of}
-use Rattle.bhs_model.specs.Runs.{Position, Before, At, Bound, After, State, changed, sight_at, glance, traces_after}
+use Rattle.bhs_model.specs.Runs.{Position, Before, At, Bound, After, State, changed, sight_at, glance, last_writes_after}
 use Rattle.bhs_model.specs.Marks.{put_of, text_at, read}
 use Rattle.bhs_board.specs.declared.swaps.Swap.{Swap}
 use Rattle.bhs_board.specs.declared.swaps.Swap.TheVariants.{Long, Differs, Took}
@@ -26,14 +26,14 @@ use Rattle.bhs_world.proofs.ListLemmas.{each_set, changed_same}
 use Rattle.bhs_world.proofs.LegalLemmas.{either}
 use Rattle.bhs_world.proofs.GrowthLemmas.{put_at_end, shows_more, text_shown, shows_named, NamesWrite}
 
--- each whiteboard shows what its trace says
-abbrev pub AllShow : ℕ → List Kept → List Whiteboard → (ℕ → Trace) → Type 0
-AllShow limit log boards trace = (node : ℕ) → Shows log (board_at boards node).last (text limit (trace node))
+-- each whiteboard shows what its last write says
+abbrev pub AllShow : ℕ → List Kept → List Whiteboard → (ℕ → LastWrite) → Type 0
+AllShow limit log boards last_write = (node : ℕ) → Shows log (board_at boards node).last (text limit (last_write node))
 
 abbrev pub HasLimit : ℕ → Network → List Whiteboard → Type 0
 HasLimit limit net boards = (node : ℕ) → node < nodes_of net → (board_at boards node).limit ≡ limit
 
-pub here_reads : (world : World) (state : State) (log : List Kept) (boards : List Whiteboard) (node : ℕ) (came : Option ℕ) → AllShow world.board log boards state.trace →
+pub here_reads : (world : World) (state : State) (log : List Kept) (boards : List Whiteboard) (node : ℕ) (came : Option ℕ) → AllShow world.board log boards state.last_write →
     read log (mark_here world boards node came) ≡ here world.board (sight_at world state node came)
 here_reads world state log boards node came shows =
     ap (λ (shown : List ℕ). replies.Here (world.net.degree node) came shown) (text_shown log _ _ (shows node))
@@ -63,8 +63,8 @@ KnownPorts net seen position = Unit {0}
 
 -- what a heard command is answered is read as the answer of the definitions
 pub told_reads : (net : Network) (setup : Setup) (state : State) (log : List Kept) (boards : List Whiteboard) (room : Bool) (seen : ℕ) (position : Position) (command : Command) →
-    AllShow setup.board log boards state.trace → HasLimit setup.board net boards → IsPlaced net position →
-    may (standing_at position) room command ≡ true → KnownPorts net seen position →
+    AllShow setup.board log boards state.last_write → HasLimit setup.board net boards → IsPlaced net position →
+    accepts (standing_at position) room command ≡ true → KnownPorts net seen position →
     read log (mark_told (world_of net setup) log boards position command) ≡ answer setup.board (standing_at position) seen command (glance (world_of net setup) state position command)
 told_reads net setup state log boards room seen Before Enter shows limited placed heard known = here_reads (world_of net setup) state log boards setup.home None shows
 told_reads net setup state log boards room seen Before Look shows limited placed heard known = cc
@@ -104,38 +104,38 @@ swap_named log Long last named = tt
 swap_named log Differs last named = named
 swap_named log Took last named = tt
 
-pub here_named : (limit : ℕ) (world : World) (trace : ℕ → Trace) (log : List Kept) (boards : List Whiteboard) (node : ℕ) (came : Option ℕ) → AllShow limit log boards trace → IsNamed log (Some (mark_here world boards node came))
-here_named limit world trace log boards node came shows = shows_named log _ _ (shows node)
+pub here_named : (limit : ℕ) (world : World) (last_write : ℕ → LastWrite) (log : List Kept) (boards : List Whiteboard) (node : ℕ) (came : Option ℕ) → AllShow limit log boards last_write → IsNamed log (Some (mark_here world boards node came))
+here_named limit world last_write log boards node came shows = shows_named log _ _ (shows node)
 
-pub told_named : (limit : ℕ) (world : World) (trace : ℕ → Trace) (log : List Kept) (boards : List Whiteboard) (position : Position) (command : Command) → AllShow limit log boards trace → IsNamed log (Some (mark_told world log boards position command))
-told_named limit world trace log boards Before Enter shows = here_named limit world trace log boards world.home None shows
-told_named limit world trace log boards (At node came) Enter shows = here_named limit world trace log boards world.home None shows
-told_named limit world trace log boards (Bound node p) Enter shows = here_named limit world trace log boards world.home None shows
-told_named limit world trace log boards After Enter shows = here_named limit world trace log boards world.home None shows
-told_named limit world trace log boards (At node came) Look shows = here_named limit world trace log boards node came shows
-told_named limit world trace log boards (At node came) (Write expect put) shows = swap_named log (swap_at log (board_at boards node) expect put) _ (shows_named log _ _ (shows node))
-told_named limit world trace log boards (At node came) (Depart port) shows = either (λ mark. IsNamed log (Some mark)) (nat_lt port (world.net.degree node)) _ _ tt tt
-told_named limit world trace log boards (At node came) (Accuse port) shows = either (λ mark. IsNamed log (Some mark)) (nat_lt port (world.net.degree node)) _ _ tt tt
-told_named limit world trace log boards (At node came) Leave shows = tt
-told_named limit world trace log boards (At node came) Bad shows = tt
-told_named limit world trace log boards Before Look shows = tt
-told_named limit world trace log boards Before (Write expect put) shows = tt
-told_named limit world trace log boards Before (Depart port) shows = tt
-told_named limit world trace log boards Before (Accuse port) shows = tt
-told_named limit world trace log boards Before Leave shows = tt
-told_named limit world trace log boards Before Bad shows = tt
-told_named limit world trace log boards (Bound node p) Look shows = tt
-told_named limit world trace log boards (Bound node p) (Write expect put) shows = tt
-told_named limit world trace log boards (Bound node p) (Depart port) shows = tt
-told_named limit world trace log boards (Bound node p) (Accuse port) shows = tt
-told_named limit world trace log boards (Bound node p) Leave shows = tt
-told_named limit world trace log boards (Bound node p) Bad shows = tt
-told_named limit world trace log boards After Look shows = tt
-told_named limit world trace log boards After (Write expect put) shows = tt
-told_named limit world trace log boards After (Depart port) shows = tt
-told_named limit world trace log boards After (Accuse port) shows = tt
-told_named limit world trace log boards After Leave shows = tt
-told_named limit world trace log boards After Bad shows = tt
+pub told_named : (limit : ℕ) (world : World) (last_write : ℕ → LastWrite) (log : List Kept) (boards : List Whiteboard) (position : Position) (command : Command) → AllShow limit log boards last_write → IsNamed log (Some (mark_told world log boards position command))
+told_named limit world last_write log boards Before Enter shows = here_named limit world last_write log boards world.home None shows
+told_named limit world last_write log boards (At node came) Enter shows = here_named limit world last_write log boards world.home None shows
+told_named limit world last_write log boards (Bound node p) Enter shows = here_named limit world last_write log boards world.home None shows
+told_named limit world last_write log boards After Enter shows = here_named limit world last_write log boards world.home None shows
+told_named limit world last_write log boards (At node came) Look shows = here_named limit world last_write log boards node came shows
+told_named limit world last_write log boards (At node came) (Write expect put) shows = swap_named log (swap_at log (board_at boards node) expect put) _ (shows_named log _ _ (shows node))
+told_named limit world last_write log boards (At node came) (Depart port) shows = either (λ mark. IsNamed log (Some mark)) (nat_lt port (world.net.degree node)) _ _ tt tt
+told_named limit world last_write log boards (At node came) (Accuse port) shows = either (λ mark. IsNamed log (Some mark)) (nat_lt port (world.net.degree node)) _ _ tt tt
+told_named limit world last_write log boards (At node came) Leave shows = tt
+told_named limit world last_write log boards (At node came) Bad shows = tt
+told_named limit world last_write log boards Before Look shows = tt
+told_named limit world last_write log boards Before (Write expect put) shows = tt
+told_named limit world last_write log boards Before (Depart port) shows = tt
+told_named limit world last_write log boards Before (Accuse port) shows = tt
+told_named limit world last_write log boards Before Leave shows = tt
+told_named limit world last_write log boards Before Bad shows = tt
+told_named limit world last_write log boards (Bound node p) Look shows = tt
+told_named limit world last_write log boards (Bound node p) (Write expect put) shows = tt
+told_named limit world last_write log boards (Bound node p) (Depart port) shows = tt
+told_named limit world last_write log boards (Bound node p) (Accuse port) shows = tt
+told_named limit world last_write log boards (Bound node p) Leave shows = tt
+told_named limit world last_write log boards (Bound node p) Bad shows = tt
+told_named limit world last_write log boards After Look shows = tt
+told_named limit world last_write log boards After (Write expect put) shows = tt
+told_named limit world last_write log boards After (Depart port) shows = tt
+told_named limit world last_write log boards After (Accuse port) shows = tt
+told_named limit world last_write log boards After Leave shows = tt
+told_named limit world last_write log boards After Bad shows = tt
 
 -- what the whiteboards show after a command that is heard
 
@@ -154,13 +154,13 @@ written_shows limit log kept board shown expect put puts limited shows =
     (swap_shows log kept board.last shown put (nat_le (length put) board.limit) (bytes_eq shown expect) puts shows))
 
 pub told_shows : (net : Network) (setup : Setup) (state : State) (log : List Kept) (kept : Kept) (agent : ℕ) (boards : List Whiteboard) (view : View) (position : Position) (command : Command) →
-    kept.event ≡ Tell agent command → length boards ≡ nodes_of net → AllShow setup.board log boards state.trace → HasLimit setup.board net boards → IsPlaced net position →
-    AllShow setup.board (log ++ kept ∷ []) (boards_told log boards position command) (traces_after state.trace position command (Told view command (glance (world_of net setup) state position command)))
+    kept.event ≡ Tell agent command → length boards ≡ nodes_of net → AllShow setup.board log boards state.last_write → HasLimit setup.board net boards → IsPlaced net position →
+    AllShow setup.board (log ++ kept ∷ []) (boards_told log boards position command) (last_writes_after state.last_write position command (Told view command (glance (world_of net setup) state position command)))
 told_shows net setup state log kept agent boards view (At node came) (Write expect put) is counted shows limited placed =
     let within : node < length boards = omega arith in
     let past : View = Told view (Write expect put) (Saw (sight_at (world_of net setup) state node came)) in
-    each_set (λ k board. Shows (log ++ kept ∷ []) board.last (text setup.board (changed state.trace node (Last past) k))) boards node (board_written log (board_at boards node) expect put) untouched within
-    (rw (changed_same state.trace node (Last past)) (written_shows setup.board log kept (board_at boards node) (text setup.board (state.trace node)) expect put (ap put_of is) (limited node placed) (shows node)))
+    each_set (λ k board. Shows (log ++ kept ∷ []) board.last (text setup.board (changed state.last_write node (WrittenBy past) k))) boards node (board_written log (board_at boards node) expect put) untouched within
+    (rw (changed_same state.last_write node (WrittenBy past)) (written_shows setup.board log kept (board_at boards node) (text setup.board (state.last_write node)) expect put (ap put_of is) (limited node placed) (shows node)))
     (λ k other. rw other (shows_more log kept _ _ (shows k)))
 told_shows net setup state log kept agent boards view (At node came) Enter is counted shows limited placed = λ k. shows_more log kept _ _ (shows k)
 told_shows net setup state log kept agent boards view (At node came) Look is counted shows limited placed = λ k. shows_more log kept _ _ (shows k)

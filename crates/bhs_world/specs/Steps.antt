@@ -12,7 +12,7 @@ use Rattle.bhs_model.specs.declared.marks.Kept.{Kept}
 use Rattle.bhs_model.specs.declared.replies.Why.{Why}
 use Rattle.bhs_model.specs.declared.replies.Why.TheVariants as whys
 use Rattle.bhs_model.specs.Views as views
-use Rattle.bhs_model.specs.Replying.{may, refusal}
+use Rattle.bhs_model.specs.Replying.{accepts, refusal}
 use Rattle.bhs_model.specs.Worlds.{World, doomed}
 use Rattle.bhs_model.specs.Runs.{Position, Before, At, Bound, After, position_after}
 use Rattle.bhs_model.specs.Setups.{IsNormal}
@@ -33,7 +33,7 @@ standing_at After = views.Ended
 
 -- why the command is not heard, if it is not
 abbrev pub refusal_of : views.Standing → (room : Bool) → Command → Option Why
-refusal_of standing room command = if may standing room command then None else Some (refusal standing command)
+refusal_of standing room command = if accepts standing room command then None else Some (refusal standing command)
 
 -- the agent after a command that is heard
 abbrev pub agent_told : World → Course → Command → Course
@@ -80,7 +80,7 @@ mark_told world log boards position command = marks.No whys.Away
 -- whether the command is heard of the agent, the match being open
 abbrev pub hears_in : Table → (agent : ℕ) → Command → Bool
 hears_in table agent command =
-    may (standing_at (agent_at table.agents agent).position) (nat_lt (agent_at table.agents agent).used table.setup.quota) command
+    accepts (standing_at (agent_at table.agents agent).position) (nat_lt (agent_at table.agents agent).used table.setup.quota) command
 
 abbrev pub heard_in : Table → (agent : ℕ) → Command → Bool
 heard_in table agent command = nat_lt agent table.setup.agents && (not table.closed && hears_in table agent command)

@@ -53,7 +53,7 @@ Shows log (Some place) shown = put_at log place ≡ Some shown
 -- the table agrees with a state of the definitions and with who is lost
 pub record Agrees (table : Table) (log : List Kept) (state : State) (lost : ℕ → Bool) : Type 0 where
   pub agents : (agent : ℕ) → IsCourseOf (agent_at table.agents agent) state (lost agent) agent
-  pub boards : (node : ℕ) → Shows log (board_at table.boards node).last (text table.setup.board (state.trace node))
+  pub boards : (node : ℕ) → Shows log (board_at table.boards node).last (text table.setup.board (state.last_write node))
   pub closed : state.closed ≡ table.closed
 
 -- where a mark names a place, a Write stands there

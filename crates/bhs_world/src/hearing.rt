@@ -1,7 +1,7 @@
 ghost use Rattle.std.specs.Prelude.{◌≡◌, ◌<◌, ◌≤◌, ◌^◌, ℕ, nat_lt, IsTrue, length, slice_set};
 ghost use Rattle.bhs_net.specs.Network.{nodes_of, degree_of};
 ghost use Rattle.bhs_model.specs.Views.{counts};
-ghost use Rattle.bhs_model.specs.Replying.{may};
+ghost use Rattle.bhs_model.specs.Replying.{accepts};
 ghost use Rattle.bhs_model.specs.Setups.{world_of};
 ghost use Rattle.bhs_agent.specs.Agents.{position_of};
 ghost use Rattle.bhs_world.specs.Tables.{board_at};
@@ -36,7 +36,7 @@ fn counts(command: &Command) -> bool
 /// Moves an agent by a command that is heard.
 pub(crate) fn advance(agent: &mut Agent, net: &Net, setup: &Setup, command: &Command)
     requires placed { IsPlaced net.now agent.old.position }
-    requires heard { IsTrue (may (standing_at agent.old.position) (nat_lt agent.old.used setup.now.quota) command.now) }
+    requires heard { IsTrue (accepts (standing_at agent.old.position) (nat_lt agent.old.used setup.now.quota) command.now) }
     requires quota { setup.now.quota ≤ MAX_QUOTA }
     ensures { agent.new ≡ agent_told (world_of net.now setup.now) agent.old command.now }
 {

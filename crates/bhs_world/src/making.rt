@@ -86,7 +86,12 @@ pub(crate) fn judged(alloc: Global, net: &Net, setup: &Setup) -> Result<Dooms, S
 }
 
 /// The normal form of a setup.
-pub(crate) fn in_order(alloc: Global, net: &Net, dooms: &Dooms, setup: &Setup) -> Result<Setup, AllocError>
+pub(crate) fn in_order(
+    alloc: Global,
+    net: &Net,
+    dooms: &Dooms,
+    setup: &Setup,
+) -> Result<Setup, AllocError>
     requires { AreSignsOf net.now setup.now.holes setup.now.dark dooms.now }
     ensures { IfOk result (λ ordered. ordered ≡ normal net.now setup.now) }
 {

@@ -142,7 +142,10 @@ impl Input for Dead {
 #[test]
 fn a_dead_input_is_asked_once(rt: HostRuntime) -> Result<(), Fail> {
     let mut dead = Dead { asked: 0 };
-    assert_eq!(rt; read_text(rt.alloc(), &mut dead, 10, 5).err(), Some(ReadFault::Read));
+    assert_eq!(rt;
+        read_text(rt.alloc(), &mut dead, 10, 5).err(),
+        Some(ReadFault::Read)
+    );
     assert_eq!(rt; dead.asked, 1);
     Ok(())
 }

@@ -106,9 +106,25 @@ fn setups_are_judged_in_order(rt: HostRuntime) -> Result<(), Fail> {
         (0, &[2][..], 65, 10, 8, &[][..], Some(SetupFault::Agents)),
         (0, &[2][..], 2, 1001, 8, &[][..], Some(SetupFault::Quota)),
         (0, &[2][..], 2, 0, 8, &[][..], Some(SetupFault::Quota)),
-        (0, &[2][..], 2, 10, 4097, &[(0, 2)][..], Some(SetupFault::Board)),
+        (
+            0,
+            &[2][..],
+            2,
+            10,
+            4097,
+            &[(0, 2)][..],
+            Some(SetupFault::Board),
+        ),
         (0, &[2][..], 2, 10, 8, &[(0, 2)][..], Some(SetupFault::Dark)),
-        (0, &[][..], 2, 10, 8, &[(0, 1), (2, 1)][..], Some(SetupFault::Dark)),
+        (
+            0,
+            &[][..],
+            2,
+            10,
+            8,
+            &[(0, 1), (2, 1)][..],
+            Some(SetupFault::Dark),
+        ),
         (0, &[2][..], 2, 10, 8, &[][..], None),
         (0, &[2, 1][..], 64, 1000, 4096, &[(0, 1), (2, 0)][..], None),
     ] {
@@ -119,7 +135,11 @@ fn setups_are_judged_in_order(rt: HostRuntime) -> Result<(), Fail> {
             board,
             ..setup_of(alloc, holes, dark)?
         };
-        assert_eq!(rt; World::new(alloc, network(alloc)?, setup).err(), fault, "at {holes:?}, {dark:?}");
+        assert_eq!(rt;
+            World::new(alloc, network(alloc)?, setup).err(),
+            fault,
+            "at {holes:?}, {dark:?}"
+        );
     }
     Ok(())
 }
@@ -129,7 +149,10 @@ fn setups_are_put_in_order(rt: HostRuntime) -> Result<(), Fail> {
     let alloc = rt.alloc();
     let setup = setup_of(alloc, &[2, 1], &[(2, 1), (2, 0)])?;
     let world = World::new(alloc, network(alloc)?, setup)?;
-    assert_eq!(rt; world.setup(), &setup_of(alloc, &[1, 2], &[(0, 1), (1, 1)])?);
+    assert_eq!(rt;
+        world.setup(),
+        &setup_of(alloc, &[1, 2], &[(0, 1), (1, 1)])?
+    );
     Ok(())
 }
 

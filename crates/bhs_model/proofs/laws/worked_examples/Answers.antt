@@ -21,7 +21,7 @@ returns c = record {
   the_destroyed_stay_in_the_pool = refl;
   who_never_meets_is_not_in_the_cut = refl;
   who_wrote_what_is_seen_is_in_the_cut = refl;
-  a_failed_write_leaves_a_trace = refl;
+  a_failed_write_counts = refl;
   a_failed_write_is_in_the_cut = refl;
   the_cut_stands_alone = refl;
   a_step_needs_the_steps_before = refl;
@@ -35,8 +35,8 @@ returns c = record {
   an_unreached_node_may_be_the_hole = record {
     worlds = record { net = refl; home = refl; agents = refl; quota = refl; board = refl };
     struck = refl;
-    discreet = (refl, (refl, (refl, (refl, tt))));
-    other_discreet = (refl, (refl, (refl, tt)));
+    reveals_nothing = (refl, (refl, (refl, (refl, tt))));
+    other_reveals_nothing = (refl, (refl, (refl, tt)));
   };
   an_arrival_gives_it_away = refl;
   refusals_in_order = refl;

@@ -16,8 +16,14 @@ overruns gives old here next limit turns reads count bytes buffer gathered fits 
   bytes = bytes;
   piece = take count buffer;
   is_piece = is_piece count buffer some within full;
-  closes = record { reads = reads; before = here; gathered = gathered; turn_left = left; fits = fits;
-    last = subst (λ chunk. gives here chunk next) (chunk_by-take count buffer some within) given };
+  closes = record {
+    reads = reads;
+    before = here;
+    gathered = gathered;
+    turn_left = left;
+    fits = fits;
+    last = subst (λ chunk. gives here chunk next) (chunk_by-take count buffer some within) given;
+  };
   joined = refl;
 }
 
@@ -33,9 +39,12 @@ returns-then-count-limit-clause-fault g c =
     let buffer = c.read_some.new.buffer in
     let count = c.in-Ok.count in
     let fits = length-take-le count buffer c.in-Ok.ensures.bound in
-    let joined = length-append c.loop.text.items (take count buffer) in
-    (_, omega arith, overruns g.I.Input.gives _ _ _ c.args.limit c.args.turns c.loop.counter count c.loop.text.items buffer gathered within (search rules) (omega arith)
-        c.in-Ok.ensures.bound full c.in-Ok.ensures.gives)
+    let joined = length-append c.loop.text.items (take count buffer) in (
+      _,
+      omega arith,
+      overruns g.I.Input.gives _ _ _ c.args.limit c.args.turns c.loop.counter count c.loop.text.items buffer gathered within (search rules) (omega arith)
+          c.in-Ok.ensures.bound full c.in-Ok.ensures.gives,
+    )
 
 pub returns-then-is_err-clause-fault : goal.returns-then-is_err-clause-fault
 returns-then-is_err-clause-fault g c =
@@ -44,9 +53,12 @@ returns-then-is_err-clause-fault g c =
     let buffer = c.read_some.new.buffer in
     let count = c.in-Ok.count in
     let fits = length-take-le count buffer c.in-Ok.ensures.bound in
-    let joined = length-append c.loop.text.items (take count buffer) in
-    (_, omega arith, overruns g.I.Input.gives _ _ _ c.args.limit c.args.turns c.loop.counter count c.loop.text.items buffer gathered within (search rules) (omega arith)
-        c.in-Ok.ensures.bound full c.in-Ok.ensures.gives)
+    let joined = length-append c.loop.text.items (take count buffer) in (
+      _,
+      omega arith,
+      overruns g.I.Input.gives _ _ _ c.args.limit c.args.turns c.loop.counter count c.loop.text.items buffer gathered within (search rules) (omega arith)
+          c.in-Ok.ensures.bound full c.in-Ok.ensures.gives,
+    )
 
 pub loop-preserved : goal.loop-preserved
 loop-preserved g c =
@@ -56,7 +68,7 @@ loop-preserved g c =
     let count = c.in-Ok.count in
     let gives = g.I.Input.gives in
     let more = goes_on c.loop.counter c.loop.text.items (take count buffer) c.loop.reader c.read_some.new.self gathered (is_piece count buffer (omega arith) c.in-Ok.ensures.bound full)
-        (subst (λ chunk. gives c.loop.reader chunk c.read_some.new.self) (chunk_by-take count buffer (omega arith) c.in-Ok.ensures.bound) c.in-Ok.ensures.gives) in
+    (subst (λ chunk. gives c.loop.reader chunk c.read_some.new.self) (chunk_by-take count buffer (omega arith) c.in-Ok.ensures.bound) c.in-Ok.ensures.gives) in
     let items : c.extend_from_slice.new.self.items ≡ c.loop.text.items ++ take count buffer = search rules in
     let fits = length-take-le count buffer c.in-Ok.ensures.bound in
     let joined = length-append c.loop.text.items (take count buffer) in
