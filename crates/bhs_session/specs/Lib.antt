@@ -1,13 +1,6 @@
-pub mod Connections
-pub mod Examples
-pub mod Games
 pub mod Input
 pub mod Moves
 pub mod Phase
 pub mod Port
-pub mod RehearsalLaws
-pub mod Rehearsing
 pub mod Sent
 pub mod Session
-pub mod Stages
-pub mod Takings

@@ -3,7 +3,6 @@ ghost use Rattle.bhs_wire.specs.Lines.{Line, lines};
 ghost use Rattle.bhs_session.specs.declared.endings.Ended.{Ended};
 ghost use Rattle.bhs_session.specs.Phase.{Finished};
 ghost use Rattle.bhs_session.specs.Session.{Point, Session, fresh};
-ghost use Rattle.bhs_session.specs.Rehearsing.{StandsForTheScript};
 
 use crate::endings::Ended;
 use crate::port::Port;
@@ -20,10 +19,4 @@ pub fn no_turns<I: Input, O: Output, P: Port>()
     ensures { (from input : I) (output : O) (start : P) (p : Point O P) (ended : Ended) → Session I.gives O.takes P.calls from (fresh output start 0) input p
         → p.phase ≡ Finished ended
         → (ended ≡ Ended.Turns) × (input ≡ from) × (p.output ≡ output) × (p.port ≡ start) × (p.written ≡ []) × (p.read ≡ []) }
-{}
-
-/// A rehearsal whose calls were the instructions of a script stands for that script: its stage is the one that the
-/// script leads to, and its calls have sent what the script sends. One call more is one instruction more.
-pub fn stands_for_the_script()
-    ensures { StandsForTheScript }
 {}

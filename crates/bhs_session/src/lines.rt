@@ -99,8 +99,8 @@ fn take_later<W: Output, P: Port>(
     }
 }
 
-// What a later line tells. The key of an enter is not looked at.
-pub(crate) fn command_in(first: First) -> Command
+/// What a line after the first tells: an enter with a key is the command Enter, and its key is not looked at.
+pub fn command_in(first: First) -> Command
     ensures { result ≡ command_by first }
 {
     match first {
