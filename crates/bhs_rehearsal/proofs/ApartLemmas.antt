@@ -12,7 +12,8 @@ use Rattle.bhs_session.specs.Phase.{text_of}
 use Rattle.bhs_rehearsal.specs.Games.{Game, state_of, played, reply_to, is_away, drawn}
 use Rattle.bhs_rehearsal.specs.Connections.{Item, Ends, Connection, fresh, shut, Taken, taken, after}
 use Rattle.bhs_rehearsal.specs.Stages.{Stage, game_at, connection_at, with_game, with_connection, has_seat, Entry, Waits, Sits, IsDenied, Goes, entry, Moved, moves, Draws, Closes, Stepped, sent_to, stepped, nothing, tells_arrival, delivers, waits_in, shut_in, told_over, closes, step}
-use Rattle.bhs_rehearsal.specs.Laws.{bytes_among, plays_in, IsOfConnection, IsOfGame, ClientsKeepToThemselves, MatchesKeepToThemselves}
+use Rattle.bhs_rehearsal.specs.Laws.{plays_in, IsOfConnection, IsOfGame, ClientsKeepToThemselves, MatchesKeepToThemselves}
+use Rattle.bhs_rehearsal.specs.Clients.{bytes_among}
 use Rattle.bhs_rehearsal.proofs.CuttingLemmas.{by_bool, and_false}
 use Rattle.bhs_rehearsal.proofs.TurnLemmas.{Turn, placed, plays_turn, enters_turn, turn_in, turn_of, moves-placed, grown}
 use Rattle.bhs_rehearsal.proofs.FeedLemmas.{bytes_among-sent_to}

@@ -6,7 +6,8 @@ use Rattle.bhs_wire.specs.Lines.{Line, found_in, left_by}
 use Rattle.bhs_wire.proofs.StreamLaws.{found_in-append, left_by-append}
 use Rattle.bhs_rehearsal.specs.Connections.{Item, Says, Connection}
 use Rattle.bhs_rehearsal.specs.Stages.{Stage, connection_at, with_connection, Instruction, Feeds, moves, Stepped, sent_to, stepped, nothing, feeds, step, stands_after, said}
-use Rattle.bhs_rehearsal.specs.Laws.{bytes_among, bytes_to, DoAlike, joined, fed, TwoPiecesDoAlike, CutsDoAlike}
+use Rattle.bhs_rehearsal.specs.Laws.{DoAlike, joined, fed, TwoPiecesDoAlike, CutsDoAlike}
+use Rattle.bhs_rehearsal.specs.Clients.{bytes_among, bytes_to}
 use Rattle.bhs_rehearsal.proofs.TurnLemmas.{Turn, placed, turn_of, moves-placed, grown, sent_behind, turn_of-grown}
 
 -- ---- what is sent

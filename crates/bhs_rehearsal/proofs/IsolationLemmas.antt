@@ -13,7 +13,8 @@ use Rattle.bhs_session.specs.Phase.{text_of, denial_text}
 use Rattle.bhs_rehearsal.specs.Games.{Game}
 use Rattle.bhs_rehearsal.specs.Connections.{Item, Says, Ends, Connection, fresh, shut, taken, after}
 use Rattle.bhs_rehearsal.specs.Stages.{Stage, game_at, connection_at, with_connection, has_seat, Entry, Waits, Sits, IsDenied, Goes, let_in, entry_by, entry, Stepped, sent_to, nothing, waits_in, told_over}
-use Rattle.bhs_rehearsal.specs.Laws.{bytes_among, plays_in, seats_of, SameBut}
+use Rattle.bhs_rehearsal.specs.Laws.{plays_in, seats_of, SameBut}
+use Rattle.bhs_rehearsal.specs.Clients.{bytes_among}
 use Rattle.bhs_rehearsal.proofs.CuttingLemmas.{by_bool}
 use Rattle.bhs_rehearsal.proofs.TurnLemmas.{Turn, placed, plays_turn, enters_turn, turn_in, turn_of}
 use Rattle.bhs_rehearsal.proofs.ApartLemmas.{sent_elsewhere}

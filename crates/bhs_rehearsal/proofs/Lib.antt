@@ -2,11 +2,17 @@ pub mod ApartLemmas
 pub mod AwayLemmas
 pub mod CuttingLemmas
 pub mod EntryLemmas
+pub mod EventLemmas
 pub mod FeedLemmas
+pub mod FitLemmas
 pub mod HeldLemmas
 pub mod IsolationLemmas
+pub mod KnownLemmas
+pub mod MetExample
+pub mod MetLemmas
 pub mod OfMatchLemmas
 pub mod PlayedLemmas
+pub mod SameLemmas
 pub mod ScriptIsolationLemmas
 pub mod ScriptLemmas
 pub mod SettledLemmas
@@ -15,5 +21,6 @@ pub mod SlowGameLemmas
 pub mod SlowStageLemmas
 pub mod StageLemmas
 pub mod TakeLemmas
+pub mod TookLemmas
 pub mod TurnLemmas
 pub mod WorkedScripts

@@ -10,7 +10,8 @@ use Rattle.bhs_model.specs.declared.replies.Reply.{Reply}
 use Rattle.bhs_rehearsal.specs.Games.{Game, state_of, played, reply_to, drawn}
 use Rattle.bhs_rehearsal.specs.Connections.{Item, Ends, Connection, fresh, taken}
 use Rattle.bhs_rehearsal.specs.Stages.{Stage, game_at, connection_at, with_game, with_connection, has_seat, Moved, moves, Instruction, Feeds, EndsInput, Draws, Closes, Stepped, stepped, nothing, tells_arrival, delivers, shut_in, told_over, closes, step, stands_after}
-use Rattle.bhs_rehearsal.specs.Laws.{bytes_among, plays_in, IsOfConnection, SameBut, is_of_match}
+use Rattle.bhs_rehearsal.specs.Laws.{plays_in, IsOfConnection, SameBut, is_of_match}
+use Rattle.bhs_rehearsal.specs.Clients.{bytes_among}
 use Rattle.bhs_rehearsal.proofs.CuttingLemmas.{by_bool}
 use Rattle.bhs_rehearsal.proofs.TurnLemmas.{placed, plays_turn, turn_in, turn_of, moves-placed, grown}
 use Rattle.bhs_rehearsal.proofs.ApartLemmas.{seat-has_seat, plays_elsewhere, not_shut, clients_lemma, matches_lemma}

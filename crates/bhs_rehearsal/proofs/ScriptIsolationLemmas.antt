@@ -11,7 +11,8 @@ use Rattle.bhs_session.specs.Phase.{text_of}
 use Rattle.bhs_rehearsal.specs.Games.{Game, state_of, played, reply_to, drawn}
 use Rattle.bhs_rehearsal.specs.Connections.{Ends, Connection, fresh}
 use Rattle.bhs_rehearsal.specs.Stages.{Stage, game_at, connection_at, with_game, with_connection, has_seat, Moved, moves, Instruction, Feeds, EndsInput, Draws, Closes, Stepped, sent_to, stepped, nothing, tells_arrival, delivers, shut_in, told_over, step, said}
-use Rattle.bhs_rehearsal.specs.Laws.{bytes_among, bytes_to, plays_in, SameBut, HeardAlike, is_of_match, without, MatchesAreApart, OtherMatchesAreNotHeard}
+use Rattle.bhs_rehearsal.specs.Laws.{plays_in, SameBut, HeardAlike, is_of_match, without, MatchesAreApart, OtherMatchesAreNotHeard}
+use Rattle.bhs_rehearsal.specs.Clients.{bytes_among, bytes_to}
 use Rattle.bhs_rehearsal.proofs.CuttingLemmas.{by_bool}
 use Rattle.bhs_rehearsal.proofs.TurnLemmas.{placed, turn_of, moves-placed, grown}
 use Rattle.bhs_rehearsal.proofs.ApartLemmas.{seat-has_seat, shut_if}

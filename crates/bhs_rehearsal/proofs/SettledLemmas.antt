@@ -13,7 +13,8 @@ use Rattle.bhs_session.specs.Phase.{denial_text}
 use Rattle.bhs_rehearsal.specs.Games.{Game, is_away}
 use Rattle.bhs_rehearsal.specs.Connections.{Item, Says, Ends, Connection, fresh, shut, Taken, taken, after}
 use Rattle.bhs_rehearsal.specs.Stages.{Stage, game_at, connection_at, with_game, with_connection, has_seat, Entry, Waits, Sits, IsDenied, Goes, let_in, entry_by, entry, Moved, plays, enters, moves_in}
-use Rattle.bhs_rehearsal.specs.Laws.{awaits_arrival, IsSettled, SettledConnectionsRest}
+use Rattle.bhs_rehearsal.specs.Laws.{IsSettled, SettledConnectionsRest}
+use Rattle.bhs_rehearsal.specs.Stages.{awaits_arrival}
 use Rattle.bhs_rehearsal.proofs.CuttingLemmas.{by_bool}
 use Rattle.bhs_rehearsal.proofs.TurnLemmas.{Turn, placed, plays_turn, enters_turn, turn_in, turn_of, played_at}
 use Rattle.bhs_rehearsal.proofs.AwayLemmas.{away-taken, taken_up, taken_rests}

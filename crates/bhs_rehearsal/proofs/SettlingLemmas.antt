@@ -12,7 +12,8 @@ use Rattle.bhs_files.specs.KeyTable.{Seat}
 use Rattle.bhs_rehearsal.specs.Games.{Game, state_of, played, reply_to, is_away, drawn}
 use Rattle.bhs_rehearsal.specs.Connections.{Ends, Connection, fresh, shut}
 use Rattle.bhs_rehearsal.specs.Stages.{Stage, game_at, connection_at, with_game, with_connection, has_seat, Moved, moves, Instruction, Feeds, EndsInput, Draws, Closes, Stepped, stepped, nothing, tells_arrival, delivers, waits_in, shut_in, told_over, closes, step, begun, stands_after}
-use Rattle.bhs_rehearsal.specs.Laws.{awaits_arrival, IsSettled, SettledStagesSettle, ScriptsSettle}
+use Rattle.bhs_rehearsal.specs.Laws.{IsSettled, SettledStagesSettle, ScriptsSettle}
+use Rattle.bhs_rehearsal.specs.Stages.{awaits_arrival}
 use Rattle.bhs_rehearsal.proofs.CuttingLemmas.{by_bool}
 use Rattle.bhs_rehearsal.proofs.TurnLemmas.{placed, turn_of, moves-placed, grown}
 use Rattle.bhs_rehearsal.proofs.ApartLemmas.{seat-has_seat, shut_if}

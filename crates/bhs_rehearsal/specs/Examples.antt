@@ -5,7 +5,8 @@ use Rattle.bhs_model.specs.declared.commands.Command.TheVariants.{Enter, Depart,
 use Rattle.bhs_model.specs.declared.events.Event.TheVariants.{Tell, Deliver}
 use Rattle.bhs_rehearsal.specs.Games.{Game}
 use Rattle.bhs_rehearsal.specs.Stages.{Stage, game_at, Instruction, Feeds, EndsInput, Draws, Closes, begun, stands_after, said}
-use Rattle.bhs_rehearsal.specs.Laws.{bytes_to, IsSlowFor}
+use Rattle.bhs_rehearsal.specs.Laws.{IsSlowFor}
+use Rattle.bhs_rehearsal.specs.Clients.{bytes_to}
 
 -- Port 0 of node 0 is joined to port 0 of node 1, port 1 of node 1 to port 0 of node 2, and port 1 of node 2 to
 -- port 1 of node 0. Node 0 is the home base and node 2 the black hole.

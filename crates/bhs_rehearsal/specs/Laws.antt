@@ -6,19 +6,8 @@ use Rattle.bhs_model.specs.Worlds.{SameButDoom, doomed}
 use Rattle.bhs_deal.specs.Links.{held_in}
 use Rattle.bhs_rehearsal.specs.Games.{Game, world_in, state_of, is_away}
 use Rattle.bhs_rehearsal.specs.Connections.{Connection}
-use Rattle.bhs_rehearsal.specs.Stages.{Stage, game_at, connection_at, moves, Instruction, Feeds, EndsInput, Draws, Closes, Stepped, step, begun, stands_after, said}
-
--- ---- what a connection is sent
-
--- of the texts of one instruction those that a connection is sent, one after the other
-abbrev pub bytes_among : (conn : ℕ) → List (ℕ × List ℕ) → List ℕ
-bytes_among conn [] = []
-bytes_among conn (out ∷ outs) = (if out.0 == conn then out.1 else []) ++ bytes_among conn outs
-
--- all bytes that a connection is sent
-abbrev pub bytes_to : (conn : ℕ) → List (List (ℕ × List ℕ)) → List ℕ
-bytes_to conn [] = []
-bytes_to conn (outs ∷ others) = bytes_among conn outs ++ bytes_to conn others
+use Rattle.bhs_rehearsal.specs.Clients.{bytes_among, bytes_to}
+use Rattle.bhs_rehearsal.specs.Stages.{Stage, game_at, connection_at, awaits_arrival, moves, Instruction, Feeds, EndsInput, Draws, Closes, Stepped, step, begun, stands_after, said}
 
 -- ---- cutting
 
@@ -85,13 +74,6 @@ MatchesKeepToThemselves =
     IsOfGame stage game (step stage (Draws game word)) × IsOfGame stage game (step stage (Closes game))
 
 -- ---- what is left to take
-
--- whether a connection's agent is on a link
-abbrev pub awaits_arrival : Stage → Connection → Bool
-awaits_arrival stage connection = seated connection.seat where
-  seated : Option (ℕ × ℕ) → Bool
-  seated None = false
-  seated (Some seat) = is_away (game_at stage seat.0) seat.1
 
 -- all items were taken but those of connections whose agents are on a link, and no two connections play one agent
 pub record IsSettled (stage : Stage) : Type 0 where

@@ -47,6 +47,13 @@ has_seat seat connection = sits seat connection.seat where
   sits seat None = false
   sits seat (Some other) = (other.0 == seat.0) && (other.1 == seat.1)
 
+-- whether a connection's agent is on a link
+abbrev pub awaits_arrival : Stage → Connection → Bool
+awaits_arrival stage connection = seated connection.seat where
+  seated : Option (ℕ × ℕ) → Bool
+  seated None = false
+  seated (Some seat) = is_away (game_at stage seat.0) seat.1
+
 -- ---- one connection's move
 
 -- what the first item of a connection that was not let in comes to

@@ -4,6 +4,7 @@
 mod connections;
 mod entries;
 mod faults;
+mod headline;
 mod instructions;
 mod items;
 mod laws;
@@ -13,6 +14,9 @@ mod rehearsals;
 mod takings;
 
 pub use faults::RehearsalFault;
+pub use headline::{
+    equal_pasts_are_sent_equal_bytes, met_as_past_and_commands, sent_as_met, worked_meetings,
+};
 pub use laws::{
     clients_keep_to_themselves, cuts_do_alike, hole_sounds_slow, matches_are_apart,
     matches_keep_to_themselves, stages_settle, stands_for_the_script, two_pieces_do_alike,
