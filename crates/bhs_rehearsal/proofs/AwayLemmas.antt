@@ -15,8 +15,7 @@ use Rattle.bhs_model.proofs.StepLemmas.{changed_same, changed_other, next_no_arr
 use Rattle.bhs_model.proofs.KeptLemmas.{unkept_state}
 use Rattle.bhs_model.proofs.AddLemmas.{run-append}
 use Rattle.bhs_wire.specs.Lines.{said_by}
-use Rattle.bhs_session.specs.Phase.{text_of}
-use Rattle.bhs_session.specs.Session.{command_by}
+use Rattle.bhs_session.specs.Texts.{text_of, command_by}
 use Rattle.bhs_rehearsal.specs.Games.{Game, world_in, state_of, played, reply_to, is_away}
 use Rattle.bhs_rehearsal.specs.Connections.{Item, Says, Ends, Taken, is_last, leaves, answers, taken}
 use Rattle.bhs_rehearsal.proofs.CuttingLemmas.{by_bool, behind}

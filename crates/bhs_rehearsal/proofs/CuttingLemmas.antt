@@ -8,8 +8,7 @@ use Rattle.bhs_model.specs.declared.events.Event.TheVariants.{Tell}
 use Rattle.bhs_model.specs.declared.replies.Reply.{Reply}
 use Rattle.bhs_model.specs.Runs.{heard}
 use Rattle.bhs_wire.specs.Lines.{said_by}
-use Rattle.bhs_session.specs.Phase.{text_of}
-use Rattle.bhs_session.specs.Session.{command_by}
+use Rattle.bhs_session.specs.Texts.{text_of, command_by}
 use Rattle.bhs_rehearsal.specs.Games.{Game, world_in, state_of, played, reply_to, is_away}
 use Rattle.bhs_rehearsal.specs.Connections.{Item, Says, Ends, Taken, is_last, leaves, answers, taken}
 

@@ -20,7 +20,7 @@ use Rattle.bhs_rehearsal.specs.Connections.{is_last}
 use Rattle.bhs_rehearsal.proofs.CuttingLemmas.{by_bool}
 use Rattle.bhs_rehearsal.proofs.SlowGameLemmas.{state_of-played}
 use Rattle.bhs_rehearsal.proofs.FitLemmas.{fits_here, here_stands}
-use Rattle.bhs_rehearsal.specs.Met.{Meeting, Hears, Refuses, past_after, command_in, answer_to, takes_commands, IsDue}
+use Rattle.bhs_session.specs.Met.{Meeting, Hears, Refuses, past_after, command_in, answer_to, takes_commands, IsDue}
 
 -- a match that was set up so, with this agent in it
 pub record IsIn (setup : Setup) (agent : ℕ) (game : Game) : Type 0 where

@@ -8,14 +8,14 @@ use Rattle.bhs_model.specs.declared.replies.Reply.TheVariants as replies
 use Rattle.bhs_model.specs.Views.{View, Start, Ended, standing}
 use Rattle.bhs_wire.specs.Lines.{Line, lines, held_of, found_in, left_by}
 use Rattle.bhs_wire.proofs.StreamLaws.{lines-append, held_of-append}
-use Rattle.bhs_session.specs.Phase.{text_of}
+use Rattle.bhs_session.specs.Texts.{text_of}
 use Rattle.bhs_rehearsal.specs.Games.{Game, state_of, is_away}
 use Rattle.bhs_rehearsal.specs.Connections.{Item, Says, Ends, Connection, shut, Taken, taken, after}
 use Rattle.bhs_rehearsal.specs.Stages.{Stage, game_at, connection_at, with_game, with_connection, Entry, Waits, Sits, IsDenied, Goes, entry}
 use Rattle.bhs_rehearsal.proofs.CuttingLemmas.{by_bool}
 use Rattle.bhs_rehearsal.proofs.TurnLemmas.{placed, plays_turn, enters_turn, turn_in, played_at, grown}
 use Rattle.bhs_rehearsal.proofs.SettledLemmas.{seat_after}
-use Rattle.bhs_rehearsal.specs.Met.{Meeting, view_from, view_of, command_in, commands, bytes_from, bytes, answer_to, takes_commands, IsDue, AreDue, past_after}
+use Rattle.bhs_session.specs.Met.{Meeting, view_from, view_of, command_in, commands, bytes_from, bytes, answer_to, takes_commands, IsDue, AreDue, past_after}
 use Rattle.bhs_rehearsal.specs.Clients.{Fed, fed_more, at_end, command_of}
 use Rattle.bhs_rehearsal.specs.Headline.{IsDenial, IsPastOf, IsSentOf}
 use Rattle.bhs_rehearsal.proofs.EventLemmas.{Alike, alike_itself}

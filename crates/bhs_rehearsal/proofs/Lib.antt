@@ -11,6 +11,7 @@ pub mod KnownLemmas
 pub mod MetExample
 pub mod MetLemmas
 pub mod OfMatchLemmas
+pub mod OneMachineLemmas
 pub mod PlayedLemmas
 pub mod SameLemmas
 pub mod ScriptIsolationLemmas

@@ -16,7 +16,7 @@ use Rattle.bhs_model.specs.Worlds.{World}
 use Rattle.bhs_model.specs.Runs.{State, initial, Position, Before, At, Bound, After, is_bound, sight_at, arrives, is_let_through, delivered, run_from}
 use Rattle.bhs_model.proofs.StepLemmas.{changed_same, arrival_by_past, no_arrival_no_reply, next_arrived}
 use Rattle.bhs_files.specs.KeyTable.{Seat}
-use Rattle.bhs_session.specs.Phase.{text_of}
+use Rattle.bhs_session.specs.Texts.{text_of}
 use Rattle.bhs_rehearsal.specs.Games.{Game, world_in, state_of, played, reply_to, is_away, drawn}
 use Rattle.bhs_rehearsal.specs.Connections.{Item, Connection, fresh, shut, taken}
 use Rattle.bhs_rehearsal.specs.Stages.{Stage, game_at, connection_at, with_game, with_connection, has_seat, Entry, Waits, Sits, IsDenied, Goes, entry, enters, Moved, moves_in, moves, Instruction, Feeds, EndsInput, Draws, Closes, Stepped, sent_to, stepped, nothing, tells_arrival, delivers, waits_in, shut_in, told_over, closes, step, begun, stands_after, said}
@@ -30,7 +30,7 @@ use Rattle.bhs_rehearsal.proofs.ApartLemmas.{sent_elsewhere, bytes_among-append,
 use Rattle.bhs_rehearsal.proofs.SettledLemmas.{has_own, seat_after}
 use Rattle.bhs_rehearsal.proofs.SettlingLemmas.{settle_lemma, seat-shut_if, shut_at, scripts_lemma}
 use Rattle.bhs_rehearsal.proofs.SlowGameLemmas.{state_of-played}
-use Rattle.bhs_rehearsal.specs.Met.{Arrives, bytes, takes_commands}
+use Rattle.bhs_session.specs.Met.{Arrives, bytes, takes_commands}
 use Rattle.bhs_rehearsal.specs.Clients.{Fed, nothing_fed, at_end, fed_by, fed_to}
 use Rattle.bhs_rehearsal.specs.Headline.{beginning, outcome, sent_in, match_of, past_of, IsDenial, OthersAreDenied, IsSentOf, IsSentAsMet, SentAsMet}
 use Rattle.bhs_rehearsal.proofs.EventLemmas.{Alike, alike_itself, alike-delivered, alike-no_arrival, setup-played}
@@ -244,10 +244,10 @@ nobody_plays connections seat none conn theirs =
       passed place count false is some = ltb-false place count is
 
 -- an arrival, of an agent on a link
-record Arrival (setup : Setup) (old new : View) (replied : Option Reply) : Type 0 where
-  sight : Sight
-  replied_is : replied ≡ Some (here setup.board sight)
-  new_is : new ≡ Arrived old sight
+pub record Arrival (setup : Setup) (old new : View) (replied : Option Reply) : Type 0 where
+  pub sight : Sight
+  pub replied_is : replied ≡ Some (here setup.board sight)
+  pub new_is : new ≡ Arrived old sight
 
 arrival_at : (world : World) (state : State) (agent : ℕ) (position : Position) → is_let_through world position ≡ true →
     (sight : Sight) × ((delivered world state agent position).past agent ≡ Arrived (state.past agent) sight)
@@ -256,7 +256,7 @@ arrival_at world state agent Before through = absurd (cc)
 arrival_at world state agent (At node came) through = absurd (cc)
 arrival_at world state agent After through = absurd (cc)
 
-arrival : (game : Game) (agent : ℕ) → arrives (world_in game) (state_of game) agent ≡ true →
+pub arrival : (game : Game) (agent : ℕ) → arrives (world_in game) (state_of game) agent ≡ true →
     Arrival game.setup ((state_of game).past agent) ((state_of (played game (Deliver agent))).past agent) (reply_to game (Deliver agent))
 arrival game agent comes =
     let world = world_in game in
@@ -268,8 +268,23 @@ arrival game agent comes =
       new_is = ap (λ (after : State). after.past agent) (state_of-played game (Deliver agent) ∙ next_arrived world state agent comes) ∙ at.1;
     }
 
+-- who has arrived is on no link
+arrived_at : (world : World) (state : State) (agent : ℕ) (position : Position) → is_let_through world position ≡ true →
+    is_bound ((delivered world state agent position).position agent) ≡ false
+arrived_at world state agent (Bound node port) through = ap is_bound (changed_same state.position agent _)
+arrived_at world state agent Before through = absurd (cc)
+arrived_at world state agent (At node came) through = absurd (cc)
+arrived_at world state agent After through = absurd (cc)
+
+pub arrived_here : (game : Game) (agent : ℕ) → arrives (world_in game) (state_of game) agent ≡ true → is_away (played game (Deliver agent)) agent ≡ false
+arrived_here game agent comes =
+    let world = world_in game in
+    let state = state_of game in
+    ap (λ (after : State). is_bound (after.position agent)) (state_of-played game (Deliver agent) ∙ next_arrived world state agent comes)
+    ∙ arrived_at world state agent (state.position agent) (and_parts (not state.closed) _ comes).1
+
 -- who arrives is on a link, before the close
-away_arrives : (world : World) (state : State) (agent : ℕ) → arrives world state agent ≡ true → (is_bound (state.position agent) ≡ true) × (state.closed ≡ false)
+pub away_arrives : (world : World) (state : State) (agent : ℕ) → arrives world state agent ≡ true → (is_bound (state.position agent) ≡ true) × (state.closed ≡ false)
 away_arrives world state agent comes =
     let parts = and_parts (not state.closed) (is_let_through world (state.position agent)) comes in
     ((and_parts (is_bound (state.position agent)) _ parts.1).0, not_back state.closed parts.0) where

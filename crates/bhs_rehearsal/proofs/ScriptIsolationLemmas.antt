@@ -7,7 +7,7 @@ use Rattle.std.proofs.lemmas.List.Quantifiers.{position-Some}
 use Rattle.bhs_model.specs.declared.events.Event.{Event}
 use Rattle.bhs_model.specs.declared.events.Event.TheVariants.{Tell, Deliver, Close}
 use Rattle.bhs_model.specs.declared.replies.Reply.{Reply}
-use Rattle.bhs_session.specs.Phase.{text_of}
+use Rattle.bhs_session.specs.Texts.{text_of}
 use Rattle.bhs_rehearsal.specs.Games.{Game, state_of, played, reply_to, drawn}
 use Rattle.bhs_rehearsal.specs.Connections.{Ends, Connection, fresh}
 use Rattle.bhs_rehearsal.specs.Stages.{Stage, game_at, connection_at, with_game, with_connection, has_seat, Moved, moves, Instruction, Feeds, EndsInput, Draws, Closes, Stepped, sent_to, stepped, nothing, tells_arrival, delivers, shut_in, told_over, step, said}

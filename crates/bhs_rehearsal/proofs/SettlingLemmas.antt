@@ -11,14 +11,14 @@ use Rattle.bhs_model.specs.declared.replies.Reply.{Reply}
 use Rattle.bhs_files.specs.KeyTable.{Seat}
 use Rattle.bhs_rehearsal.specs.Games.{Game, state_of, played, reply_to, is_away, drawn}
 use Rattle.bhs_rehearsal.specs.Connections.{Ends, Connection, fresh, shut}
-use Rattle.bhs_rehearsal.specs.Stages.{Stage, game_at, connection_at, with_game, with_connection, has_seat, Moved, moves, Instruction, Feeds, EndsInput, Draws, Closes, Stepped, stepped, nothing, tells_arrival, delivers, waits_in, shut_in, told_over, closes, step, begun, stands_after}
-use Rattle.bhs_rehearsal.specs.Laws.{IsSettled, SettledStagesSettle, ScriptsSettle}
+use Rattle.bhs_rehearsal.specs.Stages.{Stage, game_at, connection_at, with_game, with_connection, has_seat, Moved, moves, sent_to, Instruction, Feeds, EndsInput, Draws, Closes, Stepped, stepped, nothing, tells_arrival, delivers, waits_in, shut_in, told_over, closes, step, begun, stands_after}
+use Rattle.bhs_rehearsal.specs.Laws.{IsSettled, SettledStagesSettle, ScriptsSettle, moves_in_turn, AllItemsAreTaken}
 use Rattle.bhs_rehearsal.specs.Stages.{awaits_arrival}
 use Rattle.bhs_rehearsal.proofs.CuttingLemmas.{by_bool}
 use Rattle.bhs_rehearsal.proofs.TurnLemmas.{placed, turn_of, moves-placed, grown}
 use Rattle.bhs_rehearsal.proofs.ApartLemmas.{seat-has_seat, shut_if}
 use Rattle.bhs_rehearsal.proofs.AwayLemmas.{away-delivered, away-unanswered, away-closed}
-use Rattle.bhs_rehearsal.proofs.SettledLemmas.{SettledBut, awaits_kept, has_own, turn_settles}
+use Rattle.bhs_rehearsal.proofs.SettledLemmas.{SettledBut, awaits_kept, has_own, rest_lemma, turn_settles}
 
 -- ---- a client
 
@@ -188,3 +188,15 @@ script_settles stage (instruction ∷ script) settled = script_settles (step sta
 
 pub scripts_lemma : ScriptsSettle
 scripts_lemma games keys connections script = script_settles (begun games keys connections) script (begun_settled games keys connections)
+
+-- ---- every connection in turn
+
+turns_rest : (stage : Stage) → IsSettled stage → (conns : List ℕ) → moves_in_turn stage conns ≡ nothing stage
+turns_rest stage settled [] = refl
+turns_rest stage settled (conn ∷ conns) =
+    ap (λ (moved : Moved). let others = moves_in_turn moved.stage conns in record { stage = others.stage; outs = sent_to conn moved.text ++ others.outs })
+    (rest_lemma stage conn settled)
+    ∙ turns_rest stage settled conns
+
+pub all_taken_lemma : AllItemsAreTaken
+all_taken_lemma games keys connections script conns = turns_rest (stands_after (begun games keys connections) script) (scripts_lemma games keys connections script) conns

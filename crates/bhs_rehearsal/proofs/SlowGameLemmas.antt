@@ -18,8 +18,7 @@ use Rattle.bhs_model.proofs.TwinLemmas.{doomed_not_through, other_world, reply_a
 use Rattle.bhs_model.proofs.SlowLemmas.{MadeAlike, draw_alike}
 use Rattle.bhs_deal.specs.Links.{held_in}
 use Rattle.bhs_wire.specs.Lines.{said_by}
-use Rattle.bhs_session.specs.Phase.{text_of}
-use Rattle.bhs_session.specs.Session.{command_by}
+use Rattle.bhs_session.specs.Texts.{text_of, command_by}
 use Rattle.bhs_rehearsal.specs.Games.{Game, world_in, state_of, played, reply_to, is_away, drawn}
 use Rattle.bhs_rehearsal.specs.Connections.{Item, Says, Ends, Taken, is_last, leaves, answers, taken}
 use Rattle.bhs_rehearsal.specs.Laws.{IsSlowFor, SlowMatchesBegin}

@@ -2,7 +2,7 @@
 use Rattle.std.specs.Prelude.{ℕ, Bool, true, false, ◌==◌, List, [], ◌∷◌, ◌++◌, map, if◌then◌else◌}
 use Rattle.bhs_model.specs.declared.commands.Command.{Command}
 use Rattle.bhs_wire.specs.Lines.{Line, lines, said_by}
-use Rattle.bhs_session.specs.Session.{command_by}
+use Rattle.bhs_session.specs.Texts.{command_by}
 use Rattle.bhs_rehearsal.specs.Stages.{Instruction, Feeds, EndsInput, Draws, Closes}
 
 -- ---- what it is fed

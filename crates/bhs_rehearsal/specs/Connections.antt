@@ -1,11 +1,13 @@
 -- The connections of a rehearsal, and how the items of one are taken.
-use Rattle.std.specs.Prelude.{ℕ, Bool, true, false, Option, Some, None, List, [], ◌∷◌, ◌++◌, if◌then◌else◌, is_some}
+use Rattle.std.specs.Prelude.{ℕ, Bool, true, false, Option, Some, None, List, [], ◌∷◌, ◌++◌, if◌then◌else◌}
 use Rattle.bhs_model.specs.declared.events.Event.TheVariants.{Tell}
 use Rattle.bhs_model.specs.declared.commands.Command.TheVariants.{Leave}
 use Rattle.bhs_model.specs.declared.replies.Reply.{Reply}
 use Rattle.bhs_wire.specs.Lines.{Line, said_by}
-use Rattle.bhs_session.specs.Phase.{text_of, ended_by}
-use Rattle.bhs_session.specs.Session.{command_by}
+use Rattle.bhs_session.specs.Port.{Answers}
+use Rattle.bhs_session.specs.Phase.{Phase, Ready}
+use Rattle.bhs_session.specs.Machine.{hear, owed_text, behind_text, is_finished}
+use Rattle.bhs_session.specs.Texts.{command_by}
 use Rattle.bhs_rehearsal.specs.Games.{Game, played, reply_to, is_away}
 
 -- what a connection's input brings, in order: lines, and then its end
@@ -44,9 +46,12 @@ pub record Taken : Type 0 where
   -- the text that the connection is sent
   pub text : List ℕ
 
--- whether a reply is the last of its connection
+-- where an answer to a line leads the machine of a session, and whether it is the last
+abbrev pub answered : Reply → Phase
+answered reply = hear Ready (Answers reply)
+
 abbrev pub is_last : Reply → Bool
-is_last reply = is_some (ended_by reply)
+is_last reply = is_finished (behind_text (answered reply))
 
 -- no item is taken
 abbrev pub leaves : Game → List Item → Taken
@@ -58,8 +63,8 @@ abbrev pub answers : Option Reply → Game → Taken → Taken
 answers None game others = others
 answers (Some reply) game others =
     if is_last reply
-    then record { game = game; is_done = true; left = []; text = text_of reply }
-    else record others { text = text_of reply ++ others.text }
+    then record { game = game; is_done = true; left = []; text = owed_text (answered reply) }
+    else record others { text = owed_text (answered reply) ++ others.text }
 
 -- Items are taken in order until the agent is away or the connection is done. A line tells its command. The end
 -- tells Leave, whose answer is not sent.

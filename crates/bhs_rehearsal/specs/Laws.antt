@@ -7,7 +7,7 @@ use Rattle.bhs_deal.specs.Links.{held_in}
 use Rattle.bhs_rehearsal.specs.Games.{Game, world_in, state_of, is_away}
 use Rattle.bhs_rehearsal.specs.Connections.{Connection}
 use Rattle.bhs_rehearsal.specs.Clients.{bytes_among, bytes_to}
-use Rattle.bhs_rehearsal.specs.Stages.{Stage, game_at, connection_at, awaits_arrival, moves, Instruction, Feeds, EndsInput, Draws, Closes, Stepped, step, begun, stands_after, said}
+use Rattle.bhs_rehearsal.specs.Stages.{Stage, game_at, connection_at, awaits_arrival, moves, Instruction, Feeds, EndsInput, Draws, Closes, Stepped, nothing, sent_to, step, begun, stands_after, said}
 
 -- ---- cutting
 
@@ -94,6 +94,20 @@ ScriptsSettle =
 -- in a settled stage no connection can take anything
 abbrev pub SettledConnectionsRest : Type 0
 SettledConnectionsRest = (stage : Stage) (conn : ℕ) → IsSettled stage → moves stage conn ≡ record { stage = stage; text = [] }
+
+-- these connections take of their items what they can, one after the other
+abbrev pub moves_in_turn : Stage → (conns : List ℕ) → Stepped
+moves_in_turn stage [] = nothing stage
+moves_in_turn stage (conn ∷ conns) =
+    let moved = moves stage conn in
+    let others = moves_in_turn moved.stage conns in
+    record { stage = others.stage; outs = sent_to conn moved.text ++ others.outs }
+
+-- so after each instruction of a script nothing more comes of taking the items of every connection in turn
+abbrev pub AllItemsAreTaken : Type 0
+AllItemsAreTaken =
+    (games : List Game) (keys : List Seat) (connections : ℕ) (script : List Instruction) (conns : List ℕ) →
+    moves_in_turn (stands_after (begun games keys connections) script) conns ≡ nothing (stands_after (begun games keys connections) script)
 
 -- ---- matches side by side
 

@@ -4,8 +4,8 @@ pub mod Examples
 pub mod Games
 pub mod Headline
 pub mod Laws
-pub mod Met
 pub mod MetExample
+pub mod OneMachine
 pub mod Rehearsing
 pub mod Stages
 pub mod Takings

@@ -6,12 +6,14 @@ use Rattle.bhs_model.specs.declared.events.Event.TheVariants.{Deliver, Close}
 use Rattle.bhs_model.specs.declared.replies.Reply.{Reply}
 use Rattle.bhs_model.specs.declared.replies.Reply.TheVariants.{Over}
 use Rattle.bhs_wire.specs.declared.commands.First.{First}
-use Rattle.bhs_wire.specs.declared.commands.First.TheVariants as firsts
 use Rattle.bhs_wire.specs.declared.denials.Denial.{Denial}
 use Rattle.bhs_wire.specs.declared.denials.Denial.TheVariants as denials
 use Rattle.bhs_wire.specs.Lines.{said_by, found_in, left_by}
 use Rattle.bhs_files.specs.KeyTable.{Seat, seat_at}
-use Rattle.bhs_session.specs.Phase.{text_of, denial_text}
+use Rattle.bhs_session.specs.Texts.{denial_text}
+use Rattle.bhs_session.specs.Port.{Enters, Tells, News, Answers}
+use Rattle.bhs_session.specs.Phase.{Phase, Fresh, Awaits}
+use Rattle.bhs_session.specs.Machine.{Ask, Asks, Denies, Rests, ask, hear, owed_text}
 use Rattle.bhs_rehearsal.specs.Games.{Game, state_of, played, reply_to, is_away, drawn}
 use Rattle.bhs_rehearsal.specs.Connections.{Item, Says, Ends, Connection, fresh, shut, taken, after}
 
@@ -75,10 +77,16 @@ let_in stage (Some seat) =
     then (if list_any (has_seat seat) stage.connections then IsDenied denials.Taken else Sits seat)
     else IsDenied denials.Key
 
--- the first line must be an enter
+-- what comes of that which a session asks for its first line. It asks for a key or denies the client: nothing else comes
+abbrev pub entry_of : Stage → Ask → Entry
+entry_of stage (Asks (Enters key)) = let_in stage (seat_at key stage.keys)
+entry_of stage (Asks (Tells command)) = Waits
+entry_of stage (Asks News) = Waits
+entry_of stage (Denies denial) = IsDenied denial
+entry_of stage Rests = Waits
+
 abbrev pub entry_by : Stage → First → Entry
-entry_by stage (firsts.Enter key) = let_in stage (seat_at key stage.keys)
-entry_by stage (firsts.Tell command) = IsDenied denials.Enter
+entry_by stage first = entry_of stage (ask Fresh first)
 
 abbrev pub entry : Stage → List Item → Entry
 entry stage [] = Waits
@@ -168,13 +176,17 @@ ends stage conn =
       ended = true;
     })) conn)
 
+-- where news lead the machine of a session
+abbrev pub news : Reply → Phase
+news reply = hear Awaits (Answers reply)
+
 -- an arrival is told to the connection that plays the agent, which then takes of its items what it can
 abbrev pub tells_arrival : Stage → Option Reply → Option ℕ → Stepped
 tells_arrival stage None holder = nothing stage
 tells_arrival stage (Some reply) None = nothing stage
 tells_arrival stage (Some reply) (Some conn) =
     let moved = moves stage conn in
-    record { stage = moved.stage; outs = sent_to conn (text_of reply ++ moved.text) }
+    record { stage = moved.stage; outs = sent_to conn (owed_text (news reply) ++ moved.text) }
 
 abbrev pub delivers : Stage → (game : ℕ) → Option Event → Stepped
 delivers stage game (Some (Deliver agent)) =
@@ -198,7 +210,7 @@ shut_in number game connections =
 abbrev pub told_over : (number : ℕ) → Game → (conn : ℕ) → List Connection → List (ℕ × List ℕ)
 told_over number game conn [] = []
 told_over number game conn (connection ∷ others) =
-    (if waits_in number game connection then sent_to conn (text_of Over) else [])
+    (if waits_in number game connection then sent_to conn (owed_text (news Over)) else [])
     ++ told_over number game (conn + 1) others
 
 -- only the first close does something

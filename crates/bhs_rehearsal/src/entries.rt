@@ -7,6 +7,7 @@ use crate::connections::Connection;
 use crate::items::Item;
 use bhs_files::Keys;
 use bhs_net::Memory;
+use bhs_session::key_in;
 use bhs_wire::{Denial, First};
 use std::alloc::Global;
 
@@ -50,9 +51,9 @@ fn entry_by(games: usize, keys: &Keys, connections: &[Connection], first: First)
     ensures { (stage : Stage) → length stage.games ≡ games → stage.keys ≡ keys.now → stage.connections ≡ connections.now
         → seen_entry result ≡ entry_by stage first }
 {
-    match first {
-        First::Enter { key } => let_in(games, connections, keys.find(key.as_str())),
-        First::Tell(_) => Entry::Denied(Denial::Enter),
+    match key_in(first) {
+        Ok(key) => let_in(games, connections, keys.find(key.as_str())),
+        Err(denial) => Entry::Denied(denial),
     }
 }
 

@@ -4,7 +4,7 @@ ghost use Rattle.std.specs.Prelude.{◌<◌, ◌≡◌, ◌^◌, [], ◌∷◌, 
 ghost use Rattle.std.specs.List.{position};
 ghost use Rattle.bhs_model.specs.Marks.{read_if};
 ghost use Rattle.bhs_model.specs.declared.replies.Reply.TheVariants.{Over};
-ghost use Rattle.bhs_session.specs.Phase.{text_of};
+ghost use Rattle.bhs_session.specs.Texts.{text_of};
 ghost use Rattle.bhs_model.specs.declared.events.Event.TheVariants.{Close};
 ghost use Rattle.bhs_rehearsal.specs.Games.{drawn, played};
 ghost use Rattle.bhs_rehearsal.specs.Stages.{feeds, ends, delivers, tells_arrival, closes, game_at, with_game, has_seat, sent_to, told_over, shut_in};

@@ -1,7 +1,8 @@
 //! The laws of rehearsals. Each holds for every script; the functions do nothing.
 
 ghost use Rattle.bhs_rehearsal.specs.Rehearsing.{StandsForTheScript};
-ghost use Rattle.bhs_rehearsal.specs.Laws.{ClientsKeepToThemselves, CutsDoAlike, HoleSoundsSlow, LinksCanBeHeld, MatchesAreApart, MatchesKeepToThemselves, OtherMatchesAreNotHeard, ScriptsSettle, SettledConnectionsRest, SettledStagesSettle, SlowMatchesBegin, TwoPiecesDoAlike};
+ghost use Rattle.bhs_rehearsal.specs.OneMachine.{ArrivalsAreNews, ClosesEndTheWait, HeardFirst, ItemsAreTakenByTheMachine};
+ghost use Rattle.bhs_rehearsal.specs.Laws.{AllItemsAreTaken, ClientsKeepToThemselves, CutsDoAlike, HoleSoundsSlow, LinksCanBeHeld, MatchesAreApart, MatchesKeepToThemselves, OtherMatchesAreNotHeard, ScriptsSettle, SettledConnectionsRest, SettledStagesSettle, SlowMatchesBegin, TwoPiecesDoAlike};
 ghost use Rattle.bhs_rehearsal.specs.Examples.{AFirstLookIsDenied, AKeyLetsIn, ALineMayComeInPieces, AStrangeKeyIsDenied, AUsedKeyIsDenied, AnEndWaitsForTheArrival, HeldLinksSendTheSame, LinesWaitForTheArrival, TheAgentOfAnEndLeaves, TheBlackHoleIsSilent, TheOtherMatchIsNotHeard, ThePresentAreToldLater, TheQuotaIsSpent, TheSecondWriterSeesTheFirst, TheSlowTriangleIsSlow, WhatIsNotThereDoesNothing};
 
 /// A rehearsal whose calls were the instructions of a script stands for that script: its stage is the one that the
@@ -52,11 +53,21 @@ pub fn matches_keep_to_themselves()
     ensures { MatchesKeepToThemselves }
 {}
 
+/// Each connection acts as a session does. Its items are taken by the machine of a session, and it waits where its phase
+/// awaits news: exactly where its agent is on a link.
+pub fn acts_as_a_session()
+    ensures first { HeardFirst }
+    ensures items { ItemsAreTakenByTheMachine }
+    ensures arrivals { ArrivalsAreNews }
+    ensures closes { ClosesEndTheWait }
+{}
+
 /// After each instruction every connection has taken what it can: where items are left, its agent is on a link.
 pub fn stages_settle()
     ensures step { SettledStagesSettle }
     ensures script { ScriptsSettle }
     ensures rest { SettledConnectionsRest }
+    ensures all_taken { AllItemsAreTaken }
 {}
 
 /// Who doesn't play in a match is sent the same, whatever that match is and however it stands, and whatever is said and

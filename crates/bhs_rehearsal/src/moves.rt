@@ -1,7 +1,7 @@
 //! What a connection's items make of a rehearsal.
 
 ghost use Rattle.std.specs.Prelude.{◌<◌, ◌≡◌, [], length, IfOk};
-ghost use Rattle.bhs_session.specs.Phase.{denial_text};
+ghost use Rattle.bhs_session.specs.Texts.{denial_text};
 ghost use Rattle.bhs_rehearsal.specs.Rehearsing.{on_stage};
 ghost use Rattle.bhs_rehearsal.specs.Stages.{moves, enters, entry, plays, shuts, connection_at};
 ghost use Rattle.bhs_rehearsal.specs.Takings.{IsMoved, seen_entry};

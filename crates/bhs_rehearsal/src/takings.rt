@@ -3,7 +3,7 @@
 ghost use Rattle.std.specs.Prelude.{◌≡◌, ◌∷◌, ◌++◌, false, List, map, OnOk, IfOk, MatchOption};
 ghost use Rattle.bhs_model.specs.declared.events.Event.TheVariants.{Tell};
 ghost use Rattle.bhs_model.specs.Marks.{read_if};
-ghost use Rattle.bhs_session.specs.Phase.{text_of};
+ghost use Rattle.bhs_session.specs.Texts.{text_of};
 ghost use Rattle.bhs_rehearsal.specs.Games.{played, reply_to, is_away};
 ghost use Rattle.bhs_rehearsal.specs.Connections.{Item as ItemData, taken, leaves, answers};
 ghost use Rattle.bhs_rehearsal.specs.Rehearsing.{game_of, team_of, seen_item};

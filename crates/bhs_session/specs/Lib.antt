@@ -1,6 +1,9 @@
 pub mod Input
+pub mod Machine
+pub mod Met
 pub mod Moves
 pub mod Phase
 pub mod Port
 pub mod Sent
 pub mod Session
+pub mod Texts

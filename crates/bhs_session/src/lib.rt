@@ -12,7 +12,7 @@ mod serving;
 
 pub use endings::{Ended, ending_of};
 pub use laws::{lines_in_order, no_turns};
-pub use lines::command_in;
+pub use lines::{command_in, key_in};
 pub use port::{Entered, Port};
 pub use replies::{denial_text, reply_text};
 pub use serving::serve;

@@ -1,6 +1,7 @@
 ghost use Rattle.std.specs.Prelude.{◌≡◌, ℕ, List, Bool, OnOk, OnErr, IfErr, ◌++◌, ◌∷◌, [], string_bytes, IfOk};
 ghost use Rattle.bhs_stream.specs.Sending.{PutsAll, PutsPart};
-ghost use Rattle.bhs_session.specs.Phase.{text_of, denial_text, answered_by, waiting, reached, Sends, Owes, Finished, phase_of};
+ghost use Rattle.bhs_session.specs.Phase.{answered_by, waiting, reached, Sends, Owes, Finished, phase_of};
+ghost use Rattle.bhs_session.specs.Texts.{text_of, denial_text};
 ghost use Rattle.bhs_session.specs.Moves.{StopsAtLines};
 ghost use Rattle.bhs_session.specs.Sent.{SentBut};
 

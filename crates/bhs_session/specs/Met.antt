@@ -6,7 +6,7 @@ use Rattle.bhs_model.specs.declared.replies.Reply.{Reply}
 use Rattle.bhs_model.specs.declared.replies.Reply.TheVariants.{No}
 use Rattle.bhs_model.specs.Views.{View, Start, Told, Arrived, Glance, Sight, Standing, Away, Ended, standing, ports}
 use Rattle.bhs_model.specs.Replying.{answer, here, hears, refusal}
-use Rattle.bhs_session.specs.Phase.{text_of}
+use Rattle.bhs_session.specs.Texts.{text_of}
 
 pub data Meeting : Type 0 where
   -- a command that was heard, and what it showed of the node
