@@ -24,4 +24,5 @@ pub mod StageLemmas
 pub mod TakeLemmas
 pub mod TookLemmas
 pub mod TurnLemmas
+pub mod TwinLogLemmas
 pub mod WorkedScripts

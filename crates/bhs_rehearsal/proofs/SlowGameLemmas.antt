@@ -8,7 +8,7 @@ use Rattle.bhs_model.specs.declared.events.Event.TheVariants.{Tell, Deliver, Clo
 use Rattle.bhs_model.specs.declared.replies.Reply.{Reply}
 use Rattle.bhs_model.specs.Worlds.{World, doomed}
 use Rattle.bhs_model.specs.Runs.{State, initial, Position, Before, At, Bound, After, changed, position_after, heard, told, delivered, is_bound, is_doomed, arrives, next, run_from, reply}
-use Rattle.bhs_model.specs.Twins.{is_struck}
+use Rattle.bhs_model.specs.Twins.{Twins, is_struck}
 use Rattle.bhs_model.specs.Kept.{keeps, lost}
 use Rattle.bhs_model.specs.Draws.{Held, SlowInstead, is_held, delivery_to, draw, pool, pick}
 use Rattle.bhs_model.proofs.StepLemmas.{next_no_arrival, no_arrival_no_reply}
@@ -21,8 +21,9 @@ use Rattle.bhs_wire.specs.Lines.{said_by}
 use Rattle.bhs_session.specs.Texts.{text_of, command_by}
 use Rattle.bhs_rehearsal.specs.Games.{Game, world_in, state_of, played, reply_to, is_away, drawn}
 use Rattle.bhs_rehearsal.specs.Connections.{Item, Says, Ends, Taken, is_last, leaves, answers, taken}
-use Rattle.bhs_rehearsal.specs.Laws.{IsSlowFor, SlowMatchesBegin}
+use Rattle.bhs_rehearsal.specs.Laws.{IsSlowFor, slow_of, SlowMatchesBegin}
 use Rattle.bhs_rehearsal.proofs.CuttingLemmas.{by_bool, behind}
+use Rattle.bhs_rehearsal.proofs.TwinLogLemmas.{keeps_alike, twins-both, twins-one}
 
 -- ---- one event
 
@@ -37,13 +38,21 @@ state_of-played game event =
     (λ first unkept. sym (unkept_state world (state_of game) (lost world game.log) event unkept))
     refl
 
-slow_by : (game slow : Game) (kept slow_kept : Bool) (log slow_log : List Event) → IsSlowFor game slow →
-    state_of (cond kept (record game { log = log }) game) ≡ state_of (cond slow_kept (record slow { log = slow_log }) slow) →
-    IsSlowFor (cond kept (record game { log = log }) game) (cond slow_kept (record slow { log = slow_log }) slow)
-slow_by game slow true true log slow_log is same = record { worlds = is.worlds; harmless = is.harmless; held_too = is.held_too; stands = same }
-slow_by game slow true false log slow_log is same = record { worlds = is.worlds; harmless = is.harmless; held_too = is.held_too; stands = same }
-slow_by game slow false true log slow_log is same = record { worlds = is.worlds; harmless = is.harmless; held_too = is.held_too; stands = same }
-slow_by game slow false false log slow_log is same = record { worlds = is.worlds; harmless = is.harmless; held_too = is.held_too; stands = same }
+-- with this log, where it is kept
+abbrev logged : (kept : Bool) → Game → List Event → Game
+logged kept game log = cond kept (record game { log = log }) game
+
+slow_both : (game slow : Game) (kept : Bool) (log slow_log : List Event) → IsSlowFor game slow →
+    Twins (world_in game) log (world_in slow) slow_log → state_of (logged kept game log) ≡ state_of (logged kept slow slow_log) →
+    IsSlowFor (logged kept game log) (logged kept slow slow_log)
+slow_both game slow true log slow_log is twins same = record { worlds = is.worlds; harmless = is.harmless; held_too = is.held_too; stands = same; twins = twins }
+slow_both game slow false log slow_log is twins same = is
+
+slow_one : (game slow : Game) (kept : Bool) (log : List Event) → IsSlowFor game slow →
+    Twins (world_in game) log (world_in slow) slow.log → state_of (logged kept game log) ≡ state_of slow →
+    IsSlowFor (logged kept game log) slow
+slow_one game slow true log is twins same = record { worlds = is.worlds; harmless = is.harmless; held_too = is.held_too; stands = same; twins = twins }
+slow_one game slow false log is twins same = is
 
 -- ---- who is on a link is on a port
 
@@ -109,8 +118,16 @@ module _ (game slow : Game) (is : IsSlowFor game slow) where
       let same : state_of (played game event) ≡ state_of (played slow event) =
       state_of-played game event ∙ next_twin (world_in game) (world_in slow) (state_of game) event is.worlds unstruck
       ∙ ap (λ (state : State). next (world_in slow) state event) is.stands ∙ sym (state_of-played slow event) in
-      slow_by game slow (keeps (world_in game) (state_of game) (lost (world_in game) game.log) event) (keeps (world_in slow) (state_of slow) (lost (world_in slow) slow.log) event)
-      (game.log ++ event ∷ []) (slow.log ++ event ∷ []) is same
+      let kept = keeps (world_in game) (state_of game) (lost (world_in game) game.log) event in
+      let as_there : kept ≡ keeps (world_in slow) (state_of slow) (lost (world_in slow) slow.log) event =
+      keeps_alike (world_in game) (world_in slow) (state_of game) (lost (world_in game) game.log) (lost (world_in slow) slow.log) event is.worlds unstruck
+      ∙ ap (λ (state : State). keeps (world_in slow) state (lost (world_in slow) slow.log) event) is.stands in
+      let log = game.log ++ event ∷ [] in
+      let slow_log = slow.log ++ event ∷ [] in
+      subst (λ (there : Bool). IsSlowFor (logged kept game log) (logged there slow slow_log)) as_there
+      (slow_both game slow kept log slow_log is
+      (twins-both (world_in game) (world_in slow) game.log slow.log event is.twins is.stands unstruck)
+      (subst (λ (there : Bool). state_of (logged kept game log) ≡ state_of (logged there slow slow_log)) (sym as_there) same))
 
   pub reply_slow : (event : Event) → IsUnstruck event → reply_to game event ≡ reply_to slow event
   reply_slow event unstruck =
@@ -127,12 +144,19 @@ module _ (game slow : Game) (is : IsSlowFor game slow) where
   doomed_stays : (agent : ℕ) → is_doomed (world_in game) ((state_of game).position agent) ≡ true → arrives (world_in game) (state_of game) agent ≡ false
   doomed_stays agent doomed = and_right (not (state_of game).closed) _ (doomed_not_through (world_in game) ((state_of game).position agent) doomed)
 
+  harmless_at : (position : Position) → is_doomed (world_in slow) position ≡ false
+  harmless_at (Bound node port) = is.harmless node port
+  harmless_at Before = refl
+  harmless_at (At node came) = refl
+  harmless_at After = refl
+
   pub destroyed_slow : (agent : ℕ) → is_doomed (world_in game) ((state_of game).position agent) ≡ true → IsSlowFor (played game (Deliver agent)) slow
   destroyed_slow agent doomed =
       let same : state_of (played game (Deliver agent)) ≡ state_of slow =
       state_of-played game (Deliver agent) ∙ next_no_arrival (world_in game) (state_of game) agent (doomed_stays agent doomed) ∙ is.stands in
-      slow_by game slow (keeps (world_in game) (state_of game) (lost (world_in game) game.log) (Deliver agent)) false
-      (game.log ++ Deliver agent ∷ []) [] is same
+      slow_one game slow (keeps (world_in game) (state_of game) (lost (world_in game) game.log) (Deliver agent))
+      (game.log ++ Deliver agent ∷ []) is
+      (twins-one (world_in game) (world_in slow) game.log slow.log agent is.twins doomed (harmless_at ((state_of game).position agent))) same
 
   pub destroyed_unanswered : (agent : ℕ) → is_doomed (world_in game) ((state_of game).position agent) ≡ true → reply_to game (Deliver agent) ≡ None
   destroyed_unanswered agent doomed = no_arrival_no_reply (world_in game) (state_of game) agent (doomed_stays agent doomed)
@@ -219,5 +243,7 @@ begin_lemma game held none holds = record {
   harmless = λ node port. refl;
   held_too = holds;
   stands = ap (run_from (world_in game) initial) none
-      ∙ sym (ap (run_from (world_in (record game { setup = record game.setup { holes = []; dark = [] }; held = held })) initial) none);
+      ∙ sym (ap (run_from (world_in (slow_of game held)) initial) none);
+  twins = subst (λ (log : List Event). Twins (world_in game) log (world_in (slow_of game held)) log) (sym none)
+      (record { worlds = record { net = refl; home = refl; agents = refl; quota = refl; board = refl }; struck = refl; reveals_nothing = tt; other_reveals_nothing = tt });
 }

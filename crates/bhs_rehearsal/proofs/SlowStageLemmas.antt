@@ -2,7 +2,7 @@
 use Rattle.std.proofs.Common.{◌≡◌, ◌≢◌, ◌∙◌, ℕ, ◌+◌, ◌<◌, Bool, true, false, ◌&&◌, cond, nat_lt, ◌==◌, Option, Some, None, List, [], ◌∷◌, ◌++◌, length, set, refl, sym, ap, ap₂, subst}
 use Rattle.std.specs.List.{position}
 use Rattle.std.proofs.lemmas.Bool.{eqb-true, eqb-false}
-use Rattle.std.proofs.lemmas.List.{set-get_or, get_or-set_same, get_or-set_other, length-set}
+use Rattle.std.proofs.lemmas.List.{set-get_or, get_or-set_same, get_or-set_other, length-map, length-set}
 use Rattle.bhs_model.specs.declared.events.Event.{Event}
 use Rattle.bhs_model.specs.declared.events.Event.TheVariants.{Tell, Deliver, Close}
 use Rattle.bhs_model.specs.declared.replies.Reply.{Reply}
@@ -13,12 +13,14 @@ use Rattle.bhs_files.specs.KeyTable.{Seat}
 use Rattle.bhs_session.specs.Texts.{text_of}
 use Rattle.bhs_rehearsal.specs.Games.{Game, world_in, state_of, played, reply_to, is_away, drawn}
 use Rattle.bhs_rehearsal.specs.Connections.{Item, Ends, Connection, shut, taken}
-use Rattle.bhs_rehearsal.specs.Stages.{Stage, game_at, connection_at, with_game, with_connection, has_seat, Entry, Waits, Sits, IsDenied, Goes, entry, Moved, plays, enters, moves_in, moves, Instruction, Feeds, EndsInput, Draws, Closes, Stepped, sent_to, stepped, nothing, tells_arrival, delivers, waits_in, shut_in, told_over, closes, step}
-use Rattle.bhs_rehearsal.specs.Laws.{IsSlowFor, IsSlowStageFor, HoleSoundsSlow}
+use Rattle.bhs_rehearsal.specs.Stages.{Stage, game_at, connection_at, with_game, with_connection, has_seat, Entry, Waits, Sits, IsDenied, Goes, entry, Moved, plays, enters, moves_in, moves, Instruction, Feeds, EndsInput, Draws, Closes, Stepped, sent_to, stepped, nothing, tells_arrival, delivers, waits_in, shut_in, told_over, closes, step, stands_after}
+use Rattle.bhs_rehearsal.specs.Laws.{IsSlowFor, IsSlowStageFor, HoleSoundsSlow, IsSlowLineupFor, SlowLineupsSoundAlike}
+use Rattle.bhs_files.specs.declared.lineups.Lineup.{Lineup}
+use Rattle.bhs_rehearsal.specs.Rehearsing.{game_of, first_game, first_stage}
 use Rattle.bhs_rehearsal.proofs.CuttingLemmas.{by_bool}
 use Rattle.bhs_rehearsal.proofs.TurnLemmas.{grown}
 use Rattle.bhs_rehearsal.proofs.IsolationLemmas.{game_in, set_alike, entry-by_seats}
-use Rattle.bhs_rehearsal.proofs.SlowGameLemmas.{played_slow, reply_slow, away_slow, destroyed_slow, destroyed_unanswered, drawn_slow, taken_slow}
+use Rattle.bhs_rehearsal.proofs.SlowGameLemmas.{begin_lemma, played_slow, reply_slow, away_slow, destroyed_slow, destroyed_unanswered, drawn_slow, taken_slow}
 
 -- ---- the matches of two stages
 
@@ -363,3 +365,18 @@ slow_lemma game one two (instruction ∷ script) is =
     let done = same_step game one two instruction is in
     let rest = slow_lemma game (step one instruction).stage (step two instruction).stage script done.stage in
     (ap₂ (λ (outs : List (ℕ × List ℕ)) (others : List (List (ℕ × List ℕ))). outs ∷ others) done.outs rest.0, rest.1)
+
+-- ---- lineups
+
+lineups_begin : (game : ℕ) (one two : Lineup) (conns : ℕ) → IsSlowLineupFor game one two → IsSlowStageFor game (first_stage one conns) (first_stage two conns)
+lineups_begin game one two conns is = record {
+  keys = is.keys;
+  count = length-map one.ready.items game_of ∙ is.count ∙ sym (length-map two.ready.items game_of);
+  there = subst (λ (count : ℕ). game < count) (sym (length-map one.ready.items game_of)) is.there;
+  games = is.games;
+  slow = subst (λ (slow : Game). IsSlowFor (first_game one game) slow) (sym is.slow) (begin_lemma (first_game one game) (first_game two game).held is.begins is.held_too);
+  connections = refl;
+}
+
+pub lineups_lemma : SlowLineupsSoundAlike
+lineups_lemma game one two conns script is = slow_lemma game (first_stage one conns) (first_stage two conns) script (lineups_begin game one two conns is)

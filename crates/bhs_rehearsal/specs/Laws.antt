@@ -3,9 +3,12 @@ use Rattle.std.specs.Prelude.{ℕ, ◌≡◌, ◌≢◌, ◌<◌, Bool, false, �
 use Rattle.bhs_files.specs.KeyTable.{Seat}
 use Rattle.bhs_net.specs.Network.{degree_of}
 use Rattle.bhs_model.specs.Worlds.{SameButDoom, doomed}
+use Rattle.bhs_model.specs.Twins.{Twins}
 use Rattle.bhs_deal.specs.Links.{held_in}
 use Rattle.bhs_rehearsal.specs.Games.{Game, world_in, state_of, is_away}
+use Rattle.bhs_files.specs.declared.lineups.Lineup.{Lineup}
 use Rattle.bhs_rehearsal.specs.Connections.{Connection}
+use Rattle.bhs_rehearsal.specs.Rehearsing.{first_stage, first_game}
 use Rattle.bhs_rehearsal.specs.Clients.{bytes_among, bytes_to}
 use Rattle.bhs_rehearsal.specs.Stages.{Stage, game_at, connection_at, awaits_arrival, moves, Instruction, Feeds, EndsInput, Draws, Closes, Stepped, nothing, sent_to, step, begun, stands_after, said}
 
@@ -164,22 +167,26 @@ HoldsAsWell game held =
     held_in held node port ≡ (held_in game.held node port || doomed (world_in game) node port)
 
 -- a match that stands the same, and is slow where the other one destroys: it destroys nobody, and the links that would
--- destroy are held in it as well
+-- destroy are held in it as well. The logs of both meet the twin condition
 pub record IsSlowFor (game slow : Game) : Type 0 where
   pub worlds : SameButDoom (world_in game) (world_in slow)
   pub harmless : (node port : ℕ) → doomed (world_in slow) node port ≡ false
   pub held_too : HoldsAsWell game slow.held
   pub stands : state_of game ≡ state_of slow
+  pub twins : Twins (world_in game) game.log (world_in slow) slow.log
 
 -- they can be held, whatever match it is
 abbrev pub LinksCanBeHeld : Type 0
 LinksCanBeHeld = (game : Game) → (held : List (ℕ × ℕ)) × HoldsAsWell game held
 
--- a match that begins, and the same one without a black hole, where the links into it are held as well
+-- a match without black holes and dark links, where these links are held
+abbrev pub slow_of : Game → (held : List (ℕ × ℕ)) → Game
+slow_of game held = record game { setup = record game.setup { holes = []; dark = [] }; held = held }
+
+-- a match that begins, and the same one without black holes and dark links, where those links are held as well
 abbrev pub SlowMatchesBegin : Type 0
 SlowMatchesBegin =
-    (game : Game) (held : List (ℕ × ℕ)) → game.log ≡ [] → HoldsAsWell game held →
-    IsSlowFor game (record game { setup = record game.setup { holes = []; dark = [] }; held = held })
+    (game : Game) (held : List (ℕ × ℕ)) → game.log ≡ [] → HoldsAsWell game held → IsSlowFor game (slow_of game held)
 
 -- two stages are the same but for one match, which is slow in the second
 pub record IsSlowStageFor (game : ℕ) (one two : Stage) : Type 0 where
@@ -195,3 +202,23 @@ abbrev pub HoleSoundsSlow : Type 0
 HoleSoundsSlow =
     (game : ℕ) (one two : Stage) (script : List Instruction) → IsSlowStageFor game one two →
     (said one script ≡ said two script) × IsSlowStageFor game (stands_after one script) (stands_after two script)
+
+-- ---- two lineups
+
+-- Two lineups are the same but for one match: in the second it has no black holes and no dark links, and each link into a
+-- black hole, and each dark link in both directions, is held as well.
+pub record IsSlowLineupFor (game : ℕ) (one two : Lineup) : Type 0 where
+  pub keys : one.keys ≡ two.keys
+  pub count : length one.ready.items ≡ length two.ready.items
+  pub there : game < length one.ready.items
+  pub begins : (first_game one game).log ≡ []
+  pub games : (other : ℕ) → other ≢ game → first_game one other ≡ first_game two other
+  pub slow : first_game two game ≡ slow_of (first_game one game) (first_game two game).held
+  pub held_too : HoldsAsWell (first_game one game) (first_game two game).held
+
+-- Rehearsals of both send the same, instruction by instruction, and stand alike after each.
+abbrev pub SlowLineupsSoundAlike : Type 0
+SlowLineupsSoundAlike =
+    (game : ℕ) (one two : Lineup) (conns : ℕ) (script : List Instruction) → IsSlowLineupFor game one two →
+    (said (first_stage one conns) script ≡ said (first_stage two conns) script)
+    × IsSlowStageFor game (stands_after (first_stage one conns) script) (stands_after (first_stage two conns) script)

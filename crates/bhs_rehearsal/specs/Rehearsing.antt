@@ -6,9 +6,10 @@ use Rattle.bhs_model.specs.Marks.{events_of}
 use Rattle.bhs_wire.specs.Lines.{seen}
 use Rattle.bhs_files.specs.KeyTable.{Seat}
 use Rattle.bhs_files.specs.declared.lineups.Ready.{Ready}
+use Rattle.bhs_files.specs.declared.lineups.Lineup.{Lineup}
 use Rattle.bhs_rehearsal.specs.Games.{Game}
 use Rattle.bhs_rehearsal.specs.Connections.{Item, Says, Ends, Connection}
-use Rattle.bhs_rehearsal.specs.Stages.{Stage, Instruction, Feeds, EndsInput, Draws, Closes, step, stands_after, said}
+use Rattle.bhs_rehearsal.specs.Stages.{Stage, Instruction, Feeds, EndsInput, Draws, Closes, game_at, begun, step, stands_after, said}
 use Rattle.bhs_rehearsal.specs.declared.items.Item.{Item as ItemOfCode}
 use Rattle.bhs_rehearsal.specs.declared.items.Item.TheVariants as items
 use Rattle.bhs_rehearsal.specs.declared.outs.Out.{Out}
@@ -36,6 +37,16 @@ seen_out out = (out.conn, out.bytes.items)
 -- matches, keys and connections
 abbrev pub stage_of : List Ready → List Seat → List Connection → Stage
 stage_of ready keys connections = record { games = map game_of ready; keys = keys; connections = connections }
+
+-- the matches of a lineup, and how a rehearsal of it begins
+abbrev pub games_of : Lineup → List Game
+games_of lineup = map game_of lineup.ready.items
+
+abbrev pub first_stage : Lineup → (conns : ℕ) → Stage
+first_stage lineup conns = begun (games_of lineup) lineup.keys conns
+
+abbrev pub first_game : Lineup → (game : ℕ) → Game
+first_game lineup game = game_at (first_stage lineup 0) game
 
 -- ---- the value of a rehearsal
 

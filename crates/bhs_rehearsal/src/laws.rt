@@ -2,7 +2,7 @@
 
 ghost use Rattle.bhs_rehearsal.specs.Rehearsing.{StandsForTheScript};
 ghost use Rattle.bhs_rehearsal.specs.OneMachine.{ArrivalsAreNews, ClosesEndTheWait, HeardFirst, ItemsAreTakenByTheMachine};
-ghost use Rattle.bhs_rehearsal.specs.Laws.{AllItemsAreTaken, ClientsKeepToThemselves, CutsDoAlike, HoleSoundsSlow, LinksCanBeHeld, MatchesAreApart, MatchesKeepToThemselves, OtherMatchesAreNotHeard, ScriptsSettle, SettledConnectionsRest, SettledStagesSettle, SlowMatchesBegin, TwoPiecesDoAlike};
+ghost use Rattle.bhs_rehearsal.specs.Laws.{AllItemsAreTaken, ClientsKeepToThemselves, CutsDoAlike, HoleSoundsSlow, LinksCanBeHeld, MatchesAreApart, MatchesKeepToThemselves, OtherMatchesAreNotHeard, ScriptsSettle, SettledConnectionsRest, SettledStagesSettle, SlowLineupsSoundAlike, SlowMatchesBegin, TwoPiecesDoAlike};
 ghost use Rattle.bhs_rehearsal.specs.Examples.{AFirstLookIsDenied, AKeyLetsIn, ALineMayComeInPieces, AStrangeKeyIsDenied, AUsedKeyIsDenied, AnEndWaitsForTheArrival, HeldLinksSendTheSame, LinesWaitForTheArrival, TheAgentOfAnEndLeaves, TheBlackHoleIsSilent, TheOtherMatchIsNotHeard, ThePresentAreToldLater, TheQuotaIsSpent, TheSecondWriterSeesTheFirst, TheSlowTriangleIsSlow, WhatIsNotThereDoesNothing};
 
 /// A rehearsal whose calls were the instructions of a script stands for that script: its stage is the one that the
@@ -82,5 +82,6 @@ pub fn matches_are_apart()
 pub fn hole_sounds_slow()
     ensures sounds { HoleSoundsSlow }
     ensures begins { SlowMatchesBegin }
+    ensures lineups { SlowLineupsSoundAlike }
     ensures held { LinksCanBeHeld }
 {}

@@ -1,7 +1,7 @@
 ghost use Rattle.std.specs.Prelude.{◌≡◌, false, map, IfOk, replicate};
 ghost use Rattle.bhs_rehearsal.specs.Connections.{fresh};
-ghost use Rattle.bhs_rehearsal.specs.Stages.{Feeds, EndsInput, Draws, Closes, begun};
-ghost use Rattle.bhs_rehearsal.specs.Rehearsing.{Follows, game_of, team_of};
+ghost use Rattle.bhs_rehearsal.specs.Stages.{Feeds, EndsInput, Draws, Closes};
+ghost use Rattle.bhs_rehearsal.specs.Rehearsing.{Follows, first_stage, game_of, team_of};
 ghost use Rattle.bhs_rehearsal.specs.Takings.{IsSettled};
 
 use crate::connections::Connection;
@@ -46,7 +46,7 @@ impl Rehearsal {
     /// in the list lets nobody in.
     pub fn new(alloc: Global, lineup: Lineup, conns: u16) -> Result<Rehearsal, Memory>
         ensures { IfOk result (λ rehearsal. rehearsal ≡ record {
-          stage = begun (map game_of lineup.ready.items) lineup.keys conns;
+          stage = first_stage lineup conns;
           teams = map team_of lineup.ready.items;
           has_failed = false;
         }) }
