@@ -1,4 +1,7 @@
+pub mod AnsweringLemmas
+pub mod HistoryLemmas
 pub mod KnownLemmas
+pub mod MeetingLemmas
 pub mod Moving
 pub mod Playing
 pub mod SessionLaws

@@ -1,3 +1,5 @@
+pub mod Answering
+pub mod History
 pub mod Input
 pub mod Machine
 pub mod Met

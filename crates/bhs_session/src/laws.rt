@@ -2,6 +2,9 @@ ghost use Rattle.std.specs.Prelude.{◌≡◌, ℕ, List, [], ◌++◌};
 ghost use Rattle.bhs_wire.specs.Lines.{Line, lines};
 ghost use Rattle.bhs_session.specs.declared.endings.Ended.{Ended};
 ghost use Rattle.bhs_session.specs.Phase.{Finished};
+ghost use Rattle.bhs_model.specs.Views.{View, Start};
+ghost use Rattle.bhs_session.specs.Answering.{AnswersByPasts, WritesAsMet};
+ghost use Rattle.bhs_session.specs.History.{HistoriesAnswerByPasts};
 ghost use Rattle.bhs_session.specs.Session.{Point, Session, fresh};
 
 use crate::endings::Ended;
@@ -19,4 +22,18 @@ pub fn no_turns<I: Input, O: Output, P: Port>()
     ensures { (from input : I) (output : O) (start : P) (p : Point O P) (ended : Ended) → Session I.gives O.takes P.calls from (fresh output start 0) input p
         → p.phase ≡ Finished ended
         → (ended ≡ Ended.Turns) × (input ≡ from) × (p.output ≡ output) × (p.port ≡ start) × (p.written ≡ []) × (p.read ≡ []) }
+{}
+
+/// On a port that answers as the definitions say, a session has written the bytes of what its agent met, and behind them
+/// at most one line: that the match is over, or a denial. Where a write failed or memory ran out, it has written a front
+/// of that.
+pub fn written_as_met<I: Input, O: Output, P: Port>()
+    ensures { (quota limit : ℕ) (past : P → View) (from input : I) (output : O) (start : P) (turns : ℕ) (p : Point O P) → AnswersByPasts P.calls quota limit past
+        → past start ≡ Start → Session I.gives O.takes P.calls from (fresh output start turns) input p
+        → WritesAsMet quota limit p.written p.taken p.phase }
+{}
+
+/// A port whose answers are those of the definitions, for some history of a match, answers by the pasts of its agent.
+pub fn histories_answer_by_pasts<P: Port>()
+    ensures { HistoriesAnswerByPasts P.calls }
 {}
