@@ -10,7 +10,7 @@ use Rattle.bhs_model.specs.declared.replies.Reply.{Reply}
 use Rattle.bhs_model.specs.declared.replies.Reply.TheVariants.{Over}
 use Rattle.bhs_session.specs.Texts.{text_of}
 use Rattle.bhs_rehearsal.specs.Games.{Game, state_of, played, reply_to, is_away, drawn}
-use Rattle.bhs_rehearsal.specs.Connections.{Item, Ends, Connection, fresh, shut, Taken, taken, after}
+use Rattle.bhs_rehearsal.specs.Connections.{Item, Ends, Connection, unfed, shut, Taken, taken, after}
 use Rattle.bhs_rehearsal.specs.Stages.{Stage, game_at, connection_at, with_game, with_connection, has_seat, Entry, Waits, Sits, IsDenied, Goes, entry, Moved, moves, Draws, Closes, Stepped, sent_to, stepped, nothing, tells_arrival, delivers, waits_in, shut_in, told_over, closes, step}
 use Rattle.bhs_rehearsal.specs.Laws.{plays_in, IsOfConnection, IsOfGame, ClientsKeepToThemselves, MatchesKeepToThemselves}
 use Rattle.bhs_rehearsal.specs.Clients.{bytes_among}
@@ -77,7 +77,7 @@ turn_of_connection stage conn connection within =
       connections = λ other. λ apart. get_or-set_other stage.connections conn other turn.connection _ apart;
       games = λ game. λ elsewhere.
           keeps_in stage conn connection connection.seat game
-          (ap (plays_in game) (sym (get_or-set_same stage.connections conn turn.connection fresh within)) ∙ elsewhere);
+          (ap (plays_in game) (sym (get_or-set_same stage.connections conn turn.connection unfed within)) ∙ elsewhere);
       keys = refl;
       outs = λ other. λ apart. sent_elsewhere other conn turn.text apart;
     }
@@ -150,7 +150,7 @@ moves_of_game stage game new conn agent before within seated =
     let old = connection_at stage conn in
     let turn = plays_turn between (game, agent) old in
     let is_turn : moves between conn ≡ placed between conn turn =
-    ap (λ (connections : List Connection). moves (record between { connections = connections }) conn) (sym (set-get_or stage.connections conn fresh))
+    ap (λ (connections : List Connection). moves (record between { connections = connections }) conn) (sym (set-get_or stage.connections conn unfed))
     ∙ moves-placed between conn old within
     ∙ ap (λ (seat : Option (ℕ × ℕ)). placed between conn (turn_in between conn old seat)) seated in
     subst (λ (moved : Moved). IsOfGame stage game (record { stage = moved.stage; outs = sent_to conn (before ++ moved.text) })) (sym is_turn) (record {
@@ -158,7 +158,7 @@ moves_of_game stage game new conn agent before within seated =
           get_or-set_other (set stage.games game new) game other (taken (game_at between game) agent old.queue).game _ apart
           ∙ get_or-set_other stage.games game other new _ apart;
       connections = λ other. λ elsewhere.
-          get_or-set_other stage.connections conn other turn.connection fresh (plays_elsewhere stage game conn other agent seated elsewhere);
+          get_or-set_other stage.connections conn other turn.connection unfed (plays_elsewhere stage game conn other agent seated elsewhere);
       keys = refl;
       outs = λ other. λ elsewhere. sent_elsewhere other conn (before ++ turn.text) (plays_elsewhere stage game conn other agent seated elsewhere);
     })
@@ -169,7 +169,7 @@ arrivals_of_game : (stage : Stage) (game agent : ℕ) (new : Game) (reply : Opti
 arrivals_of_game stage game agent new None holder is = game_alone stage game new
 arrivals_of_game stage game agent new (Some reply) None is = game_alone stage game new
 arrivals_of_game stage game agent new (Some reply) (Some conn) is =
-    let found = position-Some (has_seat (game, agent)) stage.connections conn fresh is in
+    let found = position-Some (has_seat (game, agent)) stage.connections conn unfed is in
     moves_of_game stage game new conn agent (text_of reply) found.0 (seat-has_seat (game, agent) (connection_at stage conn) found.1)
 
 delivers_of_game : (stage : Stage) (game : ℕ) (event : Option Event) → IsOfGame stage game (delivers stage game event)
@@ -202,8 +202,8 @@ waits_elsewhere number game connection elsewhere =
 abbrev pub shut_if : (number : ℕ) → Game → Connection → Connection
 shut_if number game connection = cond (waits_in number game connection) (shut connection) connection
 
-pub not_shut : (number : ℕ) (game : Game) (connections : List Connection) (conn : ℕ) → plays_in number (get_or connections conn fresh) ≡ false →
-    get_or (shut_in number game connections) conn fresh ≡ get_or connections conn fresh
+pub not_shut : (number : ℕ) (game : Game) (connections : List Connection) (conn : ℕ) → plays_in number (get_or connections conn unfed) ≡ false →
+    get_or (shut_in number game connections) conn unfed ≡ get_or connections conn unfed
 not_shut number game [] conn elsewhere = refl
 not_shut number game (connection ∷ connections) zero elsewhere =
     cond-false (waits_in number game connection) (shut connection) connection (waits_elsewhere number game connection elsewhere)
@@ -220,7 +220,7 @@ told_later number game (connection ∷ connections) first conn earlier =
     (λ waits. sent_elsewhere conn first (text_of Over) apart) (λ stays. refl))
     (told_later number game connections (first + 1) conn (omega arith))
 
-told_here : (number : ℕ) (game : Game) (connections : List Connection) (first conn : ℕ) → plays_in number (get_or connections conn fresh) ≡ false →
+told_here : (number : ℕ) (game : Game) (connections : List Connection) (first conn : ℕ) → plays_in number (get_or connections conn unfed) ≡ false →
     bytes_among (first + conn) (told_over number game first connections) ≡ []
 told_here number game [] first conn elsewhere = refl
 told_here number game (connection ∷ connections) first zero elsewhere =
@@ -237,7 +237,7 @@ told_here number game (connection ∷ connections) first (suc conn) elsewhere =
     (ap (λ (number_of : ℕ). bytes_among number_of (told_over number game (first + 1) connections)) (sym later)
     ∙ told_here number game connections (first + 1) conn elsewhere)
 
-pub told_elsewhere : (number : ℕ) (game : Game) (connections : List Connection) (conn : ℕ) → plays_in number (get_or connections conn fresh) ≡ false →
+pub told_elsewhere : (number : ℕ) (game : Game) (connections : List Connection) (conn : ℕ) → plays_in number (get_or connections conn unfed) ≡ false →
     bytes_among conn (told_over number game 0 connections) ≡ []
 told_elsewhere number game connections conn elsewhere =
     let same : 0 + conn ≡ conn = omega arith in

@@ -11,7 +11,7 @@ use Rattle.bhs_wire.specs.declared.denials.Denial.TheVariants as denials
 use Rattle.bhs_files.specs.KeyTable.{Seat, seat_at}
 use Rattle.bhs_session.specs.Texts.{text_of, denial_text}
 use Rattle.bhs_rehearsal.specs.Games.{Game}
-use Rattle.bhs_rehearsal.specs.Connections.{Item, Says, Ends, Connection, fresh, shut, taken, after}
+use Rattle.bhs_rehearsal.specs.Connections.{Item, Says, Ends, Connection, unfed, shut, taken, after}
 use Rattle.bhs_rehearsal.specs.Stages.{Stage, game_at, connection_at, with_connection, has_seat, Entry, Waits, Sits, IsDenied, Goes, let_in, entry_by, entry, Stepped, sent_to, nothing, waits_in, told_over}
 use Rattle.bhs_rehearsal.specs.Laws.{plays_in, seats_of, SameBut}
 use Rattle.bhs_rehearsal.specs.Clients.{bytes_among}
@@ -26,7 +26,7 @@ seat_of connection = connection.seat
 -- ---- what seats alone decide
 
 has_by : (seat : ℕ × ℕ) (one other : Connection) → one.seat ≡ other.seat → has_seat seat one ≡ has_seat seat other
-has_by seat one other same = ap (λ (own : Option (ℕ × ℕ)). has_seat seat (record fresh { seat = own })) same
+has_by seat one other same = ap (λ (own : Option (ℕ × ℕ)). has_seat seat (record unfed { seat = own })) same
 
 list_any-by_seats : (seat : ℕ × ℕ) (one two : List Connection) → map seat_of one ≡ map seat_of two → list_any (has_seat seat) one ≡ list_any (has_seat seat) two
 list_any-by_seats seat [] [] same = refl
@@ -63,7 +63,7 @@ told-by_seats number game conn (first ∷ one) (other ∷ two) same =
     let heads : first.seat ≡ other.seat = cc in
     let tails : map seat_of one ≡ map seat_of two = cc in
     ap₂ (λ (waits : Bool) (rest : List (ℕ × List ℕ)). cond waits (sent_to conn (text_of Over)) [] ++ rest)
-    (ap (λ (own : Option (ℕ × ℕ)). waits_in number game (record fresh { seat = own })) heads) (told-by_seats number game (conn + 1) one two tails)
+    (ap (λ (own : Option (ℕ × ℕ)). waits_in number game (record unfed { seat = own })) heads) (told-by_seats number game (conn + 1) one two tails)
 
 let_in-by_seats : (one two : Stage) → length one.games ≡ length two.games → seats_of one ≡ seats_of two → (seat : Option (ℕ × ℕ)) → let_in one seat ≡ let_in two seat
 let_in-by_seats one two count seats None = refl
@@ -145,7 +145,7 @@ module _ (game : ℕ) (one two : Stage) (alike : SameBut game one two) (connecti
       let other_done = taken (game_at two seat.0) seat.1 connection.queue in
       let new = after (record connection { seat = Some seat }) done in
       let seated : new.seat ≡ Some seat = seat_after connection seat done in
-      let is_here : plays_in game new ≡ true = ap (λ (own : Option (ℕ × ℕ)). plays_in game (record fresh { seat = own })) seated ∙ eq-eqb seat.0 game here in
+      let is_here : plays_in game new ≡ true = ap (λ (own : Option (ℕ × ℕ)). plays_in game (record unfed { seat = own })) seated ∙ eq-eqb seat.0 game here in
       record {
         count = length-set one.games seat.0 done.game ∙ alike.count ∙ sym (length-set two.games seat.0 other_done.game);
         games = λ other elsewhere.
@@ -175,7 +175,7 @@ module _ (game : ℕ) (one two : Stage) (alike : SameBut game one two) (connecti
       subst (λ (other : Entry). TurnsAlike game (enters_turn one connection (entry (with_connection one conn connection) connection.queue)) (enters_turn two connection other))
       same (enters_alike_in (entry (with_connection one conn connection) connection.queue))
   turn_in_alike conn elsewhere (Some seat) seated =
-      let there : (seat.0 == game) ≡ false = sym (ap (λ (own : Option (ℕ × ℕ)). plays_in game (record fresh { seat = own })) seated) ∙ elsewhere in
+      let there : (seat.0 == game) ≡ false = sym (ap (λ (own : Option (ℕ × ℕ)). plays_in game (record unfed { seat = own })) seated) ∙ elsewhere in
       plays_elsewhere_alike seat (eqb-false seat.0 game there)
 
   pub turns_alike : (conn : ℕ) → plays_in game connection ≡ false → TurnsAlike game (turn_of one conn connection) (turn_of two conn connection)
@@ -197,7 +197,7 @@ module _ (game : ℕ) (one two : Stage) (alike : SameBut game one two) (conn : �
 
   -- a connection's place, after the move
   in_place : connection_at (placed one conn turn).stage conn ≡ turn.connection
-  in_place = get_or-set_same one.connections conn turn.connection fresh within
+  in_place = get_or-set_same one.connections conn turn.connection unfed within
 
   placed_alike_at : (other : ℕ) → plays_in game (connection_at (placed one conn turn).stage other) ≡ false →
       connection_at (placed one conn turn).stage other ≡ connection_at (placed two conn other_turn).stage other
@@ -207,13 +207,13 @@ module _ (game : ℕ) (one two : Stage) (alike : SameBut game one two) (conn : �
       let is : other ≡ conn = eqb-true other conn here in
       let mine : connection_at (placed one conn turn).stage other ≡ turn.connection = ap (λ (number : ℕ). connection_at (placed one conn turn).stage number) is ∙ in_place in
       let theirs : connection_at (placed two conn other_turn).stage other ≡ other_turn.connection =
-      ap (λ (number : ℕ). connection_at (placed two conn other_turn).stage number) is ∙ get_or-set_same two.connections conn other_turn.connection fresh within_two in
+      ap (λ (number : ℕ). connection_at (placed two conn other_turn).stage number) is ∙ get_or-set_same two.connections conn other_turn.connection unfed within_two in
       mine ∙ (turns.same (ap (plays_in game) (sym mine) ∙ elsewhere)).0 ∙ sym theirs)
       (λ first differs.
       let apart : other ≢ conn = eqb-false other conn differs in
-      let mine : connection_at (placed one conn turn).stage other ≡ connection_at one other = get_or-set_other one.connections conn other turn.connection fresh apart in
+      let mine : connection_at (placed one conn turn).stage other ≡ connection_at one other = get_or-set_other one.connections conn other turn.connection unfed apart in
       mine ∙ alike.connections other (ap (plays_in game) (sym mine) ∙ elsewhere)
-      ∙ sym (get_or-set_other two.connections conn other other_turn.connection fresh apart))
+      ∙ sym (get_or-set_other two.connections conn other other_turn.connection unfed apart))
       refl
 
   placed_same : SameBut game (placed one conn turn).stage (placed two conn other_turn).stage

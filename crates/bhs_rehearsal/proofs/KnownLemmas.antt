@@ -8,39 +8,19 @@ use Rattle.bhs_model.specs.declared.replies.Reply.TheVariants as replies
 use Rattle.bhs_model.specs.Views.{View, Start, Ended, standing}
 use Rattle.bhs_wire.specs.Lines.{Line, lines, held_of, found_in, left_by}
 use Rattle.bhs_wire.proofs.StreamLaws.{lines-append, held_of-append}
-use Rattle.bhs_session.specs.Texts.{text_of}
+use Rattle.bhs_session.specs.Texts.{text_of, command_of}
 use Rattle.bhs_rehearsal.specs.Games.{Game, state_of, is_away}
 use Rattle.bhs_rehearsal.specs.Connections.{Item, Says, Ends, Connection, shut, Taken, taken, after}
 use Rattle.bhs_rehearsal.specs.Stages.{Stage, game_at, connection_at, with_game, with_connection, Entry, Waits, Sits, IsDenied, Goes, entry}
+use Rattle.bhs_session.proofs.MeetingLemmas.{view_from-append, bytes_from-append, commands-append, due-append}
 use Rattle.bhs_rehearsal.proofs.CuttingLemmas.{by_bool}
 use Rattle.bhs_rehearsal.proofs.TurnLemmas.{placed, plays_turn, enters_turn, turn_in, played_at, grown}
 use Rattle.bhs_rehearsal.proofs.SettledLemmas.{seat_after}
 use Rattle.bhs_session.specs.Met.{Meeting, view_from, view_of, command_in, commands, bytes_from, bytes, answer_to, takes_commands, IsDue, AreDue, past_after}
-use Rattle.bhs_rehearsal.specs.Clients.{Fed, fed_more, at_end, command_of}
+use Rattle.bhs_rehearsal.specs.Clients.{Fed, fed_more, at_end}
 use Rattle.bhs_rehearsal.specs.Headline.{IsDenial, IsPastOf, IsSentOf}
 use Rattle.bhs_rehearsal.proofs.EventLemmas.{Alike, alike_itself}
 use Rattle.bhs_rehearsal.proofs.TookLemmas.{lines_of, lines_of-append, lines_of-says, has_end, has_end-says, has_end-end, IsQuiet, Took, took, taken_alike}
-
--- ---- more is met
-
-pub view_from-append : (view : View) (met more : List Meeting) → view_from view (met ++ more) ≡ view_from (view_from view met) more
-view_from-append view [] more = refl
-view_from-append view (meeting ∷ met) more = view_from-append (past_after view meeting) met more
-
-pub bytes_from-append : (limit : ℕ) (view : View) (met more : List Meeting) → bytes_from limit view (met ++ more) ≡ bytes_from limit view met ++ bytes_from limit (view_from view met) more
-bytes_from-append limit view [] more = refl
-bytes_from-append limit view (meeting ∷ met) more =
-    ap (λ (rest : List ℕ). text_of (answer_to limit view meeting) ++ rest) (bytes_from-append limit (past_after view meeting) met more)
-    ∙ sym (append_assoc (text_of (answer_to limit view meeting)) (bytes_from limit (past_after view meeting) met) (bytes_from limit (view_from (past_after view meeting) met) more))
-
-pub commands-append : (met more : List Meeting) → commands (met ++ more) ≡ commands met ++ commands more
-commands-append [] more = refl
-commands-append (meeting ∷ met) more =
-    ap (λ (rest : List Command). command_in meeting ++ rest) (commands-append met more) ∙ sym (append_assoc (command_in meeting) (commands met) (commands more))
-
-pub due-append : (quota : ℕ) (view : View) (met more : List Meeting) → AreDue quota view met → AreDue quota (view_from view met) more → AreDue quota view (met ++ more)
-due-append quota view [] more due then_due = then_due
-due-append quota view (meeting ∷ met) more due then_due = (due.0, due-append quota (past_after view meeting) met more due.1 then_due)
 
 -- ---- what is known of a connection that plays
 

@@ -18,11 +18,10 @@ use Rattle.bhs_model.proofs.StepLemmas.{changed_same, arrival_by_past, no_arriva
 use Rattle.bhs_files.specs.KeyTable.{Seat}
 use Rattle.bhs_session.specs.Texts.{text_of}
 use Rattle.bhs_rehearsal.specs.Games.{Game, world_in, state_of, played, reply_to, is_away, drawn}
-use Rattle.bhs_rehearsal.specs.Connections.{Item, Connection, fresh, shut, taken}
+use Rattle.bhs_rehearsal.specs.Connections.{Item, Connection, unfed, shut, taken}
 use Rattle.bhs_rehearsal.specs.Stages.{Stage, game_at, connection_at, with_game, with_connection, has_seat, Entry, Waits, Sits, IsDenied, Goes, entry, enters, Moved, moves_in, moves, Instruction, Feeds, EndsInput, Draws, Closes, Stepped, sent_to, stepped, nothing, tells_arrival, delivers, waits_in, shut_in, told_over, closes, step, begun, stands_after, said}
-use Rattle.bhs_rehearsal.specs.Laws.{IsSettled}
+use Rattle.bhs_rehearsal.specs.Laws.{awaits_arrival, IsSettled}
 use Rattle.bhs_rehearsal.specs.Clients.{bytes_among, bytes_to}
-use Rattle.bhs_rehearsal.specs.Stages.{awaits_arrival}
 use Rattle.bhs_rehearsal.proofs.CuttingLemmas.{by_bool}
 use Rattle.bhs_rehearsal.proofs.TurnLemmas.{Turn, placed, turn_in, turn_of, moves-placed, grown}
 use Rattle.bhs_rehearsal.proofs.FeedLemmas.{bytes_among-sent_to}
@@ -36,7 +35,8 @@ use Rattle.bhs_rehearsal.specs.Headline.{beginning, outcome, sent_in, match_of, 
 use Rattle.bhs_rehearsal.proofs.EventLemmas.{Alike, alike_itself, alike-delivered, alike-no_arrival, setup-played}
 use Rattle.bhs_rehearsal.proofs.FitLemmas.{fits_here, away_stands}
 use Rattle.bhs_rehearsal.proofs.TookLemmas.{lines_of}
-use Rattle.bhs_rehearsal.proofs.KnownLemmas.{Going, MetBy, MetIn, going_fed, going_ends, ending, met_unread, met_unended, fed_if, Unseated, unseated_fed, unseated_ends, IsKnown, IsReady, Untouched, untouched_alike, IsFree, FreeAreUntouched, known_alike, others_turn, own_turn, view_from-append, bytes_from-append, commands-append, due-append}
+use Rattle.bhs_session.proofs.MeetingLemmas.{view_from-append, bytes_from-append, commands-append, due-append}
+use Rattle.bhs_rehearsal.proofs.KnownLemmas.{Going, MetBy, MetIn, going_fed, going_ends, ending, met_unread, met_unended, fed_if, Unseated, unseated_fed, unseated_ends, IsKnown, IsReady, Untouched, untouched_alike, IsFree, FreeAreUntouched, known_alike, others_turn, own_turn}
 
 pub record Knows (stage : Stage) (conn : ℕ) (input : Fed) (sent : List ℕ) : Type 0 where
   pub known : IsKnown stage (connection_at stage conn) input sent (connection_at stage conn).seat
@@ -61,10 +61,10 @@ module _ (stage : Stage) (mover : ℕ) (connection : Connection) (within : mover
   new = (placed stage mover turn).stage
 
   at_mover : connection_at new mover ≡ turn.connection
-  at_mover = get_or-set_same stage.connections mover turn.connection fresh within
+  at_mover = get_or-set_same stage.connections mover turn.connection unfed within
 
   at_other : (other : ℕ) → other ≢ mover → connection_at new other ≡ connection_at stage other
-  at_other other apart = get_or-set_other stage.connections mover other turn.connection fresh apart
+  at_other other apart = get_or-set_other stage.connections mover other turn.connection unfed apart
 
   keeps_seat : (seat : ℕ × ℕ) → connection.seat ≡ Some seat → turn.connection.seat ≡ Some seat
   keeps_seat seat seated =
@@ -227,17 +227,17 @@ end_ready stage connection input sent (Some seat) still known =
 -- ---- a draw
 
 -- whom nobody plays
-nobody_plays : (connections : List Connection) (seat : ℕ × ℕ) → position (has_seat seat) connections ≡ None → (conn : ℕ) → (get_or connections conn fresh).seat ≡ Some seat → ⊥
+nobody_plays : (connections : List Connection) (seat : ℕ × ℕ) → position (has_seat seat) connections ≡ None → (conn : ℕ) → (get_or connections conn unfed).seat ≡ Some seat → ⊥
 nobody_plays connections seat none conn theirs =
-    let one = get_or connections conn fresh in
+    let one = get_or connections conn unfed in
     let has : has_seat seat one ≡ true = has_own seat one.seat one.unfinished one.queue one.ended theirs in
     let all : length connections ≤ position_or_len (has_seat seat) connections = passed (position_or_len (has_seat seat) connections) (length connections) _ refl none in
     by_bool (nat_lt conn (length connections)) (λ (below : Bool). nat_lt conn (length connections) ≡ below → ⊥)
     (λ first below.
     let within : conn < length connections = ltb-true conn (length connections) below in
-    let fails : has_seat seat one ≡ false = fails_before_first (has_seat seat) connections conn fresh (omega (arith, all, within)) in
+    let fails : has_seat seat one ≡ false = fails_before_first (has_seat seat) connections conn unfed (omega (arith, all, within)) in
     cc)
-    (λ first past. let never = ap (λ (it : Connection). it.seat) (sym (get_or_past connections conn fresh (ltb-false conn (length connections) past))) ∙ theirs in cc)
+    (λ first past. let never = ap (λ (it : Connection). it.seat) (sym (get_or_past connections conn unfed (ltb-false conn (length connections) past))) ∙ theirs in cc)
     refl where
       passed : (place count : ℕ) (below : Bool) → nat_lt place count ≡ below → cond below (Some place) None ≡ None → count ≤ place
       passed place count true is some = absurd (cc)
@@ -385,7 +385,7 @@ module _ (stage : Stage) (game agent conn : ℕ) (input : Fed) (sent : List ℕ)
     draw_moves settled =
         let old = connection_at stage holder in
         let is_turn : moves drawn_in holder ≡ placed drawn_in holder (turn_of drawn_in holder old) =
-        ap (λ (connections : List Connection). moves (record drawn_in { connections = connections }) holder) (sym (set-get_or stage.connections holder fresh))
+        ap (λ (connections : List Connection). moves (record drawn_in { connections = connections }) holder) (sym (set-get_or stage.connections holder unfed))
         ∙ moves-placed drawn_in holder old there in
         let text = text_of (here old_game.setup.board a.sight) in
         subst (λ (m : Moved). Knows m.stage conn input (sent ++ bytes_among conn (sent_to holder (text ++ m.text)))) (sym is_turn)
@@ -403,7 +403,7 @@ module _ (stage : Stage) (game agent conn : ℕ) (input : Fed) (sent : List ℕ)
       cc
       )
   draw_tells comes (Some reply) replied_is (Some holder) held settled =
-      let at_holder = position-Some (has_seat (game, agent)) stage.connections holder fresh held in
+      let at_holder = position-Some (has_seat (game, agent)) stage.connections holder unfed held in
       let same : here old_game.setup.board (arrival old_game agent comes).sight ≡ reply = let some = (arrival old_game agent comes).replied_is in cc in
       subst (λ (told : Reply). Knows (moves drawn_in holder).stage conn input (sent ++ bytes_among conn (sent_to holder (text_of told ++ (moves drawn_in holder).text)))) same
       (draw_moves comes holder at_holder.0 (seat-has_seat (game, agent) (connection_at stage holder) at_holder.1) settled)
@@ -444,7 +444,7 @@ told_later number game (connection ∷ connections) first conn earlier =
 
 -- who waits is told that it is over, and nobody else
 told_at : (number : ℕ) (game : Game) (connections : List Connection) (first conn : ℕ) →
-    bytes_among (first + conn) (told_over number game first connections) ≡ cond (waits_in number game (get_or connections conn fresh)) (text_of replies.Over) []
+    bytes_among (first + conn) (told_over number game first connections) ≡ cond (waits_in number game (get_or connections conn unfed)) (text_of replies.Over) []
 told_at number game [] first conn = refl
 told_at number game (connection ∷ connections) first zero =
     let same : (first == first + 0) ≡ true = eq-eqb first (first + 0) (omega arith) in
@@ -740,12 +740,12 @@ length_script stage (instruction ∷ script) = length_script (step stage instruc
 
 -- ---- from the start
 
-fresh_at : (count conn : ℕ) → get_or (replicate count fresh) conn fresh ≡ fresh
+fresh_at : (count conn : ℕ) → get_or (replicate count unfed) conn unfed ≡ unfed
 fresh_at zero conn = refl
 fresh_at (suc count) zero = refl
 fresh_at (suc count) (suc conn) = fresh_at count conn
 
-length_fresh : (count : ℕ) → length (replicate count fresh) ≡ count
+length_fresh : (count : ℕ) → length (replicate count unfed) ≡ count
 length_fresh zero = refl
 length_fresh (suc count) = ap suc (length_fresh count)
 
@@ -812,7 +812,7 @@ sent_as_met_lemma one conn seat fresh_logs seated inside =
     (λ on. away_stands (world_in game) (past_of one seat) ((state_of game).position seat.1) (fits_here game seat.1) (sym waits ∙ on)) (known inside))
     (λ first past.
     let few : length final.connections ≤ conn = let same = length_script start one.script in let count = length_fresh one.connections in let far = ltb-false conn one.connections past in omega (arith, same, count, far) in
-    absurd (let never = sym (ap (λ (it : Connection). it.seat) (get_or_past final.connections conn fresh few)) ∙ seated in cc))
+    absurd (let never = sym (ap (λ (it : Connection). it.seat) (get_or_past final.connections conn unfed few)) ∙ seated in cc))
     refl
 
 pub sent_alone : (own sent : List ℕ) → IsSentOf false own sent → sent ≡ own

@@ -8,7 +8,7 @@ use Rattle.bhs_model.specs.declared.events.Event.{Event}
 use Rattle.bhs_model.specs.declared.events.Event.TheVariants.{Tell, Deliver, Close}
 use Rattle.bhs_model.specs.declared.replies.Reply.{Reply}
 use Rattle.bhs_rehearsal.specs.Games.{Game, state_of, played, reply_to, drawn}
-use Rattle.bhs_rehearsal.specs.Connections.{Item, Ends, Connection, fresh, taken}
+use Rattle.bhs_rehearsal.specs.Connections.{Item, Ends, Connection, unfed, taken}
 use Rattle.bhs_rehearsal.specs.Stages.{Stage, game_at, connection_at, with_game, with_connection, has_seat, Moved, moves, Instruction, Feeds, EndsInput, Draws, Closes, Stepped, stepped, nothing, tells_arrival, delivers, shut_in, told_over, closes, step, stands_after}
 use Rattle.bhs_rehearsal.specs.Laws.{plays_in, IsOfConnection, SameBut, is_of_match}
 use Rattle.bhs_rehearsal.specs.Clients.{bytes_among}
@@ -25,7 +25,7 @@ same_itself game stage = record { keys = refl; count = refl; games = λ other ap
 
 -- what a connection plays, by its place
 pub seats_at : (one two : List Connection) → map (λ (connection : Connection). connection.seat) one ≡ map (λ (connection : Connection). connection.seat) two →
-    (conn : ℕ) → (get_or one conn fresh).seat ≡ (get_or two conn fresh).seat
+    (conn : ℕ) → (get_or one conn unfed).seat ≡ (get_or two conn unfed).seat
 seats_at [] [] same conn = refl
 seats_at [] (other ∷ two) same conn = absurd (cc)
 seats_at (first ∷ one) [] same conn = absurd (cc)
@@ -35,7 +35,7 @@ seats_at (first ∷ one) (other ∷ two) same (suc conn) =
     seats_at one two rest conn
 
 pub plays_by : (game : ℕ) (one other : Connection) → one.seat ≡ other.seat → plays_in game one ≡ plays_in game other
-plays_by game one other same = ap (λ (seat : Option (ℕ × ℕ)). plays_in game (record fresh { seat = seat })) same
+plays_by game one other same = ap (λ (seat : Option (ℕ × ℕ)). plays_in game (record unfed { seat = seat })) same
 
 -- who plays in the match does so in both
 pub plays_in_both : (game : ℕ) (one two : Stage) → SameBut game one two → (conn : ℕ) → plays_in game (connection_at one conn) ≡ plays_in game (connection_at two conn)
@@ -62,12 +62,12 @@ same_through game one two three first second = record {
 -- ---- seats
 
 -- a seat that stays, where a connection is put in its place
-seats_stay : (connections : List Connection) (conn : ℕ) (new : Connection) → new.seat ≡ (get_or connections conn fresh).seat →
+seats_stay : (connections : List Connection) (conn : ℕ) (new : Connection) → new.seat ≡ (get_or connections conn unfed).seat →
     map (λ (connection : Connection). connection.seat) connections ≡ map (λ (connection : Connection). connection.seat) (set connections conn new)
 seats_stay connections conn new same =
     let seat : Connection → Option (ℕ × ℕ) = λ (connection : Connection). connection.seat in
-    ap (map seat) (sym (set-get_or connections conn fresh))
-    ∙ map-set seat connections conn (get_or connections conn fresh)
+    ap (map seat) (sym (set-get_or connections conn unfed))
+    ∙ map-set seat connections conn (get_or connections conn unfed)
     ∙ ap (λ (own : Option (ℕ × ℕ)). set (map seat connections) conn own) (sym same)
     ∙ sym (map-set seat connections conn new)
 
@@ -99,7 +99,7 @@ module _ (stage : Stage) (game conn agent : ℕ) (connection : Connection) (seat
         games = λ other apart. sym (get_or-set_other stage.games game other done.game _ apart);
         seats = seats_stay stage.connections conn turn.connection (seat_after connection (game, agent) done ∙ sym seated);
         connections = λ other elsewhere.
-            sym (get_or-set_other stage.connections conn other turn.connection fresh (plays_elsewhere stage game conn other agent seated elsewhere));
+            sym (get_or-set_other stage.connections conn other turn.connection unfed (plays_elsewhere stage game conn other agent seated elsewhere));
       }
 
   turn_same : connection.seat ≡ Some (game, agent) → SameBut game stage (placed stage conn (turn_of stage conn connection)).stage
@@ -129,7 +129,7 @@ game_same stage game new = record {
 -- a connection's move, by itself
 pub moves_itself : (stage : Stage) (conn : ℕ) → conn < length stage.connections → moves stage conn ≡ placed stage conn (turn_of stage conn (connection_at stage conn))
 moves_itself stage conn within =
-    ap (λ (connections : List Connection). moves (record stage { connections = connections }) conn) (sym (set-get_or stage.connections conn fresh))
+    ap (λ (connections : List Connection). moves (record stage { connections = connections }) conn) (sym (set-get_or stage.connections conn unfed))
     ∙ moves-placed stage conn (connection_at stage conn) within
 
 arrival_same : (stage : Stage) (game agent : ℕ) (new : Game) (reply : Option Reply) (holder : Option ℕ) →
@@ -137,7 +137,7 @@ arrival_same : (stage : Stage) (game agent : ℕ) (new : Game) (reply : Option R
 arrival_same stage game agent new None holder is = game_same stage game new
 arrival_same stage game agent new (Some reply) None is = game_same stage game new
 arrival_same stage game agent new (Some reply) (Some conn) is =
-    let found = position-Some (has_seat (game, agent)) stage.connections conn fresh is in
+    let found = position-Some (has_seat (game, agent)) stage.connections conn unfed is in
     let between = with_game stage game new in
     let seated = seat-has_seat (game, agent) (connection_at stage conn) found.1 in
     subst (λ (moved : Moved). SameBut game stage moved.stage) (sym (moves_itself between conn found.0))
@@ -217,7 +217,7 @@ seated_one stage conn None outside new of_one same other seat seated =
     ap (λ (one : Connection). one.seat) (of_one.connections other apart) ∙ seated
 seated_one stage conn (Some own) inside new of_one same other seat seated =
     let here : plays_in own.0 (connection_at stage conn) ≡ true =
-    ap (λ (one : Option (ℕ × ℕ)). plays_in own.0 (record fresh { seat = one })) inside ∙ eq-eqb own.0 own.0 refl in
+    ap (λ (one : Option (ℕ × ℕ)). plays_in own.0 (record unfed { seat = one })) inside ∙ eq-eqb own.0 own.0 refl in
     sym (seats_at stage.connections new.stage.connections (same own.0 here).seats other) ∙ seated
 
 pub stays_seated : (stage : Stage) (instruction : Instruction) (conn : ℕ) (seat : ℕ × ℕ) → (connection_at stage conn).seat ≡ Some seat →
@@ -242,7 +242,7 @@ elsewhere_before game stage instruction conn elsewhere =
     let seated = seat_in game (connection_at stage conn) here in
     let still = stays_seated stage instruction conn (game, seated.0) seated.1 in
     let there : plays_in game (connection_at (step stage instruction).stage conn) ≡ true =
-    ap (λ (one : Option (ℕ × ℕ)). plays_in game (record fresh { seat = one })) still ∙ eq-eqb game game refl in
+    ap (λ (one : Option (ℕ × ℕ)). plays_in game (record unfed { seat = one })) still ∙ eq-eqb game game refl in
     absurd (cc))
     (λ first away. away) refl
 

@@ -9,9 +9,9 @@ use Rattle.bhs_model.specs.declared.events.Event.TheVariants.{Tell, Deliver, Clo
 use Rattle.bhs_model.specs.declared.replies.Reply.{Reply}
 use Rattle.bhs_session.specs.Texts.{text_of}
 use Rattle.bhs_rehearsal.specs.Games.{Game, state_of, played, reply_to, drawn}
-use Rattle.bhs_rehearsal.specs.Connections.{Ends, Connection, fresh}
+use Rattle.bhs_rehearsal.specs.Connections.{Ends, Connection, unfed}
 use Rattle.bhs_rehearsal.specs.Stages.{Stage, game_at, connection_at, with_game, with_connection, has_seat, Moved, moves, Instruction, Feeds, EndsInput, Draws, Closes, Stepped, sent_to, stepped, nothing, tells_arrival, delivers, shut_in, told_over, step, said}
-use Rattle.bhs_rehearsal.specs.Laws.{plays_in, SameBut, HeardAlike, is_of_match, without, MatchesAreApart, OtherMatchesAreNotHeard}
+use Rattle.bhs_rehearsal.specs.Laws.{plays_in, SameBut, HeardAlike, is_of_match, without, MatchesAreHeardApart, OtherMatchesAreNotHeard}
 use Rattle.bhs_rehearsal.specs.Clients.{bytes_among, bytes_to}
 use Rattle.bhs_rehearsal.proofs.CuttingLemmas.{by_bool}
 use Rattle.bhs_rehearsal.proofs.TurnLemmas.{placed, turn_of, moves-placed, grown}
@@ -71,7 +71,7 @@ module _ (game : ℕ) (one two : Stage) (alike : SameBut game one two) where
       let first = with_game one number new in
       let second = with_game two number new in
       let old = connection_at one conn in
-      let found = position-Some (has_seat (number, agent)) one.connections conn fresh is in
+      let found = position-Some (has_seat (number, agent)) one.connections conn unfed is in
       let seated = seat-has_seat (number, agent) old found.1 in
       let elsewhere : plays_in game old ≡ false =
       ap (λ (own : Option (ℕ × ℕ)). plays_in game (record old { seat = own })) seated
@@ -191,7 +191,7 @@ module _ (game : ℕ) (one two : Stage) (alike : SameBut game one two) where
 
 -- ---- scripts
 
-pub apart_lemma : MatchesAreApart
+pub apart_lemma : MatchesAreHeardApart
 apart_lemma game one two [] alike = record { stands = alike; sends = λ conn elsewhere. refl }
 apart_lemma game one two (instruction ∷ script) alike =
     let done = steps_alike game one two alike instruction in

@@ -11,10 +11,9 @@ use Rattle.bhs_wire.specs.declared.denials.Denial.TheVariants as denials
 use Rattle.bhs_files.specs.KeyTable.{seat_at}
 use Rattle.bhs_session.specs.Texts.{denial_text}
 use Rattle.bhs_rehearsal.specs.Games.{Game, is_away}
-use Rattle.bhs_rehearsal.specs.Connections.{Item, Says, Ends, Connection, fresh, shut, Taken, taken, after}
+use Rattle.bhs_rehearsal.specs.Connections.{Item, Says, Ends, Connection, unfed, shut, Taken, taken, after}
 use Rattle.bhs_rehearsal.specs.Stages.{Stage, game_at, connection_at, with_game, with_connection, has_seat, Entry, Waits, Sits, IsDenied, Goes, let_in, entry_by, entry, Moved, plays, enters, moves_in}
-use Rattle.bhs_rehearsal.specs.Laws.{IsSettled, SettledConnectionsRest}
-use Rattle.bhs_rehearsal.specs.Stages.{awaits_arrival}
+use Rattle.bhs_rehearsal.specs.Laws.{awaits_arrival, IsSettled, SettledConnectionsRest}
 use Rattle.bhs_rehearsal.proofs.CuttingLemmas.{by_bool}
 use Rattle.bhs_rehearsal.proofs.TurnLemmas.{Turn, placed, plays_turn, enters_turn, turn_in, turn_of, played_at}
 use Rattle.bhs_rehearsal.proofs.AwayLemmas.{away-taken, taken_up, taken_rests}
@@ -50,16 +49,16 @@ awaits_kept stage game new connections connection found same =
 -- ---- one connection in its place
 
 placed_each : (P : ℕ → Connection → Type 0) (connections : List Connection) (conn : ℕ) (new : Connection) → conn < length connections → P conn new →
-    ((other : ℕ) → other ≢ conn → P other (get_or connections other fresh)) → (other : ℕ) → P other (get_or (set connections conn new) other fresh)
+    ((other : ℕ) → other ≢ conn → P other (get_or connections other unfed)) → (other : ℕ) → P other (get_or (set connections conn new) other unfed)
 placed_each P connections conn new within mine others other =
-    by_bool (other == conn) (λ (is : Bool). (other == conn) ≡ is → P other (get_or (set connections conn new) other fresh))
+    by_bool (other == conn) (λ (is : Bool). (other == conn) ≡ is → P other (get_or (set connections conn new) other unfed))
     (λ first same.
     let is : other ≡ conn = eqb-true other conn same in
-    subst (λ (number : ℕ). P number (get_or (set connections conn new) number fresh)) (sym is)
-    (subst (λ (one : Connection). P conn one) (sym (get_or-set_same connections conn new fresh within)) mine))
+    subst (λ (number : ℕ). P number (get_or (set connections conn new) number unfed)) (sym is)
+    (subst (λ (one : Connection). P conn one) (sym (get_or-set_same connections conn new unfed within)) mine))
     (λ first differs.
     let apart : other ≢ conn = eqb-false other conn differs in
-    subst (λ (one : Connection). P other one) (sym (get_or-set_other connections conn other new fresh apart)) (others other apart))
+    subst (λ (one : Connection). P other one) (sym (get_or-set_other connections conn other new unfed apart)) (others other apart))
     refl
 
 -- the stage is settled but for a connection
@@ -180,15 +179,15 @@ has_own seat own unfinished queue ended mine =
     ∙ ap₂ (λ (game agent : Bool). game && agent) (eq-eqb seat.0 seat.0 refl) (eq-eqb seat.1 seat.1 refl)
 
 -- nobody plays a free seat
-free_alone : (connections : List Connection) (seat : ℕ × ℕ) → list_any (has_seat seat) connections ≡ false → (other : ℕ) → (get_or connections other fresh).seat ≡ Some seat → ⊥
+free_alone : (connections : List Connection) (seat : ℕ × ℕ) → list_any (has_seat seat) connections ≡ false → (other : ℕ) → (get_or connections other unfed).seat ≡ Some seat → ⊥
 free_alone connections seat free other theirs =
-    let one = get_or connections other fresh in
+    let one = get_or connections other unfed in
     by_bool (nat_lt other (length connections)) (λ (below : Bool). nat_lt other (length connections) ≡ below → ⊥)
     (λ first below.
     let within : other < length connections = ltb-true other (length connections) below in
-    let used : list_any (has_seat seat) connections ≡ true = list_any_at (has_seat seat) connections other fresh within (has_own seat one.seat one.unfinished one.queue one.ended theirs) in
+    let used : list_any (has_seat seat) connections ≡ true = list_any_at (has_seat seat) connections other unfed within (has_own seat one.seat one.unfinished one.queue one.ended theirs) in
     cc)
-    (λ first past. let none = ap (λ (it : Connection). it.seat) (sym (get_or_past connections other fresh (ltb-false other (length connections) past))) ∙ theirs in cc) refl
+    (λ first past. let none = ap (λ (it : Connection). it.seat) (sym (get_or_past connections other unfed (ltb-false other (length connections) past))) ∙ theirs in cc) refl
 
 module _ (stage : Stage) (conn : ℕ) (connection : Connection) (within : conn < length stage.connections) (but : SettledBut stage conn) where
   enters_settles : connection.seat ≡ None → (how : Entry) → entry (with_connection stage conn connection) connection.queue ≡ how →
@@ -200,7 +199,7 @@ module _ (stage : Stage) (conn : ℕ) (connection : Connection) (within : conn <
       plays_settles stage conn connection within but seat (λ other apart own mine theirs.
       let same : own ≡ seat = cc in
       free_alone (set stage.connections conn connection) seat free other
-      (ap (λ (one : Connection). one.seat) (get_or-set_other stage.connections conn other connection fresh apart) ∙ theirs ∙ ap Some same))
+      (ap (λ (one : Connection). one.seat) (get_or-set_other stage.connections conn other connection unfed apart) ∙ theirs ∙ ap Some same))
   enters_settles outside (IsDenied denial) is = stays_settles stage conn connection within but (shut connection) (denial_text denial) refl outside
   enters_settles outside Goes is = stays_settles stage conn connection within but (shut connection) [] refl outside
 
@@ -229,7 +228,7 @@ module _ (stage : Stage) (conn : ℕ) (settled : IsSettled stage) where
       ap moved (taken_rests (game_at stage seat.0) seat.1 old.queue (λ stays. settled.all_taken conn (waiting ∙ stays)))
       ∙ ap₂ (λ (games : List Game) (connections : List Connection). let still : Moved = record { stage = record stage { games = games; connections = connections }; text = [] } in still)
       (set-get_or stage.games seat.0 _)
-      (ap (λ (own : Option (ℕ × ℕ)). set stage.connections conn (record old { seat = own })) (sym seated) ∙ set-get_or stage.connections conn fresh)
+      (ap (λ (own : Option (ℕ × ℕ)). set stage.connections conn (record old { seat = own })) (sym seated) ∙ set-get_or stage.connections conn unfed)
 
   rests_in : (own : Option (ℕ × ℕ)) → (connection_at stage conn).seat ≡ own → moves_in stage conn own ≡ record { stage = stage; text = [] }
   rests_in None outside =

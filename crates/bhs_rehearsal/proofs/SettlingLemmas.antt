@@ -10,10 +10,9 @@ use Rattle.bhs_model.specs.declared.events.Event.TheVariants.{Tell, Deliver, Clo
 use Rattle.bhs_model.specs.declared.replies.Reply.{Reply}
 use Rattle.bhs_files.specs.KeyTable.{Seat}
 use Rattle.bhs_rehearsal.specs.Games.{Game, state_of, played, reply_to, is_away, drawn}
-use Rattle.bhs_rehearsal.specs.Connections.{Ends, Connection, fresh, shut}
+use Rattle.bhs_rehearsal.specs.Connections.{Ends, Connection, unfed, shut}
 use Rattle.bhs_rehearsal.specs.Stages.{Stage, game_at, connection_at, with_game, with_connection, has_seat, Moved, moves, sent_to, Instruction, Feeds, EndsInput, Draws, Closes, Stepped, stepped, nothing, tells_arrival, delivers, waits_in, shut_in, told_over, closes, step, begun, stands_after}
-use Rattle.bhs_rehearsal.specs.Laws.{IsSettled, SettledStagesSettle, ScriptsSettle, moves_in_turn, AllItemsAreTaken}
-use Rattle.bhs_rehearsal.specs.Stages.{awaits_arrival}
+use Rattle.bhs_rehearsal.specs.Laws.{awaits_arrival, IsSettled, SettledStagesSettle, ScriptsSettle, moves_in_turn, AllItemsAreTaken}
 use Rattle.bhs_rehearsal.proofs.CuttingLemmas.{by_bool}
 use Rattle.bhs_rehearsal.proofs.TurnLemmas.{placed, turn_of, moves-placed, grown}
 use Rattle.bhs_rehearsal.proofs.ApartLemmas.{seat-has_seat, shut_if}
@@ -38,17 +37,17 @@ client_settles stage conn connection true false settled as_before below =
 -- ---- a draw
 
 -- whom nobody plays
-nobody_plays : (connections : List Connection) (seat : ℕ × ℕ) → position (has_seat seat) connections ≡ None → (conn : ℕ) → (get_or connections conn fresh).seat ≡ Some seat → ⊥
+nobody_plays : (connections : List Connection) (seat : ℕ × ℕ) → position (has_seat seat) connections ≡ None → (conn : ℕ) → (get_or connections conn unfed).seat ≡ Some seat → ⊥
 nobody_plays connections seat none conn theirs =
-    let one = get_or connections conn fresh in
+    let one = get_or connections conn unfed in
     let has : has_seat seat one ≡ true = has_own seat one.seat one.unfinished one.queue one.ended theirs in
     let all : length connections ≤ position_or_len (has_seat seat) connections = passed (position_or_len (has_seat seat) connections) (length connections) _ refl none in
     by_bool (nat_lt conn (length connections)) (λ (below : Bool). nat_lt conn (length connections) ≡ below → ⊥)
     (λ first below.
     let within : conn < length connections = ltb-true conn (length connections) below in
-    let fails : has_seat seat one ≡ false = fails_before_first (has_seat seat) connections conn fresh (omega (arith, all, within)) in
+    let fails : has_seat seat one ≡ false = fails_before_first (has_seat seat) connections conn unfed (omega (arith, all, within)) in
     cc)
-    (λ first past. let never = ap (λ (it : Connection). it.seat) (sym (get_or_past connections conn fresh (ltb-false conn (length connections) past))) ∙ theirs in cc)
+    (λ first past. let never = ap (λ (it : Connection). it.seat) (sym (get_or_past connections conn unfed (ltb-false conn (length connections) past))) ∙ theirs in cc)
     refl where
       passed : (place count : ℕ) (below : Bool) → nat_lt place count ≡ below → cond below (Some place) None ≡ None → count ≤ place
       passed place count true is some = absurd (cc)
@@ -84,7 +83,7 @@ module _ (stage : Stage) (game agent : ℕ) (within : game < length stage.games)
   holder_settles conn there mine =
       let old = connection_at stage conn in
       let is_turn : moves drawn_in conn ≡ placed drawn_in conn (turn_of drawn_in conn old) =
-      ap (λ (connections : List Connection). moves (record drawn_in { connections = connections }) conn) (sym (set-get_or stage.connections conn fresh))
+      ap (λ (connections : List Connection). moves (record drawn_in { connections = connections }) conn) (sym (set-get_or stage.connections conn unfed))
       ∙ moves-placed drawn_in conn old there in
       subst (λ (moved : Moved). IsSettled moved.stage) (sym is_turn) (turn_settles drawn_in conn old there (draw_settles_but conn mine) refl)
 
@@ -95,7 +94,7 @@ module _ (stage : Stage) (game agent : ℕ) (within : game < length stage.games)
       draw_settles (λ conn other theirs. away-delivered (game_at stage game) agent other
       (λ same. nobody_plays stage.connections (game, agent) nobody conn (theirs ∙ ap (λ (one : ℕ). Some (game, one)) same)))
   arrival_settles (Some reply) (Some conn) answered held =
-      let at_holder = position-Some (has_seat (game, agent)) stage.connections conn fresh held in
+      let at_holder = position-Some (has_seat (game, agent)) stage.connections conn unfed held in
       holder_settles conn at_holder.0 (seat-has_seat (game, agent) (connection_at stage conn) at_holder.1)
 
 delivers_settles : (stage : Stage) (game : ℕ) → game < length stage.games → IsSettled stage → (event : Option Event) → IsSettled (delivers stage game event).stage
@@ -108,7 +107,7 @@ delivers_settles stage game within settled (Some (Deliver agent)) =
 -- ---- a close
 
 pub shut_at : (number : ℕ) (game : Game) (connections : List Connection) (conn : ℕ) →
-    get_or (shut_in number game connections) conn fresh ≡ shut_if number game (get_or connections conn fresh)
+    get_or (shut_in number game connections) conn unfed ≡ shut_if number game (get_or connections conn unfed)
 shut_at number game [] conn = refl
 shut_at number game (connection ∷ connections) zero = refl
 shut_at number game (connection ∷ connections) (suc conn) = shut_at number game connections conn
@@ -171,7 +170,7 @@ settle_lemma stage (Closes game) settled = closes_settle stage game settled
 
 -- ---- from the start
 
-fresh_at : (count conn : ℕ) → get_or (replicate count fresh) conn fresh ≡ fresh
+fresh_at : (count conn : ℕ) → get_or (replicate count unfed) conn unfed ≡ unfed
 fresh_at zero conn = refl
 fresh_at (suc count) zero = refl
 fresh_at (suc count) (suc conn) = fresh_at count conn

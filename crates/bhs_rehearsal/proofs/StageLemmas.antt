@@ -9,7 +9,7 @@ use Rattle.bhs_model.specs.declared.replies.Reply.{Reply}
 use Rattle.bhs_files.specs.KeyTable.{Seat}
 use Rattle.bhs_files.specs.declared.lineups.Ready.{Ready}
 use Rattle.bhs_rehearsal.specs.Games.{Game, drawn}
-use Rattle.bhs_rehearsal.specs.Connections.{Connection, fresh, shut, Taken, taken, after}
+use Rattle.bhs_rehearsal.specs.Connections.{Connection, unfed, shut, Taken, taken, after}
 use Rattle.bhs_rehearsal.specs.Stages.{game_at, connection_at, with_game, plays, waits_in, shut_in}
 use Rattle.bhs_rehearsal.specs.Rehearsing.{Rehearsing, stage_of, game_of, team_of, on_stage, IsSeated}
 use Rattle.bhs_rehearsal.specs.Takings.{IsMoved, IsDrawn, Drawn, after_draw}
@@ -75,7 +75,7 @@ pub plays_lemma : (ready : List Ready) (keys : List Seat) (connections : List Co
     IsMoved (rehearsing ready keys connections failed) (plays (stage_of ready keys connections) conn seat) result
     (rehearsing (slice_set ready seat.0 new) keys (slice_set connections conn changed) failed)
 plays_lemma ready keys connections failed conn seat one new before changed (Ok text) game_within game_is conn_within conn_is game told connection team =
-    let at : connection_at (stage_of ready keys connections) conn ≡ before = sym (get_or_read connections conn before conn_within conn_is fresh) in
+    let at : connection_at (stage_of ready keys connections) conn ≡ before = sym (get_or_read connections conn before conn_within conn_is unfed) in
     let same : taken (game_of one) seat.1 before.queue ≡ taken (game_at (stage_of ready keys connections) seat.0) seat.1 (connection_at (stage_of ready keys connections) conn).queue =
     ap (λ (game : Game). taken game seat.1 before.queue) (sym (game_read ready keys connections seat.0 one game_within game_is))
     ∙ ap (λ (one : Connection). taken (game_at (stage_of ready keys connections) seat.0) seat.1 one.queue) (sym at) in (

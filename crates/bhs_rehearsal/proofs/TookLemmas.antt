@@ -11,13 +11,12 @@ use Rattle.bhs_model.specs.Worlds.{World}
 use Rattle.bhs_model.specs.Runs.{State, Position, is_bound, glance, position_after, heard, told, next}
 use Rattle.bhs_model.proofs.StepLemmas.{changed_same}
 use Rattle.bhs_wire.specs.Lines.{Line}
-use Rattle.bhs_session.specs.Texts.{text_of}
+use Rattle.bhs_session.specs.Texts.{text_of, command_of}
 use Rattle.bhs_rehearsal.specs.Games.{Game, world_in, state_of, played, reply_to, is_away}
 use Rattle.bhs_rehearsal.specs.Connections.{Item, Says, Ends, Taken, is_last, leaves, answers, taken}
 use Rattle.bhs_rehearsal.proofs.CuttingLemmas.{by_bool, behind}
 use Rattle.bhs_rehearsal.proofs.SlowGameLemmas.{state_of-played}
 use Rattle.bhs_session.specs.Met.{Meeting, past_after, view_from, commands, answer_to, bytes_from, takes_commands, AreDue}
-use Rattle.bhs_rehearsal.specs.Clients.{command_of}
 use Rattle.bhs_rehearsal.specs.Headline.{IsPastOf, IsSentOf}
 use Rattle.bhs_rehearsal.proofs.EventLemmas.{IsIn, played_in, Alike, alike_itself, alike_through, alike-told, closed-told, Answered, answered-open, answered-closed, unheard-closed}
 

@@ -1,8 +1,8 @@
 -- What a script feeds to a connection, and what it sends to it.
 use Rattle.std.specs.Prelude.{ℕ, Bool, true, false, ◌==◌, List, [], ◌∷◌, ◌++◌, map, if◌then◌else◌}
 use Rattle.bhs_model.specs.declared.commands.Command.{Command}
-use Rattle.bhs_wire.specs.Lines.{Line, lines, said_by}
-use Rattle.bhs_session.specs.Texts.{command_by}
+use Rattle.bhs_wire.specs.Lines.{lines}
+use Rattle.bhs_session.specs.Texts.{command_of}
 use Rattle.bhs_rehearsal.specs.Stages.{Instruction, Feeds, EndsInput, Draws, Closes}
 
 -- ---- what it is fed
@@ -31,10 +31,6 @@ fed_by conn fed (Closes game) = fed
 abbrev pub fed_to : (conn : ℕ) → Fed → List Instruction → Fed
 fed_to conn fed [] = fed
 fed_to conn fed (instruction ∷ script) = fed_to conn (fed_by conn fed instruction) script
-
--- the command of a line; an enter with a key is the command Enter
-abbrev pub command_of : Line → Command
-command_of line = command_by (said_by line)
 
 -- the commands of all lines that a connection was fed
 abbrev pub commands_fed : (conn : ℕ) → List Instruction → List Command

@@ -26,8 +26,8 @@ pub record Connection : Type 0 where
   pub ended : Bool
 
 -- a connection that was fed nothing
-abbrev pub fresh : Connection
-fresh = record { seat = None; unfinished = Some []; queue = []; ended = false }
+abbrev pub unfed : Connection
+unfed = record { seat = None; unfinished = Some []; queue = []; ended = false }
 
 -- nothing more is taken of it
 abbrev pub shut : Connection → Connection

@@ -7,11 +7,11 @@ use Rattle.bhs_model.specs.Views.{View, Start, Told, Nothing, standing}
 use Rattle.bhs_wire.specs.declared.denials.Denial.{Denial}
 use Rattle.bhs_wire.specs.Lines.{Line, lines}
 use Rattle.bhs_files.specs.KeyTable.{Seat}
-use Rattle.bhs_session.specs.Texts.{text_of, denial_text}
+use Rattle.bhs_session.specs.Texts.{text_of, denial_text, command_of}
 use Rattle.bhs_rehearsal.specs.Games.{Game, state_of}
 use Rattle.bhs_rehearsal.specs.Stages.{Stage, game_at, connection_at, Instruction, begun, stands_after, said}
 use Rattle.bhs_session.specs.Met.{Meeting, view_of, commands, bytes, takes_commands, AreDue}
-use Rattle.bhs_rehearsal.specs.Clients.{Fed, nothing_fed, fed_to, command_of, commands_fed, bytes_to}
+use Rattle.bhs_rehearsal.specs.Clients.{Fed, nothing_fed, fed_to, commands_fed, bytes_to}
 
 -- ---- a rehearsal that was played
 

@@ -10,7 +10,7 @@ use Rattle.bhs_files.specs.declared.lineups.Lineup.{Lineup}
 use Rattle.bhs_rehearsal.specs.Connections.{Connection}
 use Rattle.bhs_rehearsal.specs.Rehearsing.{first_stage, first_game}
 use Rattle.bhs_rehearsal.specs.Clients.{bytes_among, bytes_to}
-use Rattle.bhs_rehearsal.specs.Stages.{Stage, game_at, connection_at, awaits_arrival, moves, Instruction, Feeds, EndsInput, Draws, Closes, Stepped, nothing, sent_to, step, begun, stands_after, said}
+use Rattle.bhs_rehearsal.specs.Stages.{Stage, game_at, connection_at, moves, Instruction, Feeds, EndsInput, Draws, Closes, Stepped, nothing, sent_to, step, begun, stands_after, said}
 
 -- ---- cutting
 
@@ -78,6 +78,13 @@ MatchesKeepToThemselves =
 
 -- ---- what is left to take
 
+-- whether a connection's agent is on a link
+abbrev pub awaits_arrival : Stage → Connection → Bool
+awaits_arrival stage connection = seated connection.seat where
+  seated : Option (ℕ × ℕ) → Bool
+  seated None = false
+  seated (Some seat) = is_away (game_at stage seat.0) seat.1
+
 -- all items were taken but those of connections whose agents are on a link, and no two connections play one agent
 pub record IsSettled (stage : Stage) : Type 0 where
   pub all_taken : (conn : ℕ) → awaits_arrival stage (connection_at stage conn) ≡ false → (connection_at stage conn).queue ≡ []
@@ -135,8 +142,8 @@ pub record HeardAlike (game : ℕ) (one : Stage) (script : List Instruction) (tw
       bytes_to conn (said one script) ≡ bytes_to conn (said two other_script)
 
 -- whoever plays elsewhere is sent the same, whatever the match is
-abbrev pub MatchesAreApart : Type 0
-MatchesAreApart =
+abbrev pub MatchesAreHeardApart : Type 0
+MatchesAreHeardApart =
     (game : ℕ) (one two : Stage) (script : List Instruction) → SameBut game one two → HeardAlike game one script two script
 
 -- whether an instruction is for a match: a draw, a close, or one for a connection that plays in it

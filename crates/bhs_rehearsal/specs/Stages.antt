@@ -15,7 +15,7 @@ use Rattle.bhs_session.specs.Port.{Enters, Tells, News, Answers}
 use Rattle.bhs_session.specs.Phase.{Phase, Fresh, Awaits}
 use Rattle.bhs_session.specs.Machine.{Ask, Asks, Denies, Rests, ask, hear, owed_text}
 use Rattle.bhs_rehearsal.specs.Games.{Game, state_of, played, reply_to, is_away, drawn}
-use Rattle.bhs_rehearsal.specs.Connections.{Item, Says, Ends, Connection, fresh, shut, taken, after}
+use Rattle.bhs_rehearsal.specs.Connections.{Item, Says, Ends, Connection, unfed, shut, taken, after}
 
 -- the matches of a rehearsal, the keys that let agents enter them, and the connections
 pub record Stage : Type 0 where
@@ -33,7 +33,7 @@ game_at stage game = slice_index_or stage.games game no_game
 
 -- the connection of a number
 abbrev pub connection_at : Stage → (conn : ℕ) → Connection
-connection_at stage conn = slice_index_or stage.connections conn fresh
+connection_at stage conn = slice_index_or stage.connections conn unfed
 
 -- the stage with another match, or another connection, in the place of a number
 abbrev pub with_game : Stage → (game : ℕ) → Game → Stage
@@ -48,13 +48,6 @@ has_seat seat connection = sits seat connection.seat where
   sits : (seat : ℕ × ℕ) → Option (ℕ × ℕ) → Bool
   sits seat None = false
   sits seat (Some other) = (other.0 == seat.0) && (other.1 == seat.1)
-
--- whether a connection's agent is on a link
-abbrev pub awaits_arrival : Stage → Connection → Bool
-awaits_arrival stage connection = seated connection.seat where
-  seated : Option (ℕ × ℕ) → Bool
-  seated None = false
-  seated (Some seat) = is_away (game_at stage seat.0) seat.1
 
 -- ---- one connection's move
 
@@ -233,7 +226,7 @@ step stage (Closes game) = if nat_lt game (length stage.games) then closes stage
 
 -- how a rehearsal begins
 abbrev pub begun : (games : List Game) → (keys : List Seat) → (connections : ℕ) → Stage
-begun games keys connections = record { games = games; keys = keys; connections = replicate connections fresh }
+begun games keys connections = record { games = games; keys = keys; connections = replicate connections unfed }
 
 -- how it stands after a script
 abbrev pub stands_after : Stage → List Instruction → Stage

@@ -49,9 +49,9 @@ IsStepped old stepped (Ok outs) new = (map seen_out outs.items ≡ stepped.outs)
 IsStepped old stepped (Err memory) new = Unit {0}
 
 -- what a call gives of it: a rehearsal without memory has failed
-abbrev pub IsSettled : Rehearsing → Result (Vec Out Global) AllocError → Result (Vec Out Global) RehearsalFault → Rehearsing → Type 0
-IsSettled old (Ok outs) result new = (result ≡ Ok outs) × (new ≡ old)
-IsSettled old (Err memory) result new = (result ≡ Err Memory) × (new.has_failed ≡ true)
+abbrev pub IsConcluded : Rehearsing → Result (Vec Out Global) AllocError → Result (Vec Out Global) RehearsalFault → Rehearsing → Type 0
+IsConcluded old (Ok outs) result new = (result ≡ Ok outs) × (new ≡ old)
+IsConcluded old (Err memory) result new = (result ≡ Err Memory) × (new.has_failed ≡ true)
 
 -- a match after an event that was drawn, if one was, and the arrival that is told
 pub record Drawn : Type 0 where

@@ -1,6 +1,6 @@
 ghost use Rattle.std.specs.Prelude.{◌≡◌, [], ◌∷◌, ◌++◌, map, false, true, Some, Option, IfOk, OnOk, List, slice_get, option_map};
 ghost use Rattle.bhs_wire.specs.Lines.{seen, found_in, left_by};
-ghost use Rattle.bhs_rehearsal.specs.Connections.{Says, Ends, fresh, shut, taken, after};
+ghost use Rattle.bhs_rehearsal.specs.Connections.{Says, Ends, unfed, shut, taken, after};
 ghost use Rattle.bhs_rehearsal.specs.Stages.{has_seat, waits_in};
 ghost use Rattle.bhs_rehearsal.specs.Rehearsing.{game_of, team_of, seen_item};
 
@@ -36,7 +36,7 @@ impl Model for Connection {
 impl Connection {
     // It was fed nothing. Takes no memory.
     pub(crate) fn new(alloc: Global) -> Connection
-        ensures { result ≡ fresh }
+        ensures { result ≡ unfed }
     {
         Connection {
             seat: None,

@@ -2,7 +2,7 @@
 
 ghost use Rattle.bhs_rehearsal.specs.Rehearsing.{StandsForTheScript};
 ghost use Rattle.bhs_rehearsal.specs.OneMachine.{ArrivalsAreNews, ClosesEndTheWait, HeardFirst, ItemsAreTakenByTheMachine};
-ghost use Rattle.bhs_rehearsal.specs.Laws.{AllItemsAreTaken, ClientsKeepToThemselves, CutsDoAlike, HoleSoundsSlow, LinksCanBeHeld, MatchesAreApart, MatchesKeepToThemselves, OtherMatchesAreNotHeard, ScriptsSettle, SettledConnectionsRest, SettledStagesSettle, SlowLineupsSoundAlike, SlowMatchesBegin, TwoPiecesDoAlike};
+ghost use Rattle.bhs_rehearsal.specs.Laws.{AllItemsAreTaken, ClientsKeepToThemselves, CutsDoAlike, HoleSoundsSlow, LinksCanBeHeld, MatchesAreHeardApart, MatchesKeepToThemselves, OtherMatchesAreNotHeard, ScriptsSettle, SettledConnectionsRest, SettledStagesSettle, SlowLineupsSoundAlike, SlowMatchesBegin, TwoPiecesDoAlike};
 ghost use Rattle.bhs_rehearsal.specs.Examples.{AFirstLookIsDenied, AKeyLetsIn, ALineMayComeInPieces, AStrangeKeyIsDenied, AUsedKeyIsDenied, AnEndWaitsForTheArrival, HeldLinksSendTheSame, LinesWaitForTheArrival, TheAgentOfAnEndLeaves, TheBlackHoleIsSilent, TheOtherMatchIsNotHeard, ThePresentAreToldLater, TheQuotaIsSpent, TheSecondWriterSeesTheFirst, TheSlowTriangleIsSlow, WhatIsNotThereDoesNothing};
 
 /// A rehearsal whose calls were the instructions of a script stands for that script: its stage is the one that the
@@ -73,7 +73,7 @@ pub fn stages_settle()
 /// Who doesn't play in a match is sent the same, whatever that match is and however it stands, and whatever is said and
 /// done in it.
 pub fn matches_are_apart()
-    ensures worlds { MatchesAreApart }
+    ensures worlds { MatchesAreHeardApart }
     ensures scripts { OtherMatchesAreNotHeard }
 {}
 

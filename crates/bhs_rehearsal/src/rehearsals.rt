@@ -1,8 +1,8 @@
 ghost use Rattle.std.specs.Prelude.{◌≡◌, false, map, IfOk, replicate};
-ghost use Rattle.bhs_rehearsal.specs.Connections.{fresh};
+ghost use Rattle.bhs_rehearsal.specs.Connections.{unfed};
 ghost use Rattle.bhs_rehearsal.specs.Stages.{Feeds, EndsInput, Draws, Closes};
 ghost use Rattle.bhs_rehearsal.specs.Rehearsing.{Follows, first_stage, game_of, team_of};
-ghost use Rattle.bhs_rehearsal.specs.Takings.{IsSettled};
+ghost use Rattle.bhs_rehearsal.specs.Takings.{IsConcluded};
 
 use crate::connections::Connection;
 use crate::faults::RehearsalFault;
@@ -134,7 +134,7 @@ impl Rehearsal {
 
     // What a call gives. Where memory ran out the rehearsal has failed.
     fn settled(&mut self, outs: Result<Vec<Out>, Memory>) -> Result<Vec<Out>, RehearsalFault>
-        ensures { IsSettled self.old outs result self.new }
+        ensures { IsConcluded self.old outs result self.new }
     {
         match outs {
             Ok(outs) => Ok(outs),
@@ -147,7 +147,7 @@ impl Rehearsal {
 }
 
 fn no_connections(alloc: Global, count: u16) -> Result<Vec<Connection>, Memory>
-    ensures { IfOk result (λ connections. connections.items ≡ replicate count fresh) }
+    ensures { IfOk result (λ connections. connections.items ≡ replicate count unfed) }
 {
     let mut connections = Vec::with_capacity(alloc, usize::from(count))?;
     for _ in 0..count {

@@ -19,11 +19,11 @@ use Rattle.bhs_session.specs.declared.endings.Ended.TheVariants as endings
 use Rattle.bhs_session.specs.declared.port.Entered.TheVariants as entered
 use Rattle.bhs_session.specs.Port.{Asked, Enters, Tells, News, Heard, LetIn, Answers, NoMemory}
 use Rattle.bhs_session.specs.Phase.{Phase, Fresh, Ready, Awaits, Owes, Leaves, Finished, answered_by, denied, stopped, Sends, all, part, none}
-use Rattle.bhs_session.specs.Texts.{text_of, denial_text, command_by}
+use Rattle.bhs_session.specs.Texts.{text_of, denial_text, command_by, command_of}
 use Rattle.bhs_session.specs.Machine.{Ask, Asks, Denies, Rests, ask, hear}
 use Rattle.bhs_session.specs.Met.{Meeting, Hears, Refuses, Arrives, past_after, view_of, commands as commands_of, answer_to, bytes, bytes_from, takes_commands, IsDue, AreDue}
 use Rattle.bhs_session.specs.Session.{Point, Step, Session, opens, reads, steps, asks, denies, awaits, sends, lacks, tires, leaves, fresh, TakesLines, after_read}
-use Rattle.bhs_session.specs.Answering.{IsJudged, Meets, IsOver, Comes, AnswersByPasts, command_of, IsLastLine, MayLack, IsUnwritten, WritesAsMet}
+use Rattle.bhs_session.specs.Answering.{IsJudged, Meets, IsOver, Comes, AnswersByPasts, IsLastLine, MayLack, IsUnwritten, WritesAsMet}
 use Rattle.bhs_session.proofs.MeetingLemmas.{view_from-append, bytes_from-append, commands-append, due-append}
 
 -- ---- where an answer leads

@@ -7,13 +7,13 @@ use Rattle.bhs_model.specs.declared.replies.Reply.TheVariants.{Over}
 use Rattle.bhs_model.specs.Views.{View, Start, Arrived, Sight}
 use Rattle.bhs_model.specs.Replying.{here, hears}
 use Rattle.bhs_wire.specs.declared.denials.Denial.{Denial}
-use Rattle.bhs_wire.specs.Lines.{Line, said_by}
+use Rattle.bhs_wire.specs.Lines.{Line}
 use Rattle.bhs_session.specs.declared.endings.Ended.{Ended}
 use Rattle.bhs_session.specs.declared.endings.Ended.TheVariants.{Memory, WriteFault}
 use Rattle.bhs_session.specs.declared.port.Entered.TheVariants.{In}
 use Rattle.bhs_session.specs.Port.{Asked, Enters, Tells, News, Heard, LetIn, Answers}
 use Rattle.bhs_session.specs.Phase.{Phase, Owes, Leaves, Finished}
-use Rattle.bhs_session.specs.Texts.{text_of, denial_text, command_by}
+use Rattle.bhs_session.specs.Texts.{command_of, text_of, denial_text}
 use Rattle.bhs_session.specs.Met.{Meeting, Hears, Refuses, Arrives, past_after, command_in, commands, answer_to, bytes, AreDue}
 
 -- ---- the port
@@ -53,10 +53,6 @@ pub record AnswersByPasts {P : Type 0} (calls : P → Asked → Heard → P → 
 
 -- ---- what is written
 
--- the command of a line
-abbrev pub command_of : Line → Command
-command_of line = command_by (said_by line)
-
 -- at most one line more: that the match is over, or a denial
 abbrev pub IsLastLine : List ℕ → Type 0
 IsLastLine last = (last ≡ []) ⊎ ((last ≡ text_of Over) ⊎ ((denial : Denial) × (last ≡ denial_text denial)))
@@ -77,7 +73,7 @@ IsUnwritten phase unwritten = unwritten ≡ []
 -- write failed or memory ran out.
 pub record WritesAsMet (quota limit : ℕ) (written : List ℕ) (taken : List Line) (phase : Phase) : Type 0 where
   pub met : List Meeting
-  pub due : AreDue quota (Start) met
+  pub due : AreDue quota Start met
   -- the commands are those of the first lines that were taken
   pub left : List Command
   pub said : map command_of taken ≡ commands met ++ left
