@@ -16,7 +16,7 @@ use Rattle.bhs_session.proofs.MeetingLemmas.{view_from-append, bytes_from-append
 use Rattle.bhs_rehearsal.proofs.CuttingLemmas.{by_bool}
 use Rattle.bhs_rehearsal.proofs.TurnLemmas.{placed, plays_turn, enters_turn, turn_in, played_at, grown}
 use Rattle.bhs_rehearsal.proofs.SettledLemmas.{seat_after}
-use Rattle.bhs_session.specs.Met.{Meeting, view_from, view_of, command_in, commands, bytes_from, bytes, answer_to, takes_commands, IsDue, AreDue, past_after}
+use Rattle.bhs_session.specs.Met.{Meeting, view_from, view_of, commands, bytes_from, bytes, takes_commands, AreDue}
 use Rattle.bhs_rehearsal.specs.Clients.{Fed, fed_more, at_end}
 use Rattle.bhs_rehearsal.specs.Headline.{IsDenial, IsPastOf, IsSentOf}
 use Rattle.bhs_rehearsal.proofs.EventLemmas.{Alike, alike_itself}

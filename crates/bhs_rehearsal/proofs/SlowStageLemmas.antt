@@ -13,7 +13,7 @@ use Rattle.bhs_files.specs.KeyTable.{Seat}
 use Rattle.bhs_session.specs.Texts.{text_of}
 use Rattle.bhs_rehearsal.specs.Games.{Game, world_in, state_of, played, reply_to, is_away, drawn}
 use Rattle.bhs_rehearsal.specs.Connections.{Item, Ends, Connection, shut, taken}
-use Rattle.bhs_rehearsal.specs.Stages.{Stage, game_at, connection_at, with_game, with_connection, has_seat, Entry, Waits, Sits, IsDenied, Goes, entry, Moved, plays, enters, moves_in, moves, Instruction, Feeds, EndsInput, Draws, Closes, Stepped, sent_to, stepped, nothing, tells_arrival, delivers, waits_in, shut_in, told_over, closes, step, stands_after}
+use Rattle.bhs_rehearsal.specs.Stages.{Stage, game_at, connection_at, with_game, with_connection, has_seat, Entry, Waits, Sits, IsDenied, Goes, entry, Moved, plays, enters, moves_in, moves, Instruction, Feeds, EndsInput, Draws, Closes, Stepped, sent_to, stepped, nothing, tells_arrival, delivers, waits_in, shut_in, told_over, closes, step}
 use Rattle.bhs_rehearsal.specs.Laws.{IsSlowFor, IsSlowStageFor, HoleSoundsSlow, IsSlowLineupFor, SlowLineupsSoundAlike}
 use Rattle.bhs_files.specs.declared.lineups.Lineup.{Lineup}
 use Rattle.bhs_rehearsal.specs.Rehearsing.{game_of, first_game, first_stage}

@@ -1,6 +1,6 @@
 -- The connections of a rehearsal act as sessions do: their items are taken by the machine of a session, and a connection
 -- waits where its phase awaits news, which is exactly where its agent is on a link.
-use Rattle.std.specs.Prelude.{ℕ, ◌≡◌, Bool, true, false, if◌then◌else◌, Option, Some, None, List, [], ◌∷◌, ◌++◌}
+use Rattle.std.specs.Prelude.{ℕ, ◌≡◌, false, if◌then◌else◌, Option, Some, None, List, [], ◌∷◌, ◌++◌}
 use Rattle.bhs_model.specs.declared.commands.Command.TheVariants.{Leave}
 use Rattle.bhs_model.specs.declared.events.Event.TheVariants.{Tell, Deliver}
 use Rattle.bhs_model.specs.declared.replies.Reply.{Reply}

@@ -7,7 +7,7 @@ use Rattle.bhs_model.specs.declared.replies.Reply.{Reply}
 use Rattle.bhs_model.specs.declared.replies.Reply.TheVariants as replies
 use Rattle.bhs_model.specs.declared.replies.Why.TheVariants as whys
 use Rattle.bhs_model.specs.Views.{View, Start, Arrived, Sight, Glance, Nothing, Saw, Seen, Standing, Outside, Present, Away, Ended, standing, standing_after, ports, used}
-use Rattle.bhs_model.specs.Replying.{accepts, answer, text, here, hears, refusal}
+use Rattle.bhs_model.specs.Replying.{accepts, answer, text, here}
 use Rattle.bhs_wire.specs.declared.commands.First.{First}
 use Rattle.bhs_wire.specs.declared.commands.First.TheVariants as firsts
 use Rattle.bhs_wire.specs.declared.denials.Denial.{Denial}
@@ -20,8 +20,8 @@ use Rattle.bhs_session.specs.declared.port.Entered.TheVariants as entered
 use Rattle.bhs_session.specs.Port.{Asked, Enters, Tells, News, Heard, LetIn, Answers, NoMemory}
 use Rattle.bhs_session.specs.Phase.{Phase, Fresh, Ready, Awaits, Owes, Leaves, Finished, answered_by, denied, stopped, Sends, all, part, none}
 use Rattle.bhs_session.specs.Texts.{text_of, denial_text, command_by, command_of}
-use Rattle.bhs_session.specs.Machine.{Ask, Asks, Denies, Rests, ask, hear}
-use Rattle.bhs_session.specs.Met.{Meeting, Hears, Refuses, Arrives, past_after, view_of, commands as commands_of, answer_to, bytes, bytes_from, takes_commands, IsDue, AreDue}
+use Rattle.bhs_session.specs.Machine.{Asks, Denies, ask, hear}
+use Rattle.bhs_session.specs.Met.{Meeting, Hears, Refuses, Arrives, past_after, view_of, commands as commands_of, answer_to, bytes, takes_commands, IsDue, AreDue}
 use Rattle.bhs_session.specs.Session.{Point, Step, Session, opens, reads, steps, asks, denies, awaits, sends, lacks, tires, leaves, fresh, TakesLines, after_read}
 use Rattle.bhs_session.specs.Answering.{IsJudged, Meets, IsOver, Comes, AnswersByPasts, IsLastLine, MayLack, IsUnwritten, WritesAsMet}
 use Rattle.bhs_session.proofs.MeetingLemmas.{view_from-append, bytes_from-append, commands-append, due-append}
@@ -152,13 +152,31 @@ lacks_if ended unwritten is = subst (MayLack ended) (sym is) (lacks_none ended)
 stopped_known : (quota limit : ℕ) (written : List ℕ) (taken : List Line) (phase : Phase) (past : View) (cause : Ending) → TakesLines phase →
     Known quota limit written taken phase past → Known quota limit written taken (stopped phase cause) past
 stopped_known quota limit written taken Fresh past cause takes k = record {
-  writes = record { met = k.writes.met; due = k.writes.due; left = k.writes.left; said = k.writes.said; last = k.writes.last; is_last = k.writes.is_last;
-    unwritten = k.writes.unwritten; heard = k.writes.heard; is_unwritten = lacks_if cause k.writes.unwritten k.writes.is_unwritten };
+  writes = record {
+    met = k.writes.met;
+    due = k.writes.due;
+    left = k.writes.left;
+    said = k.writes.said;
+    last = k.writes.last;
+    is_last = k.writes.is_last;
+    unwritten = k.writes.unwritten;
+    heard = k.writes.heard;
+    is_unwritten = lacks_if cause k.writes.unwritten k.writes.is_unwritten;
+  };
   stands = tt;
 }
 stopped_known quota limit written taken Ready past cause takes k = record {
-  writes = record { met = k.writes.met; due = k.writes.due; left = k.writes.left; said = k.writes.said; last = k.writes.last; is_last = k.writes.is_last;
-    unwritten = k.writes.unwritten; heard = k.writes.heard; is_unwritten = lacks_if cause k.writes.unwritten k.writes.is_unwritten };
+  writes = record {
+    met = k.writes.met;
+    due = k.writes.due;
+    left = k.writes.left;
+    said = k.writes.said;
+    last = k.writes.last;
+    is_last = k.writes.is_last;
+    unwritten = k.writes.unwritten;
+    heard = k.writes.heard;
+    is_unwritten = lacks_if cause k.writes.unwritten k.writes.is_unwritten;
+  };
   stands = tt;
 }
 stopped_known quota limit written taken Awaits past cause takes k = absurd takes
@@ -420,8 +438,17 @@ sent_known takes quota limit written taken now old _ _ _ _ (none text next) k =
 
 left_known : (quota limit : ℕ) (written : List ℕ) (taken : List Line) (ended : Ending) (old new : View) → Known quota limit written taken (Leaves ended) old → Known quota limit written taken (Finished ended) new
 left_known quota limit written taken ended old new k = record {
-  writes = record { met = k.writes.met; due = k.writes.due; left = k.writes.left; said = k.writes.said; last = k.writes.last; is_last = k.writes.is_last;
-    unwritten = k.writes.unwritten; heard = k.writes.heard; is_unwritten = k.writes.is_unwritten };
+  writes = record {
+    met = k.writes.met;
+    due = k.writes.due;
+    left = k.writes.left;
+    said = k.writes.said;
+    last = k.writes.last;
+    is_last = k.writes.is_last;
+    unwritten = k.writes.unwritten;
+    heard = k.writes.heard;
+    is_unwritten = k.writes.is_unwritten;
+  };
   stands = tt;
 }
 

@@ -1,21 +1,21 @@
 -- A port on a match answers by pasts.
-use Rattle.std.proofs.Common.{◌≡◌, ◌≢◌, ◌∙◌, ℕ, ◌<◌, ◌⊎◌, inl, inr, Bool, true, false, cond, not, ◌&&◌, ◌==◌, nat_lt, Option, Some, None, List, [], ◌∷◌, ◌++◌, refl, sym, ap, subst}
-use Rattle.std.proofs.lemmas.Bool.{cond-true, eqb-true, eqb-false, eq-eqb, lt-ltb, and_parts}
+use Rattle.std.proofs.Common.{◌≡◌, ◌∙◌, ℕ, ◌<◌, ◌⊎◌, inl, inr, Bool, true, false, cond, not, ◌&&◌, ◌==◌, nat_lt, Option, Some, List, [], ◌∷◌, ◌++◌, refl, sym, ap, subst}
+use Rattle.std.proofs.lemmas.Bool.{cond-true, eqb-true, eqb-false, lt-ltb, and_parts}
 use Rattle.bhs_model.specs.declared.commands.Command.{Command}
 use Rattle.bhs_model.specs.declared.events.Event.{Event}
 use Rattle.bhs_model.specs.declared.events.Event.TheVariants.{Tell, Deliver, Close}
 use Rattle.bhs_model.specs.declared.replies.Reply.{Reply}
 use Rattle.bhs_model.specs.declared.replies.Reply.TheVariants as replies
 use Rattle.bhs_model.specs.Views.{View, Told, Arrived, Sight}
-use Rattle.bhs_model.specs.Replying.{hears, rep, here}
+use Rattle.bhs_model.specs.Replying.{hears, rep}
 use Rattle.bhs_model.specs.Worlds.{World}
-use Rattle.bhs_model.specs.Runs.{State, initial, Position, Before, At, Bound, After, glance, heard, told, arrives, arrived, delivered, is_let_through, sight_at, is_of, next, run, run_from, reply}
+use Rattle.bhs_model.specs.Runs.{State, initial, Position, Before, At, Bound, After, glance, heard, told, arrives, delivered, is_let_through, sight_at, is_of, next, run, run_from, reply}
 use Rattle.bhs_model.proofs.AddLemmas.{run-append}
 use Rattle.bhs_model.proofs.StepLemmas.{by_cases, changed_same, changed_other, heard_by_past, refused_by_past, answered_by_past, arrival_by_past, no_arrival_no_reply, next_heard, next_unheard, next_arrived}
 use Rattle.bhs_session.specs.Port.{Asked, Heard}
 use Rattle.bhs_session.specs.Met.{Hears, Refuses}
-use Rattle.bhs_session.specs.Answering.{IsOver, Meets, Comes, AnswersByPasts}
-use Rattle.bhs_session.specs.History.{AreOthers, IsReplied, IsClosed, PlaysIn, HistoriesAnswerByPasts}
+use Rattle.bhs_session.specs.Answering.{IsOver, Meets, Comes}
+use Rattle.bhs_session.specs.History.{AreOthers, IsReplied, IsClosed, HistoriesAnswerByPasts}
 
 -- ---- what others do
 

@@ -1,5 +1,5 @@
 -- What a session reads and writes where the bytes of its reader and of its writer are known.
-use Rattle.std.proofs.Common.{ℕ, List, [], ◌++◌, subst, append-nil, take, inl, inr}
+use Rattle.std.proofs.Common.{ℕ, List, subst, append-nil, take, inl, inr}
 use Rattle.std.specs.declared.option.Option.{Option}
 use Rattle.std.specs.Io.KnownBytes.{Appends, Consumes}
 use Rattle.std.proofs.KnownBytes.{Appends-nil, Appends-trans, Appends-kept, Consumes-nil, Consumes-trans, Consumes-kept}

@@ -1,5 +1,5 @@
 -- A session, step by step.
-use Rattle.std.specs.Prelude.{◌≡◌, ℕ, ◌-◌, ◌<◌, true, false, List, [], ◌∷◌, ◌++◌, length}
+use Rattle.std.specs.Prelude.{◌≡◌, ℕ, ◌-◌, ◌<◌, List, [], ◌∷◌, ◌++◌, length}
 use Rattle.bhs_stream.specs.Streams.{Chunk, Bytes, End, Fails, Taken}
 use Rattle.bhs_stream.specs.Reading.{IsPiece}
 use Rattle.bhs_model.specs.declared.commands.Command.TheVariants as commands

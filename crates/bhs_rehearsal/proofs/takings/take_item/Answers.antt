@@ -19,7 +19,7 @@ returns-in_ok-first-in-Says-clause-taken c others here =
     let game : Game = game_of c.args.ready.now in
     let agent = c.args.agent in
     let line = c.in-Says.line in
-    let said : command_by (said_by (seen line)) ≡ c.command_in.result = 
+    let said : command_by (said_by (seen line)) ≡ c.command_in.result =
     same_command (command_by (said_by (seen line))) c.command_in.result
     (ap (λ (first : First). ask Ready first) (sym c.in_ok-first-in-Says.ensures.said) ∙ c.command_in.ensures) in
     let told : taken game agent (seen_item c.args.item ∷ others)

@@ -1,4 +1,4 @@
-use Rattle.std.proofs.Common.{◌∙◌, ap, true, refl, ◌∷◌, [], ◌++◌}
+use Rattle.std.proofs.Common.{◌∙◌, ap, true, ◌∷◌, [], ◌++◌}
 use Rattle.bhs_session.specs.declared.endings.Ended.TheVariants.{Memory}
 use Rattle.bhs_session.specs.declared.port.Entered.TheVariants as entries
 use Rattle.bhs_wire.specs.declared.denials.Denial.TheVariants as denials
@@ -6,7 +6,7 @@ use Rattle.bhs_session.specs.Port.{Enters, LetIn, NoMemory}
 use Rattle.bhs_session.specs.Phase.{Fresh, Ready, Owes, Finished, answered_by, denied}
 use Rattle.bhs_session.specs.Texts.{text_of}
 use Rattle.bhs_session.specs.Session.{asks, denies}
-use Rattle.bhs_session.specs.Machine.{Asks, ask}
+use Rattle.bhs_session.specs.Machine.{ask}
 use Rattle.bhs_session.proofs.Moving.{Ends-step, Stops-step, Moves-step}
 use Rattle.bhs_session.proofs.lines.take_first.Goals as goal
 

@@ -1,4 +1,4 @@
-use Rattle.std.proofs.Common.{◌≡◌, ◌∙◌, sym, ap, true, refl, ◌∷◌, [], ◌++◌}
+use Rattle.std.proofs.Common.{◌≡◌, ◌∙◌, ap, true, ◌∷◌, [], ◌++◌}
 use Rattle.bhs_session.specs.declared.endings.Ended.TheVariants.{Memory}
 use Rattle.bhs_session.specs.Port.{Tells, Answers, NoMemory}
 use Rattle.bhs_session.specs.Phase.{Ready, Owes, Leaves, answered_by}
