@@ -1,7 +1,7 @@
 -- What an exit status says of a rehearsal.
 use Rattle.std.proofs.Common.{◌≡◌, inl, inr, ◌∙◌, sym, ℕ, List, Option, Some}
 use Rattle.bhs_command_line.specs.declared.Order.{Order}
-use Rattle.bhs_session.specs.Stages.{Stage}
+use Rattle.bhs_rehearsal.specs.Stages.{Stage}
 use Rattle.bhs_program.specs.declared.faults.Fault.{Fault}
 use Rattle.bhs_program.specs.declared.faults.Fault.TheVariants.{Read, Text, Line, File, Write, Memory, Turns}
 use Rattle.bhs_program.specs.declared.statuses.TheConstants.{DONE}

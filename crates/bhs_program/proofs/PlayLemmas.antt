@@ -11,8 +11,8 @@ use Rattle.bhs_stream.specs.Streams.{Chunk, Taken}
 use Rattle.bhs_stream.specs.Sending.{Puts, PutsAll, PutsPart, begins}
 use Rattle.bhs_stream.proofs.PutsLemmas.{Puts-front, Puts-trans, PutsAll-trans, PutsPart-front, PutsPart-trans}
 use Rattle.bhs_stream.proofs.OverMemory.{gives, takes, Consumes-from_closes, StoppedBy-from_ends, Appends-from_puts, Appends-from_all, AppendsPart-from_part}
-use Rattle.bhs_session.specs.Games.{Game}
-use Rattle.bhs_session.specs.Stages.{Stage, Instruction, step, stands_after}
+use Rattle.bhs_rehearsal.specs.Games.{Game}
+use Rattle.bhs_rehearsal.specs.Stages.{Stage, Instruction, step, stands_after}
 use Rattle.bhs_program.specs.Rehearsal.{Means, Plays, Leaves, Stops, StopsReading, MeansBy, PlaysBy, StopsBy, StopsReadingBy}
 use Rattle.bhs_script.specs.Transcript.{all_printed, transcript}
 use Rattle.bhs_program.specs.Fault.{StopsPlaying, StopsPuts}

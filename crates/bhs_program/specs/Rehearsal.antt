@@ -10,9 +10,9 @@ use Rattle.bhs_files.specs.declared.lineups.Lineup.{Lineup}
 use Rattle.bhs_files.specs.Lineups.{Contest, contest}
 use Rattle.bhs_command_line.specs.CommandLine.{order_in}
 use Rattle.bhs_command_line.specs.declared.Order.TheVariants.{Rehearse}
-use Rattle.bhs_session.specs.Games.{Game}
-use Rattle.bhs_session.specs.Stages.{Stage, Instruction, begun, stands_after}
-use Rattle.bhs_session.specs.Rehearsing.{game_of}
+use Rattle.bhs_rehearsal.specs.Games.{Game}
+use Rattle.bhs_rehearsal.specs.Stages.{Stage, Instruction, begun, stands_after}
+use Rattle.bhs_rehearsal.specs.Rehearsing.{game_of}
 use Rattle.bhs_script.specs.declared.instructions.TheConstants.{CONNECTIONS}
 use Rattle.bhs_program.specs.declared.faults.Fault.{Fault}
 use Rattle.bhs_program.specs.declared.faults.Fault.TheVariants.{Read, Text, Line, File, Write, Memory, Turns}

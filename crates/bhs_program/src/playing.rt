@@ -1,7 +1,7 @@
 ghost use Rattle.std.specs.Prelude.{◌≡◌, map, IfOk, IfErr, OnOk, length};
 ghost use Rattle.bhs_stream.specs.Sending.{PutsAll};
-ghost use Rattle.bhs_session.specs.Stages.{step, stands_after};
-ghost use Rattle.bhs_session.specs.Rehearsing.{game_of, seen_out};
+ghost use Rattle.bhs_rehearsal.specs.Stages.{step, stands_after};
+ghost use Rattle.bhs_rehearsal.specs.Rehearsing.{game_of, seen_out};
 ghost use Rattle.bhs_script.specs.Instructions.{seen};
 ghost use Rattle.bhs_script.specs.Transcript.{all_printed, transcript};
 ghost use Rattle.bhs_program.specs.Fault.{StopsPuts};
@@ -10,7 +10,7 @@ use crate::faults::Fault;
 use bhs_files::Ready;
 use bhs_net::Memory;
 use bhs_script::{Instruction, push_printed};
-use bhs_session::{Out, Rehearsal, RehearsalFault};
+use bhs_rehearsal::{Out, Rehearsal, RehearsalFault};
 use bhs_stream::{Output, send};
 use std::alloc::Global;
 

@@ -1,4 +1,4 @@
-ghost use Rattle.bhs_session.specs.Rehearsing.{game_of};
+ghost use Rattle.bhs_rehearsal.specs.Rehearsing.{game_of};
 ghost use Rattle.std.specs.Prelude.{ℕ, List, ◌≤◌, length, map, IfOk, OnOk, IfErr};
 ghost use Rattle.std.specs.Io.KnownBytes.{Consumes, IsAtEnd};
 ghost use Rattle.bhs_stream.specs.ReadFault.{StoppedBy};
@@ -9,7 +9,7 @@ use crate::playing::play;
 use bhs_files::{Lineup, Ready};
 use bhs_model::MAX_TEXT;
 use bhs_script::{CONNECTIONS, instructions_in};
-use bhs_session::Rehearsal;
+use bhs_rehearsal::Rehearsal;
 use bhs_stream::{Input, Output, ReadFault, read_text};
 use std::alloc::Global;
 use std::io::{Read, Write};

@@ -1,7 +1,7 @@
 -- Judging a script line by line.
 use Rattle.std.proofs.Common.{◌≡◌, ℕ, ◌+◌, List, [], ◌∷◌, ◌++◌, length, Option, None, Some, IfSome, ◌<◌, ◌≤◌, arith, Result, Ok, Err, Bor, refl, ap, sym, append_assoc}
 use Rattle.std.specs.Option.{option_map_or}
-use Rattle.bhs_session.specs.Stages.{Instruction}
+use Rattle.bhs_rehearsal.specs.Stages.{Instruction}
 use Rattle.bhs_script.specs.Script.{Meaning, lines_of, meaning, before, with_meaning, instructions_from}
 
 -- instructions before the others, unless the others are refused

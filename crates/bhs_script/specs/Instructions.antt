@@ -1,5 +1,5 @@
 -- An instruction of the code, without where it lies in memory.
-use Rattle.bhs_session.specs.Stages as stages
+use Rattle.bhs_rehearsal.specs.Stages as stages
 use Rattle.bhs_script.specs.declared.instructions.Instruction.{Instruction}
 use Rattle.bhs_script.specs.declared.instructions.Instruction.TheVariants.{Feed, End, Draw, Close}
 use Rattle.bhs_script.specs.declared.meanings.Meaning.{Meaning}

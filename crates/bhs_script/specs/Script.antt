@@ -4,7 +4,7 @@ use Rattle.std.specs.List.{position}
 use Rattle.std.specs.Result.{result_ok}
 use Rattle.hex.specs.Hex.{decode_of}
 use Rattle.bhs_wire.specs.Lines.{is_line_feed}
-use Rattle.bhs_session.specs.Stages.{Instruction, Feeds, EndsInput, Draws, Closes}
+use Rattle.bhs_rehearsal.specs.Stages.{Instruction, Feeds, EndsInput, Draws, Closes}
 use Rattle.bhs_script.specs.declared.instructions.TheConstants.{CONNECTIONS}
 use Rattle.bhs_script.specs.Number.{number}
 

@@ -1,6 +1,6 @@
 -- Why a text is no script.
 use Rattle.std.specs.Prelude.{◌≡◌, ℕ, List, Result, Err}
-use Rattle.bhs_session.specs.Stages.{Instruction}
+use Rattle.bhs_rehearsal.specs.Stages.{Instruction}
 use Rattle.bhs_script.specs.declared.faults.ScriptFault.{ScriptFault}
 use Rattle.bhs_script.specs.declared.faults.ScriptFault.TheVariants.{Line, Memory}
 

@@ -1,7 +1,7 @@
 -- What a rehearsal prints.
 use Rattle.std.specs.Prelude.{ℕ, Bool, true, List, [], ◌∷◌, ◌++◌, decimal, if◌then◌else◌}
 use Rattle.bhs_wire.specs.Lines.{is_line_feed}
-use Rattle.bhs_session.specs.Stages.{Stage, Instruction, said}
+use Rattle.bhs_rehearsal.specs.Stages.{Stage, Instruction, said}
 
 -- a text with a beginning before each of its lines
 abbrev pub begun_with : (beginning : List ℕ) → (is_start : Bool) → List ℕ → List ℕ

@@ -1,5 +1,5 @@
 -- What a session reads and writes where the bytes of its reader and of its writer are known.
-use Rattle.std.proofs.Common.{ℕ, List, [], ◌++◌, subst, append-nil, take, inl, inr}
+use Rattle.std.proofs.Common.{ℕ, List, subst, append-nil, take, inl, inr}
 use Rattle.std.specs.declared.option.Option.{Option}
 use Rattle.std.specs.Io.KnownBytes.{Appends, Consumes}
 use Rattle.std.proofs.KnownBytes.{Appends-nil, Appends-trans, Appends-kept, Consumes-nil, Consumes-trans, Consumes-kept}
@@ -7,7 +7,7 @@ use Rattle.bhs_stream.specs.Streams.{Chunk, Bytes, End, Fails, Taken, Gives, Tak
 use Rattle.bhs_stream.proofs.OverMemory as memory
 use Rattle.bhs_session.specs.Port.{Asked, Heard}
 use Rattle.bhs_session.specs.Phase.{Phase, Sends, all, part, none}
-use Rattle.bhs_session.specs.Session.{Point, Step, Session, opens, reads, steps, enters, denies, tells, awaits, sends, lacks, tires, leaves, fresh, Serves, after_read}
+use Rattle.bhs_session.specs.Session.{Point, Step, Session, opens, reads, steps, asks, denies, awaits, sends, lacks, tires, leaves, fresh, Serves, after_read}
 
 module _ {R W P : Type 0} (remaining : R → Option (List ℕ)) (contents : W → Option (List ℕ)) (calls : P → Asked → Heard → P → Type 0) where
   abbrev gives : R → Chunk → R → Type 0
@@ -30,9 +30,8 @@ module _ {R W P : Type 0} (remaining : R → Option (List ℕ)) (contents : W �
   Known i o input p = Consumes i (remaining input) p.read × Appends o (contents p.output) p.written
 
   Step-known : (i o : Option (List ℕ)) (input : R) (p q : Point W P) → Step takes calls p q → Known i o input p → Known i o input q
-  Step-known i o input _ _ (enters p line key heard port at next says called) h = h
-  Step-known i o input _ _ (denies p line command at next says) h = h
-  Step-known i o input _ _ (tells p line heard port at next called) h = h
+  Step-known i o input _ _ (asks p line asked heard port says next called) h = h
+  Step-known i o input _ _ (denies p line denial says next) h = h
   Step-known i o input _ _ (awaits p heard port at called) h = h
   Step-known i o input _ _ (sends p bytes output next sent) h = (h.0, Appends-trans _ _ _ _ _ h.1 (Sends-known p.output p.phase bytes output next sent))
   Step-known i o input _ _ (lacks p lines some) h = h

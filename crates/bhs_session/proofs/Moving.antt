@@ -8,7 +8,8 @@ use Rattle.bhs_session.specs.declared.endings.Ended.{Ended}
 use Rattle.bhs_session.specs.declared.endings.Stop.{Stop}
 use Rattle.bhs_session.specs.declared.endings.Stop.TheVariants as stops
 use Rattle.bhs_session.specs.Port.{Asked, Heard}
-use Rattle.bhs_session.specs.Phase.{Phase, Ready, Owes, text_of, answered_by, waiting, reached, phase_of, stopped, between}
+use Rattle.bhs_session.specs.Phase.{Phase, Ready, Owes, answered_by, waiting, reached, phase_of, stopped, between}
+use Rattle.bhs_session.specs.Texts.{text_of}
 use Rattle.bhs_session.specs.Session.{Point, Step, Talk, begins, goes_on, sends, TakesLines, IsNext}
 use Rattle.bhs_session.specs.Moves.{Moves, Ends, StopsAtLines, IsCauseOfLines}
 use Rattle.bhs_session.proofs.Writing.{Wrote, waiting-false}

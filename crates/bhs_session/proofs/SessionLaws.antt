@@ -7,7 +7,7 @@ use Rattle.bhs_session.specs.declared.endings.Ended.{Ended}
 use Rattle.bhs_session.specs.declared.endings.Ended.TheVariants as endings
 use Rattle.bhs_session.specs.Port.{Asked, Heard}
 use Rattle.bhs_session.specs.Phase.{Phase, Fresh, Finished, Sends, stopped}
-use Rattle.bhs_session.specs.Session.{Point, Step, Session, opens, reads, steps, enters, denies, tells, awaits, sends, lacks, tires, leaves, fresh, IsNext, TakesLines, after_read}
+use Rattle.bhs_session.specs.Session.{Point, Step, Session, opens, reads, steps, asks, denies, awaits, sends, lacks, tires, leaves, fresh, IsNext, TakesLines, after_read}
 use Rattle.bhs_session.proofs.Moving.{IsNext-some}
 
 -- ---- lines are taken in order
@@ -20,9 +20,8 @@ InOrder-next : (read : List ℕ) (taken : List Line) (line : Line) → IsNext re
 InOrder-next read taken line next = (next.0, next.1 ∙ sym (append_assoc taken (line ∷ []) next.0))
 
 InOrder-step : {O P : Type 0} {takes : O → List ℕ → Taken → O → Type 0} {calls : P → Asked → Heard → P → Type 0} {p q : Point O P} → Step takes calls p q → InOrder p → InOrder q
-InOrder-step (enters p line key heard port at next says called) h = InOrder-next p.read p.taken line next
-InOrder-step (denies p line command at next says) h = InOrder-next p.read p.taken line next
-InOrder-step (tells p line heard port at next called) h = InOrder-next p.read p.taken line next
+InOrder-step (asks p line asked heard port says next called) h = InOrder-next p.read p.taken line next
+InOrder-step (denies p line denial says next) h = InOrder-next p.read p.taken line next
 InOrder-step (awaits p heard port at called) h = h
 InOrder-step (sends p bytes output next sent) h = h
 InOrder-step (lacks p takes some) h = h
@@ -65,9 +64,8 @@ ends_by_turns phase cause (inl e) takes is = ap (λ (q : Phase). stopped q cause
 ends_by_turns phase cause (inr e) takes is = absurd (subst TakesLines e takes)
 
 Idle-step : {I O P : Type 0} {takes : O → List ℕ → Taken → O → Type 0} {calls : P → Asked → Heard → P → Type 0} {from input : I} {output : O} {start : P} {p q : Point O P} → Step takes calls p q → Idle from output start input p → Idle from output start input q
-Idle-step (enters p line key heard port at next says called) h = absurd (no_line p.read p.taken line h.read next)
-Idle-step (denies p line command at next says) h = absurd (no_line p.read p.taken line h.read next)
-Idle-step (tells p line heard port at next called) h = absurd (no_line p.read p.taken line h.read next)
+Idle-step (asks p line asked heard port says next called) h = absurd (no_line p.read p.taken line h.read next)
+Idle-step (denies p line denial says next) h = absurd (no_line p.read p.taken line h.read next)
 Idle-step (awaits p heard port at called) h = elim h.phase [ inl e ↦ absurd (cc) | inr e ↦ absurd (cc) ]
 Idle-step (sends p bytes output next sent) h = absurd (owes_no_text p.output output p.phase next bytes h.phase sent)
 Idle-step (lacks p takes some) h = absurd (let long = ap length h.read in omega (arith, long, some))

@@ -1,12 +1,10 @@
 -- Where a session stands between two of its steps.
-use Rattle.std.specs.Prelude.{ℕ, Bool, true, if◌then◌else◌, List, [], ◌∷◌, ◌++◌, take, Option, Some, None, Ok, Err}
+use Rattle.std.specs.Prelude.{ℕ, Bool, true, if◌then◌else◌, List, [], take, Option, Some, None, Ok, Err}
 use Rattle.std.specs.declared.result.Result.{Result}
 use Rattle.bhs_model.specs.declared.replies.Reply.{Reply}
 use Rattle.bhs_model.specs.declared.replies.Reply.TheVariants as replies
 use Rattle.bhs_wire.specs.declared.denials.Denial.{Denial}
 use Rattle.bhs_wire.specs.declared.denials.Denial.TheVariants as denials
-use Rattle.bhs_wire.specs.Denial.{denial_line}
-use Rattle.bhs_wire.specs.Reply.{line}
 use Rattle.bhs_stream.specs.Streams.{Taken}
 use Rattle.bhs_stream.specs.Sending.{PutsAll, PutsPart}
 use Rattle.bhs_session.specs.declared.endings.Ended.{Ended}
@@ -14,6 +12,7 @@ use Rattle.bhs_session.specs.declared.endings.Ended.TheVariants as endings
 use Rattle.bhs_session.specs.declared.endings.Stop.{Stop}
 use Rattle.bhs_session.specs.declared.endings.Stop.TheVariants as stops
 use Rattle.bhs_session.specs.declared.port.Entered.TheVariants as entries
+use Rattle.bhs_session.specs.Texts.{text_of, denial_text}
 use Rattle.bhs_session.specs.Port.{Heard, LetIn, Answers, NoMemory}
 
 pub data Phase : Type 0 where
@@ -29,15 +28,6 @@ pub data Phase : Type 0 where
   Leaves : Ended → Phase
   -- it has ended so
   Finished : Ended → Phase
-
--- ---- texts
-
--- a line as it is written
-abbrev pub text_of : Reply → List ℕ
-text_of reply = line reply ++ 10 ∷ []
-
-abbrev pub denial_text : Denial → List ℕ
-denial_text denial = denial_line denial ++ 10 ∷ []
 
 -- ---- what follows an answer
 

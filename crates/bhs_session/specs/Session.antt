@@ -1,17 +1,15 @@
 -- A session, step by step.
-use Rattle.std.specs.Prelude.{◌≡◌, ℕ, ◌-◌, ◌<◌, true, false, List, [], ◌∷◌, ◌++◌, length}
+use Rattle.std.specs.Prelude.{◌≡◌, ℕ, ◌-◌, ◌<◌, List, [], ◌∷◌, ◌++◌, length}
 use Rattle.bhs_stream.specs.Streams.{Chunk, Bytes, End, Fails, Taken}
 use Rattle.bhs_stream.specs.Reading.{IsPiece}
-use Rattle.bhs_model.specs.declared.commands.Command.{Command}
 use Rattle.bhs_model.specs.declared.commands.Command.TheVariants as commands
-use Rattle.bhs_wire.specs.declared.commands.First.{First}
-use Rattle.bhs_wire.specs.declared.commands.First.TheVariants.{Enter, Tell}
-use Rattle.bhs_wire.specs.declared.denials.Denial.TheVariants as denials
+use Rattle.bhs_wire.specs.declared.denials.Denial.{Denial}
 use Rattle.bhs_wire.specs.Lines.{Line, lines, said_by}
 use Rattle.bhs_session.specs.declared.endings.Ended.{Ended}
 use Rattle.bhs_session.specs.declared.endings.Ended.TheVariants as endings
-use Rattle.bhs_session.specs.Port.{Asked, Enters, Tells, News, Heard}
-use Rattle.bhs_session.specs.Phase.{Phase, Fresh, Ready, Awaits, Owes, Leaves, Finished, denied, after_enter, after_answer, stopped, Sends}
+use Rattle.bhs_session.specs.Port.{Asked, Tells, News, Heard}
+use Rattle.bhs_session.specs.Phase.{Phase, Fresh, Ready, Awaits, Owes, Leaves, Finished, denied, stopped, Sends}
+use Rattle.bhs_session.specs.Machine.{Asks, Denies, ask, hear}
 
 -- how far a session has come
 pub record Point (O P : Type 0) : Type 0 where
@@ -26,11 +24,6 @@ pub record Point (O P : Type 0) : Type 0 where
   -- the bytes that were written
   pub written : List ℕ
   pub phase : Phase
-
--- what a later line says; an enter is the command, and its key is not looked at
-abbrev pub command_by : First → Command
-command_by (Enter key) = commands.Enter
-command_by (Tell command) = command
 
 -- where lines are taken
 abbrev pub TakesLines : Phase → Type 0
@@ -59,20 +52,16 @@ IsChunk Fails = Unit {0}
 
 -- The steps of a session that reads nothing, on an output and a port that may answer so.
 pub data Step {O P : Type 0} (takes : O → List ℕ → Taken → O → Type 0) (calls : P → Asked → Heard → P → Type 0) : Point O P → Point O P → Type 0 where
-  -- the first line is an enter, and the port is asked for its key
-  enters : (p : Point O P) (line : Line) (key : List ℕ) (heard : Heard) (port : P) → p.phase ≡ Fresh → IsNext p.read p.taken line → said_by line ≡ Enter key
-      → calls p.port (Enters key) heard port
-      → Step takes calls p (record p { port = port; taken = p.taken ++ line ∷ []; phase = after_enter heard })
-  -- the first line is any other
-  denies : (p : Point O P) (line : Line) (command : Command) → p.phase ≡ Fresh → IsNext p.read p.taken line → said_by line ≡ Tell command
-      → Step takes calls p (record p { taken = p.taken ++ line ∷ []; phase = denied denials.Enter })
-  -- a later line is told
-  tells : (p : Point O P) (line : Line) (heard : Heard) (port : P) → p.phase ≡ Ready → IsNext p.read p.taken line
-      → calls p.port (Tells (command_by (said_by line))) heard port
-      → Step takes calls p (record p { port = port; taken = p.taken ++ line ∷ []; phase = after_answer true heard })
+  -- the next line asks something of the port
+  asks : (p : Point O P) (line : Line) (asked : Asked) (heard : Heard) (port : P) → ask p.phase (said_by line) ≡ Asks asked → IsNext p.read p.taken line
+      → calls p.port asked heard port
+      → Step takes calls p (record p { port = port; taken = p.taken ++ line ∷ []; phase = hear p.phase heard })
+  -- or the client is denied
+  denies : (p : Point O P) (line : Line) (denial : Denial) → ask p.phase (said_by line) ≡ Denies denial → IsNext p.read p.taken line
+      → Step takes calls p (record p { taken = p.taken ++ line ∷ []; phase = denied denial })
   -- the port is asked for news
   awaits : (p : Point O P) (heard : Heard) (port : P) → p.phase ≡ Awaits → calls p.port News heard port
-      → Step takes calls p (record p { port = port; phase = after_answer false heard })
+      → Step takes calls p (record p { port = port; phase = hear p.phase heard })
   -- what is owed is written
   sends : (p : Point O P) (bytes : List ℕ) (output : O) (next : Phase) → Sends takes p.output p.phase bytes output next
       → Step takes calls p (record p { output = output; written = p.written ++ bytes; phase = next })

@@ -1,5 +1,6 @@
 ghost use Rattle.std.specs.Prelude.{◌≡◌, true, if◌then◌else◌};
-ghost use Rattle.bhs_session.specs.Phase.{Ready, Awaits, Owes, text_of, answered_by, waiting};
+ghost use Rattle.bhs_session.specs.Phase.{Ready, Awaits, Owes, answered_by, waiting};
+ghost use Rattle.bhs_session.specs.Texts.{text_of};
 ghost use Rattle.bhs_session.specs.Session.{Point};
 ghost use Rattle.bhs_session.specs.Moves.{Ends};
 

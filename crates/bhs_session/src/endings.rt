@@ -48,8 +48,8 @@ impl Stop {
     }
 }
 
-// How an answer ends a session, if it does.
-pub(crate) fn ending_of(reply: &Reply) -> Option<Ended>
+/// How an answer ends a session, if it does.
+pub fn ending_of(reply: &Reply) -> Option<Ended>
     ensures { result ≡ ended_by reply.now }
 {
     match reply {

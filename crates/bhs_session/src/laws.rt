@@ -2,8 +2,10 @@ ghost use Rattle.std.specs.Prelude.{◌≡◌, ℕ, List, [], ◌++◌};
 ghost use Rattle.bhs_wire.specs.Lines.{Line, lines};
 ghost use Rattle.bhs_session.specs.declared.endings.Ended.{Ended};
 ghost use Rattle.bhs_session.specs.Phase.{Finished};
+ghost use Rattle.bhs_model.specs.Views.{View, Start};
+ghost use Rattle.bhs_session.specs.Answering.{AnswersByPasts, WritesAsMet};
+ghost use Rattle.bhs_session.specs.History.{HistoriesAnswerByPasts};
 ghost use Rattle.bhs_session.specs.Session.{Point, Session, fresh};
-ghost use Rattle.bhs_session.specs.Rehearsing.{StandsForTheScript};
 
 use crate::endings::Ended;
 use crate::port::Port;
@@ -22,8 +24,16 @@ pub fn no_turns<I: Input, O: Output, P: Port>()
         → (ended ≡ Ended.Turns) × (input ≡ from) × (p.output ≡ output) × (p.port ≡ start) × (p.written ≡ []) × (p.read ≡ []) }
 {}
 
-/// A rehearsal whose calls were the instructions of a script stands for that script: its stage is the one that the
-/// script leads to, and its calls have sent what the script sends. One call more is one instruction more.
-pub fn stands_for_the_script()
-    ensures { StandsForTheScript }
+/// On a port that answers as the definitions say, a session has written the bytes of what its agent met, and behind them
+/// at most one line: that the match is over, or a denial. Where a write failed or memory ran out, it has written a front
+/// of that.
+pub fn written_as_met<I: Input, O: Output, P: Port>()
+    ensures { (quota limit : ℕ) (past : P → View) (from input : I) (output : O) (start : P) (turns : ℕ) (p : Point O P) → AnswersByPasts P.calls quota limit past
+        → past start ≡ Start → Session I.gives O.takes P.calls from (fresh output start turns) input p
+        → WritesAsMet quota limit p.written p.taken p.phase }
+{}
+
+/// A port whose answers are those of the definitions, for some history of a match, answers by the pasts of its agent.
+pub fn histories_answer_by_pasts<P: Port>()
+    ensures { HistoriesAnswerByPasts P.calls }
 {}

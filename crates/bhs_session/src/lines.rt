@@ -1,14 +1,16 @@
-ghost use Rattle.std.specs.Prelude.{◌≡◌, [], ◌∷◌, ◌++◌, map, List};
+ghost use Rattle.std.specs.Prelude.{◌≡◌, [], ◌∷◌, ◌++◌, map, List, IfOk, IfErr};
 ghost use Rattle.bhs_wire.specs.Lines.{Line, lines, seen, said_by};
 ghost use Rattle.bhs_session.specs.Phase.{Fresh, Ready, between};
-ghost use Rattle.bhs_session.specs.Session.{Point, IsNext, command_by};
+ghost use Rattle.bhs_session.specs.Machine.{Asks, Denies, ask};
+ghost use Rattle.bhs_session.specs.Port.{Enters, Tells};
+ghost use Rattle.bhs_session.specs.Session.{Point, IsNext};
 ghost use Rattle.bhs_session.specs.Moves.{Ends};
 
 use crate::answers::answer;
 use crate::endings::{Ended, Stop};
 use crate::port::{Entered, Port};
 use crate::replies::write_denial;
-use bhs_model::Command;
+use bhs_model::{Command, Text};
 use bhs_net::Memory;
 use bhs_stream::Output;
 use bhs_wire::{Denial, First, Raw};
@@ -70,8 +72,9 @@ fn take_first<W: Output, P: Port>(
         (record p { output = writer.old; port = port.old; phase = Fresh })
         writer.new port.new (p.taken ++ line ∷ []) (λ _. Ready) result }
 {
-    let First::Enter { key } = first else {
-        return Err(write_denial(writer, Denial::Enter));
+    let key = match key_in(first) {
+        Ok(key) => key,
+        Err(denial) => return Err(write_denial(writer, denial)),
     };
     match port.enter(key.as_str()) {
         Ok(Entered::In(reply)) => answer(alloc, writer, port, &reply),
@@ -99,9 +102,20 @@ fn take_later<W: Output, P: Port>(
     }
 }
 
-// What a later line tells. The key of an enter is not looked at.
-pub(crate) fn command_in(first: First) -> Command
-    ensures { result ≡ command_by first }
+/// The key that the first line asks for, or why the line is denied.
+pub fn key_in(first: First) -> Result<Text, Denial>
+    ensures key { IfOk result (λ key. ask Fresh first ≡ Asks (Enters key)) }
+    ensures denial { IfErr result (λ denial. ask Fresh first ≡ Denies denial) }
+{
+    match first {
+        First::Enter { key } => Ok(key),
+        First::Tell(_) => Err(Denial::Enter),
+    }
+}
+
+/// The command that a later line tells. An enter with a key is the command Enter, and its key is not looked at.
+pub fn command_in(first: First) -> Command
+    ensures { ask Ready first ≡ Asks (Tells result) }
 {
     match first {
         First::Enter { .. } => Command::Enter,

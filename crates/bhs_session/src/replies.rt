@@ -1,6 +1,7 @@
 ghost use Rattle.std.specs.Prelude.{◌≡◌, ℕ, List, Bool, OnOk, OnErr, IfErr, ◌++◌, ◌∷◌, [], string_bytes, IfOk};
 ghost use Rattle.bhs_stream.specs.Sending.{PutsAll, PutsPart};
-ghost use Rattle.bhs_session.specs.Phase.{text_of, denial_text, answered_by, waiting, reached, Sends, Owes, Finished, phase_of};
+ghost use Rattle.bhs_session.specs.Phase.{answered_by, waiting, reached, Sends, Owes, Finished, phase_of};
+ghost use Rattle.bhs_session.specs.Texts.{text_of, denial_text};
 ghost use Rattle.bhs_session.specs.Moves.{StopsAtLines};
 ghost use Rattle.bhs_session.specs.Sent.{SentBut};
 
@@ -43,8 +44,8 @@ fn send_reply<W: Output>(alloc: Global, writer: &mut W, reply: &Reply) -> Result
     }
 }
 
-// The line of a reply, with its line feed.
-pub(crate) fn reply_text(alloc: Global, reply: &Reply) -> Result<String, Memory>
+/// The line of a reply, with its line feed.
+pub fn reply_text(alloc: Global, reply: &Reply) -> Result<String, Memory>
     ensures { IfOk result (λ text. string_bytes text ≡ text_of reply.now) }
 {
     let mut text = line_of(alloc, reply)?;
@@ -70,4 +71,13 @@ fn send_denial<W: Output>(writer: &mut W, denial: Denial) -> Result<(), WriteFau
 {
     send(writer, denial_of(denial).as_bytes())?;
     send(writer, b"\n")
+}
+
+/// The line that tells a client why it is not let in, with its line feed.
+pub fn denial_text(alloc: Global, denial: Denial) -> Result<Vec<u8>, Memory>
+    ensures { IfOk result (λ text. text.items ≡ denial_text denial) }
+{
+    let mut text = Vec::from_slice(alloc, denial_of(denial).as_bytes())?;
+    text.push(b'\n')?;
+    Ok(text)
 }

@@ -2,7 +2,7 @@
 
 use super::files::{CUP, TRIANGLE};
 use bhs_files::{assemble, read_network, read_tournament};
-use bhs_session::{Out, Rehearsal, RehearsalFault};
+use bhs_rehearsal::{Out, Rehearsal, RehearsalFault};
 use std::alloc::Global;
 use std::test::Fail;
 

@@ -1,6 +1,6 @@
 use Rattle.std.proofs.Common.{◌≡◌, map}
 use Rattle.std.specs.Vec.Iter.{into_iter_items}
-use Rattle.bhs_session.specs.Stages.{stands_after}
+use Rattle.bhs_rehearsal.specs.Stages.{stands_after}
 use Rattle.bhs_script.specs.Instructions.{seen}
 use Rattle.bhs_script.specs.Transcript.{transcript}
 use Rattle.bhs_program.proofs.PlayLemmas.{IsSentUpTo}

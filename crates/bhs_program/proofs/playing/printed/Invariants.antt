@@ -1,5 +1,5 @@
 use Rattle.std.proofs.Common.{◌≡◌, ◌++◌, map, drop}
-use Rattle.bhs_session.specs.Rehearsing.{seen_out}
+use Rattle.bhs_rehearsal.specs.Rehearsing.{seen_out}
 use Rattle.bhs_script.specs.Transcript.{all_printed}
 use Rattle.bhs_program.proofs.playing.printed.Given as goal
 

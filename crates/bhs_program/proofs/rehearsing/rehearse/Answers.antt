@@ -1,6 +1,6 @@
 use Rattle.std.proofs.Common.{arith, ◌≡◌, ap, map, length}
 use Rattle.std.proofs.lemmas.List.{length-map}
-use Rattle.bhs_session.specs.Rehearsing.{Rehearsing, game_of}
+use Rattle.bhs_rehearsal.specs.Rehearsing.{Rehearsing, game_of}
 use Rattle.bhs_script.specs.Instructions.{seen}
 use Rattle.bhs_program.specs.Rehearsal.{opening, Means}
 use Rattle.bhs_program.proofs.PlayLemmas.{known_all, known_stops, plays_all, stops_all, leaves_all}

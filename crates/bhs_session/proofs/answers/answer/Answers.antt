@@ -1,6 +1,7 @@
 use Rattle.std.proofs.Common.{◌≡◌, Bool, true, ◌++◌, subst, if◌then◌else◌}
 use Rattle.std.proofs.lemmas.Result.{err_from_is_err_and}
-use Rattle.bhs_session.specs.Phase.{Phase, Ready, Awaits, Owes, text_of, answered_by, waiting, phase_of}
+use Rattle.bhs_session.specs.Phase.{Phase, Ready, Awaits, Owes, answered_by, waiting, phase_of}
+use Rattle.bhs_session.specs.Texts.{text_of}
 use Rattle.bhs_session.specs.Moves.{Moves}
 use Rattle.bhs_session.proofs.Moving.{Ends-trans, Moves-wrote}
 use Rattle.bhs_session.proofs.Writing.{Wrote}

@@ -1,7 +1,8 @@
 use Rattle.std.proofs.Common.{false, refl}
 use Rattle.bhs_session.specs.declared.endings.Ended.TheVariants.{Memory}
 use Rattle.bhs_session.specs.Port.{Answers, NoMemory}
-use Rattle.bhs_session.specs.Phase.{Ready, Awaits, Owes, Leaves, text_of, answered_by}
+use Rattle.bhs_session.specs.Phase.{Ready, Awaits, Owes, Leaves, answered_by}
+use Rattle.bhs_session.specs.Texts.{text_of}
 use Rattle.bhs_session.specs.Session.{awaits}
 use Rattle.bhs_session.proofs.Moving.{Ends-step, Ends-news, Moves-step}
 use Rattle.bhs_session.proofs.answers.write_news.Goals as goal

@@ -1,4 +1,5 @@
-use Rattle.bhs_session.specs.Phase.{Finished, denial_text}
+use Rattle.bhs_session.specs.Phase.{Finished}
+use Rattle.bhs_session.specs.Texts.{denial_text}
 use Rattle.bhs_session.specs.declared.endings.Ended.TheVariants.{Denied, WriteFault}
 use Rattle.bhs_session.proofs.Writing.{Wrote-all, Wrote-but}
 use Rattle.bhs_session.proofs.replies.write_denial.Goals as goal

@@ -1,5 +1,6 @@
 use Rattle.std.proofs.Common.{sym, ◌∙◌}
-use Rattle.bhs_session.specs.Phase.{text_of, waiting, ended_by}
+use Rattle.bhs_session.specs.Phase.{waiting, ended_by}
+use Rattle.bhs_session.specs.Texts.{text_of}
 use Rattle.bhs_session.proofs.Writing.{Wrote-answer, Wrote-ending, Wrote-answer_but, Wrote-ending_but, stopped-waiting}
 use Rattle.bhs_session.proofs.replies.write_reply.Goals as goal
 

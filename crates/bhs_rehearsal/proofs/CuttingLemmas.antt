@@ -1,0 +1,105 @@
+-- Taking more items is taking the first, and then what they leave with the others.
+use Rattle.std.proofs.Common.{◌≡◌, ◌∙◌, ℕ, Bool, true, false, cond, ◌&&◌, nat_lt, Option, Some, None, List, [], ◌∷◌, ◌++◌, refl, sym, ap, append_assoc, arith, if◌then◌else◌}
+use Rattle.std.proofs.lemmas.Bool.{cond-true, cond-false}
+use Rattle.std.proofs.lemmas.Bool.Decides.{nat_tests}
+use Rattle.bhs_model.specs.declared.commands.Command.{Command}
+use Rattle.bhs_model.specs.declared.commands.Command.TheVariants.{Leave}
+use Rattle.bhs_model.specs.declared.events.Event.TheVariants.{Tell}
+use Rattle.bhs_model.specs.declared.replies.Reply.{Reply}
+use Rattle.bhs_model.specs.Runs.{heard}
+use Rattle.bhs_wire.specs.Lines.{said_by}
+use Rattle.bhs_session.specs.Texts.{text_of, command_by}
+use Rattle.bhs_rehearsal.specs.Games.{Game, world_in, state_of, played, reply_to, is_away}
+use Rattle.bhs_rehearsal.specs.Connections.{Item, Says, Ends, Taken, is_last, leaves, answers, taken}
+
+-- a fact about a Bool, by its two cases
+pub by_bool : (b : Bool) (P : Bool → Type 0) → (b ≡ true → P true) → (b ≡ false → P false) → P b
+by_bool true P yes_case no_case = yes_case refl
+by_bool false P yes_case no_case = no_case refl
+
+-- what was taken, with text before it
+abbrev pub behind : (text : List ℕ) → Taken → Taken
+behind text done = record done { text = text ++ done.text }
+
+-- what more items come to after some that came to this
+abbrev pub and_then : Taken → (agent : ℕ) → List Item → Taken
+and_then done agent more = if done.is_done then done else behind done.text (taken done.game agent (done.left ++ more))
+
+behind_then : (text : List ℕ) (game : Game) (is_done : Bool) (left : List Item) (own : List ℕ) (agent : ℕ) (more : List Item) →
+    behind text (and_then (record { game = game; is_done = is_done; left = left; text = own }) agent more)
+    ≡ and_then (record { game = game; is_done = is_done; left = left; text = text ++ own }) agent more
+behind_then text game true left own agent more = refl
+behind_then text game false left own agent more =
+    ap (λ (all : List ℕ). record (taken game agent (left ++ more)) { text = all })
+    (sym (append_assoc text own (taken game agent (left ++ more)).text))
+
+answers_last : (is_last_one : Bool) (reply : Reply) (game : Game) (others : Taken) (agent : ℕ) (more : List Item) →
+    cond is_last_one (record { game = game; is_done = true; left = []; text = text_of reply }) (behind (text_of reply) (and_then others agent more))
+    ≡ and_then (cond is_last_one (record { game = game; is_done = true; left = []; text = text_of reply }) (behind (text_of reply) others)) agent more
+answers_last true reply game others agent more = refl
+answers_last false reply game others agent more =
+    behind_then (text_of reply) others.game others.is_done others.left others.text agent more
+
+answers_then : (reply : Option Reply) (game : Game) (others : Taken) (agent : ℕ) (more : List Item) →
+    answers reply game (and_then others agent more) ≡ and_then (answers reply game others) agent more
+answers_then None game others agent more = refl
+answers_then (Some reply) game others agent more = answers_last (is_last reply) reply game others agent more
+
+pub taken-append : (game : Game) (agent : ℕ) (items more : List Item) → taken game agent (items ++ more) ≡ and_then (taken game agent items) agent more
+taken-append game agent [] more = refl
+taken-append game agent (Says line ∷ items) more =
+    let event = Tell agent (command_by (said_by line)) in
+    let next = played game event in
+    let waits = leaves game (Says line ∷ (items ++ more)) in
+    let goes_on = answers (reply_to game event) next (taken next agent (items ++ more)) in
+    by_bool (is_away game agent)
+    (λ (away : Bool).
+    cond away (leaves game (Says line ∷ (items ++ more))) (answers (reply_to game event) next (taken next agent (items ++ more)))
+    ≡ and_then (cond away (leaves game (Says line ∷ items)) (answers (reply_to game event) next (taken next agent items))) agent more)
+    (λ away. sym (cond-true (is_away game agent) waits goes_on away))
+    (λ here.
+    ap (answers (reply_to game event) next) (taken-append next agent items more)
+    ∙ answers_then (reply_to game event) next (taken next agent items) agent more)
+taken-append game agent (Ends ∷ items) more =
+    by_bool (is_away game agent)
+    (λ (away : Bool).
+    cond away (leaves game (Ends ∷ (items ++ more))) (record { game = played game (Tell agent Leave); is_done = true; left = []; text = [] })
+    ≡ and_then (cond away (leaves game (Ends ∷ items)) (record { game = played game (Tell agent Leave); is_done = true; left = []; text = [] })) agent more)
+    (λ away. sym (cond-true _ _ _ away))
+    (λ here. refl)
+
+-- ---- a match without agents
+
+none_below : (agent agents : ℕ) → agents ≡ 0 → nat_lt agent agents ≡ false
+none_below agent agents none = grind (arith, nat_tests)
+
+pub and_false : (one other : Bool) → one ≡ false → (one && other) ≡ false
+and_false true other is = absurd (cc)
+and_false false other is = refl
+
+played_nobody : (game : Game) (agent : ℕ) (command : Command) → game.setup.agents ≡ 0 → played game (Tell agent command) ≡ game
+played_nobody game agent command none =
+    cond-false (heard (world_in game) (state_of game) agent command) _ _ (and_false (nat_lt agent game.setup.agents) _ (none_below agent game.setup.agents none))
+
+answers_same : (reply : Option Reply) (game next : Game) (others : Taken) → next ≡ game → others.game ≡ game → (answers reply next others).game ≡ game
+answers_same None game next others same later = later
+answers_same (Some reply) game next others same later =
+    by_bool (is_last reply)
+    (λ (last : Bool). (cond last (record { game = next; is_done = true; left = []; text = text_of reply }) (behind (text_of reply) others)).game ≡ game)
+    (λ last. same) (λ later_one. later)
+
+-- nobody's commands change it
+pub taken_nobody : (game : Game) (agent : ℕ) (items : List Item) → game.setup.agents ≡ 0 → (taken game agent items).game ≡ game
+taken_nobody game agent [] none = refl
+taken_nobody game agent (Says line ∷ items) none =
+    let event = Tell agent (command_by (said_by line)) in
+    let same = played_nobody game agent (command_by (said_by line)) none in
+    by_bool (is_away game agent)
+    (λ (away : Bool). (cond away (leaves game (Says line ∷ items)) (answers (reply_to game event) (played game event) (taken (played game event) agent items))).game ≡ game)
+    (λ away. refl)
+    (λ here. answers_same (reply_to game event) game (played game event) _ same
+    (ap (λ (next : Game). (taken next agent items).game) same ∙ taken_nobody game agent items none))
+taken_nobody game agent (Ends ∷ items) none =
+    by_bool (is_away game agent)
+    (λ (away : Bool). (cond away (leaves game (Ends ∷ items)) (record { game = played game (Tell agent Leave); is_done = true; left = []; text = [] })).game ≡ game)
+    (λ away. refl) (λ here. played_nobody game agent Leave none)

@@ -1,0 +1,5 @@
+use Rattle.bhs_rehearsal.proofs.MetExample.{past_lemma, plays_lemma, sent_lemma, texts_lemma}
+use Rattle.bhs_rehearsal.proofs.headline.worked_meetings.Goals as goal
+
+pub returns : goal.returns
+returns c = record { past = past_lemma; bytes = sent_lemma; texts = texts_lemma; plays = plays_lemma }

@@ -1,0 +1,16 @@
+use Rattle.std.proofs.Common.{subst, slice_set}
+use Rattle.bhs_rehearsal.specs.Stages.{plays}
+use Rattle.bhs_rehearsal.specs.Rehearsing.{Rehearsing}
+use Rattle.bhs_rehearsal.specs.Takings.{IsMoved}
+use Rattle.bhs_rehearsal.proofs.StageLemmas.{rehearsing, game_within, connection_within, plays_lemma}
+use Rattle.bhs_rehearsal.proofs.rehearsals.Rehearsal.plays.Goals as goal
+
+pub returns : goal.returns
+returns c =
+    let inside = c.self.inside in
+    let seat = c.args.seat in
+    subst (λ (old : Rehearsing). IsMoved old (plays old.stage c.args.conn seat) c.play.result
+    (rehearsing (slice_set inside.ready.items seat.0 c.play.new.ready) inside.keys (slice_set inside.connections.items c.args.conn c.play.new.self) inside.has_failed)) c.self.view_is
+    (plays_lemma inside.ready.items inside.keys inside.connections.items inside.has_failed c.args.conn seat c.index_mut-ready.result.now c.play.new.ready c.index_mut-connection.result.now c.play.new.self c.play.result
+    (game_within inside.ready.items inside.keys inside.connections.items inside.has_failed c.args.self.now seat.0 c.self.view_is c.requires.game) c.index_mut-ready.ensures.value
+    (connection_within inside.ready.items inside.keys inside.connections.items inside.has_failed c.args.self.now c.args.conn c.self.view_is c.requires.conn) c.index_mut-connection.ensures.value c.play.ensures.game c.play.ensures.text c.play.ensures.connection c.play.ensures.team)

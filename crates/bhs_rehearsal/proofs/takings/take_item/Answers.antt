@@ -1,0 +1,31 @@
+use Rattle.std.proofs.Common.{◌≡◌, ◌∷◌, IfOk, sym, ap, ◌∙◌, subst}
+use Rattle.bhs_model.specs.declared.commands.Command.{Command}
+use Rattle.bhs_model.specs.declared.events.Event.TheVariants.{Tell}
+use Rattle.bhs_wire.specs.Lines.{seen, said_by}
+use Rattle.bhs_wire.specs.declared.commands.First.{First}
+use Rattle.bhs_session.specs.Phase.{Ready}
+use Rattle.bhs_session.specs.Machine.{ask}
+use Rattle.bhs_session.specs.Texts.{command_by}
+use Rattle.bhs_rehearsal.specs.Games.{Game, played, reply_to}
+use Rattle.bhs_rehearsal.specs.Connections.{Taken, taken, answers}
+use Rattle.bhs_rehearsal.specs.Rehearsing.{game_of, seen_item}
+use Rattle.bhs_rehearsal.specs.Takings.{behind, goes_on}
+use Rattle.bhs_rehearsal.specs.declared.items.Item.{Item as ItemOfCode}
+use Rattle.bhs_rehearsal.proofs.TakeLemmas.{same_command, takes_line}
+use Rattle.bhs_rehearsal.proofs.takings.take_item.Goals as goal
+
+pub returns-in_ok-first-in-Says-clause-taken : goal.returns-in_ok-first-in-Says-clause-taken
+returns-in_ok-first-in-Says-clause-taken c others here =
+    let game : Game = game_of c.args.ready.now in
+    let agent = c.args.agent in
+    let line = c.in-Says.line in
+    let said : command_by (said_by (seen line)) ≡ c.command_in.result =
+    same_command (command_by (said_by (seen line))) c.command_in.result
+    (ap (λ (first : First). ask Ready first) (sym c.in_ok-first-in-Says.ensures.said) ∙ c.command_in.ensures) in
+    let told : taken game agent (seen_item c.args.item ∷ others)
+    ≡ answers (reply_to game (Tell agent c.command_in.result)) (played game (Tell agent c.command_in.result)) (taken (played game (Tell agent c.command_in.result)) agent others) =
+    ap (λ (item : ItemOfCode). taken game agent (seen_item item ∷ others)) c.in-Says.is
+    ∙ takes_line game agent (seen line) others here
+    ∙ ap (λ (command : Command). answers (reply_to game (Tell agent command)) (played game (Tell agent command)) (taken (played game (Tell agent command)) agent others)) said in
+    subst (λ (taken : Taken). IfOk c.tell.result (λ is_done. behind c.args.text.now.items taken ≡ goes_on is_done (game_of c.tell.new.ready) agent others c.tell.new.text.items))
+    (sym told) (c.tell.ensures.taken others)

@@ -1,0 +1,11 @@
+pub mod Clients
+pub mod Connections
+pub mod Examples
+pub mod Games
+pub mod Headline
+pub mod Laws
+pub mod MetExample
+pub mod OneMachine
+pub mod Rehearsing
+pub mod Stages
+pub mod Takings

@@ -1,0 +1,106 @@
+-- A rehearsal, and what its calls make of it.
+use Rattle.std.specs.Prelude.{ℕ, ◌≡◌, ◌<◌, Bool, true, false, nat_lt, Option, Some, None, List, [], ◌∷◌, ◌++◌, length, map, if◌then◌else◌, Vec, Ok, Err}
+use Rattle.std.specs.declared.alloc.Global.{Global}
+use Rattle.std.specs.declared.result.Result.{Result}
+use Rattle.bhs_model.specs.Marks.{events_of}
+use Rattle.bhs_wire.specs.Lines.{seen}
+use Rattle.bhs_files.specs.KeyTable.{Seat}
+use Rattle.bhs_files.specs.declared.lineups.Ready.{Ready}
+use Rattle.bhs_files.specs.declared.lineups.Lineup.{Lineup}
+use Rattle.bhs_rehearsal.specs.Games.{Game}
+use Rattle.bhs_rehearsal.specs.Connections.{Item, Says, Ends, Connection}
+use Rattle.bhs_rehearsal.specs.Stages.{Stage, Instruction, Feeds, EndsInput, Draws, Closes, game_at, begun, step, stands_after, said}
+use Rattle.bhs_rehearsal.specs.declared.items.Item.{Item as ItemOfCode}
+use Rattle.bhs_rehearsal.specs.declared.items.Item.TheVariants as items
+use Rattle.bhs_rehearsal.specs.declared.outs.Out.{Out}
+use Rattle.bhs_rehearsal.specs.declared.faults.RehearsalFault.{RehearsalFault}
+use Rattle.bhs_rehearsal.specs.declared.faults.RehearsalFault.TheVariants.{Conn, NoGame, Memory}
+
+-- ---- values of the code, without where they lie in memory
+
+-- a match with its held links
+abbrev pub game_of : Ready → Game
+game_of ready = record { net = ready.game.net; setup = ready.game.setup; held = ready.held; log = events_of ready.game.log }
+
+abbrev pub team_of : Ready → List ℕ
+team_of ready = ready.team
+
+-- an item of a connection
+abbrev pub seen_item : ItemOfCode → Item
+seen_item (items.Says line) = Says (seen line)
+seen_item items.Ends = Ends
+
+-- what is sent to a connection
+abbrev pub seen_out : Out → ℕ × List ℕ
+seen_out out = (out.conn, out.bytes.items)
+
+-- matches, keys and connections
+abbrev pub stage_of : List Ready → List Seat → List Connection → Stage
+stage_of ready keys connections = record { games = map game_of ready; keys = keys; connections = connections }
+
+-- the matches of a lineup, and how a rehearsal of it begins
+abbrev pub games_of : Lineup → List Game
+games_of lineup = map game_of lineup.ready.items
+
+abbrev pub first_stage : Lineup → (conns : ℕ) → Stage
+first_stage lineup conns = begun (games_of lineup) lineup.keys conns
+
+abbrev pub first_game : Lineup → (game : ℕ) → Game
+first_game lineup game = game_at (first_stage lineup 0) game
+
+-- ---- the value of a rehearsal
+
+pub record Rehearsing : Type 0 where
+  pub stage : Stage
+  -- the names of the teams, by match
+  pub teams : List (List ℕ)
+  -- whether memory ran out in a call
+  pub has_failed : Bool
+
+-- where a connection plays, there is the match
+abbrev pub IsSeated : (games : ℕ) → Option (ℕ × ℕ) → Type 0
+IsSeated games None = Unit {0}
+IsSeated games (Some seat) = seat.0 < games
+
+-- ---- its calls
+
+-- why an instruction names nothing: there is no such connection, or no such match
+abbrev pub fault_of : Stage → Instruction → Option RehearsalFault
+fault_of stage (Feeds conn bytes) = if nat_lt conn (length stage.connections) then None else Some Conn
+fault_of stage (EndsInput conn) = if nat_lt conn (length stage.connections) then None else Some Conn
+fault_of stage (Draws game word) = if nat_lt game (length stage.games) then None else Some NoGame
+fault_of stage (Closes game) = if nat_lt game (length stage.games) then None else Some NoGame
+
+-- the rehearsal on another stage
+abbrev pub on_stage : Rehearsing → Stage → Rehearsing
+on_stage old stage = record old { stage = stage }
+
+-- a call that is carried out: it sends what the instruction sends, and leaves the stage that the instruction leaves
+pub record Obeys (old : Rehearsing) (instruction : Instruction) (sent : List (ℕ × List ℕ)) (new : Rehearsing) : Type 0 where
+  pub works : old.has_failed ≡ false
+  pub names : fault_of old.stage instruction ≡ None
+  pub outs : sent ≡ (step old.stage instruction).outs
+  pub stands : new ≡ on_stage old (step old.stage instruction).stage
+
+-- a call that names nothing: it changes nothing
+pub record Refuses (old : Rehearsing) (instruction : Instruction) (fault : RehearsalFault) (new : Rehearsing) : Type 0 where
+  pub works : old.has_failed ≡ false
+  pub names : fault_of old.stage instruction ≡ Some fault
+  pub same : new ≡ old
+
+-- What a call makes of a rehearsal. One that has failed, or fails now for want of memory, has failed for good.
+abbrev pub Follows : Rehearsing → Instruction → Result (Vec Out Global) RehearsalFault → Rehearsing → Type 0
+Follows old instruction (Ok outs) new = Obeys old instruction (map seen_out outs.items) new
+Follows old instruction (Err Conn) new = Refuses old instruction Conn new
+Follows old instruction (Err NoGame) new = Refuses old instruction NoGame new
+Follows old instruction (Err Memory) new = new.has_failed ≡ true
+
+-- ---- a rehearsal stands for the script of its calls
+
+-- One more instruction leads from the stage of the script to the next, and sends what it sends there.
+pub record Grows (start : Stage) (script : List Instruction) (instruction : Instruction) : Type 0 where
+  pub stands : stands_after start (script ++ instruction ∷ []) ≡ (step (stands_after start script) instruction).stage
+  pub sends : said start (script ++ instruction ∷ []) ≡ said start script ++ (step (stands_after start script) instruction).outs ∷ []
+
+abbrev pub StandsForTheScript : Type 0
+StandsForTheScript = (start : Stage) (script : List Instruction) (instruction : Instruction) → Grows start script instruction

@@ -1,0 +1,72 @@
+-- How the code takes items, move by move.
+use Rattle.std.specs.Prelude.{ℕ, ◌≡◌, Bool, true, false, Option, Some, None, List, [], ◌++◌, map, option_map, option_and_then, slice_get, if◌then◌else◌, Vec, Ok, Err}
+use Rattle.std.specs.declared.alloc.Global.{Global}
+use Rattle.std.specs.declared.alloc.AllocError.{AllocError}
+use Rattle.std.specs.declared.result.Result.{Result}
+use Rattle.bhs_model.specs.declared.events.Event.{Event}
+use Rattle.bhs_model.specs.declared.events.Event.TheVariants.{Deliver}
+use Rattle.bhs_model.specs.declared.marks.Kept.{Kept}
+use Rattle.bhs_model.specs.declared.marks.Mark.{Mark}
+use Rattle.bhs_model.specs.declared.replies.Reply.{Reply}
+use Rattle.bhs_rehearsal.specs.Games.{Game, played, reply_to}
+use Rattle.bhs_rehearsal.specs.Connections.{Item, Taken, taken}
+use Rattle.bhs_rehearsal.specs.Stages.{Entry, Waits, Sits, IsDenied, Goes, Moved, Stepped, with_game}
+use Rattle.bhs_rehearsal.specs.Rehearsing.{Rehearsing, on_stage, seen_out}
+use Rattle.bhs_rehearsal.specs.declared.entries.Entry.{Entry as EntryOfCode}
+use Rattle.bhs_rehearsal.specs.declared.entries.Entry.TheVariants as entries
+use Rattle.bhs_rehearsal.specs.declared.outs.Out.{Out}
+use Rattle.bhs_rehearsal.specs.declared.faults.RehearsalFault.{RehearsalFault}
+use Rattle.bhs_rehearsal.specs.declared.faults.RehearsalFault.TheVariants.{Memory}
+
+-- with this text before the text of what is taken
+abbrev pub behind : List ℕ → Taken → Taken
+behind text taken = record taken { text = text ++ taken.text }
+
+-- after this text the connection is done, or goes on with these items
+abbrev pub goes_on : (is_done : Bool) → Game → (agent : ℕ) → List Item → (text : List ℕ) → Taken
+goes_on true game agent items text = record { game = game; is_done = true; left = []; text = text }
+goes_on false game agent items text = behind text (taken game agent items)
+
+-- the items that are left: none of a connection that is done
+abbrev pub left_if : (is_done : Bool) → List Item → List Item
+left_if is_done items = if is_done then [] else items
+
+-- an entry of the code
+abbrev pub seen_entry : EntryOfCode → Entry
+seen_entry entries.Waits = Waits
+seen_entry (entries.Sits seat) = Sits seat
+seen_entry (entries.Denied denial) = IsDenied denial
+seen_entry entries.Goes = Goes
+
+-- what a move makes of a rehearsal, unless memory runs out
+abbrev pub IsMoved : Rehearsing → Moved → Result (Vec ℕ Global) AllocError → Rehearsing → Type 0
+IsMoved old moved (Ok text) new = (text.items ≡ moved.text) × (new ≡ on_stage old moved.stage)
+IsMoved old moved (Err memory) new = Unit {0}
+
+-- and what an instruction makes
+abbrev pub IsStepped : Rehearsing → Stepped → Result (Vec Out Global) AllocError → Rehearsing → Type 0
+IsStepped old stepped (Ok outs) new = (map seen_out outs.items ≡ stepped.outs) × (new ≡ on_stage old stepped.stage)
+IsStepped old stepped (Err memory) new = Unit {0}
+
+-- what a call gives of it: a rehearsal without memory has failed
+abbrev pub IsConcluded : Rehearsing → Result (Vec Out Global) AllocError → Result (Vec Out Global) RehearsalFault → Rehearsing → Type 0
+IsConcluded old (Ok outs) result new = (result ≡ Ok outs) × (new ≡ old)
+IsConcluded old (Err memory) result new = (result ≡ Err Memory) × (new.has_failed ≡ true)
+
+-- a match after an event that was drawn, if one was, and the arrival that is told
+pub record Drawn : Type 0 where
+  pub game : Game
+  pub arrival : Option (ℕ × Reply)
+
+abbrev pub after_draw : Game → Option Event → Drawn
+after_draw game (Some (Deliver agent)) = record { game = played game (Deliver agent); arrival = option_map (λ reply. (agent, reply)) (reply_to game (Deliver agent)) }
+after_draw game event = record { game = game; arrival = None }
+
+-- what a draw makes of a rehearsal, and gives
+abbrev pub IsDrawn : Rehearsing → (game : ℕ) → Drawn → Result (Option (ℕ × Reply)) AllocError → Rehearsing → Type 0
+IsDrawn old game drawn (Ok arrival) new = (arrival ≡ drawn.arrival) × (new ≡ on_stage old (with_game old.stage game drawn.game))
+IsDrawn old game drawn (Err memory) new = Unit {0}
+
+-- the mark at a place of a log; none behind its end
+abbrev pub mark_at : List Kept → (place : ℕ) → Option Mark
+mark_at log place = option_and_then (λ kept. kept.mark) (slice_get log place)

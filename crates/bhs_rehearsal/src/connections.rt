@@ -1,0 +1,149 @@
+ghost use Rattle.std.specs.Prelude.{◌≡◌, [], ◌∷◌, ◌++◌, map, false, true, Some, Option, IfOk, OnOk, List, slice_get, option_map};
+ghost use Rattle.bhs_wire.specs.Lines.{seen, found_in, left_by};
+ghost use Rattle.bhs_rehearsal.specs.Connections.{Says, Ends, unfed, shut, taken, after};
+ghost use Rattle.bhs_rehearsal.specs.Stages.{has_seat, waits_in};
+ghost use Rattle.bhs_rehearsal.specs.Rehearsing.{game_of, team_of, seen_item};
+
+use crate::items::Item;
+use crate::takings::take_items;
+use bhs_files::Ready;
+use bhs_net::Memory;
+use bhs_wire::{Lines, Raw};
+use std::alloc::Global;
+use std::collections::VecDeque;
+use std::marker::Model;
+
+// A connection of a rehearsal: the numbers of the match and of the agent that it plays, its unfinished line,
+// the items that were not taken, and whether its input has ended.
+#[derive(Drop)]
+pub(crate) struct Connection {
+    seat: Option<(u32, u16)>,
+    lines: Lines,
+    queue: VecDeque<Item>,
+    ended: bool,
+}
+
+impl Model for Connection {
+    ghost use Rattle.std.specs.Prelude.{map};
+    ghost use Rattle.bhs_rehearsal.specs.Connections.{Connection};
+    ghost use Rattle.bhs_rehearsal.specs.Rehearsing.{seen_item};
+
+    ghost Value = { Connection };
+
+    ghost view = { λ one. record { seat = one.seat; unfinished = one.lines; queue = map seen_item one.queue.items; ended = one.ended } };
+}
+
+impl Connection {
+    // It was fed nothing. Takes no memory.
+    pub(crate) fn new(alloc: Global) -> Connection
+        ensures { result ≡ unfed }
+    {
+        Connection {
+            seat: None,
+            lines: Lines::new(alloc),
+            queue: VecDeque::new(alloc),
+            ended: false,
+        }
+    }
+
+    pub(crate) fn seat(&self) -> Option<(u32, u16)>
+        ensures { result ≡ self.now.seat }
+    {
+        self.seat
+    }
+
+    pub(crate) fn has_ended(&self) -> bool
+        ensures { result ≡ self.now.ended }
+    {
+        self.ended
+    }
+
+    // The first item that was not taken.
+    pub(crate) fn first(&self) -> Option<&Item>
+        ensures { option_map (λ item. seen_item item.now) result ≡ slice_get self.now.queue 0 }
+    {
+        self.queue.front()
+    }
+
+    // Whether it plays this agent of this match.
+    pub(crate) fn has_seat(&self, seat: (u32, u16)) -> bool
+        ensures { result ≡ has_seat seat self.now }
+    {
+        match self.seat {
+            Some((game, agent)) => game == seat.0 && agent == seat.1,
+            None => false,
+        }
+    }
+
+    // Whether it waits for its agent to arrive in this match, which has this number.
+    pub(crate) fn waits_in(&self, number: u32, ready: &Ready) -> bool
+        ensures { result ≡ waits_in number (game_of ready.now) self.now }
+    {
+        match self.seat {
+            Some((game, agent)) => game == number && ready.game.is_away(agent),
+            None => false,
+        }
+    }
+
+    // Takes the next bytes of its input, and queues the lines that end in them.
+    pub(crate) fn receive(&mut self, bytes: &[u8]) -> Result<(), Memory>
+        ensures queued { OnOk result (self.new ≡ record self.old {
+          unfinished = left_by self.old.unfinished bytes.now;
+          queue = self.old.queue ++ map Says (found_in self.old.unfinished bytes.now);
+        }) }
+        ensures seat { self.new.seat ≡ self.old.seat }
+    {
+        let found = self.lines.feed(bytes)?;
+        queue_lines(&mut self.queue, found)
+    }
+
+    // Its input ends.
+    pub(crate) fn end(&mut self, alloc: Global) -> Result<(), Memory>
+        ensures ended { OnOk result (self.new ≡ record self.old { unfinished = Some []; queue = self.old.queue ++ Ends ∷ []; ended = true }) }
+        ensures seat { self.new.seat ≡ self.old.seat }
+    {
+        self.queue.push_back(Item::Ends)?;
+        self.lines = Lines::new(alloc);
+        self.ended = true;
+        Ok(())
+    }
+
+    // Nothing more is taken of it.
+    pub(crate) fn shut(&mut self, alloc: Global)
+        ensures { self.new ≡ shut self.old }
+    {
+        self.lines = Lines::new(alloc);
+        self.queue.clear();
+        self.ended = true;
+    }
+
+    // Takes items, as one that plays this agent of this match, and gives the text that it is sent.
+    pub(crate) fn play(
+        &mut self,
+        alloc: Global,
+        ready: &mut Ready,
+        seat: (u32, u16),
+    ) -> Result<Vec<u8>, Memory>
+        ensures game { OnOk result (game_of ready.new ≡ (taken (game_of ready.old) seat.1 self.old.queue).game) }
+        ensures text { IfOk result (λ text. text.items ≡ (taken (game_of ready.old) seat.1 self.old.queue).text) }
+        ensures connection { OnOk result (self.new ≡ after (record self.old { seat = Some seat }) (taken (game_of ready.old) seat.1 self.old.queue)) }
+        ensures seat { self.new.seat ≡ Some seat }
+        ensures team { team_of ready.new ≡ team_of ready.old }
+    {
+        self.seat = Some(seat);
+        let mut text = Vec::new(alloc);
+        if take_items(alloc, ready, seat.1, &mut self.queue, &mut text)? {
+            self.shut(alloc);
+        }
+        Ok(text)
+    }
+}
+
+fn queue_lines(queue: &mut VecDeque<Item>, found: Vec<Raw>) -> Result<(), Memory>
+    ensures { OnOk result (map seen_item queue.new.items ≡ map seen_item queue.old.items ++ map Says (map seen found.items)) }
+{
+    for line in found {
+        queue.push_back(Item::Says(line))?;
+    }
+    Ok(())
+}

@@ -1,0 +1,232 @@
+//! What each instruction of a script makes of a rehearsal.
+
+ghost use Rattle.std.specs.Prelude.{◌<◌, ◌≡◌, ◌^◌, [], ◌∷◌, length, map, Some, IfOk, IfSome};
+ghost use Rattle.std.specs.List.{position};
+ghost use Rattle.bhs_model.specs.Marks.{read_if};
+ghost use Rattle.bhs_model.specs.declared.replies.Reply.TheVariants.{Over};
+ghost use Rattle.bhs_session.specs.Texts.{text_of};
+ghost use Rattle.bhs_model.specs.declared.events.Event.TheVariants.{Close};
+ghost use Rattle.bhs_rehearsal.specs.Games.{drawn, played};
+ghost use Rattle.bhs_rehearsal.specs.Stages.{feeds, ends, delivers, tells_arrival, closes, game_at, with_game, has_seat, sent_to, told_over, shut_in};
+ghost use Rattle.bhs_rehearsal.specs.Rehearsing.{game_of, team_of, seen_out, on_stage};
+ghost use Rattle.bhs_rehearsal.specs.Takings.{IsStepped, IsDrawn, after_draw, mark_at};
+
+use crate::connections::Connection;
+use crate::outs::Out;
+use crate::rehearsals::Rehearsal;
+use crate::takings::{play, push_reply};
+use bhs_deal::{Drawn, draw};
+use bhs_files::Ready;
+use bhs_match::Match;
+use bhs_model::{Event, Kept, Reply};
+use bhs_net::Memory;
+use std::alloc::Global;
+
+impl Rehearsal {
+    // Bytes are fed to a connection.
+    pub(crate) fn fed(&mut self, conn: u16, bytes: &[u8]) -> Result<Vec<Out>, Memory>
+        requires { conn < length self.old.stage.connections }
+        ensures { IsStepped self.old (feeds self.old.stage conn bytes.now) result self.new }
+    {
+        let alloc = *self.connections.allocator();
+        let connection = &mut self.connections[usize::from(conn)];
+        if connection.has_ended() {
+            return Ok(Vec::new(alloc));
+        }
+        connection.receive(bytes)?;
+        let text = self.moves(alloc, conn)?;
+        sent_to(alloc, conn, text)
+    }
+
+    // The input of a connection ends.
+    pub(crate) fn ended(&mut self, conn: u16) -> Result<Vec<Out>, Memory>
+        requires { conn < length self.old.stage.connections }
+        ensures { IsStepped self.old (ends self.old.stage conn) result self.new }
+    {
+        let alloc = *self.connections.allocator();
+        let connection = &mut self.connections[usize::from(conn)];
+        if connection.has_ended() {
+            return Ok(Vec::new(alloc));
+        }
+        connection.end(alloc)?;
+        let text = self.moves(alloc, conn)?;
+        sent_to(alloc, conn, text)
+    }
+
+    // A word is drawn in a match.
+    pub(crate) fn drawn(&mut self, game: u32, word: u32) -> Result<Vec<Out>, Memory>
+        requires { game < length self.old.stage.games }
+        ensures { IsStepped self.old (delivers self.old.stage game (drawn (game_at self.old.stage game) word)) result self.new }
+    {
+        let alloc = *self.connections.allocator();
+        let Some((agent, reply)) = self.delivered(game, word)? else {
+            return Ok(Vec::new(alloc));
+        };
+        match self.holder((game, agent)) {
+            Some(conn) => self.tells_arrival(alloc, conn, &reply),
+            None => Ok(Vec::new(alloc)),
+        }
+    }
+
+    // What the draw makes of the match. Gives the agent that arrives, and what it is told.
+    fn delivered(&mut self, game: u32, word: u32) -> Result<Option<(u16, Reply)>, Memory>
+        requires { game < length self.old.stage.games }
+        ensures { IsDrawn self.old game (after_draw (game_at self.old.stage game) (drawn (game_at self.old.stage game) word)) result self.new }
+    {
+        let ready = &mut self.ready[game as usize];
+        deliver(ready, word)
+    }
+
+    // The first connection that plays this agent of this match.
+    fn holder(&self, seat: (u32, u16)) -> Option<u16>
+        ensures place { result ≡ position (has_seat seat) self.now.stage.connections }
+        ensures within { IfSome result (λ conn. conn < length self.now.stage.connections) }
+    {
+        match holder_place(&self.connections, seat) {
+            Some(place) => Some(place as u16),
+            None => None,
+        }
+    }
+
+    // An arrival is told to the connection that plays the agent, which then takes of its items what it can.
+    fn tells_arrival(&mut self, alloc: Global, conn: u16, reply: &Reply) -> Result<Vec<Out>, Memory>
+        requires { conn < length self.old.stage.connections }
+        ensures { IsStepped self.old (tells_arrival self.old.stage (Some reply.now) (Some conn)) result self.new }
+    {
+        let mut text = Vec::new(alloc);
+        push_reply(alloc, reply, &mut text)?;
+        let more = self.moves(alloc, conn)?;
+        text.extend_from_slice(&more)?;
+        sent_to(alloc, conn, text)
+    }
+
+    // A match is ended.
+    pub(crate) fn closed(&mut self, game: u32) -> Result<Vec<Out>, Memory>
+        requires { game < length self.old.stage.games }
+        ensures { IsStepped self.old (closes self.old.stage game) result self.new }
+    {
+        let alloc = *self.connections.allocator();
+        if self.game(game).game.closed() {
+            return Ok(Vec::new(alloc));
+        }
+        let outs = told_over(alloc, game, self.game(game), &self.connections)?;
+        self.shuts_waiting(alloc, game);
+        self.plays_close(game);
+        Ok(outs)
+    }
+
+    // The match of a number.
+    fn game(&self, game: u32) -> &Ready
+        requires { game < length self.now.stage.games }
+        ensures { game_of result.now ≡ game_at self.now.stage game }
+    {
+        &self.ready[game as usize]
+    }
+
+    // Nothing more is taken of the connections that wait in a match.
+    fn shuts_waiting(&mut self, alloc: Global, game: u32)
+        requires { game < length self.old.stage.games }
+        ensures { self.new ≡ on_stage self.old (record self.old.stage { connections = shut_in game (game_at self.old.stage game) self.old.stage.connections }) }
+    {
+        let ready = &self.ready[game as usize];
+        shut_waiting(alloc, game, ready, &mut self.connections);
+    }
+
+    fn plays_close(&mut self, game: u32)
+        requires { game < length self.old.stage.games }
+        ensures { self.new ≡ on_stage self.old (with_game self.old.stage game (played (game_at self.old.stage game) Close)) }
+    {
+        let ready = &mut self.ready[game as usize];
+        play(ready, Event::Close);
+    }
+}
+
+// Nothing is sent where there is no text.
+fn sent_to(alloc: Global, conn: u16, bytes: Vec<u8>) -> Result<Vec<Out>, Memory>
+    ensures { IfOk result (λ outs. map seen_out outs.items ≡ sent_to conn bytes.items) }
+{
+    let mut outs = Vec::new(alloc);
+    if !bytes.is_empty() {
+        outs.push(Out { conn, bytes })?;
+    }
+    Ok(outs)
+}
+
+// Draws a word in a match. Gives the agent that arrives, and what it is told.
+fn deliver(ready: &mut Ready, word: u32) -> Result<Option<(u16, Reply)>, Memory>
+    ensures drawn { IfOk result (λ arrival. record { game = game_of ready.new; arrival = arrival }
+        ≡ after_draw (game_of ready.old) (drawn (game_of ready.old) word)) }
+    ensures team { team_of ready.new ≡ team_of ready.old }
+{
+    let before = ready.game.log().len();
+    let Drawn::Delivered { agent } = draw(&mut ready.game, &ready.held, word) else {
+        return Ok(None);
+    };
+    match reply_at(&ready.game, before)? {
+        Some(reply) => Ok(Some((agent, reply))),
+        None => Ok(None),
+    }
+}
+
+// The reply to the event at a place of the log, if one stands there and was answered.
+fn reply_at(game: &Match, place: usize) -> Result<Option<Reply>, Memory>
+    ensures { IfOk result (λ reply. reply ≡ read_if game.now.log (mark_at game.now.log place)) }
+{
+    let Some(
+        Kept {
+            mark: Some(mark),
+            ..
+        },
+    ) = game.log().get(place)
+    else {
+        return Ok(None);
+    };
+    let reply = game.reply(mark)?;
+    Ok(Some(reply))
+}
+
+fn holder_place(connections: &[Connection], seat: (u32, u16)) -> Option<usize>
+    ensures { result ≡ position (has_seat seat) connections.now }
+{
+    connections
+        .iter()
+        .position(|connection| connection.has_seat(seat))
+}
+
+// What each connection is sent that waits in a match when it ends.
+fn told_over(
+    alloc: Global,
+    number: u32,
+    ready: &Ready,
+    connections: &[Connection],
+) -> Result<Vec<Out>, Memory>
+    requires { length connections.now < 2 ^ 16 }
+    ensures { IfOk result (λ outs. map seen_out outs.items ≡ told_over number (game_of ready.now) 0 connections.now) }
+{
+    let mut outs = Vec::new(alloc);
+    for (conn, connection) in connections.iter().enumerate() {
+        if connection.waits_in(number, ready) {
+            outs.push(over_to(alloc, conn as u16)?)?;
+        }
+    }
+    Ok(outs)
+}
+
+fn over_to(alloc: Global, conn: u16) -> Result<Out, Memory>
+    ensures { IfOk result (λ out. seen_out out ∷ [] ≡ sent_to conn (text_of Over)) }
+{
+    let mut bytes = Vec::new(alloc);
+    push_reply(alloc, &Reply::Over, &mut bytes)?;
+    Ok(Out { conn, bytes })
+}
+
+// Nothing more is taken of the connections that wait in a match.
+fn shut_waiting(alloc: Global, number: u32, ready: &Ready, connections: &mut [Connection])
+    ensures { connections.new ≡ shut_in number (game_of ready.now) connections.old }
+{
+    for connection in connections.iter_mut() {
+        if connection.waits_in(number, ready) {
+            connection.shut(alloc);
+        }
+    }
+}

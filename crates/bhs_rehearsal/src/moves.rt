@@ -1,0 +1,73 @@
+//! What a connection's items make of a rehearsal.
+
+ghost use Rattle.std.specs.Prelude.{◌<◌, ◌≡◌, [], length, IfOk};
+ghost use Rattle.bhs_session.specs.Texts.{denial_text};
+ghost use Rattle.bhs_rehearsal.specs.Rehearsing.{on_stage};
+ghost use Rattle.bhs_rehearsal.specs.Stages.{moves, enters, entry, plays, shuts, connection_at};
+ghost use Rattle.bhs_rehearsal.specs.Takings.{IsMoved, seen_entry};
+
+use crate::entries::{Entry, first_entry};
+use crate::rehearsals::Rehearsal;
+use bhs_net::Memory;
+use bhs_session::denial_text;
+use std::alloc::Global;
+
+impl Rehearsal {
+    // A connection takes of its items what it can, and is sent the text.
+    pub(crate) fn moves(&mut self, alloc: Global, conn: u16) -> Result<Vec<u8>, Memory>
+        requires { conn < length self.old.stage.connections }
+        ensures { IsMoved self.old (moves self.old.stage conn) result self.new }
+    {
+        let connection = &self.connections[usize::from(conn)];
+        match connection.seat() {
+            Some(seat) => self.plays(alloc, conn, seat),
+            None => self.enters(alloc, conn),
+        }
+    }
+
+    // The first item of a connection that was not let in.
+    fn enters(&mut self, alloc: Global, conn: u16) -> Result<Vec<u8>, Memory>
+        requires { conn < length self.old.stage.connections }
+        ensures { IsMoved self.old (enters self.old.stage conn (entry self.old.stage (connection_at self.old.stage conn).queue)) result self.new }
+    {
+        let entry = first_entry(
+            alloc,
+            self.ready.len(),
+            &self.keys,
+            &self.connections,
+            usize::from(conn),
+        )?;
+        match entry {
+            Entry::Waits => Ok(Vec::new(alloc)),
+            Entry::Sits(seat) => self.plays(alloc, conn, seat),
+            Entry::Denied(denial) => {
+                self.shuts(alloc, conn);
+                denial_text(alloc, denial)
+            }
+            Entry::Goes => {
+                self.shuts(alloc, conn);
+                Ok(Vec::new(alloc))
+            }
+        }
+    }
+
+    // The items are taken as of one that plays this agent of this match.
+    fn plays(&mut self, alloc: Global, conn: u16, seat: (u32, u16)) -> Result<Vec<u8>, Memory>
+        requires conn { conn < length self.old.stage.connections }
+        requires game { seat.0 < length self.old.stage.games }
+        ensures { IsMoved self.old (plays self.old.stage conn seat) result self.new }
+    {
+        let ready = &mut self.ready[seat.0 as usize];
+        let connection = &mut self.connections[conn as usize];
+        connection.play(alloc, ready, seat)
+    }
+
+    // The connection takes no more.
+    fn shuts(&mut self, alloc: Global, conn: u16)
+        requires { conn < length self.old.stage.connections }
+        ensures { self.new ≡ on_stage self.old (shuts self.old.stage conn []).stage }
+    {
+        let connection = &mut self.connections[usize::from(conn)];
+        connection.shut(alloc);
+    }
+}

@@ -1,0 +1,157 @@
+ghost use Rattle.std.specs.Prelude.{◌≡◌, false, map, IfOk, replicate};
+ghost use Rattle.bhs_rehearsal.specs.Connections.{unfed};
+ghost use Rattle.bhs_rehearsal.specs.Stages.{Feeds, EndsInput, Draws, Closes};
+ghost use Rattle.bhs_rehearsal.specs.Rehearsing.{Follows, first_stage, game_of, team_of};
+ghost use Rattle.bhs_rehearsal.specs.Takings.{IsConcluded};
+
+use crate::connections::Connection;
+use crate::faults::RehearsalFault;
+use crate::outs::Out;
+use bhs_files::{Keys, Lineup, Ready};
+use bhs_net::Memory;
+use std::alloc::Global;
+use std::marker::Model;
+
+/// A rehearsal of a tournament in memory: connections are fed bytes, words are drawn and matches are ended, and
+/// each call gives what the connections are sent.
+///
+/// Each connection acts as a session does. Its first line must be an enter with a key that lets it in. Its lines
+/// and then its end are taken in order, while its agent is not on a link. After its end nothing of it is looked
+/// at. Contracts see the stage, which is the matches, the keys and the connections.
+///
+/// Once memory ran out in a call, the rehearsal has failed: this call and each later one are answered `Memory`.
+/// A call that is answered another fault has changed nothing.
+#[derive(Drop)]
+pub struct Rehearsal {
+    pub(crate) ready: Vec<Ready>,
+    pub(crate) keys: Keys,
+    pub(crate) connections: Vec<Connection>,
+    pub(crate) has_failed: bool,
+}
+
+impl Model for Rehearsal {
+    ghost use Rattle.std.specs.Prelude.{◌<◌, ◌^◌, length, map};
+    ghost use Rattle.std.specs.List.{All};
+    ghost use Rattle.bhs_rehearsal.specs.Rehearsing.{Rehearsing, stage_of, team_of, IsSeated};
+
+    ghost Value = { Rehearsing };
+
+    ghost view = { λ one. record { stage = stage_of one.ready.items one.keys one.connections.items; teams = map team_of one.ready.items; has_failed = one.has_failed } };
+
+    ghost invariant = { λ one. (length one.connections.items < 2 ^ 16) × All (λ connection. IsSeated (length one.ready.items) connection.seat) one.connections.items };
+}
+
+impl Rehearsal {
+    /// A rehearsal of these matches, with so many connections that were fed nothing. A key of a match that is not
+    /// in the list lets nobody in.
+    pub fn new(alloc: Global, lineup: Lineup, conns: u16) -> Result<Rehearsal, Memory>
+        ensures { IfOk result (λ rehearsal. rehearsal ≡ record {
+          stage = first_stage lineup conns;
+          teams = map team_of lineup.ready.items;
+          has_failed = false;
+        }) }
+    {
+        let connections = no_connections(alloc, conns)?;
+        let Lineup { ready, keys, .. } = lineup;
+        Ok(Rehearsal {
+            ready,
+            keys,
+            connections,
+            has_failed: false,
+        })
+    }
+
+    /// Feeds bytes to a connection. `Conn` where there is no such connection.
+    pub fn feed(&mut self, conn: u16, bytes: &[u8]) -> Result<Vec<Out>, RehearsalFault>
+        ensures { Follows self.old (Feeds conn bytes.now) result self.new }
+    {
+        if self.has_failed {
+            return Err(RehearsalFault::Memory);
+        }
+        if usize::from(conn) >= self.connections.len() {
+            return Err(RehearsalFault::Conn);
+        }
+        let outs = self.fed(conn, bytes);
+        self.settled(outs)
+    }
+
+    /// Ends the input of a connection. `Conn` where there is no such connection.
+    pub fn end(&mut self, conn: u16) -> Result<Vec<Out>, RehearsalFault>
+        ensures { Follows self.old (EndsInput conn) result self.new }
+    {
+        if self.has_failed {
+            return Err(RehearsalFault::Memory);
+        }
+        if usize::from(conn) >= self.connections.len() {
+            return Err(RehearsalFault::Conn);
+        }
+        let outs = self.ended(conn);
+        self.settled(outs)
+    }
+
+    /// Draws a word in a match. `NoGame` where there is no such match.
+    pub fn draw(&mut self, game: u32, word: u32) -> Result<Vec<Out>, RehearsalFault>
+        ensures { Follows self.old (Draws game word) result self.new }
+    {
+        if self.has_failed {
+            return Err(RehearsalFault::Memory);
+        }
+        if game as usize >= self.ready.len() {
+            return Err(RehearsalFault::NoGame);
+        }
+        let outs = self.drawn(game, word);
+        self.settled(outs)
+    }
+
+    /// Ends a match. Only the first time does something. `NoGame` where there is no such match.
+    pub fn close(&mut self, game: u32) -> Result<Vec<Out>, RehearsalFault>
+        ensures { Follows self.old (Closes game) result self.new }
+    {
+        if self.has_failed {
+            return Err(RehearsalFault::Memory);
+        }
+        if game as usize >= self.ready.len() {
+            return Err(RehearsalFault::NoGame);
+        }
+        let outs = self.closed(game);
+        self.settled(outs)
+    }
+
+    /// Whether memory ran out in a call. Each call after it is answered `Memory`.
+    pub fn failed(&self) -> bool
+        ensures { result ≡ self.now.has_failed }
+    {
+        self.has_failed
+    }
+
+    /// The matches, given back.
+    pub fn into_ready(self) -> Vec<Ready>
+        ensures games { map game_of result.items ≡ self.stage.games }
+        ensures teams { map team_of result.items ≡ self.teams }
+    {
+        self.ready
+    }
+
+    // What a call gives. Where memory ran out the rehearsal has failed.
+    fn settled(&mut self, outs: Result<Vec<Out>, Memory>) -> Result<Vec<Out>, RehearsalFault>
+        ensures { IsConcluded self.old outs result self.new }
+    {
+        match outs {
+            Ok(outs) => Ok(outs),
+            Err(Memory) => {
+                self.has_failed = true;
+                Err(RehearsalFault::Memory)
+            }
+        }
+    }
+}
+
+fn no_connections(alloc: Global, count: u16) -> Result<Vec<Connection>, Memory>
+    ensures { IfOk result (λ connections. connections.items ≡ replicate count unfed) }
+{
+    let mut connections = Vec::with_capacity(alloc, usize::from(count))?;
+    for _ in 0..count {
+        connections.push(Connection::new(alloc))?;
+    }
+    Ok(connections)
+}

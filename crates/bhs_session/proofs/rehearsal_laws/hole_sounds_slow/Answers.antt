@@ -1,7 +1,0 @@
-use Rattle.bhs_session.proofs.HeldLemmas.{held_lemma}
-use Rattle.bhs_session.proofs.SlowGameLemmas.{begin_lemma}
-use Rattle.bhs_session.proofs.SlowStageLemmas.{slow_lemma}
-use Rattle.bhs_session.proofs.rehearsal_laws.hole_sounds_slow.Goals as goal
-
-pub returns : goal.returns
-returns c = record { sounds = slow_lemma; begins = begin_lemma; held = held_lemma }

@@ -1,6 +1,0 @@
-use Rattle.bhs_session.proofs.SettledLemmas.{rest_lemma}
-use Rattle.bhs_session.proofs.SettlingLemmas.{settle_lemma, scripts_lemma}
-use Rattle.bhs_session.proofs.rehearsal_laws.stages_settle.Goals as goal
-
-pub returns : goal.returns
-returns c = record { step = settle_lemma; script = scripts_lemma; rest = rest_lemma }
