@@ -12,6 +12,7 @@ mod rehearsing;
 mod showing;
 mod statuses;
 mod summaries;
+mod words;
 
 pub use built_in_tournament::built_in;
 pub use checking::check;
@@ -19,3 +20,4 @@ pub use faults::{Fault, report};
 pub use orders::run;
 pub use rehearsing::rehearse;
 pub use statuses::{DONE, FAILED_STREAM, NO_MEMORY, REFUSED_TEXT, REFUSED_WORDS};
+pub use words::words_of;
