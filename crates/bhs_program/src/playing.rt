@@ -9,8 +9,8 @@ ghost use Rattle.bhs_program.specs.Playing.{StopsPlaying};
 use crate::faults::Fault;
 use bhs_files::Ready;
 use bhs_net::Memory;
-use bhs_script::{Instruction, push_printed};
 use bhs_rehearsal::{Out, Rehearsal, RehearsalFault};
+use bhs_script::{Instruction, push_printed};
 use bhs_stream::{Output, send};
 use std::alloc::Global;
 

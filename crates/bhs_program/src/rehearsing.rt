@@ -6,8 +6,8 @@ use crate::faults::Fault;
 use crate::playing::play;
 use bhs_files::{Lineup, Ready};
 use bhs_model::MAX_TEXT;
-use bhs_script::{CONNECTIONS, instructions_in};
 use bhs_rehearsal::Rehearsal;
+use bhs_script::{CONNECTIONS, instructions_in};
 use bhs_stream::{Input, Output, read_text};
 use std::alloc::Global;
 

@@ -14,7 +14,7 @@ returns-in-Ok g c = rehearses (c.in-Rehearse-None.is ∙ ap Rehearse c.in-Rehear
 pub returns-in-Ok-lineup_of : goal.returns-in-Ok-lineup_of
 returns-in-Ok-lineup_of g c =
     rehearses_on c.in-Rehearse-Some.name c.in-Ok-lineup_of.lineup (c.in-Rehearse-Some.is ∙ ap Rehearse c.in-Rehearse-Some.tournament-is) c.in-Ok-lineup_of.ensures.made
-        c.rehearse_whole-in-Ok-lineup_of.ensures
+    c.rehearse_whole-in-Ok-lineup_of.ensures
 
 pub returns-in-Rehearse-Some : goal.returns-in-Rehearse-Some
 returns-in-Rehearse-Some g c =

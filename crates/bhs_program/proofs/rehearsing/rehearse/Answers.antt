@@ -18,7 +18,7 @@ returns-clause-played g c =
       meant = rw (length-map c.args.lineup.ready.items game_of) (rw (c.deref.ensures.value, counted) at c.in_ok-instructions.ensures);
     } in
     plays_all g.R.Input.gives g.W.Output.takes c.args.turns stage _ _ _ _ instructions means (λ ready. map game_of ready.items) c.play.result
-        (rw same at c.play.ensures.printed) (rw same at c.play.ensures.played)
+    (rw same at c.play.ensures.printed) (rw same at c.play.ensures.played)
 
 pub returns-clause-stopped : goal.returns-clause-stopped
 returns-clause-stopped g c =
