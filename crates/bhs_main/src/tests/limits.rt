@@ -257,6 +257,7 @@ fn names_in_fault_lines_are_shown(rt: HostRuntime) -> Result<(), Fail> {
 }
 
 /// The words of a process.
+#[derive(Drop)]
 struct Words<'a> {
     words: &'a [&'a [u8]],
 }

@@ -6,7 +6,7 @@
 //! before writing fails. `␠`, `␉` and `␍` stand for a space, a tab and a carriage return. Rows are parted by empty lines.
 
 use super::streams::{Narrow, Pieces};
-use bhs_model::{Command, Reply, Text};
+use bhs_model::{Command, MAX_LINE, Reply, Text};
 use bhs_net::Memory;
 use bhs_session::{Entered, Port, serve};
 use std::alloc::Global;
@@ -380,9 +380,9 @@ fn plays(rt: &impl Abort, alloc: Global, text: &str) -> Result<(), Fail> {
         row.take(line)?;
     }
     let pieces: &[usize] = if row.turns < 1000 {
-        &[20_000]
+        &[100_000]
     } else {
-        &[1, 20_000]
+        &[1, 100_000]
     };
     for piece in pieces {
         let mut reader = Pieces {
@@ -418,10 +418,10 @@ fn sessions_end_as_they_should(rt: HostRuntime) -> Result<(), Fail> {
 }
 
 #[test]
-fn a_line_of_16_385_bytes_is_bad(rt: HostRuntime) -> Result<(), Fail> {
+fn an_overlong_line_is_bad(rt: HostRuntime) -> Result<(), Fail> {
     let alloc = rt.alloc();
     let mut line = String::from_str(alloc, "> {\"do\":\"look\"}")?;
-    for _ in 0..16_372 {
+    for _ in 0..MAX_LINE - 12 {
         line.push('␠')?;
     }
     let line = line.as_str();
