@@ -10,9 +10,9 @@ use Rattle.clap.specs.Walk.{is_empty}
 use Rattle.clap.specs.Kinds.{IsAmong, Kinds}
 use Rattle.clap.specs.declared.error.kind.ErrorKind.{ErrorKind}
 use Rattle.clap.specs.declared.error.kind.ErrorKind.TheVariants.{DisplayHelp, DisplayVersion, OutOfMemory}
-use Rattle.bhs_command_line.specs.CommandLine.{Answers, AsksHelp, ChecksAlone, Rehearses, RehearsesOn, Tells, is_refused, is_shown, arena, command_in, faults, is_asked, order_by, order_in, tournament_in}
-use Rattle.bhs_command_line.specs.declared.Answer.{Answer}
-use Rattle.bhs_command_line.specs.declared.Answer.TheVariants.{Ordered, Refused, Shown}
+use Rattle.bhs_command_line.specs.CommandLine.{Parses, AsksHelp, ChecksAlone, Rehearses, RehearsesOn, Explains, is_refused, is_shown, arena, command_in, faults, is_asked, order_by, order_in, tournament_in}
+use Rattle.bhs_command_line.specs.declared.Parsed.{Parsed}
+use Rattle.bhs_command_line.specs.declared.Parsed.TheVariants.{Ordered, Refused, Shown}
 use Rattle.bhs_command_line.specs.declared.Order.{Order}
 use Rattle.bhs_command_line.specs.declared.Order.TheVariants.{Check, Rehearse}
 use Rattle.bhs_command_line.proofs.WordLemmas.{Begins, arena_is_free, arena_is_simple, check_found, command_found, rehearse_found, help_fault, kind≢none, named_fault, named_rows, rehearsed_fault, rehearsed_rows, no_fault, no_word_fault, taken_words}
@@ -57,8 +57,8 @@ some_passes test kind (k ∷ ks) (inr among) passes = or_second (test k) (list_a
 -- ---- the answers that the words get
 
 -- the words get the answer that tells their error
-pub error_answered : {E : Type 0} (r : Result Answer E) (kind : ErrorKind) (words : List Text) → (kind ≡ OutOfMemory) ⊎ IsAmong kind (faults words)
-    → IfOk r (Tells kind) → (kind ≡ OutOfMemory → IsErr r) → IfOk r (Answers words)
+pub error_answered : {E : Type 0} (r : Result Parsed E) (kind : ErrorKind) (words : List Text) → (kind ≡ OutOfMemory) ⊎ IsAmong kind (faults words)
+    → IfOk r (Explains kind) → (kind ≡ OutOfMemory → IsErr r) → IfOk r (Parses words)
 error_answered (Err x) kind words has tells memory = tt
 error_answered (Ok answer) kind words (inl out) tells memory = absurd (true≢false (sym (memory out)))
 error_answered (Ok (Ordered order)) kind words (inr among) tells memory = absurd tells
@@ -83,34 +83,34 @@ pub ordered_words : (words : List Text) → Rehearses words → order_in words �
 ordered_words words is =
     ap (λ (kinds : Kinds). if is_empty kinds then option_and_then order_by (command_in words) else None) (no_fault words is) ∙ command_found words is
 
-pub rehearse_answered : (words : List Text) (answer : Answer) → Answers words answer → Rehearses words → answer ≡ Ordered (Rehearse None)
+pub rehearse_answered : (words : List Text) (answer : Parsed) → Parses words answer → Rehearses words → answer ≡ Ordered (Rehearse None)
 rehearse_answered words (Ordered order) e is = ap rehearse_or (sym e ∙ ordered_words words is)
   where
-    rehearse_or : Option Order → Answer
+    rehearse_or : Option Order → Parsed
     rehearse_or None = Ordered (Rehearse None)
     rehearse_or (Some order) = Ordered order
 rehearse_answered words (Shown text) e is = absurd (true≢false (sym e ∙ ap (list_any is_asked) (no_fault words is)))
 rehearse_answered words (Refused text) e is = absurd (true≢false (sym e ∙ ap (list_any (λ kind. not (is_asked kind))) (no_fault words is)))
 
 -- words that ask for help alone are shown it
-help_answered : (words : List Text) (answer : Answer) → Answers words answer → AsksHelp words → is_shown answer ≡ true
+help_answered : (words : List Text) (answer : Parsed) → Parses words answer → AsksHelp words → is_shown answer ≡ true
 help_answered words (Ordered order) e asks = absurd (kind≢none _ _ (sym (help_fault words asks) ∙ ordered_taken words order e))
 help_answered words (Shown text) e asks = refl
 help_answered words (Refused text) e asks = absurd (true≢false (sym e ∙ ap (list_any (λ kind. not (is_asked kind))) (help_fault words asks)))
 
-no_word_answered : (words : List Text) (answer : Answer) → Answers words answer → words ≡ [] → is_refused answer ≡ true
+no_word_answered : (words : List Text) (answer : Parsed) → Parses words answer → words ≡ [] → is_refused answer ≡ true
 no_word_answered words (Ordered order) e none = absurd (kind≢none _ _ (sym (no_word_fault words none) ∙ ordered_taken words order e))
 no_word_answered words (Shown text) e none = absurd (true≢false (sym e ∙ ap (list_any is_asked) (no_word_fault words none)))
 no_word_answered words (Refused text) e none = refl
 
 -- what the contract says of an answer beside `Answers`
-abbrev pub Plainly : List Text → Answer → Type 0
+abbrev pub Plainly : List Text → Parsed → Type 0
 Plainly words answer = (Rehearses words → answer ≡ Ordered (Rehearse None)) × (AsksHelp words → is_shown answer ≡ true) × (words ≡ [] → is_refused answer ≡ true)
 
-pub plainly : (words : List Text) (answer : Answer) → Answers words answer → Plainly words answer
+pub plainly : (words : List Text) (answer : Parsed) → Parses words answer → Plainly words answer
 plainly words answer e = (rehearse_answered words answer e, help_answered words answer e, no_word_answered words answer e)
 
-pub all_plainly : {E : Type 0} (r : Result Answer E) (words : List Text) → IfOk r (Answers words)
+pub all_plainly : {E : Type 0} (r : Result Parsed E) (words : List Text) → IfOk r (Parses words)
     → IfOk r (λ answer. Rehearses words → answer ≡ Ordered (Rehearse None))
     × IfOk r (λ answer. AsksHelp words → is_shown answer ≡ true) × IfOk r (λ answer. words ≡ [] → is_refused answer ≡ true)
 all_plainly (Ok answer) words answers = plainly words answer answers
@@ -169,31 +169,31 @@ pub found_if_any : (found : Found) (o : Option (Bor (List ℕ))) → option_map 
 found_if_any found o is = is ∙ first_value-rows found (codes "tournament")
 
 -- words without a fault that give an order are answered by it
-ordered_answered : (words : List Text) (answer : Answer) (order : Order) → faults words ≡ [] → option_and_then order_by (command_in words) ≡ Some order → Answers words answer
+ordered_answered : (words : List Text) (answer : Parsed) (order : Order) → faults words ≡ [] → option_and_then order_by (command_in words) ≡ Some order → Parses words answer
     → answer ≡ Ordered order
 ordered_answered words (Ordered other) order none found e = ap order_or_this (sym e ∙ (ap (λ (kinds : Kinds). if is_empty kinds then option_and_then order_by (command_in words) else None) none ∙ found))
   where
-    order_or_this : Option Order → Answer
+    order_or_this : Option Order → Parsed
     order_or_this None = Ordered order
     order_or_this (Some one) = Ordered one
 ordered_answered words (Shown text) order none found e = absurd (true≢false (sym e ∙ ap (list_any is_asked) none))
 ordered_answered words (Refused text) order none found e = absurd (true≢false (sym e ∙ ap (list_any (λ kind. not (is_asked kind))) none))
 
 -- words that name a tournament order its check, or a rehearsal of it
-pub named_answered : (words : List Text) (answer : Answer) → Answers words answer → (name : List ℕ) → ChecksAlone words name → answer ≡ Ordered (Check name)
+pub named_answered : (words : List Text) (answer : Parsed) → Parses words answer → (name : List ℕ) → ChecksAlone words name → answer ≡ Ordered (Check name)
 named_answered words answer e name alone =
     ordered_answered words answer (Check name) (ap faults alone.1 ∙ named_fault name alone.0)
     (check_found words (name ∷ [], alone.1) ∙ ap (λ (text : List ℕ). Some (Check text)) (named_rows name alone.0)) e
 
-pub all_named : {E : Type 0} (r : Result Answer E) (words : List Text) → IfOk r (Answers words) → IfOk r (λ answer. (name : List ℕ) → ChecksAlone words name → answer ≡ Ordered (Check name))
+pub all_named : {E : Type 0} (r : Result Parsed E) (words : List Text) → IfOk r (Parses words) → IfOk r (λ answer. (name : List ℕ) → ChecksAlone words name → answer ≡ Ordered (Check name))
 all_named (Ok answer) words answers = named_answered words answer answers
 all_named (Err x) words answers = tt
 
-pub on_answered : (words : List Text) (answer : Answer) → Answers words answer → (name : List ℕ) → RehearsesOn words name → answer ≡ Ordered (Rehearse (Some name))
+pub on_answered : (words : List Text) (answer : Parsed) → Parses words answer → (name : List ℕ) → RehearsesOn words name → answer ≡ Ordered (Rehearse (Some name))
 on_answered words answer e name alone =
     ordered_answered words answer (Rehearse (Some name)) (ap faults alone.1 ∙ rehearsed_fault name alone.0)
     (rehearse_found words (name ∷ [], alone.1) ∙ ap (λ (text : Option (List ℕ)). Some (Rehearse text)) (rehearsed_rows name alone.0)) e
 
-pub all_on : {E : Type 0} (r : Result Answer E) (words : List Text) → IfOk r (Answers words) → IfOk r (λ answer. (name : List ℕ) → RehearsesOn words name → answer ≡ Ordered (Rehearse (Some name)))
+pub all_on : {E : Type 0} (r : Result Parsed E) (words : List Text) → IfOk r (Parses words) → IfOk r (λ answer. (name : List ℕ) → RehearsesOn words name → answer ≡ Ordered (Rehearse (Some name)))
 all_on (Ok answer) words answers = on_answered words answer answers
 all_on (Err x) words answers = tt

@@ -11,8 +11,8 @@ use Rattle.clap.specs.declared.error.kind.ErrorKind.{ErrorKind}
 use Rattle.clap.specs.declared.error.kind.ErrorKind.TheVariants.{DisplayHelp, DisplayVersion}
 use Rattle.bhs_command_line.specs.declared.Order.{Order}
 use Rattle.bhs_command_line.specs.declared.Order.TheVariants.{Rehearse, Check}
-use Rattle.bhs_command_line.specs.declared.Answer.{Answer}
-use Rattle.bhs_command_line.specs.declared.Answer.TheVariants.{Ordered, Shown, Refused}
+use Rattle.bhs_command_line.specs.declared.Parsed.{Parsed}
+use Rattle.bhs_command_line.specs.declared.Parsed.TheVariants.{Ordered, Shown, Refused}
 
 -- ---- the command line
 
@@ -101,10 +101,10 @@ abbrev pub AreRefused : List Text → Type 0
 AreRefused words = IsTrue (list_any (λ kind. not (is_asked kind)) (faults words))
 
 -- the words get this answer
-abbrev pub Answers : List Text → Answer → Type 0
-Answers words (Ordered order) = order_in words ≡ Some order
-Answers words (Shown text) = IsTrue (list_any is_asked (faults words))
-Answers words (Refused text) = AreRefused words
+abbrev pub Parses : List Text → Parsed → Type 0
+Parses words (Ordered order) = order_in words ≡ Some order
+Parses words (Shown text) = IsTrue (list_any is_asked (faults words))
+Parses words (Refused text) = AreRefused words
 
 -- the words that ask for help and do nothing else
 abbrev pub AsksHelp : List Text → Type 0
@@ -112,16 +112,16 @@ AsksHelp words = ((words ≡ codes "--help" ∷ []) ⊎ (words ≡ codes "-h" �
     ⊎ (((words ≡ codes "rehearse" ∷ codes "--help" ∷ []) ⊎ (words ≡ codes "rehearse" ∷ codes "-h" ∷ []))
     ⊎ ((words ≡ codes "check" ∷ codes "--help" ∷ []) ⊎ (words ≡ codes "check" ∷ codes "-h" ∷ [])))
 
-abbrev pub is_shown : Answer → Bool
+abbrev pub is_shown : Parsed → Bool
 is_shown (Shown text) = true
 is_shown _ = false
 
-abbrev pub is_refused : Answer → Bool
+abbrev pub is_refused : Parsed → Bool
 is_refused (Refused text) = true
 is_refused _ = false
 
 -- the answer tells an error of this kind
-abbrev pub Tells : ErrorKind → Answer → Type 0
-Tells kind (Ordered order) = ⊥
-Tells kind (Shown text) = is_asked kind ≡ true
-Tells kind (Refused text) = is_asked kind ≡ false
+abbrev pub Explains : ErrorKind → Parsed → Type 0
+Explains kind (Ordered order) = ⊥
+Explains kind (Shown text) = is_asked kind ≡ true
+Explains kind (Refused text) = is_asked kind ≡ false

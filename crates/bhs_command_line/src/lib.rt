@@ -3,9 +3,9 @@
 
 ghost use Rattle.std.specs.Prelude.{◌≡◌, ℕ, List, [], IfOk, IsErr, IsSome, IsTrue, None, Some, map, option_map};
 ghost use Rattle.std.specs.Prelude.{codes, option_and_then};
-ghost use Rattle.bhs_command_line.specs.CommandLine.{Answers, AsksHelp, ChecksAlone, Rehearses, RehearsesOn, Tells};
+ghost use Rattle.bhs_command_line.specs.CommandLine.{Parses, AsksHelp, ChecksAlone, Rehearses, RehearsesOn, Explains};
 ghost use Rattle.bhs_command_line.specs.CommandLine.{is_refused, is_shown, order_by, tournament_in};
-ghost use Rattle.bhs_command_line.specs.declared.Answer.TheVariants.{Ordered};
+ghost use Rattle.bhs_command_line.specs.declared.Parsed.TheVariants.{Ordered};
 ghost use Rattle.bhs_command_line.specs.declared.Order.TheVariants.{Check, Rehearse};
 ghost use Rattle.clap.specs.Words.{first_of, found_of, kind_of, rows_of, subcommand_rows_of};
 ghost use Rattle.clap.specs.declared.error.kind.ErrorKind.TheVariants.{OutOfMemory};
@@ -29,7 +29,7 @@ pub enum Order {
 
 /// What a command line comes to.
 #[derive(PartialEq, Eq, Debug, Drop)]
-pub enum Answer {
+pub enum Parsed {
     /// The words give an order.
     Ordered(Order),
     /// The words ask for help: `text` is for standard output, and the exit status is 0.
@@ -40,13 +40,13 @@ pub enum Answer {
 
 /// Reads the words that stand after the program's name.
 ///
-/// `Answers` says which answer the words get, and the clauses after it say so of the shortest ones. A tournament whose
+/// `Parses` says which answer the words get, and the clauses after it say so of the shortest ones. A tournament whose
 /// name begins with a hyphen has to stand behind the mark `--`.
 /// After a first word `help` it leaves `Shown` and `Refused` open, and tests show which comes. The
 /// texts are those that `clap` writes, and are shown by tests alone. The only error is that memory
 /// ran out.
-pub fn order_of<S: AsStr>(alloc: Global, words: &[S]) -> Result<Answer, AllocError>
-    ensures answers { IfOk result (Answers (map S.text words.now)) }
+pub fn order_of<S: AsStr>(alloc: Global, words: &[S]) -> Result<Parsed, AllocError>
+    ensures answers { IfOk result (Parses (map S.text words.now)) }
     ensures rehearse { IfOk result (λ answer.
         Rehearses (map S.text words.now) → answer ≡ Ordered (Rehearse None)) }
     ensures rehearse_on { IfOk result (λ answer. (name : List ℕ) →
@@ -60,8 +60,8 @@ pub fn order_of<S: AsStr>(alloc: Global, words: &[S]) -> Result<Answer, AllocErr
 {
     let command = declared::command_line(alloc)?;
     match command.try_get_matches_from(words) {
-        Ok(matches) => Ok(Answer::Ordered(order_given(alloc, &matches)?)),
-        Err(error) => told(alloc, &error),
+        Ok(matches) => Ok(Parsed::Ordered(order_given(alloc, &matches)?)),
+        Err(error) => explained(alloc, &error),
     }
 }
 
@@ -103,8 +103,8 @@ fn tournament_given(alloc: Global, words: &ArgMatches<'_>) -> Result<Text, Alloc
 }
 
 // Clap's own text on an error, for the stream that clap says.
-fn told(alloc: Global, error: &Error) -> Result<Answer, AllocError>
-    ensures ok { IfOk result (Tells (kind_of error.now)) }
+fn explained(alloc: Global, error: &Error) -> Result<Parsed, AllocError>
+    ensures ok { IfOk result (Explains (kind_of error.now)) }
     ensures memory { kind_of error.now ≡ OutOfMemory → IsErr result }
 {
     if error.kind() == ErrorKind::OutOfMemory {
@@ -112,8 +112,8 @@ fn told(alloc: Global, error: &Error) -> Result<Answer, AllocError>
     }
     let text = format!(in alloc; "{error}")?;
     if error.use_stderr() {
-        Ok(Answer::Refused { text })
+        Ok(Parsed::Refused { text })
     } else {
-        Ok(Answer::Shown { text })
+        Ok(Parsed::Shown { text })
     }
 }

@@ -4,15 +4,15 @@
 ghost use Rattle.std.specs.Prelude.{IfOk};
 ghost use Rattle.bhs_program.specs.Fault.{IsStatus};
 
-use bhs_program::{Fault, run, tell};
+use bhs_program::{Fault, report, run, words_of};
+use std::io;
 use std::io::BufWriter;
 use std::process::ExitCode;
-use std::{env, io};
 
 fn main(rt: HostRuntime) -> ExitCode {
     ExitCode::from(match started(&rt) {
         Ok(status) => status,
-        Err(error) => tell("arena", Fault::from(error), &mut rt.stderr()),
+        Err(error) => report("arena", Fault::from(error), &mut rt.stderr()),
     })
 }
 
@@ -20,9 +20,12 @@ fn started(rt: &HostRuntime) -> io::Result<u8>
     ensures { IfOk result IsStatus }
 {
     let alloc = rt.alloc();
-    let words: Vec<String> = env::args(rt)?.skip(1).collect(alloc)?;
-    let mut writer = BufWriter::new(alloc, io::writer(rt))?;
     let mut errors = rt.stderr();
+    let words = match words_of(alloc, rt, &mut errors) {
+        Ok(words) => words,
+        Err(status) => return Ok(status),
+    };
+    let mut writer = BufWriter::new(alloc, io::writer(rt))?;
     Ok(run(
         alloc,
         rt,

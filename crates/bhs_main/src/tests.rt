@@ -1,7 +1,9 @@
 //! What crosses crates, and what the crates below are slow to prove again: a crate with tests is proved twice.
 
 mod command_lines;
+mod cuts;
 mod draws;
+mod examples;
 mod files;
 mod limits;
 mod lines;

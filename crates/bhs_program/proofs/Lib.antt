@@ -3,4 +3,3 @@ pub mod TriangleLemmas
 pub mod TextLemmas
 pub mod SummaryLemmas
 pub mod ExitLemmas
-pub mod ReadLemmas

@@ -1,4 +1,7 @@
 pub mod BuiltIn
 pub mod Fault
 pub mod Summary
+pub mod Playing
 pub mod Rehearsal
+pub mod Showing
+pub mod Program

@@ -1,6 +1,5 @@
 -- What the order to check a tournament prints.
 use Rattle.std.specs.Prelude.{◌≡◌, ℕ, ◌+◌, ◌/◌, List, [], ◌∷◌, ◌++◌, codes, decimal, Option, Ok}
-use Rattle.std.specs.Io.KnownBytes.{Appends}
 use Rattle.std.specs.List.{All}
 use Rattle.bhs_net.specs.Network.{Network, nodes_of, ports_of}
 use Rattle.bhs_files.specs.declared.lineups.Ready.{Ready}
@@ -38,9 +37,3 @@ pub record IsAssembled (lineup : Lineup) : Type 0 where
   pub networks : List Network
   pub read : All IsRead networks
   pub made : contest_in plan networks ≡ Ok (contest lineup)
-
--- the lines of a lineup were written
-pub record Checks (output output' : Option (List ℕ)) : Type 0 where
-  pub lineup : Lineup
-  pub assembled : IsAssembled lineup
-  pub written : Appends output output' (summary_from 0 lineup.ready.items)

@@ -1,21 +1,23 @@
 //! Reading a tournament and its networks, and saying what its matches are.
 
-ghost use Rattle.std.specs.Prelude.{◌≡◌, ◌≢◌, IfOk, IfErr, OnOk, ℕ, List, Ok, length, map};
-ghost use Rattle.bhs_program.specs.declared.statuses.TheConstants.{REFUSED_TEXT};
-ghost use Rattle.std.specs.Io.KnownBytes.{Appends, Keeps};
+ghost use Rattle.std.specs.Prelude.{◌≡◌, ◌⊎◌, ℕ, List, IfOk, IfErr, Ok, length, map};
 ghost use Rattle.std.specs.List.{All};
 ghost use Rattle.bhs_files.specs.Names.{first_seen};
 ghost use Rattle.bhs_files.specs.Tournaments.{plan, tournament_in};
-ghost use Rattle.bhs_program.specs.Summary.{Checks, IsAssembled, IsRead, summary_from};
-ghost use Rattle.bhs_program.specs.Fault.{status, IsTold, TellsFault};
+ghost use Rattle.bhs_program.specs.Fault.{IsOfFault};
+ghost use Rattle.bhs_program.specs.Program.{Checks};
+ghost use Rattle.bhs_program.specs.Showing.{Prints};
+ghost use Rattle.bhs_program.specs.Summary.{IsAssembled, IsRead, summary_from};
+ghost use Rattle.bhs_program.specs.declared.statuses.TheConstants.{NO_MEMORY};
 
-use crate::faults::{Fault, tell};
+use crate::faults::{Fault, report};
+use crate::showing::show;
 use crate::statuses::DONE;
 use crate::summaries::summary;
 use bhs_files::{Lineup, Ready, Tournament, assemble, read_network, read_tournament};
 use bhs_model::{MAX_TEXT, MAX_TURNS};
 use bhs_net::Net;
-use bhs_stream::{finish, read_text, send};
+use bhs_stream::{Output, read_text};
 use std::alloc::Global;
 use std::fs;
 use std::io::Write;
@@ -31,29 +33,22 @@ struct Blamed<'a> {
 /// Reads the tournament's file, then the files of the networks that it names, in the order in which its matches name
 /// them, and puts them together. Then a line for each match goes to `writer`. The first fault goes to `errors`, as a
 /// line `NAME: FAULT` with the name of the file, and ends it. The answer is the exit status.
-pub fn check<F: Files, W: Write, E: Write>(
+pub fn check<F: Files, W: Output, E: Write>(
     alloc: Global,
     files: &F,
     name: &str,
     writer: &mut W,
     errors: &mut E,
 ) -> u8
-    // 0 says that the matches of a tournament that was read and assembled were printed, and 3 that nothing was written.
-    ensures done { result ≡ DONE → Checks (W.contents writer.old) (W.contents writer.new) }
-    ensures refused { result ≡ REFUSED_TEXT → Keeps (W.contents writer.old) (W.contents writer.new) }
-    // Any status but 0 tells a fault.
-    ensures told { IsTold result }
+    ensures { Checks W.takes W.flushes writer.old writer.new result }
 {
     match lineup_of(alloc, files, name, errors) {
-        Ok(lineup) => match print(alloc, &lineup.ready, writer) {
-            Ok(()) => DONE,
-            Err(fault) => tell("output", fault, errors),
-        },
+        Ok(lineup) => print(alloc, &lineup.ready, writer, errors),
         Err(status) => status,
     }
 }
 
-/// The tournament put together with its networks, or the exit status of a fault that was told.
+/// The tournament put together with its networks, or the exit status of a fault that was reported.
 pub(crate) fn lineup_of<F: Files, E: Write>(
     alloc: Global,
     files: &F,
@@ -61,19 +56,19 @@ pub(crate) fn lineup_of<F: Files, E: Write>(
     errors: &mut E,
 ) -> Result<Lineup, u8>
     ensures made { IfOk result IsAssembled }
-    ensures told { IfErr result TellsFault }
+    ensures fault { IfErr result IsOfFault }
 {
     let tournament = match tournament_of(alloc, files, name) {
         Ok(tournament) => tournament,
-        Err(fault) => return Err(tell(name, fault, errors)),
+        Err(fault) => return Err(report(name, fault, errors)),
     };
     let networks = match networks_of(alloc, files, name, &tournament) {
         Ok(networks) => networks,
-        Err(blamed) => return Err(tell(blamed.name, blamed.fault, errors)),
+        Err(blamed) => return Err(report(blamed.name, blamed.fault, errors)),
     };
     match assemble(alloc, tournament, &networks) {
         Ok(lineup) => Ok(lineup),
-        Err(fault) => Err(tell(name, Fault::from(fault), errors)),
+        Err(fault) => Err(report(name, Fault::from(fault), errors)),
     }
 }
 
@@ -134,12 +129,15 @@ fn networks_of<'a, F: Files>(
     Ok(networks)
 }
 
-fn print<W: Write>(alloc: Global, ready: &[Ready], writer: &mut W) -> Result<(), Fault>
-    ensures ok { OnOk result (Appends (W.contents writer.old) (W.contents writer.new) (summary_from 0 ready.now)) }
-    ensures fault { IfErr result (λ fault. status fault ≢ REFUSED_TEXT) }
+fn print<W: Output, E: Write>(alloc: Global, ready: &[Ready], writer: &mut W, errors: &mut E) -> u8
+    ensures { Prints W.takes W.flushes (summary_from 0 ready.now) writer.old writer.new result
+        ⊎ ((result ≡ NO_MEMORY) × (writer.new ≡ writer.old)) }
 {
-    let text = summary(alloc, ready)?;
-    send(writer, text.as_bytes())?;
-    finish(writer)?;
-    Ok(())
+    let Ok(text) = summary(alloc, ready) else {
+        return report("output", Fault::Memory, errors);
+    };
+    match show(text.as_str(), writer) {
+        Ok(()) => DONE,
+        Err(_) => report("output", Fault::Write, errors),
+    }
 }

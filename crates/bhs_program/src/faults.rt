@@ -3,6 +3,7 @@ ghost use Rattle.bhs_program.specs.declared.faults.Fault.TheVariants as faults;
 ghost use Rattle.std.specs.IoError.{error_kind};
 ghost use Rattle.bhs_program.specs.Fault.{of_file, of_kind, of_read, of_script, status};
 
+use crate::names::Shown;
 use crate::statuses::{FAILED_STREAM, NO_MEMORY, REFUSED_TEXT};
 use bhs_files::FileFault;
 use bhs_net::Memory;
@@ -39,7 +40,7 @@ pub enum Fault {
 }
 
 impl Fault {
-    /// The exit status that tells the fault.
+    /// The exit status of the fault.
     pub fn status(self) -> u8
         ensures { result ≡ status self }
     {
@@ -51,10 +52,11 @@ impl Fault {
     }
 }
 
-/// Tells a fault as a line `PLACE: FAULT`, and answers its exit status.
-pub fn tell<E: Write>(place: &str, fault: Fault, errors: &mut E) -> u8
+/// Writes a fault as a line `PLACE: FAULT`, and answers its exit status. The place is shown as `Shown` says.
+pub fn report<E: Write>(place: &str, fault: Fault, errors: &mut E) -> u8
     ensures { result ≡ status fault }
 {
+    let place = Shown { name: place };
     let _ = writeln!(errors, "{place}: {fault}");
     fault.status()
 }

@@ -1,29 +1,29 @@
-ghost use Rattle.std.specs.Prelude.{◌≡◌, ℕ, List, None, Some, map, OnOk, IfErr};
-ghost use Rattle.std.specs.Io.KnownBytes.{Appends, Keeps};
-ghost use Rattle.bhs_command_line.specs.CommandLine.{AreRefused, ChecksAlone, Rehearses};
-ghost use Rattle.bhs_program.specs.Summary.{Checks};
-ghost use Rattle.bhs_program.specs.BuiltIn as texts;
-ghost use Rattle.bhs_program.specs.declared.statuses.TheConstants.{REFUSED_TEXT, REFUSED_WORDS};
-ghost use Rattle.bhs_program.specs.Fault.{IsStatus, IsTold};
-ghost use Rattle.bhs_program.specs.Rehearsal.{opening, opening_of, Plays, EndsBy, Exits, RehearsesFile, PlaysFile};
+ghost use Rattle.std.specs.Prelude.{map, OnOk, IfErr, true};
+ghost use Rattle.bhs_program.specs.Fault.{IsStatus};
+ghost use Rattle.bhs_program.specs.Program.{Obeys, Runs};
+ghost use Rattle.bhs_program.specs.Rehearsal.{EndsBy, PlaysOut, Rehearses, opening};
 
 use crate::built_in_tournament::built_in;
 use crate::checking::{check, lineup_of};
-use crate::faults::{Fault, tell};
+use crate::faults::{Fault, report};
 use crate::rehearsing::rehearse;
+use crate::showing::show;
 use crate::statuses::{DONE, REFUSED_WORDS};
-use bhs_command_line::{Answer, Order, order_of};
+use bhs_command_line::{Order, Parsed, order_of};
 use bhs_files::Lineup;
 use bhs_model::MAX_TURNS;
-use bhs_stream::{WriteFault, finish, send};
+use bhs_stream::{Input, Output, finish, send};
 use std::alloc::Global;
 use std::convert::AsStr;
-use std::io::{Read, Write};
+use std::io::Write;
 use std::rt::Files;
 
 /// Does what the words after the program's name order, and answers the exit status. Files are opened through `files`.
 /// What is asked for goes to `writer`; why it could not be done goes to `errors`, as a line `WHERE: WHAT`.
-pub fn run<S: AsStr, F: Files, R: Read, W: Write, E: Write>(
+///
+/// `Runs` goes by the cases of the words: what was read and written, call by call, and with which status. It says
+/// nothing of what goes to `errors`, nor of what files hold.
+pub fn run<S: AsStr, F: Files, R: Input, W: Output, E: Write>(
     alloc: Global,
     files: &F,
     words: &[S],
@@ -31,44 +31,24 @@ pub fn run<S: AsStr, F: Files, R: Read, W: Write, E: Write>(
     writer: &mut W,
     errors: &mut E,
 ) -> u8
-    // Where the words order a rehearsal of the built-in tournament, 0 says that the whole script was played, and 3 that
-    // nothing was written.
-    ensures played { Rehearses (map S.text words.now) → result ≡ DONE →
-        Plays (opening_of texts.built_in) (R.remaining reader.old) (R.remaining reader.new) (W.contents writer.old) (W.contents writer.new) }
-    ensures refused { Rehearses (map S.text words.now) → result ≡ REFUSED_TEXT →
-        Keeps (W.contents writer.old) (W.contents writer.new) }
-    ensures exits { Rehearses (map S.text words.now) →
-        Exits (opening_of texts.built_in) MAX_TURNS (R.remaining reader.old) (R.remaining reader.new) (W.contents writer.old) (W.contents writer.new) result }
-
-    // Where they order one of a file's tournament, 0 says that the whole script was played on it.
-    ensures file { RehearsesFile (map S.text words.now) → result ≡ DONE →
-        PlaysFile (R.remaining reader.old) (R.remaining reader.new) (W.contents writer.old) (W.contents writer.new) }
-
-    // Where they order a check, 0 says that the matches of a tournament were printed, and 3 that nothing was written.
-    ensures checked { (name : List ℕ) → ChecksAlone (map S.text words.now) name → result ≡ DONE →
-        Checks (W.contents writer.old) (W.contents writer.new) }
-    ensures unchecked { (name : List ℕ) → ChecksAlone (map S.text words.now) name → result ≡ REFUSED_TEXT →
-        Keeps (W.contents writer.old) (W.contents writer.new) }
-
-    // Whatever they order, any status but 0 tells a fault, or is 2, which says that the words are refused.
-    ensures told { IsStatus result }
-    ensures refused_words { result ≡ REFUSED_WORDS → AreRefused (map S.text words.now) }
+    ensures runs { Runs R.gives W.takes W.flushes (map S.text words.now) reader.old reader.new writer.old writer.new result }
+    ensures status { IsStatus result }
 {
     match order_of(alloc, words) {
-        Ok(Answer::Ordered(order)) => obey(alloc, files, order, reader, writer, errors),
-        Ok(Answer::Shown { text }) => match show(text.as_str(), writer) {
+        Ok(Parsed::Ordered(order)) => obey(alloc, files, order, reader, writer, errors),
+        Ok(Parsed::Shown { text }) => match show(text.as_str(), writer) {
             Ok(()) => DONE,
-            Err(_) => tell("output", Fault::Write, errors),
+            Err(_) => report("output", Fault::Write, errors),
         },
-        Ok(Answer::Refused { text }) => {
+        Ok(Parsed::Refused { text }) => {
             let _ = send(errors, text.as_bytes());
             REFUSED_WORDS
         }
-        Err(_) => tell("arena", Fault::Memory, errors),
+        Err(_) => report("arena", Fault::Memory, errors),
     }
 }
 
-fn obey<F: Files, R: Read, W: Write, E: Write>(
+fn obey<F: Files, R: Input, W: Output, E: Write>(
     alloc: Global,
     files: &F,
     order: Order,
@@ -76,20 +56,12 @@ fn obey<F: Files, R: Read, W: Write, E: Write>(
     writer: &mut W,
     errors: &mut E,
 ) -> u8
-    ensures exits { order ≡ Order.Rehearse None →
-        Exits (opening_of texts.built_in) MAX_TURNS (R.remaining reader.old) (R.remaining reader.new) (W.contents writer.old) (W.contents writer.new) result }
-    ensures file { (name : List ℕ) → order ≡ Order.Rehearse (Some name) → result ≡ DONE →
-        PlaysFile (R.remaining reader.old) (R.remaining reader.new) (W.contents writer.old) (W.contents writer.new) }
-    ensures checked { (name : List ℕ) → order ≡ Order.Check name → result ≡ DONE →
-        Checks (W.contents writer.old) (W.contents writer.new) }
-    ensures unchecked { (name : List ℕ) → order ≡ Order.Check name → result ≡ REFUSED_TEXT →
-        Keeps (W.contents writer.old) (W.contents writer.new) }
-    ensures told { IsTold result }
+    ensures { Obeys R.gives W.takes W.flushes order reader.old reader.new writer.old writer.new result }
 {
     match order {
         Order::Rehearse { tournament: None } => match built_in(alloc) {
             Ok(lineup) => rehearse_whole(alloc, lineup, reader, writer, errors),
-            Err(_) => tell("arena", Fault::Memory, errors),
+            Err(_) => report("arena", Fault::Memory, errors),
         },
         Order::Rehearse {
             tournament: Some(name),
@@ -101,43 +73,34 @@ fn obey<F: Files, R: Read, W: Write, E: Write>(
     }
 }
 
-// Rehearses, and tells the fault that ended it.
-fn rehearse_whole<R: Read, W: Write, E: Write>(
+// Rehearses, and reports the fault that ended it.
+fn rehearse_whole<R: Input, W: Output, E: Write>(
     alloc: Global,
     lineup: Lineup,
     reader: &mut R,
     writer: &mut W,
     errors: &mut E,
 ) -> u8
-    ensures exits { Exits (opening lineup) MAX_TURNS (R.remaining reader.old) (R.remaining reader.new) (W.contents writer.old) (W.contents writer.new) result }
-    ensures told { IsTold result }
+    ensures { Rehearses R.gives W.takes MAX_TURNS W.flushes (opening lineup) reader.old reader.new writer.old writer.new result }
 {
     match rehearse_out(alloc, lineup, reader, writer) {
         Ok(()) => DONE,
-        Err(Fault::Write) => tell("output", Fault::Write, errors),
-        Err(fault) => tell("script", fault, errors),
+        Err(Fault::Write) => report("output", Fault::Write, errors),
+        Err(fault) => report("script", fault, errors),
     }
 }
 
 // Rehearses, and sees that all is out.
-fn rehearse_out<R: Read, W: Write>(
+fn rehearse_out<R: Input, W: Output>(
     alloc: Global,
     lineup: Lineup,
     reader: &mut R,
     writer: &mut W,
 ) -> Result<(), Fault>
-    ensures played { OnOk result (Plays (opening lineup) (R.remaining reader.old) (R.remaining reader.new) (W.contents writer.old) (W.contents writer.new)) }
-    ensures ended { IfErr result (EndsBy (opening lineup) MAX_TURNS (R.remaining reader.old) (R.remaining reader.new) (W.contents writer.old) (W.contents writer.new)) }
+    ensures played { OnOk result (PlaysOut R.gives W.takes MAX_TURNS W.flushes true (opening lineup) reader.old reader.new writer.old writer.new) }
+    ensures ended { IfErr result (EndsBy R.gives W.takes MAX_TURNS W.flushes (opening lineup) reader.old reader.new writer.old writer.new) }
 {
     rehearse(alloc, lineup, reader, writer, MAX_TURNS)?;
-    finish(writer)?;
-    Ok(())
-}
-
-fn show<W: Write>(text: &str, writer: &mut W) -> Result<(), WriteFault>
-    ensures { OnOk result (Appends (W.contents writer.old) (W.contents writer.new) text.now) }
-{
-    send(writer, text.as_bytes())?;
     finish(writer)?;
     Ok(())
 }

@@ -4,13 +4,13 @@ ghost use Rattle.bhs_rehearsal.specs.Stages.{step, stands_after};
 ghost use Rattle.bhs_rehearsal.specs.Rehearsing.{game_of, seen_out};
 ghost use Rattle.bhs_script.specs.Instructions.{seen};
 ghost use Rattle.bhs_script.specs.Transcript.{all_printed, transcript};
-ghost use Rattle.bhs_program.specs.Fault.{StopsPuts};
+ghost use Rattle.bhs_program.specs.Playing.{StopsPlaying};
 
 use crate::faults::Fault;
 use bhs_files::Ready;
 use bhs_net::Memory;
-use bhs_script::{Instruction, push_printed};
 use bhs_rehearsal::{Out, Rehearsal, RehearsalFault};
+use bhs_script::{Instruction, push_printed};
 use bhs_stream::{Output, send};
 use std::alloc::Global;
 
@@ -23,7 +23,7 @@ pub fn play<W: Output>(
 ) -> Result<Vec<Ready>, Fault>
     ensures printed { OnOk result (PutsAll W.takes writer.old (transcript rehearsal.stage (map seen script.items)) writer.new) }
     ensures played { IfOk result (λ ready. map game_of ready.items ≡ (stands_after rehearsal.stage (map seen script.items)).games) }
-    ensures stopped { IfErr result (StopsPuts W.takes writer.old (transcript rehearsal.stage (map seen script.items)) writer.new) }
+    ensures stopped { IfErr result (StopsPlaying W.takes (transcript rehearsal.stage (map seen script.items)) writer.old writer.new) }
 {
     for instruction in script {
         let outs = obey(alloc, &mut rehearsal, instruction)?;
@@ -56,7 +56,7 @@ fn obey(
 
 fn print<W: Output>(alloc: Global, outs: &[Out], writer: &mut W) -> Result<(), Fault>
     ensures ok { OnOk result (PutsAll W.takes writer.old (all_printed (map seen_out outs.now)) writer.new) }
-    ensures err { IfErr result (StopsPuts W.takes writer.old (all_printed (map seen_out outs.now)) writer.new) }
+    ensures err { IfErr result (StopsPlaying W.takes (all_printed (map seen_out outs.now)) writer.old writer.new) }
 {
     let text = printed(alloc, outs)?;
     send(writer, &text)?;

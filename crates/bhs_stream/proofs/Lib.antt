@@ -1,4 +1,3 @@
-pub mod Known
 pub mod ChunkLemmas
 pub mod OverMemory
 pub mod PutsLemmas

@@ -1,5 +1,5 @@
 -- Writes of several texts, one after the other.
-use Rattle.std.proofs.Common.{◌∙◌, ℕ, ◌+◌, ◌<◌, List, ◌++◌, length, sym, ap, subst, arith, append_assoc, length-append, length-drop}
+use Rattle.std.proofs.Common.{◌≡◌, ◌∙◌, ℕ, ◌+◌, ◌<◌, List, [], ◌++◌, length, refl, sym, ap, subst, arith, append_assoc, append-nil, length-append, length-drop}
 use Rattle.std.proofs.Math.Seq.{drop-append-le, drop-append-add}
 use Rattle.bhs_stream.specs.Streams.{Taken}
 use Rattle.bhs_stream.specs.Sending.{IsOffered, Puts, begins, goes_on, PutsAll, PutsPart}
@@ -65,3 +65,48 @@ module _ {O : Type 0} (takes : O → List ℕ → Taken → O → Type 0) (front
     is_offered = offered-rest front rest part.sent part.offered part.is_offered;
     last = part.last;
   }
+
+-- ---- a loop that sends a text piece by piece
+
+-- an output took the front of a text, and this of it is left
+pub record IsSentUpTo {O : Type 0} (takes : O → List ℕ → Taken → O → Type 0) (old new : O) (text left : List ℕ) : Type 0 where
+  pub front : List ℕ
+  pub sent : PutsAll takes old front new
+  pub whole : front ++ left ≡ text
+
+module _ {O : Type 0} (takes : O → List ℕ → Taken → O → Type 0) where
+  pub sent_none : (a : O) (text : List ℕ) → IsSentUpTo takes a a text text
+  sent_none a text = record { front = []; sent = begins; whole = refl }
+
+  pub sent_more : (a b c : O) (text bytes left : List ℕ) → IsSentUpTo takes a b text (bytes ++ left) → PutsAll takes b bytes c → IsSentUpTo takes a c text left
+  sent_more a b c text bytes left so_far more = record {
+    front = so_far.front ++ bytes;
+    sent = PutsAll-trans takes so_far.front bytes a b c so_far.sent more;
+    whole = append_assoc so_far.front bytes left ∙ so_far.whole;
+  }
+
+  pub sent_all : (a b : O) (text : List ℕ) → IsSentUpTo takes a b text [] → PutsAll takes a text b
+  sent_all a b text so_far = subst (λ (bytes : List ℕ). PutsAll takes a bytes b) (sym (append-nil so_far.front) ∙ so_far.whole) so_far.sent
+
+  -- the next bytes went out in part, and a write failed or took nothing
+  pub sent_part : (a b c : O) (text bytes left : List ℕ) → IsSentUpTo takes a b text (bytes ++ left) → PutsPart takes b bytes c → PutsPart takes a text c
+  sent_part a b c text bytes left so_far part =
+      subst (λ (whole : List ℕ). PutsPart takes a whole c) so_far.whole
+      (PutsPart-trans takes so_far.front (bytes ++ left) a b c so_far.sent (PutsPart-front takes bytes left b c part))
+
+  -- the next bytes went out up to here
+  pub sent_some : (a b c : O) (text bytes left : List ℕ) (count : ℕ) → IsSentUpTo takes a b text (bytes ++ left) → Puts takes b bytes count c
+      → (all : ℕ) × Puts takes a text all c
+  sent_some a b c text bytes left count so_far some = (
+    length so_far.front + count,
+    subst (λ (whole : List ℕ). Puts takes a whole (length so_far.front + count) c) so_far.whole
+        (Puts-trans takes so_far.front (bytes ++ left) a b c count so_far.sent (Puts-front takes bytes left b c count some)),
+  )
+
+  -- none of the next bytes went out
+  pub sent_so_far : (a b : O) (text left : List ℕ) → IsSentUpTo takes a b text left → (count : ℕ) × Puts takes a text count b
+  sent_so_far a b text left so_far = (
+    length so_far.front,
+    subst (λ (whole : List ℕ). Puts takes a whole (length so_far.front) b) so_far.whole
+        (Puts-front takes so_far.front left a b (length so_far.front) so_far.sent),
+  )

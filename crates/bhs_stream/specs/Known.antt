@@ -1,15 +1,38 @@
--- What a writer's known bytes are where not all bytes went out.
-use Rattle.std.specs.Prelude.{ℕ, ◌<◌, List, length, take}
+-- What a reader's known bytes say of a text that was not read, and a writer's of bytes that did not all go out.
+use Rattle.std.specs.Prelude.{ℕ, ◌+◌, ◌*◌, ◌<◌, ◌≤◌, List, length, take}
 use Rattle.std.specs.declared.option.Option.{Option}
 use Rattle.std.specs.Io.KnownBytes.{Appends}
+use Rattle.bhs_stream.specs.declared.reading.TheConstants.{BUFFER}
+use Rattle.bhs_stream.specs.declared.reading.ReadFault.{ReadFault}
+use Rattle.bhs_stream.specs.declared.reading.ReadFault.TheVariants.{Read, Text, Memory, Turns}
 
--- known bytes grow by the first of bs, perhaps by all of bs
-pub record AppendsPrefix (old new : Option (List ℕ)) (bs : List ℕ) : Type 0 where
-  pub count : ℕ
-  pub grown : Appends old new (take count bs)
+-- ---- written
 
--- known bytes grow by the first of bs, and the last of bs is missing
-pub record AppendsPart (old new : Option (List ℕ)) (bs : List ℕ) : Type 0 where
+-- known bytes grow by the first of these, and the last of them is missing
+pub record AppendsPart (old new : Option (List ℕ)) (bytes : List ℕ) : Type 0 where
   pub count : ℕ
-  pub short : count < length bs
-  pub grown : Appends old new (take count bs)
+  pub short : count < length bytes
+  pub grown : Appends old new (take count bytes)
+
+-- ---- read
+
+-- so many reads can have given the bytes: each gives at least one byte, and at most a full buffer
+abbrev pub GivenBy : ℕ → List ℕ → Type 0
+GivenBy reads bytes = (reads ≤ length bytes) × (length bytes ≤ reads * BUFFER)
+
+-- no more than `turns` reads gave the bytes
+abbrev pub GivenWithin : ℕ → List ℕ → Type 0
+GivenWithin turns bytes = (reads : ℕ) × (reads ≤ turns) × GivenBy reads bytes
+
+-- fewer than `turns` reads gave the bytes, so that a turn was left for the read that ended the reading
+abbrev pub GivenBefore : ℕ → List ℕ → Type 0
+GivenBefore turns bytes = (reads : ℕ) × (reads < turns) × GivenBy reads bytes
+
+-- the bytes that were read when a fault ended the reading, under a limit and a number of turns.
+-- A read that failed gave none. The read that brought more than the limit is the last. Memory was wanted
+-- for bytes that had come. And the turns ran out where each of them had given bytes.
+abbrev pub StoppedBy : ReadFault → ℕ → ℕ → List ℕ → Type 0
+StoppedBy Read limit turns bytes = (length bytes ≤ limit) × GivenBefore turns bytes
+StoppedBy Text limit turns bytes = (limit < length bytes) × (length bytes ≤ limit + BUFFER) × GivenWithin turns bytes
+StoppedBy Memory limit turns bytes = (0 < length bytes) × (length bytes ≤ limit) × GivenWithin turns bytes
+StoppedBy Turns limit turns bytes = (length bytes ≤ limit) × GivenBy turns bytes

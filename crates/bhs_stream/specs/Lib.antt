@@ -1,4 +1,3 @@
-pub mod ReadFault
 pub mod Known
 pub mod Streams
 pub mod Reading

@@ -48,3 +48,10 @@ Gives old Fails new = Keeps old new
 abbrev pub TakesKnown : Option (List ℕ) → List ℕ → Taken → Option (List ℕ) → Type 0
 TakesKnown old bytes (Takes count) new = Appends old new (take count bytes)
 TakesKnown old bytes Refuses new = Keeps old new
+
+-- a read of an input whose bytes are known, and a write to an output whose bytes are known
+abbrev pub known_gives : {R : Type 0} → (R → Option (List ℕ)) → R → Chunk → R → Type 0
+known_gives remaining old chunk new = Gives (remaining old) chunk (remaining new)
+
+abbrev pub known_takes : {W : Type 0} → (W → Option (List ℕ)) → W → List ℕ → Taken → W → Type 0
+known_takes contents old bytes answer new = TakesKnown (contents old) bytes answer (contents new)

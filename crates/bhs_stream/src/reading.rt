@@ -31,16 +31,16 @@ pub enum ReadFault {
 /// A text has at most `limit` bytes. The read that brings more is the last one, so that at most `BUFFER`
 /// bytes beyond the limit are read. With no turns nothing is read.
 ///
-/// No clause says that `ReadFault::Read` comes only where a read failed, since `Read::read` names nothing
-/// that a failed read leaves behind: tests show it.
-pub fn read_text<I: Input>(
+/// The clauses follow the reads one by one: `Read` comes only after a read that failed, and `Turns` only
+/// after as many reads as the turns allow, each of which brought bytes.
+pub fn read_text<R: Input>(
     alloc: Global,
-    reader: &mut I,
+    reader: &mut R,
     limit: usize,
     turns: u32,
 ) -> Result<Vec<u8>, ReadFault>
-    ensures text { IfOk result (λ text. Closes I.gives reader.old limit turns text.items End reader.new) }
-    ensures fault { IfErr result (λ fault. EndsBy I.gives reader.old limit turns fault reader.new) }
+    ensures text { IfOk result (λ text. Closes R.gives reader.old limit turns text.items End reader.new) }
+    ensures fault { IfErr result (λ fault. EndsBy R.gives reader.old limit turns fault reader.new) }
 {
     let mut text = Vec::new(alloc);
     let mut buffer = [0u8; BUFFER];

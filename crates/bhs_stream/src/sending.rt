@@ -13,11 +13,11 @@ pub struct WriteFault;
 
 /// Writes all the bytes, by as many writes as it takes. No bytes are no write.
 ///
-/// At a fault the writer has the first of the bytes, those that its writes took, and never all. No clause
-/// says that the fault comes only where a write failed or took nothing: tests show it.
-pub fn send<O: Output>(writer: &mut O, bytes: &[u8]) -> Result<(), WriteFault>
-    ensures ok { OnOk result (PutsAll O.takes writer.old bytes.now writer.new) }
-    ensures err { OnErr result (PutsPart O.takes writer.old bytes.now writer.new) }
+/// At a fault the writer has the first of the bytes, those that its writes took, and never all; the last
+/// write failed or took none.
+pub fn send<W: Output>(writer: &mut W, bytes: &[u8]) -> Result<(), WriteFault>
+    ensures ok { OnOk result (PutsAll W.takes writer.old bytes.now writer.new) }
+    ensures err { OnErr result (PutsPart W.takes writer.old bytes.now writer.new) }
 {
     let mut sent = 0;
     while sent < bytes.len() {
@@ -31,9 +31,9 @@ pub fn send<O: Output>(writer: &mut O, bytes: &[u8]) -> Result<(), WriteFault>
 
 /// Has a writer that holds bytes back, as a `BufWriter` does, pass them on. Where such a writer is dropped
 /// it passes them on too, and a write that then fails goes unseen. Standard output itself holds none back.
-pub fn finish<O: Output>(writer: &mut O) -> Result<(), WriteFault>
-    ensures ok { OnOk result (O.flushes writer.old true writer.new) }
-    ensures err { OnErr result (O.flushes writer.old false writer.new) }
+pub fn finish<W: Output>(writer: &mut W) -> Result<(), WriteFault>
+    ensures ok { OnOk result (W.flushes writer.old true writer.new) }
+    ensures err { OnErr result (W.flushes writer.old false writer.new) }
 {
     writer.pass_on().map_err(|_| WriteFault)
 }

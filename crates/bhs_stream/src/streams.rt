@@ -1,7 +1,7 @@
 // Where bytes come from and go to. Contracts see each call.
 ghost use Rattle.std.specs.Prelude.{ℕ, List, Bool, ◌<◌, ◌≤◌, length, IfOk};
 ghost use Rattle.std.specs.Io.KnownBytes.{Keeps};
-ghost use Rattle.bhs_stream.specs.Streams.{Chunk, chunk_of, Taken, taken_by, went, Gives, TakesKnown};
+ghost use Rattle.bhs_stream.specs.Streams.{Chunk, chunk_of, Taken, taken_by, went, known_gives, known_takes};
 
 use std::io;
 use std::io::{Read, Write};
@@ -36,7 +36,7 @@ pub trait Output {
 }
 
 impl<R: Read> Input for R {
-    ghost gives = { λ old chunk new. Gives (R.remaining old) chunk (R.remaining new) };
+    ghost gives = { known_gives R.remaining };
 
     fn read_some(&mut self, buffer: &mut [u8]) -> io::Result<usize> {
         self.read(buffer)
@@ -44,7 +44,7 @@ impl<R: Read> Input for R {
 }
 
 impl<W: Write> Output for W {
-    ghost takes = { λ old bytes answer new. TakesKnown (W.contents old) bytes answer (W.contents new) };
+    ghost takes = { known_takes W.contents };
 
     ghost flushes = { λ old done new. Keeps (W.contents old) (W.contents new) };
 

@@ -1,5 +1,5 @@
 use Rattle.std.proofs.Common.{ap, is_some, map}
-use Rattle.bhs_command_line.specs.declared.Answer.TheVariants.{Ordered}
+use Rattle.bhs_command_line.specs.declared.Parsed.TheVariants.{Ordered}
 use Rattle.bhs_command_line.proofs.AnswerLemmas.{all_named, all_on, named_answered, on_answered, all_plainly, error_answered, free_here, kind_here, order_found, order_given, plainly, simple_here}
 use Rattle.bhs_command_line.proofs.order_of.Goals as goal
 
@@ -28,25 +28,25 @@ pub returns-in-Err-clause-answers : goal.returns-in-Err-clause-answers
 returns-in-Err-clause-answers g c =
     let words = map g.S.AsStr.text c.args.words.now in
     let line = c.in_ok-command.ensures in
-    error_answered c.told.result _ words (kind_here _ line words _ (c.in-Err.ensures.kinds (free_here _ line words))) c.told.ensures.ok c.told.ensures.memory
+    error_answered c.explained.result _ words (kind_here _ line words _ (c.in-Err.ensures.kinds (free_here _ line words))) c.explained.ensures.ok c.explained.ensures.memory
 
 pub returns-in-Err-clause-rehearse : goal.returns-in-Err-clause-rehearse
-returns-in-Err-clause-rehearse g c = (all_plainly c.told.result (map g.S.AsStr.text c.args.words.now) (returns-in-Err-clause-answers g c)).0
+returns-in-Err-clause-rehearse g c = (all_plainly c.explained.result (map g.S.AsStr.text c.args.words.now) (returns-in-Err-clause-answers g c)).0
 
 pub returns-in-Err-clause-help : goal.returns-in-Err-clause-help
-returns-in-Err-clause-help g c = (all_plainly c.told.result (map g.S.AsStr.text c.args.words.now) (returns-in-Err-clause-answers g c)).1
+returns-in-Err-clause-help g c = (all_plainly c.explained.result (map g.S.AsStr.text c.args.words.now) (returns-in-Err-clause-answers g c)).1
 
 pub returns-in-Err-clause-no_word : goal.returns-in-Err-clause-no_word
-returns-in-Err-clause-no_word g c = (all_plainly c.told.result (map g.S.AsStr.text c.args.words.now) (returns-in-Err-clause-answers g c)).2
+returns-in-Err-clause-no_word g c = (all_plainly c.explained.result (map g.S.AsStr.text c.args.words.now) (returns-in-Err-clause-answers g c)).2
 
 pub returns-in_ok-order_given-in-Ok-clause-check : goal.returns-in_ok-order_given-in-Ok-clause-check
 returns-in_ok-order_given-in-Ok-clause-check g c = named_answered (map g.S.AsStr.text c.args.words.now) (Ordered c.in_ok-order_given-in-Ok.field-0) (returns-in_ok-order_given-in-Ok-clause-answers g c)
 
 pub returns-in-Err-clause-check : goal.returns-in-Err-clause-check
-returns-in-Err-clause-check g c = all_named c.told.result (map g.S.AsStr.text c.args.words.now) (returns-in-Err-clause-answers g c)
+returns-in-Err-clause-check g c = all_named c.explained.result (map g.S.AsStr.text c.args.words.now) (returns-in-Err-clause-answers g c)
 
 pub returns-in_ok-order_given-in-Ok-clause-rehearse_on : goal.returns-in_ok-order_given-in-Ok-clause-rehearse_on
 returns-in_ok-order_given-in-Ok-clause-rehearse_on g c = on_answered (map g.S.AsStr.text c.args.words.now) (Ordered c.in_ok-order_given-in-Ok.field-0) (returns-in_ok-order_given-in-Ok-clause-answers g c)
 
 pub returns-in-Err-clause-rehearse_on : goal.returns-in-Err-clause-rehearse_on
-returns-in-Err-clause-rehearse_on g c = all_on c.told.result (map g.S.AsStr.text c.args.words.now) (returns-in-Err-clause-answers g c)
+returns-in-Err-clause-rehearse_on g c = all_on c.explained.result (map g.S.AsStr.text c.args.words.now) (returns-in-Err-clause-answers g c)

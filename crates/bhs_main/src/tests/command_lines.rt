@@ -1,4 +1,4 @@
-use bhs_command_line::{Answer, Order, order_of};
+use bhs_command_line::{Order, Parsed, order_of};
 use bhs_model::Text;
 use std::alloc::AllocError;
 use std::test::Fail;
@@ -24,7 +24,7 @@ fn orders(rt: HostRuntime) -> Result<(), AllocError> {
         let answer = order_of(rt.alloc(), words)?;
         assert_eq!(rt;
             answer,
-            Answer::Ordered(Order::Rehearse { tournament: None }),
+            Parsed::Ordered(Order::Rehearse { tournament: None }),
             "at {words:?}"
         );
     }
@@ -41,7 +41,7 @@ fn orders_a_rehearsal_of_a_file(rt: HostRuntime) -> Result<(), AllocError> {
         let answer = order_of(rt.alloc(), words)?;
         assert_eq!(rt;
             answer,
-            Answer::Ordered(Order::Rehearse { tournament }),
+            Parsed::Ordered(Order::Rehearse { tournament }),
             "at {words:?}"
         );
     }
@@ -62,7 +62,7 @@ fn orders_a_check(rt: HostRuntime) -> Result<(), AllocError> {
         let answer = order_of(rt.alloc(), words)?;
         assert_eq!(rt;
             answer,
-            Answer::Ordered(Order::Check { tournament }),
+            Parsed::Ordered(Order::Check { tournament }),
             "at {words:?}"
         );
     }
@@ -76,7 +76,7 @@ fn takes_words_of_the_process(rt: HostRuntime) -> Result<(), AllocError> {
     let answer = order_of(alloc, words.as_slice())?;
     assert_eq!(rt;
         answer,
-        Answer::Ordered(Order::Rehearse { tournament: None })
+        Parsed::Ordered(Order::Rehearse { tournament: None })
     );
     Ok(())
 }
@@ -101,7 +101,7 @@ Options:
     ] {
         let text = String::from_str(rt.alloc(), want)?;
         let answer = order_of(rt.alloc(), words)?;
-        assert_eq!(rt; answer, Answer::Shown { text }, "at {words:?}");
+        assert_eq!(rt; answer, Parsed::Shown { text }, "at {words:?}");
     }
     Ok(())
 }
@@ -138,7 +138,7 @@ fn shows_long_help(rt: HostRuntime) -> Result<(), Fail> {
             [command, script, out_of_memory].as_slice(),
         ),
     ] {
-        let Answer::Shown { text } = order_of(rt.alloc(), words)? else {
+        let Parsed::Shown { text } = order_of(rt.alloc(), words)? else {
             return Err(Fail::from("no help"));
         };
         for part in parts {
@@ -220,7 +220,7 @@ For more information, try '--help'.
     ] {
         let text = String::from_str(rt.alloc(), want)?;
         let answer = order_of(rt.alloc(), words)?;
-        assert_eq!(rt; answer, Answer::Refused { text }, "at {words:?}");
+        assert_eq!(rt; answer, Parsed::Refused { text }, "at {words:?}");
     }
     Ok(())
 }

@@ -77,6 +77,8 @@ team = "red"¶network => net => cup.toml: match 0 missing team
 "red"¶network => 7¶net => cup.toml: match 0 shape team
 network => net => cup.toml: match 0 missing network
 tri.toml => é => é: read
+tri.toml => x\ncup.toml: toml => x\ncup.toml: toml: read
+tri.toml => \u001b[2J\u0085 => \u{1b}[2J\u{85}: read
 tri.toml =>  => cup.toml: match 0 shape network
 tri.toml => tri\u0000 => cup.toml: match 0 shape network
 "tri.toml" => ["tri.toml"] => cup.toml: match 0 shape network

@@ -3,11 +3,12 @@
 use super::files::{CUP, TRIANGLE, changed};
 use super::streams::{Narrow, Pieces};
 use bhs_model::{MAX_LINE, MAX_TEXT};
-use bhs_program::{Fault, built_in, rehearse, run, tell};
+use bhs_program::{Fault, built_in, rehearse, report, run, words_of};
 use std::alloc::Global;
+use std::env::FillError;
 use std::fs;
 use std::process::Abort;
-use std::rt::Files;
+use std::rt::{Env, Files};
 use std::test::Fail;
 
 const ROAD: &str = r#"0 {"do":"enter","key":"ka"}
@@ -237,13 +238,81 @@ fn a_check_that_is_cut_is_told(rt: HostRuntime) -> Result<(), Fail> {
 }
 
 #[test]
+fn names_in_fault_lines_are_shown(rt: HostRuntime) -> Result<(), Fail> {
+    let nameless = Case {
+        words: &["check", ""],
+        script: b"",
+        fails: false,
+        room: 1000,
+        told: "'': read\n",
+        status: 6,
+    };
+    ends(&rt, rt.alloc(), &nameless, b"")?;
+    let forged = Case {
+        words: &["rehearse", "x\ncup.toml: toml\r\u{1b}[2J"],
+        told: "x\\ncup.toml: toml\\r\\u{1b}[2J: read\n",
+        ..nameless
+    };
+    ends(&rt, rt.alloc(), &forged, b"")
+}
+
+/// The words of a process.
+#[derive(Drop)]
+struct Words<'a> {
+    words: &'a [&'a [u8]],
+}
+
+impl Env for Words<'_> {
+    fn arg(&self, i: usize, buf: &mut [u8]) -> Result<usize, FillError> {
+        let Some(word) = self.words.get(i) else {
+            return Err(FillError::NotPresent);
+        };
+        if word.len() > buf.len() {
+            return Err(FillError::TooLong);
+        }
+        buf[..word.len()].copy_from_slice(word);
+        Ok(word.len())
+    }
+
+    fn var(&self, _name: &str, _buf: &mut [u8]) -> Result<usize, FillError> {
+        Err(FillError::NotPresent)
+    }
+
+    fn var_at(&self, _i: usize, _buf: &mut [u8]) -> Result<usize, FillError> {
+        Err(FillError::NotPresent)
+    }
+}
+
+#[test]
+fn words_are_utf_8(rt: HostRuntime) -> Result<(), Fail> {
+    let mut errors = Vec::new(rt.alloc());
+    let strange = Words {
+        words: &[b"arena", b"check", b"cup\xff.toml", b"\xff"],
+    };
+    let words = words_of(rt.alloc(), &strange, &mut errors);
+    assert_eq!(rt; words.err(), Some(2));
+    assert_eq!(rt;
+        errors.as_slice(),
+        b"arena: word 2 is no UTF-8\n".as_slice()
+    );
+    let long = [b'x'; 1000];
+    let plain = Words {
+        words: &[b"arena", "é".as_bytes(), b"", &long],
+    };
+    let words = words_of(rt.alloc(), &plain, &mut errors).map_err(|_| "words")?;
+    let lengths: Vec<usize> = words.iter().map(|word| word.len()).collect(rt.alloc())?;
+    assert_eq!(rt; lengths.as_slice(), [2, 0, 1000].as_slice());
+    Ok(())
+}
+
+#[test]
 fn faults_that_no_file_makes_have_names(rt: HostRuntime) -> Result<(), Fail> {
     for (fault, told, status) in [
         (Fault::Turns, "script: turns\n", 6),
         (Fault::Memory, "script: memory\n", 5),
     ] {
         let mut errors = Vec::new(rt.alloc());
-        assert_eq!(rt; tell("script", fault, &mut errors), status);
+        assert_eq!(rt; report("script", fault, &mut errors), status);
         assert_eq!(rt; errors.as_slice(), told.as_bytes());
     }
     Ok(())

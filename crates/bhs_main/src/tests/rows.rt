@@ -18,6 +18,11 @@ The last line may lack its line feed.
 > 0 {"do":"enter","key":"ka"}
 < 0 {"board":"","from":null,"ok":"here","ports":2}
 
+An enter and a look may come in one piece.
+> hex 0 7b22646f223a22656e746572222c226b6579223a226b61227d0a7b22646f223a226c6f6f6b227d0a
+< 0 {"board":"","from":null,"ok":"here","ports":2}
+< 0 {"board":"","from":null,"ok":"here","ports":2}
+
 An arrival is told.
 > 0 {"do":"enter","key":"ka"}
 < 0 {"board":"","from":null,"ok":"here","ports":2}

@@ -1,28 +1,242 @@
-// Whole sessions over memory, with a port that answers from a list.
+//! Whole sessions over memory, as rows of text, with a port that answers from a list.
+//!
+//! A row has a title and these lines: `>` of the client, `~` its last bytes without a line feed, `=` the port's answers,
+//! `<` what is written, `~<` the last bytes of it without a line feed, `?` what the port is asked, `!` how the session
+//! ends. After `#` stands that the read behind the last byte fails, how many turns there are, or how many bytes go out
+//! before writing fails. `␠`, `␉` and `␍` stand for a space, a tab and a carriage return. Rows are parted by empty lines.
+
 use super::streams::{Narrow, Pieces};
-use bhs_model::{Command, Reply, Text};
+use bhs_model::{Command, MAX_LINE, Reply, Text};
 use bhs_net::Memory;
-use bhs_session::{Ended, Entered, Port, serve};
+use bhs_session::{Entered, Port, serve};
 use std::alloc::Global;
 use std::process::Abort;
 use std::test::Fail;
+
+const SESSIONS: &str = r#"Who goes is told to leave.
+> {"do":"enter","key":"ka"}
+> {"do":"look"}
+= H- H- bye
+< {"board":"","from":null,"ok":"here","ports":2}
+< {"board":"","from":null,"ok":"here","ports":2}
+? key ka, look, leave
+! InputEnded
+
+So is one whose line fails.
+# fails
+> {"do":"enter","key":"ka"}
+> {"do":"look"}
+= H- H- bye
+< {"board":"","from":null,"ok":"here","ports":2}
+< {"board":"","from":null,"ok":"here","ports":2}
+? key ka, look, leave
+! ReadFault
+
+The end of the input is one read more.
+# turns 2
+> {"do":"enter","key":"ka"}
+> {"do":"look"}
+= H- H- bye
+< {"board":"","from":null,"ok":"here","ports":2}
+< {"board":"","from":null,"ok":"here","ports":2}
+? key ka, look, leave
+! InputEnded
+
+Turns may run out.
+# turns 1
+> {"do":"enter","key":"ka"}
+> {"do":"look"}
+= H- H- bye
+< {"board":"","from":null,"ok":"here","ports":2}
+< {"board":"","from":null,"ok":"here","ports":2}
+? key ka, look, leave
+! Turns
+
+Who did not enter does not leave.
+# turns 0
+> {"do":"enter","key":"ka"}
+> {"do":"look"}
+! Turns
+
+An empty input.
+! InputEnded
+
+A line that fails at once.
+# fails
+! ReadFault
+
+Blank lines, and one without its end.
+> ␠
+> ␍
+~ {"do":"enter",
+! InputEnded
+
+A key that is unknown.
+> {"do":"enter","key":"ka"}
+> {"do":"look"}
+= key
+< {"no":"key"}
+? key ka
+! Denied
+
+A key that was used.
+> {"do":"enter","key":"ka"}
+> {"do":"look"}
+= taken
+< {"no":"taken"}
+? key ka
+! Denied
+
+A first line that is no enter.
+> {"do":"look"}
+< {"no":"enter"}
+! Denied
+
+An enter without a key.
+> {"do":"enter"}
+< {"no":"enter"}
+! Denied
+
+A denial that does not go out whole.
+# room 5
+> {"do":"enter","key":"ka"}
+> {"do":"look"}
+= key
+~< {"no"
+? key ka
+! WriteFault
+
+Bye ends it.
+> {"do":"enter","key":"ka"}
+> {"do":"look"}
+= bye
+< {"ok":"bye"}
+? key ka
+! Bye
+
+Noted ends it.
+> {"do":"enter","key":"ka"}
+> {"do":"look"}
+= noted
+< {"ok":"noted"}
+? key ka
+! Noted
+
+Over ends it.
+> {"do":"enter","key":"ka"}
+> {"do":"look"}
+= over
+< {"ok":"over"}
+? key ka
+! Over
+
+Over may be the news.
+> {"do":"enter","key":"ka"}
+> {"do":"look"}
+= gone over
+< {"ok":"gone"}
+< {"ok":"over"}
+? key ka, news
+! Over
+
+A last line that does not go out whole.
+# room 9
+> {"do":"enter","key":"ka"}
+> {"do":"look"}
+= bye
+~< {"ok":"by
+? key ka
+! WriteFault
+
+News come before the next line.
+> {"do":"enter","key":"ka"}
+> {"do":"depart","port":0}
+> {"do":"look"}
+= H- gone H0 H0 over
+< {"board":"","from":null,"ok":"here","ports":2}
+< {"ok":"gone"}
+< {"board":"","from":0,"ok":"here","ports":2}
+< {"board":"","from":0,"ok":"here","ports":2}
+? key ka, depart, news, look, leave
+! InputEnded
+
+News that do not go out whole.
+# room 66
+> {"do":"enter","key":"ka"}
+> {"do":"depart","port":0}
+> {"do":"look"}
+= H- gone H0 H0 over
+< {"board":"","from":null,"ok":"here","ports":2}
+< {"ok":"gone"}
+~< {"boa
+? key ka, depart, news, leave
+! WriteFault
+
+No news are asked for after a Gone that was not written.
+# room 60
+> {"do":"enter","key":"ka"}
+> {"do":"depart","port":0}
+> {"do":"look"}
+= H- gone H0 H0 over
+< {"board":"","from":null,"ok":"here","ports":2}
+~< {"ok":"gone"}
+? key ka, depart, leave
+! WriteFault
+
+A later enter is a command; blank lines are skipped; a last line without its end is none.
+> ␠
+> {"do":"enter","key":"ka"}␍
+> 
+> ␉
+> {"do":"enter","key":"kb"}
+~ {"do":"look"}
+= H- H- bye
+< {"board":"","from":null,"ok":"here","ports":2}
+< {"board":"","from":null,"ok":"here","ports":2}
+? key ka, enter, leave
+! InputEnded
+
+Memory may run out at the enter.
+> {"do":"enter","key":"ka"}
+> {"do":"look"}
+= none
+? key ka
+! Memory
+
+It may run out at a command.
+> {"do":"enter","key":"ka"}
+> {"do":"look"}
+= H- none
+< {"board":"","from":null,"ok":"here","ports":2}
+? key ka, look, leave
+! Memory
+
+It may run out at the news.
+> {"do":"enter","key":"ka"}
+> {"do":"look"}
+= gone none
+< {"ok":"gone"}
+? key ka, news, leave
+! Memory"#;
 
 /// A port that gives its answers one by one, and writes down what it was asked.
 #[derive(Drop)]
 struct Script<'a> {
     alloc: Global,
-    answers: &'a [&'static str],
+    answers: Vec<&'a str>,
     given: usize,
     asked: String,
 }
 
-impl Script<'_> {
+impl<'a> Script<'a> {
     fn note(&mut self, asked: &str) -> Result<(), Memory> {
-        self.asked.push_str(asked)?;
-        self.asked.push_str("; ")
+        if !self.asked.is_empty() {
+            self.asked.push_str(", ")?;
+        }
+        self.asked.push_str(asked)
     }
 
-    fn answer(&mut self) -> Result<&'static str, Memory> {
+    fn answer(&mut self) -> Result<&'a str, Memory> {
         let answer = self.answers.get(self.given).copied();
         self.given = self.given.saturating_add(1);
         answer.ok_or(Memory)
@@ -34,7 +248,8 @@ impl Port for Script<'_> {
 
     fn enter(&mut self, key: &str) -> Result<Entered, Memory> {
         self.note("key")?;
-        self.note(key)?;
+        self.asked.push(' ')?;
+        self.asked.push_str(key)?;
         let alloc = self.alloc;
         match self.answer()? {
             "key" => Ok(Entered::Key),
@@ -87,308 +302,139 @@ fn reply_of(alloc: Global, word: &str) -> Result<Reply, Memory> {
 }
 
 /// A session, and what it comes to.
-#[derive(Clone, Copy)]
-struct Case<'a> {
-    input: &'a [u8],
-    // whether a read fails in place of the input's end
+#[derive(Drop)]
+struct Row<'a> {
+    input: String,
     fails: bool,
     turns: u32,
     room: usize,
-    answers: &'a [&'static str],
-    ended: Ended,
-    written: &'a str,
+    answers: &'a str,
+    written: String,
     asked: &'a str,
+    ended: &'a str,
 }
 
-const ENTER_LOOK: &[u8] = b"{\"do\":\"enter\",\"key\":\"ka\"}\n{\"do\":\"look\"}\n";
+impl<'a> Row<'a> {
+    fn new(alloc: Global) -> Row<'a> {
+        Row {
+            input: String::new(alloc),
+            fails: false,
+            turns: 1000,
+            room: 1000,
+            answers: "",
+            written: String::new(alloc),
+            asked: "",
+            ended: "",
+        }
+    }
 
-const ENTER_DEPART_LOOK: &[u8] =
-    b"{\"do\":\"enter\",\"key\":\"ka\"}\n{\"do\":\"depart\",\"port\":0}\n{\"do\":\"look\"}\n";
+    fn take(&mut self, line: &'a str) -> Result<(), Fail> {
+        let (mark, rest) = line.split_once(' ').unwrap_or((line, ""));
+        match mark {
+            ">" => {
+                push_bytes(&mut self.input, rest)?;
+                self.input.push('\n')?;
+            }
+            "~" => push_bytes(&mut self.input, rest)?,
+            "<" => {
+                self.written.push_str(rest)?;
+                self.written.push('\n')?;
+            }
+            "~<" => self.written.push_str(rest)?,
+            "=" => self.answers = rest,
+            "?" => self.asked = rest,
+            "!" => self.ended = rest,
+            "#" => self.limit(rest)?,
+            _ => {}
+        }
+        Ok(())
+    }
 
-const SIGHT: &str = "{\"board\":\"\",\"from\":null,\"ok\":\"here\",\"ports\":2}\n";
-
-const TWO_SIGHTS: &str =
-    "{\"board\":\"\",\"from\":null,\"ok\":\"here\",\"ports\":2}\n{\"board\":\"\",\"from\":null,\"ok\":\"here\",\"ports\":2}\n";
-
-// The session that other cases change.
-fn looks<'a>() -> Case<'a> {
-    Case {
-        input: ENTER_LOOK,
-        fails: false,
-        turns: 1000,
-        room: 1000,
-        answers: &["H-", "H-", "bye"],
-        ended: Ended::InputEnded,
-        written: TWO_SIGHTS,
-        asked: "key; ka; look; leave; ",
+    fn limit(&mut self, given: &str) -> Result<(), Fail> {
+        match given.split_once(' ') {
+            Some(("turns", count)) => self.turns = count.parse().map_err(|_| "turns")?,
+            Some(("room", count)) => self.room = count.parse().map_err(|_| "room")?,
+            _ => self.fails = true,
+        }
+        Ok(())
     }
 }
 
-// Plays the case in one piece, and byte by byte where its turns allow.
-fn plays(rt: &impl Abort, alloc: Global, case: &Case<'_>) -> Result<(), Fail> {
-    let pieces: &[usize] = if case.turns < 1000 {
-        &[1000]
+/// A client's bytes, as a row writes them.
+fn push_bytes(input: &mut String, text: &str) -> Result<(), Fail> {
+    for mark in text.chars() {
+        input.push(match mark {
+            '␠' => ' ',
+            '␉' => '\t',
+            '␍' => '\r',
+            other => other,
+        })?;
+    }
+    Ok(())
+}
+
+// Plays the row in one piece, and byte by byte where its turns allow.
+fn plays(rt: &impl Abort, alloc: Global, text: &str) -> Result<(), Fail> {
+    let mut row = Row::new(alloc);
+    for line in text.lines() {
+        row.take(line)?;
+    }
+    let pieces: &[usize] = if row.turns < 1000 {
+        &[100_000]
     } else {
-        &[1, 1000]
+        &[1, 100_000]
     };
     for piece in pieces {
         let mut reader = Pieces {
-            left: case.input,
+            left: row.input.as_bytes(),
             piece: *piece,
-            fails: case.fails,
+            fails: row.fails,
         };
         let mut writer = Narrow {
             taken: Vec::new(alloc),
-            room: case.room,
+            room: row.room,
         };
         let mut port = Script {
             alloc,
-            answers: case.answers,
+            answers: row.answers.split(' ').collect(alloc)?,
             given: 0,
             asked: String::new(alloc),
         };
-        let ended = serve(alloc, &mut reader, &mut writer, &mut port, case.turns);
-        assert_eq!(rt; port.asked.as_str(), case.asked);
-        assert_eq!(rt;
-            writer.taken.as_slice(),
-            case.written.as_bytes(),
-            "at {}",
-            case.asked
-        );
-        assert_eq!(rt; ended, case.ended, "at {}", case.asked);
+        let ended = serve(alloc, &mut reader, &mut writer, &mut port, row.turns);
+        let ended = format!(in alloc; "{ended:?}")?;
+        assert_eq!(rt; port.asked.as_str(), row.asked, "{text}");
+        assert_eq!(rt; writer.taken.as_slice(), row.written.as_bytes(), "{text}");
+        assert_eq!(rt; ended.as_str(), row.ended, "{text}");
     }
     Ok(())
 }
 
 #[test]
-fn a_client_that_goes_leaves(rt: HostRuntime) -> Result<(), Fail> {
-    plays(&rt, rt.alloc(), &looks())?;
-    for (fails, turns, ended) in [
-        (true, 1000, Ended::ReadFault),
-        (false, 2, Ended::InputEnded),
-        (false, 1, Ended::Turns),
-    ] {
-        plays(
-            &rt,
-            rt.alloc(),
-            &Case {
-                fails,
-                turns,
-                ended,
-                ..looks()
-            },
-        )?;
+fn sessions_end_as_they_should(rt: HostRuntime) -> Result<(), Fail> {
+    for row in SESSIONS.split("\n\n") {
+        plays(&rt, rt.alloc(), row)?;
     }
     Ok(())
 }
 
 #[test]
-fn nobody_leaves_that_did_not_enter(rt: HostRuntime) -> Result<(), Fail> {
-    for (input, fails, turns, ended) in [
-        (ENTER_LOOK, false, 0, Ended::Turns),
-        (b"".as_slice(), false, 1000, Ended::InputEnded),
-        (b"".as_slice(), true, 1000, Ended::ReadFault),
-        (
-            b" \n\r\n{\"do\":\"enter\",".as_slice(),
-            false,
-            1000,
-            Ended::InputEnded,
-        ),
-    ] {
-        let case = Case {
-            input,
-            fails,
-            turns,
-            ended,
-            written: "",
-            asked: "",
-            ..looks()
-        };
-        plays(&rt, rt.alloc(), &case)?;
+fn an_overlong_line_is_bad(rt: HostRuntime) -> Result<(), Fail> {
+    let alloc = rt.alloc();
+    let mut line = String::from_str(alloc, "> {\"do\":\"look\"}")?;
+    for _ in 0..MAX_LINE - 12 {
+        line.push('␠')?;
     }
-    Ok(())
+    let line = line.as_str();
+    let later = format!(in alloc;
+        "# turns 999\n> {ENTER}\n{line}\n= H- H- bye\n{SIGHT}\n{SIGHT}\n? key ka, bad, leave\n! InputEnded"
+    )?;
+    plays(&rt, alloc, later.as_str())?;
+    let first = format!(in alloc; "# turns 999\n{line}\n< {DENIED}\n! Denied")?;
+    plays(&rt, alloc, first.as_str())
 }
 
-#[test]
-fn who_is_not_let_in_is_told_why(rt: HostRuntime) -> Result<(), Fail> {
-    for (input, answers, written, asked) in [
-        (
-            ENTER_LOOK,
-            ["key"].as_slice(),
-            "{\"no\":\"key\"}\n",
-            "key; ka; ",
-        ),
-        (
-            ENTER_LOOK,
-            ["taken"].as_slice(),
-            "{\"no\":\"taken\"}\n",
-            "key; ka; ",
-        ),
-        (
-            b"{\"do\":\"look\"}\n".as_slice(),
-            [].as_slice(),
-            "{\"no\":\"enter\"}\n",
-            "",
-        ),
-        (
-            b"{\"do\":\"enter\"}\n".as_slice(),
-            [].as_slice(),
-            "{\"no\":\"enter\"}\n",
-            "",
-        ),
-    ] {
-        let case = Case {
-            input,
-            answers,
-            written,
-            asked,
-            ended: Ended::Denied,
-            ..looks()
-        };
-        plays(&rt, rt.alloc(), &case)?;
-    }
-    let cut = Case {
-        room: 5,
-        answers: &["key"],
-        ended: Ended::WriteFault,
-        written: "{\"no\"",
-        asked: "key; ka; ",
-        ..looks()
-    };
-    plays(&rt, rt.alloc(), &cut)
-}
+const ENTER: &str = "{\"do\":\"enter\",\"key\":\"ka\"}";
 
-#[test]
-fn an_answer_ends_it(rt: HostRuntime) -> Result<(), Fail> {
-    for (answers, ended, written, asked) in [
-        (
-            ["bye"].as_slice(),
-            Ended::Bye,
-            "{\"ok\":\"bye\"}\n",
-            "key; ka; ",
-        ),
-        (
-            ["noted"].as_slice(),
-            Ended::Noted,
-            "{\"ok\":\"noted\"}\n",
-            "key; ka; ",
-        ),
-        (
-            ["over"].as_slice(),
-            Ended::Over,
-            "{\"ok\":\"over\"}\n",
-            "key; ka; ",
-        ),
-        (
-            ["gone", "over"].as_slice(),
-            Ended::Over,
-            "{\"ok\":\"gone\"}\n{\"ok\":\"over\"}\n",
-            "key; ka; news; ",
-        ),
-    ] {
-        let case = Case {
-            answers,
-            ended,
-            written,
-            asked,
-            ..looks()
-        };
-        plays(&rt, rt.alloc(), &case)?;
-    }
-    // Its line does not go out whole.
-    let cut = Case {
-        room: 9,
-        answers: &["bye"],
-        ended: Ended::WriteFault,
-        written: "{\"ok\":\"by",
-        asked: "key; ka; ",
-        ..looks()
-    };
-    plays(&rt, rt.alloc(), &cut)
-}
+const SIGHT: &str = "< {\"board\":\"\",\"from\":null,\"ok\":\"here\",\"ports\":2}";
 
-#[test]
-fn news_come_before_the_next_line(rt: HostRuntime) -> Result<(), Fail> {
-    let away = Case {
-        input: ENTER_DEPART_LOOK,
-        answers: &["H-", "gone", "H0", "H0", "over"],
-        written: "{\"board\":\"\",\"from\":null,\"ok\":\"here\",\"ports\":2}\n{\"ok\":\"gone\"}\n{\"board\":\"\",\"from\":0,\"ok\":\"here\",\"ports\":2}\n{\"board\":\"\",\"from\":0,\"ok\":\"here\",\"ports\":2}\n",
-        asked: "key; ka; depart; news; look; leave; ",
-        ..looks()
-    };
-    plays(&rt, rt.alloc(), &away)?;
-    let cut = Case {
-        room: 66,
-        ended: Ended::WriteFault,
-        written: "{\"board\":\"\",\"from\":null,\"ok\":\"here\",\"ports\":2}\n{\"ok\":\"gone\"}\n{\"boa",
-        asked: "key; ka; depart; news; leave; ",
-        ..away
-    };
-    plays(&rt, rt.alloc(), &cut)?;
-    // No news are asked for after a Gone that was not written.
-    let silent = Case {
-        room: 60,
-        written: "{\"board\":\"\",\"from\":null,\"ok\":\"here\",\"ports\":2}\n{\"ok\":\"gone\"}",
-        asked: "key; ka; depart; leave; ",
-        ..cut
-    };
-    plays(&rt, rt.alloc(), &silent)
-}
-
-#[test]
-fn lines_are_what_they_mean(rt: HostRuntime) -> Result<(), Fail> {
-    let enters = Case {
-        input: b" \n{\"do\":\"enter\",\"key\":\"ka\"}\r\n\n\t\n{\"do\":\"enter\",\"key\":\"kb\"}\n{\"do\":\"look\"}",
-        asked: "key; ka; enter; leave; ",
-        ..looks()
-    };
-    plays(&rt, rt.alloc(), &enters)?;
-
-    // A line of 16,385 bytes is a bad command.
-    let mut line = Vec::from_slice(rt.alloc(), b"{\"do\":\"look\"}")?;
-    for _ in 0..16_372 {
-        line.push(b' ')?;
-    }
-    line.push(b'\n')?;
-    let mut input = Vec::from_slice(rt.alloc(), b"{\"do\":\"enter\",\"key\":\"ka\"}\n")?;
-    input.extend_from_slice(&line)?;
-    let long = Case {
-        input: &input,
-        turns: 999,
-        asked: "key; ka; bad; leave; ",
-        ..looks()
-    };
-    plays(&rt, rt.alloc(), &long)?;
-    let first = Case {
-        input: &line,
-        turns: 999,
-        written: "{\"no\":\"enter\"}\n",
-        ended: Ended::Denied,
-        asked: "",
-        ..looks()
-    };
-    plays(&rt, rt.alloc(), &first)
-}
-
-#[test]
-fn want_of_memory_is_named(rt: HostRuntime) -> Result<(), Fail> {
-    for (answers, written, asked) in [
-        (["none"].as_slice(), "", "key; ka; "),
-        (["H-", "none"].as_slice(), SIGHT, "key; ka; look; leave; "),
-        (
-            ["gone", "none"].as_slice(),
-            "{\"ok\":\"gone\"}\n",
-            "key; ka; news; leave; ",
-        ),
-    ] {
-        let case = Case {
-            answers,
-            written,
-            asked,
-            ended: Ended::Memory,
-            ..looks()
-        };
-        plays(&rt, rt.alloc(), &case)?;
-    }
-    Ok(())
-}
+const DENIED: &str = "{\"no\":\"enter\"}";

@@ -1,15 +1,31 @@
-use Rattle.std.proofs.Common.{sym, ◌∙◌, inr}
+use Rattle.std.proofs.Common.{inl, inr, refl}
 use Rattle.bhs_program.specs.declared.faults.Fault.TheVariants.{Write, Memory}
-use Rattle.bhs_program.proofs.ExitLemmas.{same_order}
+use Rattle.bhs_program.specs.Program.{obeys, helps}
+use Rattle.bhs_program.specs.Showing.{all, part, held_back}
+use Rattle.bhs_program.proofs.ExitLemmas.{status_of_run}
 use Rattle.bhs_program.proofs.orders.run.Goals as goal
 
-pub returns-in-Ok-Ordered-clause-file : goal.returns-in-Ok-Ordered-clause-file
-returns-in-Ok-Ordered-clause-file g c rehearses done =
-    let answers = rw c.in-Ok-Ordered.field-0-is at c.in-Ok-Ordered.ensures.answers in
-    c.obey.ensures.file rehearses.0 (same_order _ _ (sym answers ∙ rehearses.1)) done
+pub returns-in-Ok-Ordered-clause-runs : goal.returns-in-Ok-Ordered-clause-runs
+returns-in-Ok-Ordered-clause-runs g c = obeys c.in-Ok-Ordered.order (rw c.in-Ok-Ordered.field-0-is at c.in-Ok-Ordered.ensures.answers) c.obey.ensures
 
-pub returns-in-Ok-Shown-clause-told : goal.returns-in-Ok-Shown-clause-told
-returns-in-Ok-Shown-clause-told g c = inr (inr (Write, c.tell.ensures))
+pub returns-in-Ok-Ordered-clause-status : goal.returns-in-Ok-Ordered-clause-status
+returns-in-Ok-Ordered-clause-status g c = status_of_run _ _ _ _ _ _ _ _ _ (returns-in-Ok-Ordered-clause-runs g c)
 
-pub returns-clause-told : goal.returns-clause-told
-returns-clause-told g c = inr (inr (Memory, c.tell-in-Err.ensures))
+pub returns-in-Ok-clause-runs : goal.returns-in-Ok-clause-runs
+returns-in-Ok-clause-runs g c =
+    let asked = rw c.in-Ok-Shown.field-0-is at c.in-Ok-Shown.ensures.answers in
+    helps c.as_str.result.now asked refl (all refl c.in-Ok.ensures.ok)
+
+pub returns-in-Ok-Shown-clause-runs : goal.returns-in-Ok-Shown-clause-runs
+returns-in-Ok-Shown-clause-runs g c =
+    let asked = rw c.in-Ok-Shown.field-0-is at c.in-Ok-Shown.ensures.answers in
+    helps c.as_str.result.now asked refl (elim c.in-Err-show.ensures.err [
+      | inl puts ↦ part c.report.ensures puts
+      | inr shows ↦ held_back c.report.ensures shows
+    ])
+
+pub returns-in-Ok-Shown-clause-status : goal.returns-in-Ok-Shown-clause-status
+returns-in-Ok-Shown-clause-status g c = inr (inr (Write, c.report.ensures))
+
+pub returns-clause-status : goal.returns-clause-status
+returns-clause-status g c = inr (inr (Memory, c.report-in-Err.ensures))

@@ -3,7 +3,8 @@ use Rattle.std.specs.Vec.Iter.{into_iter_items}
 use Rattle.bhs_script.specs.declared.instructions.Instruction.{Instruction}
 use Rattle.bhs_program.specs.declared.faults.Fault.TheVariants.{Memory}
 use Rattle.bhs_script.specs.Instructions.{seen}
-use Rattle.bhs_program.proofs.PlayLemmas.{sent_none, sent_more, sent_until, sent_so_far, fault_is, transcript-turn}
+use Rattle.bhs_stream.proofs.PutsLemmas.{sent_none, sent_more, sent_so_far}
+use Rattle.bhs_program.proofs.PlayLemmas.{stopped_at, fault_is, transcript-turn}
 use Rattle.bhs_program.proofs.playing.play.Goals as goal
 
 pub returns-in_err-outs-clause-stopped : goal.returns-in_err-outs-clause-stopped
@@ -15,7 +16,7 @@ returns-in_err-print-clause-stopped g c =
     let turn = ap (λ (left : List Instruction). map seen left) c.in-Some.ensures.steps.0 in
     let here = rw (transcript-turn c.loop-instruction.rehearsal.stage _ (seen c.in-Some.instruction) (map seen (into_iter_items c.next.new.self)) turn) at c.loop-instruction.invariant.1 in
     let stopped = rw (c.deref.ensures.value, c.in_ok-outs.ensures.outs) at c.in_err-print.ensures.err in
-    fault_is c.from_residual-in_err-print.result c.in_err-print.field-0.0 _ c.from_residual-in_err-print.ensures.1 (sent_until g.W.Output.takes _ _ _ _ _ _ _ here stopped)
+    fault_is c.from_residual-in_err-print.result c.in_err-print.field-0.0 _ c.from_residual-in_err-print.ensures.1 (stopped_at g.W.Output.takes _ _ _ _ _ _ _ here stopped)
 
 pub loop-instruction-preserved : goal.loop-instruction-preserved
 loop-instruction-preserved g c =

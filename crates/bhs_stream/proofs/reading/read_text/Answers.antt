@@ -29,7 +29,7 @@ overruns gives old here next limit turns reads count bytes buffer gathered fits 
 
 pub loop-init : goal.loop-init
 loop-init g c =
-    let gives = g.I.Input.gives in
+    let gives = g.R.Input.gives in
     (subst (λ items. Gathers gives c.args.reader.now 0 items c.args.reader.now) (sym c.new-text.ensures.items) begins, search rules)
 
 pub returns-then-count-limit-clause-fault : goal.returns-then-count-limit-clause-fault
@@ -42,7 +42,7 @@ returns-then-count-limit-clause-fault g c =
     let joined = length-append c.loop.text.items (take count buffer) in (
       _,
       omega arith,
-      overruns g.I.Input.gives _ _ _ c.args.limit c.args.turns c.loop.counter count c.loop.text.items buffer gathered within (search rules) (omega arith)
+      overruns g.R.Input.gives _ _ _ c.args.limit c.args.turns c.loop.counter count c.loop.text.items buffer gathered within (search rules) (omega arith)
           c.in-Ok.ensures.bound full c.in-Ok.ensures.gives,
     )
 
@@ -56,7 +56,7 @@ returns-then-is_err-clause-fault g c =
     let joined = length-append c.loop.text.items (take count buffer) in (
       _,
       omega arith,
-      overruns g.I.Input.gives _ _ _ c.args.limit c.args.turns c.loop.counter count c.loop.text.items buffer gathered within (search rules) (omega arith)
+      overruns g.R.Input.gives _ _ _ c.args.limit c.args.turns c.loop.counter count c.loop.text.items buffer gathered within (search rules) (omega arith)
           c.in-Ok.ensures.bound full c.in-Ok.ensures.gives,
     )
 
@@ -66,7 +66,7 @@ loop-preserved g c =
     let full : length c.read_some.new.buffer ≡ BUFFER = search rules in
     let buffer = c.read_some.new.buffer in
     let count = c.in-Ok.count in
-    let gives = g.I.Input.gives in
+    let gives = g.R.Input.gives in
     let more = goes_on c.loop.counter c.loop.text.items (take count buffer) c.loop.reader c.read_some.new.self gathered (is_piece count buffer (omega arith) c.in-Ok.ensures.bound full)
     (subst (λ chunk. gives c.loop.reader chunk c.read_some.new.self) (chunk_by-take count buffer (omega arith) c.in-Ok.ensures.bound) c.in-Ok.ensures.gives) in
     let items : c.extend_from_slice.new.self.items ≡ c.loop.text.items ++ take count buffer = search rules in

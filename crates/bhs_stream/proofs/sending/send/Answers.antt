@@ -13,7 +13,7 @@ loop-sent-init g c = (search rules, begins)
 
 pub loop-sent-preserved : goal.loop-sent-preserved
 loop-sent-preserved g c =
-    let takes = g.O.Output.takes in
+    let takes = g.W.Output.takes in
     let bytes = c.args.bytes.now in
     let sent = c.loop-sent.sent in
     let count = c.in-Ok.count in

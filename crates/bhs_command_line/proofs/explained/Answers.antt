@@ -1,5 +1,5 @@
 use Rattle.bhs_command_line.proofs.AnswerLemmas.{asked_told, mistake_told}
-use Rattle.bhs_command_line.proofs.told.Goals as goal
+use Rattle.bhs_command_line.proofs.explained.Goals as goal
 
 pub returns-then-use_stderr-clause-ok : goal.returns-then-use_stderr-clause-ok
 returns-then-use_stderr-clause-ok c = mistake_told _ (c.use_stderr.ensures.0 c.if-use_stderr.true)

@@ -1,0 +1,25 @@
+use std::fmt;
+use std::fmt::{Display, Formatter};
+
+/// A name as it stands in a line: control characters are escaped, so that no name ends the line, and an empty name is
+/// shown as `''`.
+#[derive(Drop)]
+pub(crate) struct Shown<'a> {
+    pub name: &'a str,
+}
+
+impl Display for Shown<'_> {
+    fn fmt<W: fmt::Write>(&self, f: &mut Formatter<W>) -> fmt::Result {
+        if self.name.is_empty() {
+            return f.write_str("''");
+        }
+        for character in self.name.chars() {
+            if character.is_control() {
+                write!(f, "{}", character.escape_default())?;
+            } else {
+                f.write_char(character)?;
+            }
+        }
+        Ok(())
+    }
+}

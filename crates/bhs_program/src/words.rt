@@ -1,0 +1,58 @@
+ghost use Rattle.std.specs.Prelude.{◌≡◌, ◌⊎◌, IfErr};
+ghost use Rattle.bhs_program.specs.declared.statuses.TheConstants.{NO_MEMORY, REFUSED_WORDS};
+
+use crate::faults::{Fault, report};
+use crate::statuses::REFUSED_WORDS;
+use bhs_net::Memory;
+use std::alloc::Global;
+use std::env::FillError;
+use std::io::Write;
+use std::rt::Env;
+
+/// The bytes of a word for which there is room at first.
+const ROOM: usize = 256;
+
+/// The words after the program's name. Where one of them is no UTF-8 the command line is refused: the first such word
+/// is named by its number, counted from 1, and the answer is the exit status.
+pub fn words_of<V: Env, E: Write>(
+    alloc: Global,
+    process: &V,
+    errors: &mut E,
+) -> Result<Vec<String>, u8>
+    ensures { IfErr result (λ code. (code ≡ REFUSED_WORDS) ⊎ (code ≡ NO_MEMORY)) }
+{
+    let mut words = Vec::new(alloc);
+    for number in 1..usize::MAX {
+        let bytes = match bytes_of(alloc, process, number) {
+            Ok(Some(bytes)) => bytes,
+            Ok(None) => break,
+            Err(_) => return Err(report("arena", Fault::Memory, errors)),
+        };
+        let Ok(word) = String::from_utf8(bytes) else {
+            let _ = writeln!(errors, "arena: word {number} is no UTF-8");
+            return Err(REFUSED_WORDS);
+        };
+        if words.push(word).is_err() {
+            return Err(report("arena", Fault::Memory, errors));
+        }
+    }
+    Ok(words)
+}
+
+// The bytes of a word; None behind the last one. Where there is no room for them, twice as much is asked for.
+fn bytes_of<V: Env>(alloc: Global, process: &V, number: usize) -> Result<Option<Vec<u8>>, Memory> {
+    let mut bytes = Vec::new(alloc);
+    let mut room = ROOM;
+    for _ in 0..usize::BITS {
+        bytes.resize(room, 0)?;
+        match process.arg(number, &mut bytes) {
+            Ok(count) => {
+                bytes.truncate(count);
+                return Ok(Some(bytes));
+            }
+            Err(FillError::NotPresent) => return Ok(None),
+            Err(FillError::TooLong) => room = room.saturating_mul(2),
+        }
+    }
+    Err(Memory)
+}
