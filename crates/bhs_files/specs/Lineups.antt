@@ -1,5 +1,5 @@
 -- What a tournament and its networks make: matches that can be played, and the keys; or the first fault.
-use Rattle.std.specs.Prelude.{ℕ, ◌+◌, List, [], ◌∷◌, map, length, slice_index_or, Option, Some, None, option_map, option_to_list, Result, Ok, Err}
+use Rattle.std.specs.Prelude.{ℕ, ◌+◌, List, [], ◌∷◌, map, length, slice_index_or, Option, Some, None, option_map, Result, Ok, Err}
 use Rattle.std.specs.List.{position_or_len}
 use Rattle.std.specs.Option.{option_or}
 use Rattle.bhs_net.specs.Network.{Network}
@@ -31,7 +31,7 @@ network_named names networks name = slice_index_or networks (position_or_len (sa
 
 -- how a match is set up: an agent for each key
 abbrev pub setup_of : Planned → Setup
-setup_of planned = record { home = planned.home; holes = option_to_list planned.hole; dark = []; agents = length planned.keys; quota = planned.quota; board = planned.board }
+setup_of planned = record { home = planned.home; holes = planned.holes; dark = planned.dark; agents = length planned.keys; quota = planned.quota; board = planned.board }
 
 -- a match on a network, before anything happens
 abbrev pub begins : Network → Setup → Play

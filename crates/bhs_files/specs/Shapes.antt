@@ -77,9 +77,13 @@ module _ {A : Type 0} (shape : Data → Option A) where
 abbrev pub keys : Data → Option (List (List ℕ))
 keys = list_where (λ items. if nat_le (count items) MAX_KEYS then each key items else None)
 
--- held links, each as a node and a port
-abbrev pub held : Data → Option (List (ℕ × ℕ))
-held = list_where (each pair)
+-- black holes, each as a node
+abbrev pub holes : Data → Option (List ℕ)
+holes = list_where (each number)
+
+-- links, each as a node and a port
+abbrev pub ends : Data → Option (List (ℕ × ℕ))
+ends = list_where (each pair)
 
 -- the tables of 1 to `MAX_MATCHES` matches
 abbrev pub matches : Data → Option (List Members)

@@ -18,7 +18,7 @@ use crate::lineups::{Lineup, Ready};
 use crate::tournaments::Tournament;
 use bhs_deal::{Held, HeldFault};
 use bhs_match::Match;
-use bhs_model::{DarkLinks, Holes, Setup};
+use bhs_model::Setup;
 use bhs_net::Net;
 use bhs_world::SetupFault;
 use indexmap::IndexSet;
@@ -76,17 +76,13 @@ fn network_of<'a>(names: &IndexSet<&str>, networks: &'a [Net], name: &str) -> &'
     }
 }
 
-fn setup_of(alloc: Global, fixture: &Fixture) -> Result<Setup, AllocError>
+fn setup_of(fixture: &Fixture) -> Result<Setup, AllocError>
     ensures { IfOk result (λ setup. setup ≡ setup_of (planned fixture.now)) }
 {
-    let mut holes = Vec::new(alloc);
-    if let Some(hole) = fixture.hole {
-        holes.push(hole)?;
-    }
     Ok(Setup {
         home: fixture.home,
-        holes: Holes::from(holes),
-        dark: DarkLinks::from(Vec::new(alloc)),
+        holes: fixture.holes.clone()?,
+        dark: fixture.dark.clone()?,
         agents: fixture.keys.len() as u16,
         quota: fixture.quota,
         board: fixture.board,
@@ -99,7 +95,7 @@ fn begun(alloc: Global, game: u32, net: &Net, fixture: &Fixture) -> Result<Match
         (unless (setup_fault net.now game (planned fixture.now)) (Ok (start_of net.now (planned fixture.now)))) }
 {
     let net = net.try_clone(alloc)?;
-    let setup = setup_of(alloc, fixture)?;
+    let setup = setup_of(fixture)?;
     started(alloc, game, net, setup)
 }
 

@@ -21,7 +21,10 @@ pub use faults::FileFault;
 pub use file_keys::FileKey;
 pub use fixtures::Fixture;
 pub use key_table::Keys;
-pub use limits::{MAX_KEY, MAX_KEYS, MAX_MATCHES, MAX_NETWORK_NAME, MAX_TEAM, SEED_BYTES, VERSION};
+pub use limits::{
+    MAX_KEY, MAX_KEYS, MAX_MATCHES, MAX_NETWORK_NAME, MAX_TEAM, NETWORK_VERSION, SEED_BYTES,
+    TOURNAMENT_VERSION,
+};
 pub use lineups::{Lineup, Ready};
 pub use network_files::read_network;
 pub use shapes::is_team;

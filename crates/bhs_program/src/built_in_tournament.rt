@@ -15,14 +15,14 @@ links = [[0,0,1,0],[1,1,2,0],[2,1,0,1]]
 ";
 
 /// The built-in tournament, as its file.
-const TOURNAMENT: &str = "version = 1
+const TOURNAMENT: &str = "version = 2
 seed = \"0000000000000000000000000000000000000000000000000000000000000000\"
 
 [[match]]
 team = \"red\"
 network = \"tri.toml\"
 home = 0
-hole = 2
+holes = [2]
 quota = 10
 board = 8
 keys = [\"ka\", \"kb\"]

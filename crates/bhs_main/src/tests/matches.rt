@@ -1,6 +1,6 @@
 ghost use Rattle.std.specs.Prelude.{IfOk, ◌≡◌, []};
 
-use super::triangle::{SETUP, network};
+use super::triangle::{network, setup};
 use bhs_match::{Arena, ArenaFault, Bound, Match};
 use bhs_model::{Command, Event, Mark, Reply, Setup, Text, Why};
 use bhs_world::SetupFault;
@@ -9,7 +9,7 @@ use std::test::Fail;
 
 /// The triangle with the black hole at node 2.
 fn triangle(alloc: Global) -> Result<Match, Fail> {
-    Ok(Match::new(alloc, network(alloc)?, SETUP)?)
+    Ok(Match::new(alloc, network(alloc)?, setup(alloc)?)?)
 }
 
 fn tell(agent: u16, command: Command) -> Event {
@@ -45,11 +45,12 @@ fn no(why: Why) -> Option<Mark> {
 
 #[test]
 fn a_setup_is_refused(rt: HostRuntime) -> Result<(), Fail> {
+    let alloc = rt.alloc();
     let setup = Setup {
-        agents: 17,
-        ..SETUP
+        agents: 65,
+        ..setup(alloc)?
     };
-    let refused = Match::new(rt.alloc(), network(rt.alloc())?, setup);
+    let refused = Match::new(alloc, network(alloc)?, setup);
     assert_eq!(rt; refused.err(), Some(SetupFault::Agents));
     Ok(())
 }
@@ -159,7 +160,7 @@ fn a_match_shows_what_follows_from_its_log(rt: HostRuntime) -> Result<(), Fail> 
         board,
     };
     assert_eq!(rt; game.reply(&mark)?, reply);
-    assert_eq!(rt; game.setup(), &SETUP);
+    assert_eq!(rt; game.setup(), &setup(alloc)?);
     assert_eq!(rt; game.net().nodes(), 3);
     Ok(())
 }
@@ -182,7 +183,7 @@ fn a_match_is_sealed_once_it_has_ended(rt: HostRuntime) -> Result<(), Fail> {
     assert_eq!(rt; sealed.log().len(), 4);
     assert_eq!(rt; sealed.text(&look), "a");
     assert_eq!(rt; sealed.reply(&Mark::Bye)?, Reply::Bye);
-    assert_eq!(rt; sealed.setup(), &SETUP);
+    assert_eq!(rt; sealed.setup(), &setup(alloc)?);
     assert_eq!(rt; sealed.net().nodes(), 3);
     Ok(())
 }

@@ -284,13 +284,13 @@ $ rehearse links.toml
 > 0 {"do":"enter","key":"ka"}
 ! links.toml: missing seed"#;
 
-const TWO: &str = r#"version = 1
+const TWO: &str = r#"version = 2
 seed = "0000000000000000000000000000000000000000000000000000000000000000"
 [[match]]
 team = "red"
 network = "links.toml"
 home = 0
-hole = 2
+holes = [2]
 quota = 10
 board = 8
 keys = ["ka", "kb"]
@@ -298,7 +298,7 @@ keys = ["ka", "kb"]
 team = "blue"
 network = "links.toml"
 home = 0
-hole = "none"
+holes = []
 quota = 10
 board = 8
 keys = ["kc", "kd"]
