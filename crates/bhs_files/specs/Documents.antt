@@ -17,8 +17,8 @@ abbrev pub version_in : (latest : ℕ) → Members → Option ℕ
 version_in latest members = option_and_then (up_to latest) (option_and_then number (get_member (codes "version") members))
 
 abbrev pub versioned : Members → Option ℕ → Result Document FileFault
-versioned members None = Err Version
-versioned members (Some version) = Ok (version, members)
+versioned table None = Err Version
+versioned table (Some version) = Ok (version, table)
 
 -- the document of a text that has a version up to the latest
 abbrev pub document_in : (latest : ℕ) → Option Members → Result Document FileFault

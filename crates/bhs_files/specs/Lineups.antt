@@ -12,10 +12,10 @@ use Rattle.bhs_match.specs.Matches.{Play}
 use Rattle.bhs_deal.specs.Links.{first_strange}
 use Rattle.bhs_files.specs.declared.faults.FileFault.{FileFault}
 use Rattle.bhs_files.specs.declared.faults.FileFault.TheVariants as faults
-use Rattle.bhs_files.specs.declared.lineups.Ready.{Ready}
-use Rattle.bhs_files.specs.declared.lineups.Lineup.{Lineup}
+use Rattle.bhs_lineup.specs.declared.lineups.Ready.{Ready}
+use Rattle.bhs_lineup.specs.Lineups.{Contest}
 use Rattle.bhs_files.specs.Names.{same_name, first_seen}
-use Rattle.bhs_files.specs.KeyTable.{Seat, key_table}
+use Rattle.bhs_files.specs.KeyTable.{key_table}
 use Rattle.bhs_files.specs.Tournaments.{Plan, Planned}
 use Rattle.bhs_files.specs.Reading.{◌>>=◌}
 
@@ -70,15 +70,6 @@ unless None rest = rest
 unless (Some fault) rest = Err fault
 
 -- ---- the tournament
-
--- a tournament that can be played, without where it lies in memory
-pub record Contest : Type 0 where
-  pub seed : List ℕ
-  pub matches : List Ready
-  pub keys : List Seat
-
-abbrev pub contest : Lineup → Contest
-contest lineup = record { seed = lineup.seed; matches = lineup.ready.items; keys = lineup.keys }
 
 -- the network that a match of these is played on
 abbrev pub network_for : (matches : List Planned) → List Network → Planned → Network

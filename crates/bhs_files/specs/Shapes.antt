@@ -4,8 +4,9 @@ use Rattle.std.specs.List.{list_all}
 use Rattle.std.specs.Cmp.Lexicographic.{pointwise}
 use Rattle.std.specs.Result.{result_ok}
 use Rattle.toml.specs.Data.{Data, string, integer, array, Items, no_items, item, Members, as_table}
+use Rattle.bhs_lineup.specs.declared.limits.TheConstants.{SEED_BYTES}
 use Rattle.hex.specs.Hex.{decode_sized}
-use Rattle.bhs_files.specs.declared.limits.TheConstants.{SEED_BYTES, MAX_MATCHES, MAX_TEAM, MAX_NETWORK_NAME, MAX_KEY, MAX_KEYS}
+use Rattle.bhs_files.specs.declared.limits.TheConstants.{MAX_MATCHES, MAX_TEAM, MAX_NETWORK_NAME, MAX_KEY, MAX_KEYS}
 
 -- a whole number 0 to 65,535
 abbrev pub number : Data → Option ℕ

@@ -4,9 +4,6 @@ pub const NETWORK_VERSION: u16 = 1;
 /// The latest version of tournament files. Version 1 is read as well.
 pub const TOURNAMENT_VERSION: u16 = 2;
 
-/// How many bytes a seed has. A file spells each by two hexadecimal digits.
-pub const SEED_BYTES: usize = 32;
-
 /// The most matches of a tournament. The least is 1.
 pub const MAX_MATCHES: usize = 64;
 

@@ -11,8 +11,9 @@ ghost use Rattle.bhs_files.specs.declared.file_keys.FileKey.TheVariants as keys;
 
 use crate::faults::FileFault;
 use crate::file_keys::FileKey;
-use crate::limits::{MAX_KEYS, MAX_MATCHES, SEED_BYTES};
+use crate::limits::{MAX_KEYS, MAX_MATCHES};
 use crate::shapes;
+use bhs_lineup::SEED_BYTES;
 use bhs_model::{DarkLinks, Holes, Text};
 use bhs_net::Memory;
 use std::alloc::Global;

@@ -40,11 +40,7 @@ fn fixture(alloc: Global, version: u16, game: u32, table: &Table) -> Result<Fixt
     })
 }
 
-fn fixtures(
-    alloc: Global,
-    version: u16,
-    tables: &[&Table],
-) -> Result<Vec<Fixture>, FileFault>
+fn fixtures(alloc: Global, version: u16, tables: &[&Table]) -> Result<Vec<Fixture>, FileFault>
     requires { length tables.now < 2 ^ 32 }
     ensures reads { GivesUnlessMemory (λ fixtures. map planned fixtures.items) result
         (matches_in version 0 (map (λ table. table_view table.now) tables.now)) }

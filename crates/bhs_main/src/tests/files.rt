@@ -1,6 +1,6 @@
 //! What `arena check` tells of files, as rows of text, and calls on the files' crate.
 
-use bhs_files::{FileFault, FileKey, Keys, assemble, is_team, read_network, read_tournament};
+use bhs_files::{FileFault, FileKey, assemble, is_team, read_network, read_tournament};
 use bhs_program::run;
 use std::alloc::Global;
 use std::fs;
@@ -370,7 +370,6 @@ fn a_tournament_is_what_its_file_says(rt: HostRuntime) -> Result<(), Fail> {
     let first = read_tournament(alloc, CUP_OF_VERSION_1)?;
     assert_eq!(rt; first, read_tournament(alloc, CUP)?);
     assert_eq!(rt; blue.held.as_slice(), [(0, 1), (2, 0)].as_slice());
-    assert_eq!(rt; Keys::new(alloc, &tournament)?.find("kb"), Some((0, 1)));
     let names = tournament.networks(alloc)?;
     assert_eq!(rt; names.get_index(0).copied(), Some("tri.toml"));
     assert_eq!(rt; names.get_index(1).copied(), Some("square.toml"));
@@ -398,6 +397,7 @@ fn a_lineup_is_put_together(rt: HostRuntime) -> Result<(), Fail> {
     assert_eq!(rt; blue.game.setup().agents, 1);
     assert_eq!(rt; red.game.log().len(), 0);
     assert_eq!(rt; (red.held.has(0, 1), blue.held.has(0, 1)), (false, true));
-    assert_eq!(rt; lineup.keys.find("kc"), Some((1, 0)));
+    let seats = ["kb", "kc", "kd"].map(|key| lineup.keys.find(key));
+    assert_eq!(rt; seats, [Some((0, 1)), Some((1, 0)), None]);
     Ok(())
 }
