@@ -6,8 +6,8 @@ use Rattle.bhs_model.specs.declared.limits.TheConstants.{MAX_TEXT}
 use Rattle.bhs_stream.specs.ReadFault.{StoppedBy}
 use Rattle.bhs_stream.specs.declared.reading.ReadFault.{ReadFault}
 use Rattle.bhs_stream.specs.declared.reading.ReadFault.TheVariants as reads
-use Rattle.bhs_files.specs.declared.lineups.Lineup.{Lineup}
-use Rattle.bhs_files.specs.Lineups.{Contest, contest}
+use Rattle.bhs_lineup.specs.declared.lineups.Lineup.{Lineup}
+use Rattle.bhs_lineup.specs.Lineups.{Contest, contest}
 use Rattle.bhs_command_line.specs.CommandLine.{order_in}
 use Rattle.bhs_command_line.specs.declared.Order.TheVariants.{Rehearse}
 use Rattle.bhs_session.specs.Games.{Game}

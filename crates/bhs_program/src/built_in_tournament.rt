@@ -1,10 +1,11 @@
 ghost use Rattle.std.specs.Prelude.{◌≡◌, IfOk, MatchResult};
 ghost use Rattle.bhs_files.specs.declared.faults.FileFault.TheVariants as faults;
-ghost use Rattle.bhs_files.specs.Lineups.{contest};
+ghost use Rattle.bhs_lineup.specs.Lineups.{contest};
 ghost use Rattle.bhs_files.specs.Tournaments.{plan};
 ghost use Rattle.bhs_program.specs.BuiltIn as texts;
 
-use bhs_files::{FileFault, Lineup, Tournament, assemble, read_network, read_tournament};
+use bhs_files::{FileFault, Tournament, assemble, read_network, read_tournament};
+use bhs_lineup::Lineup;
 use bhs_net::{Memory, Net};
 use std::alloc::Global;
 

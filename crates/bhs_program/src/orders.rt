@@ -13,7 +13,7 @@ use crate::faults::{Fault, tell};
 use crate::rehearsing::rehearse;
 use crate::statuses::{DONE, REFUSED_WORDS};
 use bhs_command_line::{Answer, Order, order_of};
-use bhs_files::Lineup;
+use bhs_lineup::Lineup;
 use bhs_model::MAX_TURNS;
 use bhs_stream::{WriteFault, finish, send};
 use std::alloc::Global;

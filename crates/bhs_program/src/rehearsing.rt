@@ -6,7 +6,7 @@ ghost use Rattle.bhs_program.specs.Rehearsal.{opening, Plays, Leaves, Stops, Pla
 
 use crate::faults::Fault;
 use crate::playing::play;
-use bhs_files::{Lineup, Ready};
+use bhs_lineup::{Lineup, Ready};
 use bhs_model::MAX_TEXT;
 use bhs_script::{CONNECTIONS, instructions_in};
 use bhs_session::Rehearsal;

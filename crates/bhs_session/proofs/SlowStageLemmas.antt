@@ -9,7 +9,7 @@ use Rattle.bhs_model.specs.declared.replies.Reply.{Reply}
 use Rattle.bhs_model.specs.declared.replies.Reply.TheVariants.{Over}
 use Rattle.bhs_model.specs.Runs.{State}
 use Rattle.bhs_model.proofs.SlowLemmas.{MadeAlike}
-use Rattle.bhs_files.specs.KeyTable.{Seat}
+use Rattle.bhs_lineup.specs.KeyTable.{Seat}
 use Rattle.bhs_session.specs.Phase.{text_of}
 use Rattle.bhs_session.specs.Games.{Game, world_in, state_of, played, reply_to, is_away, drawn}
 use Rattle.bhs_session.specs.Connections.{Item, Ends, Connection, shut, taken}

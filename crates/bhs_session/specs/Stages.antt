@@ -10,7 +10,7 @@ use Rattle.bhs_wire.specs.declared.commands.First.TheVariants as firsts
 use Rattle.bhs_wire.specs.declared.denials.Denial.{Denial}
 use Rattle.bhs_wire.specs.declared.denials.Denial.TheVariants as denials
 use Rattle.bhs_wire.specs.Lines.{said_by, found_in, left_by}
-use Rattle.bhs_files.specs.KeyTable.{Seat, seat_at}
+use Rattle.bhs_lineup.specs.KeyTable.{Seat, seat_at}
 use Rattle.bhs_session.specs.Phase.{text_of, denial_text}
 use Rattle.bhs_session.specs.Games.{Game, state_of, played, reply_to, is_away, drawn}
 use Rattle.bhs_session.specs.Connections.{Item, Says, Ends, Connection, fresh, shut, taken, after}

@@ -5,7 +5,7 @@ ghost use Rattle.bhs_session.specs.Takings.{seen_entry};
 
 use crate::connections::Connection;
 use crate::items::Item;
-use bhs_files::Keys;
+use bhs_lineup::Keys;
 use bhs_net::Memory;
 use bhs_wire::{Denial, First};
 use std::alloc::Global;

@@ -13,7 +13,7 @@ use crate::endings::ending_of;
 use crate::items::Item;
 use crate::lines::command_in;
 use crate::replies::reply_text;
-use bhs_files::Ready;
+use bhs_lineup::Ready;
 use bhs_model::{Command, Event, Mark, Reply};
 use bhs_net::Memory;
 use std::alloc::Global;

@@ -1,5 +1,5 @@
 use Rattle.std.proofs.Common.{subst, inr}
-use Rattle.bhs_files.specs.Lineups.{Contest}
+use Rattle.bhs_lineup.specs.Lineups.{Contest}
 use Rattle.bhs_model.specs.declared.limits.TheConstants.{MAX_TURNS}
 use Rattle.bhs_program.specs.declared.faults.Fault.TheVariants.{Memory}
 use Rattle.bhs_program.specs.Rehearsal.{opening, opening_of, Exits}
