@@ -1,5 +1,5 @@
 -- What an agent knows of where it is: its standing, and how many ports its node has, are those of its position.
-use Rattle.std.proofs.Common.{◌≡◌, ℕ, Bool, true, false, List, [], ◌∷◌, refl, ap, ◌∙◌, inl, inr, if◌then◌else◌}
+use Rattle.std.proofs.Common.{◌≡◌, ℕ, Bool, true, false, nat_lt, List, [], ◌∷◌, refl, ap, ◌∙◌, inl, inr, if◌then◌else◌}
 use Rattle.std.proofs.lemmas.Bool.Decides.{eqb_tells}
 use Rattle.bhs_model.specs.declared.commands.Command.{Command}
 use Rattle.bhs_model.specs.declared.commands.Command.TheVariants.{Enter, Look, Write, Depart, Accuse, Leave, Bad}
@@ -8,8 +8,8 @@ use Rattle.bhs_model.specs.declared.events.Event.TheVariants.{Tell, Deliver, Clo
 use Rattle.bhs_model.specs.Views.{View, Told, Standing, standing, standing_after, ports}
 use Rattle.bhs_model.specs.Worlds.{World}
 use Rattle.bhs_model.specs.Runs.{Position, Before, At, Bound, After, State, initial, glance, position_after, told, delivered, heard, arrives, next, run, run_from}
-use Rattle.bhs_world.specs.Steps.{standing_at}
-use Rattle.bhs_world.proofs.ListLemmas.{lt_tells}
+use Rattle.bhs_model.specs.Standings.{standing_at}
+use Rattle.bhs_model.proofs.StepLemmas.{by_cases}
 
 -- at a node the past tells how many ports the node has
 abbrev pub KnowsPorts : World → View → Position → Type 0
@@ -32,8 +32,8 @@ standing_told world view Before Bad knows = refl
 standing_told world view (At node came) Enter knows = refl
 standing_told world view (At node came) Look knows = refl
 standing_told world view (At node came) (Write expect put) knows = refl
-standing_told world view (At node came) (Depart port) knows = rw knows (elim (lt_tells port (world.net.degree node)) [ inl h ↦ rw h.0 refl | inr h ↦ rw h.0 refl ])
-standing_told world view (At node came) (Accuse port) knows = rw knows (elim (lt_tells port (world.net.degree node)) [ inl h ↦ rw h.0 refl | inr h ↦ rw h.0 refl ])
+standing_told world view (At node came) (Depart port) knows = rw knows (by_cases (nat_lt port (world.net.degree node)) _ (λ (h : nat_lt port (world.net.degree node) ≡ true). rw h refl) (λ (h : nat_lt port (world.net.degree node) ≡ false). rw h refl))
+standing_told world view (At node came) (Accuse port) knows = rw knows (by_cases (nat_lt port (world.net.degree node)) _ (λ (h : nat_lt port (world.net.degree node) ≡ true). rw h refl) (λ (h : nat_lt port (world.net.degree node) ≡ false). rw h refl))
 standing_told world view (At node came) Leave knows = refl
 standing_told world view (At node came) Bad knows = refl
 standing_told world view (Bound node p) Enter knows = refl
@@ -63,8 +63,8 @@ ports_told world state view Before Bad knows = tt
 ports_told world state view (At node came) Enter knows = refl
 ports_told world state view (At node came) Look knows = refl
 ports_told world state view (At node came) (Write expect put) knows = refl
-ports_told world state view (At node came) (Depart port) knows = elim (lt_tells port (world.net.degree node)) [ inl h ↦ rw h.0 tt | inr h ↦ rw h.0 knows ]
-ports_told world state view (At node came) (Accuse port) knows = elim (lt_tells port (world.net.degree node)) [ inl h ↦ rw h.0 tt | inr h ↦ rw h.0 knows ]
+ports_told world state view (At node came) (Depart port) knows = by_cases (nat_lt port (world.net.degree node)) _ (λ (h : nat_lt port (world.net.degree node) ≡ true). rw h tt) (λ (h : nat_lt port (world.net.degree node) ≡ false). rw h knows)
+ports_told world state view (At node came) (Accuse port) knows = by_cases (nat_lt port (world.net.degree node)) _ (λ (h : nat_lt port (world.net.degree node) ≡ true). rw h tt) (λ (h : nat_lt port (world.net.degree node) ≡ false). rw h knows)
 ports_told world state view (At node came) Leave knows = tt
 ports_told world state view (At node came) Bad knows = knows
 ports_told world state view (Bound node p) Enter knows = refl
