@@ -97,7 +97,7 @@ tri.toml =>  => cup.toml: match 0 shape network
 tri.toml => tri\u0000 => cup.toml: match 0 shape network
 "tri.toml" => ["tri.toml"] => cup.toml: match 0 shape network
 tri.toml => bytes.toml => bytes.toml: text
-tri.toml => cup.toml => cup.toml: missing nodes
+tri.toml => cup.toml => cup.toml: version
 home = 0¶ =>  => cup.toml: match 0 missing home
 home = 0 => home = 3 => cup.toml: match 0 home
 home = 0 => home = 65535 => cup.toml: match 0 home
@@ -164,6 +164,7 @@ held = [] => [[match]]¶team = 1 => cup.toml: match 1 shape team"#;
 // The same of the tournament in version 1.
 const TOURNAMENTS_OF_VERSION_1: &str = r#"held = []¶ =>  => right
 version = 1 => version = 0x1 => right
+tri.toml => cup.toml => cup.toml: missing nodes
 hole = 2¶ =>  => cup.toml: match 0 missing hole
 hole = 2 => holes = [2] => cup.toml: match 0 missing hole
 hole = 2 => hole = "none" => right

@@ -344,9 +344,9 @@ fn lines_are_what_they_mean(rt: HostRuntime) -> Result<(), Fail> {
     };
     plays(&rt, rt.alloc(), &enters)?;
 
-    // A line of 16,385 bytes is a bad command.
+    // A line of 65,537 bytes is a bad command.
     let mut line = Vec::from_slice(rt.alloc(), b"{\"do\":\"look\"}")?;
-    for _ in 0..16_372 {
+    for _ in 0..65_524 {
         line.push(b' ')?;
     }
     line.push(b'\n')?;
