@@ -6,7 +6,8 @@ use Rattle.std.proofs.lemmas.List.{append-nil}
 use Rattle.std.proofs.lemmas.Option.{option_and_then_some}
 use Rattle.bhs_files.specs.declared.faults.FileFault.{FileFault}
 use Rattle.bhs_files.specs.declared.faults.FileFault.TheVariants.{KeyTwice}
-use Rattle.bhs_files.specs.KeyTable.{Seat, same_key, seat_at, seats_of_match, seats_from, distinct, key_table, key_of, LetsIn}
+use Rattle.bhs_lineup.specs.KeyTable.{Seat, same_key, seat_at}
+use Rattle.bhs_files.specs.KeyTable.{seats_of_match, seats_from, distinct, key_table, key_of, LetsIn}
 
 -- the seat is one of these
 abbrev Has : List Seat → Seat → Type 0

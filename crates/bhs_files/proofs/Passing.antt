@@ -7,12 +7,14 @@ use Rattle.bhs_net.specs.Network.{Network}
 use Rattle.bhs_match.specs.Matches.{Play}
 use Rattle.bhs_files.specs.declared.faults.FileFault.{FileFault}
 use Rattle.bhs_files.specs.declared.fixtures.Fixture.{Fixture}
-use Rattle.bhs_files.specs.declared.lineups.Ready.{Ready}
+use Rattle.bhs_lineup.specs.declared.lineups.Ready.{Ready}
 use Rattle.bhs_files.specs.Names.{first_seen}
-use Rattle.bhs_files.specs.KeyTable.{Seat, key_table}
+use Rattle.bhs_lineup.specs.KeyTable.{Seat}
+use Rattle.bhs_lineup.specs.Lineups.{Contest}
+use Rattle.bhs_files.specs.KeyTable.{key_table}
 use Rattle.bhs_files.specs.Reading.{◌>>=◌, Fails}
 use Rattle.bhs_files.specs.Tournaments.{Plan, Planned, planned}
-use Rattle.bhs_files.specs.Lineups.{Contest, all_ready, contest_in, network_named, names_of, start_of, ready_of, setup_fault, held_fault, first_of, unless}
+use Rattle.bhs_files.specs.Lineups.{all_ready, contest_in, network_named, names_of, start_of, ready_of, setup_fault, held_fault, first_of, unless}
 use Rattle.bhs_files.specs.Passes.{each_in, begun, readied}
 use Rattle.bhs_files.proofs.Failing.{fails_with}
 

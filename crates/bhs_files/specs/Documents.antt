@@ -1,23 +1,26 @@
--- What both files begin with: a TOML document of this version.
-use Rattle.std.specs.Prelude.{ℕ, ◌==◌, Bool, false, codes, if◌then◌else◌, Option, Some, None, option_and_then, Result, Ok, Err}
+-- What both files begin with: a TOML document that says its version.
+use Rattle.std.specs.Prelude.{ℕ, Bool, ◌&&◌, nat_le, codes, if◌then◌else◌, Option, Some, None, option_and_then, Result, Ok, Err}
 use Rattle.toml.specs.Data.{Members, get_member}
-use Rattle.bhs_files.specs.declared.limits.TheConstants.{VERSION}
 use Rattle.bhs_files.specs.declared.faults.FileFault.{FileFault}
 use Rattle.bhs_files.specs.declared.faults.FileFault.TheVariants.{Toml, Version}
 use Rattle.bhs_files.specs.Shapes.{number}
 
--- the key `version` has the whole number `VERSION`
-abbrev pub is_version : Option ℕ → Bool
-is_version None = false
-is_version (Some n) = n == VERSION
+-- the version of a file, and its table
+abbrev pub Document : Type 0
+Document = ℕ × Members
 
-abbrev pub has_version : Members → Bool
-has_version members = is_version (option_and_then number (get_member (codes "version") members))
+abbrev pub up_to : (latest : ℕ) → ℕ → Option ℕ
+up_to latest version = if nat_le 1 version && nat_le version latest then Some version else None
 
-abbrev pub versioned : Members → Result Members FileFault
-versioned members = if has_version members then Ok members else Err Version
+-- the whole number at the key `version`, from 1 to the latest version
+abbrev pub version_in : (latest : ℕ) → Members → Option ℕ
+version_in latest members = option_and_then (up_to latest) (option_and_then number (get_member (codes "version") members))
 
--- the table of a text of this version
-abbrev pub table_in : Option Members → Result Members FileFault
-table_in None = Err Toml
-table_in (Some members) = versioned members
+abbrev pub versioned : Members → Option ℕ → Result Document FileFault
+versioned table None = Err Version
+versioned table (Some version) = Ok (version, table)
+
+-- the document of a text that has a version up to the latest
+abbrev pub document_in : (latest : ℕ) → Option Members → Result Document FileFault
+document_in latest None = Err Toml
+document_in latest (Some members) = versioned members (version_in latest members)

@@ -1,22 +1,8 @@
--- Which agent of which match a key lets in.
-use Rattle.std.specs.Prelude.{◌≡◌, ℕ, ◌+◌, Bool, nat_eq, if◌then◌else◌, List, [], ◌∷◌, ◌++◌, slice_get, Option, Some, None, option_and_then, Result, Ok, Err}
-use Rattle.std.specs.List.{list_any}
-use Rattle.std.specs.Cmp.Lexicographic.{pointwise}
+-- The keys of a tournament, and the first that stands twice.
+use Rattle.std.specs.Prelude.{◌≡◌, ℕ, ◌+◌, if◌then◌else◌, List, [], ◌∷◌, ◌++◌, slice_get, Option, Some, option_and_then, Result, Ok, Err}
+use Rattle.bhs_lineup.specs.KeyTable.{Seat, seat_at, has_key}
 use Rattle.bhs_files.specs.declared.faults.FileFault.{FileFault}
 use Rattle.bhs_files.specs.declared.faults.FileFault.TheVariants.{KeyTwice}
-
--- a key, and the numbers of the match and of the agent that it lets in
-abbrev pub Seat : Type 0
-Seat = List ℕ × (ℕ × ℕ)
-
--- the two keys have the same bytes
-abbrev pub same_key : List ℕ → List ℕ → Bool
-same_key = pointwise nat_eq
-
--- what the key lets in
-abbrev pub seat_at : List ℕ → List Seat → Option (ℕ × ℕ)
-seat_at key [] = None
-seat_at key (seat ∷ seats) = if same_key key seat.0 then Some seat.1 else seat_at key seats
 
 -- the keys of a match, from an agent on
 abbrev pub seats_of_match : ℕ → ℕ → List (List ℕ) → List Seat
@@ -32,7 +18,7 @@ seats_from game (keys ∷ matches) = seats_of_match game 0 keys ++ seats_from (g
 abbrev pub distinct : List Seat → List Seat → Result (List Seat) FileFault
 distinct earlier [] = Ok earlier
 distinct earlier (seat ∷ seats) =
-    if list_any (λ other. same_key seat.0 other.0) earlier then Err (KeyTwice seat.1.0 seat.1.1)
+    if has_key seat.0 earlier then Err (KeyTwice seat.1.0 seat.1.1)
     else distinct (earlier ++ seat ∷ []) seats
 
 -- the keys of all matches, or the first that an earlier agent has

@@ -5,7 +5,6 @@ pub mod Documents
 pub mod Tournaments
 pub mod Names
 pub mod KeyTable
-pub mod Seats
 pub mod NetworkFiles
 pub mod Lineups
 pub mod Passes

@@ -1,5 +1,5 @@
 -- What a tournament and its networks make: matches that can be played, and the keys; or the first fault.
-use Rattle.std.specs.Prelude.{ℕ, ◌+◌, List, [], ◌∷◌, map, length, slice_index_or, Option, Some, None, option_map, option_to_list, Result, Ok, Err}
+use Rattle.std.specs.Prelude.{ℕ, ◌+◌, List, [], ◌∷◌, map, length, slice_index_or, Option, Some, None, option_map, Result, Ok, Err}
 use Rattle.std.specs.List.{position_or_len}
 use Rattle.std.specs.Option.{option_or}
 use Rattle.bhs_net.specs.Network.{Network}
@@ -12,10 +12,10 @@ use Rattle.bhs_match.specs.Matches.{Play}
 use Rattle.bhs_deal.specs.Links.{first_strange}
 use Rattle.bhs_files.specs.declared.faults.FileFault.{FileFault}
 use Rattle.bhs_files.specs.declared.faults.FileFault.TheVariants as faults
-use Rattle.bhs_files.specs.declared.lineups.Ready.{Ready}
-use Rattle.bhs_files.specs.declared.lineups.Lineup.{Lineup}
+use Rattle.bhs_lineup.specs.declared.lineups.Ready.{Ready}
+use Rattle.bhs_lineup.specs.Lineups.{Contest}
 use Rattle.bhs_files.specs.Names.{same_name, first_seen}
-use Rattle.bhs_files.specs.KeyTable.{Seat, key_table}
+use Rattle.bhs_files.specs.KeyTable.{key_table}
 use Rattle.bhs_files.specs.Tournaments.{Plan, Planned}
 use Rattle.bhs_files.specs.Reading.{◌>>=◌}
 
@@ -31,7 +31,7 @@ network_named names networks name = slice_index_or networks (position_or_len (sa
 
 -- how a match is set up: an agent for each key
 abbrev pub setup_of : Planned → Setup
-setup_of planned = record { home = planned.home; holes = option_to_list planned.hole; dark = []; agents = length planned.keys; quota = planned.quota; board = planned.board }
+setup_of planned = record { home = planned.home; holes = planned.holes; dark = planned.dark; agents = length planned.keys; quota = planned.quota; board = planned.board }
 
 -- a match on a network, before anything happens
 abbrev pub begins : Network → Setup → Play
@@ -70,15 +70,6 @@ unless None rest = rest
 unless (Some fault) rest = Err fault
 
 -- ---- the tournament
-
--- a tournament that can be played, without where it lies in memory
-pub record Contest : Type 0 where
-  pub seed : List ℕ
-  pub matches : List Ready
-  pub keys : List Seat
-
-abbrev pub contest : Lineup → Contest
-contest lineup = record { seed = lineup.seed; matches = lineup.ready.items; keys = lineup.keys }
 
 -- the network that a match of these is played on
 abbrev pub network_for : (matches : List Planned) → List Network → Planned → Network

@@ -12,7 +12,8 @@ use Rattle.bhs_files.specs.declared.faults.FileFault.TheVariants.{Net, Memory}
 use Rattle.bhs_files.specs.declared.file_keys.FileKey.TheVariants.{Nodes, Links}
 use Rattle.bhs_files.specs.Shapes.{number, list_where, each}
 use Rattle.bhs_files.specs.Reading.{◌>>=◌, required}
-use Rattle.bhs_files.specs.Documents.{table_in}
+use Rattle.bhs_files.specs.declared.limits.TheConstants.{NETWORK_VERSION}
+use Rattle.bhs_files.specs.Documents.{document_in}
 
 -- the number of nodes, and the links
 abbrev pub Listing : Type 0
@@ -42,7 +43,7 @@ listing_of members = do
   Ok (nodes, links)
 
 unfoldable pub listing_in : List ℕ → Result Listing FileFault
-listing_in text = table_in (parse_document text) >>= listing_of
+listing_in text = document_in NETWORK_VERSION (parse_document text) >>= λ document. listing_of document.1
 
 -- what is listed is this network
 abbrev pub IsNetworkOf : Result Listing FileFault → Network → Type 0

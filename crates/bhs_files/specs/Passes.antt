@@ -4,7 +4,7 @@ use Rattle.bhs_net.specs.Network.{Network}
 use Rattle.bhs_match.specs.Matches.{Play}
 use Rattle.bhs_files.specs.declared.faults.FileFault.{FileFault}
 use Rattle.bhs_files.specs.declared.fixtures.Fixture.{Fixture}
-use Rattle.bhs_files.specs.declared.lineups.Ready.{Ready}
+use Rattle.bhs_lineup.specs.declared.lineups.Ready.{Ready}
 use Rattle.bhs_files.specs.Reading.{◌>>=◌}
 use Rattle.bhs_files.specs.Tournaments.{Planned, planned}
 use Rattle.bhs_files.specs.Lineups.{start_of, setup_fault, held_fault, unless}

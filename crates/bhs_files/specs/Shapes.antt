@@ -4,8 +4,9 @@ use Rattle.std.specs.List.{list_all}
 use Rattle.std.specs.Cmp.Lexicographic.{pointwise}
 use Rattle.std.specs.Result.{result_ok}
 use Rattle.toml.specs.Data.{Data, string, integer, array, Items, no_items, item, Members, as_table}
+use Rattle.bhs_lineup.specs.declared.limits.TheConstants.{SEED_BYTES}
 use Rattle.hex.specs.Hex.{decode_sized}
-use Rattle.bhs_files.specs.declared.limits.TheConstants.{SEED_BYTES, MAX_MATCHES, MAX_TEAM, MAX_NETWORK_NAME, MAX_KEY, MAX_KEYS}
+use Rattle.bhs_files.specs.declared.limits.TheConstants.{MAX_MATCHES, MAX_TEAM, MAX_NETWORK_NAME, MAX_KEY, MAX_KEYS}
 
 -- a whole number 0 to 65,535
 abbrev pub number : Data → Option ℕ
@@ -77,9 +78,13 @@ module _ {A : Type 0} (shape : Data → Option A) where
 abbrev pub keys : Data → Option (List (List ℕ))
 keys = list_where (λ items. if nat_le (count items) MAX_KEYS then each key items else None)
 
--- held links, each as a node and a port
-abbrev pub held : Data → Option (List (ℕ × ℕ))
-held = list_where (each pair)
+-- black holes, each as a node
+abbrev pub holes : Data → Option (List ℕ)
+holes = list_where (each number)
+
+-- links, each as a node and a port
+abbrev pub ends : Data → Option (List (ℕ × ℕ))
+ends = list_where (each pair)
 
 -- the tables of 1 to `MAX_MATCHES` matches
 abbrev pub matches : Data → Option (List Members)

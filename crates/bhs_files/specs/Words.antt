@@ -1,6 +1,6 @@
 use Rattle.std.specs.Prelude.{ℕ, List, codes}
 use Rattle.bhs_files.specs.declared.file_keys.FileKey.{FileKey}
-use Rattle.bhs_files.specs.declared.file_keys.FileKey.TheVariants.{Nodes, Links, Seed, Match, Team, Network, Home, Hole, Quota, Board, Keys, Held}
+use Rattle.bhs_files.specs.declared.file_keys.FileKey.TheVariants.{Nodes, Links, Seed, Match, Team, Network, Home, Hole, Holes, Dark, Quota, Board, Keys, Held}
 
 -- a key as the files spell it
 abbrev pub word : FileKey → List ℕ
@@ -12,6 +12,8 @@ word Team = codes "team"
 word Network = codes "network"
 word Home = codes "home"
 word Hole = codes "hole"
+word Holes = codes "holes"
+word Dark = codes "dark"
 word Quota = codes "quota"
 word Board = codes "board"
 word Keys = codes "keys"

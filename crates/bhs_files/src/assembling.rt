@@ -7,18 +7,20 @@ ghost use Rattle.bhs_world.specs.Faults.{first_fault};
 ghost use Rattle.bhs_files.specs.declared.faults.FileFault.TheVariants as faults;
 ghost use Rattle.bhs_files.specs.Names.{first_seen, is_among};
 ghost use Rattle.bhs_files.specs.Reading.{GivesUnlessMemory};
-ghost use Rattle.bhs_files.specs.Tournaments.{plan, planned};
-ghost use Rattle.bhs_files.specs.Lineups.{network_named, setup_of, start_of, begins, of_setup, setup_fault, unless, contest, contest_in, all_ready};
+ghost use Rattle.bhs_lineup.specs.Lineups.{contest};
+ghost use Rattle.bhs_files.specs.KeyTable.{LetsIn};
+ghost use Rattle.bhs_files.specs.Tournaments.{plan, planned, key_lists};
+ghost use Rattle.bhs_files.specs.Lineups.{network_named, setup_of, start_of, begins, of_setup, setup_fault, unless, contest_in, all_ready};
 ghost use Rattle.bhs_files.specs.Passes.{each_in, begun, readied};
 
 use crate::faults::FileFault;
 use crate::fixtures::Fixture;
-use crate::key_table::Keys;
-use crate::lineups::{Lineup, Ready};
+use crate::key_table::keys_of;
 use crate::tournaments::Tournament;
 use bhs_deal::{Held, HeldFault};
+use bhs_lineup::{Lineup, Ready};
 use bhs_match::Match;
-use bhs_model::{DarkLinks, Holes, Setup};
+use bhs_model::Setup;
 use bhs_net::Net;
 use bhs_world::SetupFault;
 use indexmap::IndexSet;
@@ -39,9 +41,12 @@ pub fn assemble(
 
     // Each match is as its file says, on the network of its name, and nothing has happened in it.
     ensures matches { IfOk result (λ lineup. lineup.ready.items ≡ all_ready (plan tournament) networks.now) }
+
+    // Each agent's key lets in that agent, and no other key lets anyone in.
+    ensures lets_in { IfOk result (λ lineup. LetsIn (key_lists tournament) lineup.keys) }
 {
     let games = games(alloc, &tournament, networks)?;
-    let keys = Keys::new(alloc, &tournament)?;
+    let keys = keys_of(alloc, &tournament.matches)?;
     let Tournament { seed, matches } = tournament;
     Ok(Lineup {
         seed,
@@ -76,17 +81,13 @@ fn network_of<'a>(names: &IndexSet<&str>, networks: &'a [Net], name: &str) -> &'
     }
 }
 
-fn setup_of(alloc: Global, fixture: &Fixture) -> Result<Setup, AllocError>
+fn setup_of(fixture: &Fixture) -> Result<Setup, AllocError>
     ensures { IfOk result (λ setup. setup ≡ setup_of (planned fixture.now)) }
 {
-    let mut holes = Vec::new(alloc);
-    if let Some(hole) = fixture.hole {
-        holes.push(hole)?;
-    }
     Ok(Setup {
         home: fixture.home,
-        holes: Holes::from(holes),
-        dark: DarkLinks::from(Vec::new(alloc)),
+        holes: fixture.holes.clone()?,
+        dark: fixture.dark.clone()?,
         agents: fixture.keys.len() as u16,
         quota: fixture.quota,
         board: fixture.board,
@@ -99,7 +100,7 @@ fn begun(alloc: Global, game: u32, net: &Net, fixture: &Fixture) -> Result<Match
         (unless (setup_fault net.now game (planned fixture.now)) (Ok (start_of net.now (planned fixture.now)))) }
 {
     let net = net.try_clone(alloc)?;
-    let setup = setup_of(alloc, fixture)?;
+    let setup = setup_of(fixture)?;
     started(alloc, game, net, setup)
 }
 

@@ -15,7 +15,7 @@ use std::fmt;
 pub enum FileFault {
     /// The text is no TOML document.
     Toml,
-    /// The file lacks `version`, or it is another than `VERSION`.
+    /// The file lacks `version`, or it is none of its kind: 1 up to `NETWORK_VERSION` or `TOURNAMENT_VERSION`.
     Version,
     /// A key is absent.
     Missing { game: Option<u32>, key: FileKey },

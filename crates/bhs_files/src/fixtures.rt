@@ -1,7 +1,7 @@
 ghost use Rattle.std.specs.Prelude.{◌≤◌, vec_len};
 ghost use Rattle.bhs_files.specs.declared.limits.TheConstants.{MAX_KEYS};
 
-use bhs_model::Text;
+use bhs_model::{DarkLinks, Holes, Text};
 
 /// One match of a tournament, as its file describes it.
 #[derive(Debug, PartialEq, Eq, Drop)]
@@ -12,8 +12,10 @@ pub struct Fixture {
     pub network: Text,
     /// The node at which every agent enters.
     pub home: u16,
-    /// The node that destroys each agent that arrives; None in a practice match.
-    pub hole: Option<u16>,
+    /// The nodes that destroy each agent that arrives.
+    pub holes: Holes,
+    /// The links that destroy whoever is delivered over them, in either direction.
+    pub dark: DarkLinks,
     /// How many commands each agent may use, Enter and Leave not counted.
     pub quota: u16,
     /// How many bytes a whiteboard holds.

@@ -9,7 +9,6 @@ mod fixtures;
 mod key_table;
 pub mod laws;
 mod limits;
-mod lineups;
 mod network_files;
 mod shapes;
 mod tables;
@@ -20,9 +19,9 @@ pub use assembling::assemble;
 pub use faults::FileFault;
 pub use file_keys::FileKey;
 pub use fixtures::Fixture;
-pub use key_table::Keys;
-pub use limits::{MAX_KEY, MAX_KEYS, MAX_MATCHES, MAX_NETWORK_NAME, MAX_TEAM, SEED_BYTES, VERSION};
-pub use lineups::{Lineup, Ready};
+pub use limits::{
+    MAX_KEY, MAX_KEYS, MAX_MATCHES, MAX_NETWORK_NAME, MAX_TEAM, NETWORK_VERSION, TOURNAMENT_VERSION,
+};
 pub use network_files::read_network;
 pub use shapes::is_team;
 pub use tournament_files::read_tournament;

@@ -1,8 +1,8 @@
-/// The version of the two file formats.
-pub const VERSION: u16 = 1;
+/// The version of network files.
+pub const NETWORK_VERSION: u16 = 1;
 
-/// How many bytes a seed has. A file spells each by two hexadecimal digits.
-pub const SEED_BYTES: usize = 32;
+/// The latest version of tournament files. Version 1 is read as well.
+pub const TOURNAMENT_VERSION: u16 = 2;
 
 /// The most matches of a tournament. The least is 1.
 pub const MAX_MATCHES: usize = 64;

@@ -9,6 +9,7 @@ ghost use Rattle.bhs_files.specs.NetworkFiles.{link, links, listing_of, listing_
 
 use crate::faults::FileFault;
 use crate::file_keys::FileKey;
+use crate::limits::NETWORK_VERSION;
 use crate::{documents, shapes, tables};
 use bhs_net::{Link, Memory, Net};
 use std::alloc::Global;
@@ -70,7 +71,7 @@ pub fn read_network(alloc: Global, text: &str) -> Result<Net, FileFault>
     ensures made { IfOk result (IsNetworkOf (listing_in text.now)) }
     ensures refused { IfErr result (RefusesFile (listing_in text.now)) }
 {
-    let table = documents::table(alloc, text)?;
+    let (_, table) = documents::document(alloc, text, NETWORK_VERSION)?;
     let (nodes, links) = listing(alloc, &table)?;
     Ok(Net::try_new(alloc, nodes, &links)?)
 }

@@ -1,9 +1,10 @@
 ghost use Rattle.std.specs.Prelude.{◌≡◌, ◌≤◌, length, option_copied, option_map, IfOk, IfSome, map, vec_len};
 ghost use Rattle.toml.specs.Data.{as_table};
 ghost use Rattle.toml.specs.View.{view, items_view, table_view};
-ghost use Rattle.bhs_files.specs.Shapes.{number, is_sized, is_team, is_team_character, is_network_name, team, network_name, key, seed, hole, pair, each, keys, held, matches};
+ghost use Rattle.bhs_files.specs.Shapes.{number, is_sized, is_team, is_team_character, is_network_name, team, network_name, key, seed, hole, holes, pair, each, ends, keys, matches};
 
-use crate::limits::{MAX_KEY, MAX_KEYS, MAX_MATCHES, MAX_NETWORK_NAME, MAX_TEAM, SEED_BYTES};
+use crate::limits::{MAX_KEY, MAX_KEYS, MAX_MATCHES, MAX_NETWORK_NAME, MAX_TEAM};
+use bhs_lineup::SEED_BYTES;
 use bhs_model::Text;
 use bhs_net::Memory;
 use hex::FromHex;
@@ -122,6 +123,20 @@ fn key_texts(alloc: Global, items: &[Value]) -> Result<Option<Vec<Text>>, Memory
     Ok(Some(keys))
 }
 
+fn numbers(alloc: Global, items: &[Value]) -> Result<Option<Vec<u16>>, Memory>
+    ensures { IfOk result
+        (λ found. option_map (λ numbers. numbers.items) found ≡ each number (items_view items.now)) }
+{
+    let mut numbers = Vec::new(alloc);
+    for item in items {
+        let Some(number) = number(item) else {
+            return Ok(None);
+        };
+        numbers.push(number)?;
+    }
+    Ok(Some(numbers))
+}
+
 fn pairs(alloc: Global, items: &[Value]) -> Result<Option<Vec<(u16, u16)>>, Memory>
     ensures { IfOk result
         (λ found. option_map (λ pairs. pairs.items) found ≡ each pair (items_view items.now)) }
@@ -164,9 +179,19 @@ pub fn keys(alloc: Global, value: &Value) -> Result<Option<Vec<Text>>, Memory>
     }
 }
 
-/// Held links, each as a node and a port.
-pub fn held(alloc: Global, value: &Value) -> Result<Option<Vec<(u16, u16)>>, Memory>
-    ensures { IfOk result (λ found. option_map (λ pairs. pairs.items) found ≡ held (view value.now)) }
+/// Black holes, each as a node.
+pub fn holes(alloc: Global, value: &Value) -> Result<Option<Vec<u16>>, Memory>
+    ensures { IfOk result (λ found. option_map (λ numbers. numbers.items) found ≡ holes (view value.now)) }
+{
+    match value.as_array() {
+        Some(items) => numbers(alloc, items),
+        None => Ok(None),
+    }
+}
+
+/// Links, each as a node and a port.
+pub fn ends(alloc: Global, value: &Value) -> Result<Option<Vec<(u16, u16)>>, Memory>
+    ensures { IfOk result (λ found. option_map (λ pairs. pairs.items) found ≡ ends (view value.now)) }
 {
     match value.as_array() {
         Some(items) => pairs(alloc, items),

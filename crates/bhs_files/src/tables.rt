@@ -1,18 +1,21 @@
 //! What a table says at each key, or the fault of the key.
 
-ghost use Rattle.std.specs.Prelude.{◌≡◌, ◌≤◌, ℕ, Some, None, IfOk, [], codes, option_map, option_and_then, vec_len, map};
+ghost use Rattle.std.specs.Prelude.{◌≡◌, ◌≤◌, ℕ, Some, None, IfOk, [], codes, option_map, option_and_then, option_to_list, vec_len, map};
 ghost use Rattle.toml.specs.Data.{get_member};
 ghost use Rattle.toml.specs.View.{view, table_view};
 ghost use Rattle.bhs_files.specs.Words.{word};
 ghost use Rattle.bhs_files.specs.Reading.{Gives, GivesUnlessMemory, present, shaped, required, optional};
 ghost use Rattle.bhs_files.specs.Shapes as shapes;
+ghost use Rattle.bhs_files.specs.Tournaments.{dangers_in};
 ghost use Rattle.bhs_files.specs.declared.file_keys.FileKey.TheVariants as keys;
 
 use crate::faults::FileFault;
 use crate::file_keys::FileKey;
-use crate::limits::{MAX_KEYS, MAX_MATCHES, SEED_BYTES};
+use crate::limits::{MAX_KEYS, MAX_MATCHES};
 use crate::shapes;
-use bhs_model::Text;
+use bhs_lineup::SEED_BYTES;
+use bhs_model::{DarkLinks, Holes, Text};
+use bhs_net::Memory;
 use std::alloc::Global;
 use toml::{Table, Value};
 
@@ -88,7 +91,7 @@ pub fn network(game: Option<u32>, table: &Table) -> Result<&str, FileFault>
     )
 }
 
-pub fn hole(game: Option<u32>, table: &Table) -> Result<Option<u16>, FileFault>
+fn hole(game: Option<u32>, table: &Table) -> Result<Option<u16>, FileFault>
     ensures { result ≡ required game keys.Hole shapes.hole (table_view table.now) }
 {
     shaped(
@@ -96,6 +99,44 @@ pub fn hole(game: Option<u32>, table: &Table) -> Result<Option<u16>, FileFault>
         FileKey::Hole,
         shapes::hole(present(game, FileKey::Hole, table)?),
     )
+}
+
+fn one_hole(alloc: Global, hole: Option<u16>) -> Result<Holes, Memory>
+    ensures { IfOk result (λ holes. holes ≡ option_to_list hole) }
+{
+    let mut holes = Vec::new(alloc);
+    if let Some(hole) = hole {
+        holes.push(hole)?;
+    }
+    Ok(Holes::from(holes))
+}
+
+fn holes(alloc: Global, game: Option<u32>, table: &Table) -> Result<Vec<u16>, FileFault>
+    ensures { GivesUnlessMemory (λ holes. holes.items) result
+        (required game keys.Holes shapes.holes (table_view table.now)) }
+{
+    let value = present(game, FileKey::Holes, table)?;
+    shaped(game, FileKey::Holes, shapes::holes(alloc, value)?)
+}
+
+/// The black holes and the dark links of a match, in a file of this version.
+pub fn dangers(
+    alloc: Global,
+    version: u16,
+    game: Option<u32>,
+    table: &Table,
+) -> Result<(Holes, DarkLinks), FileFault>
+    ensures { GivesUnlessMemory (λ dangers. dangers) result
+        (dangers_in version game (table_view table.now)) }
+{
+    if version == 1 {
+        let holes = one_hole(alloc, hole(game, table)?)?;
+        Ok((holes, DarkLinks::from(Vec::new(alloc))))
+    } else {
+        let holes = holes(alloc, game, table)?;
+        let dark = ends(alloc, game, FileKey::Dark, table)?;
+        Ok((Holes::from(holes), DarkLinks::from(dark)))
+    }
 }
 
 pub fn keys(alloc: Global, game: Option<u32>, table: &Table) -> Result<Vec<Text>, FileFault>
@@ -107,12 +148,18 @@ pub fn keys(alloc: Global, game: Option<u32>, table: &Table) -> Result<Vec<Text>
     shaped(game, FileKey::Keys, shapes::keys(alloc, value)?)
 }
 
-pub fn held(alloc: Global, game: Option<u32>, table: &Table) -> Result<Vec<(u16, u16)>, FileFault>
-    ensures { GivesUnlessMemory (λ pairs. pairs.items) result
-        (optional game keys.Held shapes.held [] (table_view table.now)) }
+/// The links that a key lists; none where the table lacks the key.
+pub fn ends(
+    alloc: Global,
+    game: Option<u32>,
+    key: FileKey,
+    table: &Table,
+) -> Result<Vec<(u16, u16)>, FileFault>
+    ensures { GivesUnlessMemory (λ ends. ends.items) result
+        (optional game key shapes.ends [] (table_view table.now)) }
 {
-    match lookup(table, FileKey::Held.word()) {
-        Some(value) => shaped(game, FileKey::Held, shapes::held(alloc, value)?),
+    match lookup(table, key.word()) {
+        Some(value) => shaped(game, key, shapes::ends(alloc, value)?),
         None => Ok(Vec::new(alloc)),
     }
 }

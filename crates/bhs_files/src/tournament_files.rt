@@ -8,29 +8,31 @@ ghost use Rattle.bhs_files.specs.Tournaments.{planned, plan, match_in, matches_i
 use crate::faults::FileFault;
 use crate::file_keys::FileKey;
 use crate::fixtures::Fixture;
+use crate::limits::TOURNAMENT_VERSION;
 use crate::tournaments::Tournament;
 use crate::{documents, shapes, tables};
 use std::alloc::Global;
 use toml::Table;
 
 #[tactic(auto, unfolding(crate::specs::Tournaments::match_in))]
-fn fixture(alloc: Global, game: u32, table: &Table) -> Result<Fixture, FileFault>
-    ensures { GivesUnlessMemory planned result (match_in game (table_view table.now)) }
+fn fixture(alloc: Global, version: u16, game: u32, table: &Table) -> Result<Fixture, FileFault>
+    ensures { GivesUnlessMemory planned result (match_in version game (table_view table.now)) }
 {
     let place = Some(game);
     let team = tables::team(place, table)?;
     let network = tables::network(place, table)?;
     let home = tables::number(place, FileKey::Home, table)?;
-    let hole = tables::hole(place, table)?;
+    let (holes, dark) = tables::dangers(alloc, version, place, table)?;
     let quota = tables::number(place, FileKey::Quota, table)?;
     let board = tables::number(place, FileKey::Board, table)?;
     let keys = tables::keys(alloc, place, table)?;
-    let held = tables::held(alloc, place, table)?;
+    let held = tables::ends(alloc, place, FileKey::Held, table)?;
     Ok(Fixture {
         team: shapes::copied(alloc, team)?,
         network: shapes::copied(alloc, network)?,
         home,
-        hole,
+        holes,
+        dark,
         quota,
         board,
         keys,
@@ -38,37 +40,38 @@ fn fixture(alloc: Global, game: u32, table: &Table) -> Result<Fixture, FileFault
     })
 }
 
-fn fixtures(alloc: Global, tables: &[&Table]) -> Result<Vec<Fixture>, FileFault>
+fn fixtures(alloc: Global, version: u16, tables: &[&Table]) -> Result<Vec<Fixture>, FileFault>
     requires { length tables.now < 2 ^ 32 }
     ensures reads { GivesUnlessMemory (λ fixtures. map planned fixtures.items) result
-        (matches_in 0 (map (λ table. table_view table.now) tables.now)) }
+        (matches_in version 0 (map (λ table. table_view table.now) tables.now)) }
     ensures len { IfOk result (λ fixtures. vec_len fixtures ≡ length tables.now) }
 {
     let mut fixtures = Vec::new(alloc);
     for (game, table) in tables.iter().enumerate() {
-        fixtures.push(fixture(alloc, game as u32, table)?)?;
+        fixtures.push(fixture(alloc, version, game as u32, table)?)?;
     }
     Ok(fixtures)
 }
 
 #[tactic(auto, unfolding(crate::specs::Tournaments::plan_in))]
-fn tournament(alloc: Global, table: &Table) -> Result<Tournament, FileFault>
-    ensures { GivesUnlessMemory plan result (plan_in (table_view table.now)) }
+fn tournament(alloc: Global, version: u16, table: &Table) -> Result<Tournament, FileFault>
+    ensures { GivesUnlessMemory plan result (plan_in (version, table_view table.now)) }
 {
     let seed = tables::seed(table)?;
     let matches = tables::matches(alloc, table)?;
     Ok(Tournament {
         seed,
-        matches: fixtures(alloc, &matches)?,
+        matches: fixtures(alloc, version, &matches)?,
     })
 }
 
-/// Reads a tournament file. The first fault is told: the text is no TOML document, then its version, then
-/// `seed` and `match`, and then match by match `team`, `network`, `home`, `hole`, `quota`, `board`, `keys`
-/// and `held`, whatever the order in the file. Other keys are ignored.
+/// Reads a tournament file of version 1 or 2. The first fault is told: the text is no TOML document, then its version,
+/// then `seed` and `match`, and then match by match `team`, `network`, `home`, `holes` and `dark` (in version 1 `hole`),
+/// `quota`, `board`, `keys` and `held`, whatever the order in the file. Other keys are ignored.
 #[tactic(auto, unfolding(crate::specs::Tournaments::tournament_in))]
 pub fn read_tournament(alloc: Global, text: &str) -> Result<Tournament, FileFault>
     ensures { GivesUnlessMemory plan result (tournament_in text.now) }
 {
-    tournament(alloc, &documents::table(alloc, text)?)
+    let (version, table) = documents::document(alloc, text, TOURNAMENT_VERSION)?;
+    tournament(alloc, version, &table)
 }

@@ -12,8 +12,8 @@ use Rattle.bhs_model.specs.Replying.{accepts, hears}
 use Rattle.bhs_model.specs.Worlds.{World, doomed}
 use Rattle.bhs_model.specs.Runs.{Position, Before, At, Bound, After, State, initial, changed, glance, position_after, told, is_bound, is_doomed, is_let_through, arrives, arrived, delivered, heard, next, run, run_from}
 use Rattle.bhs_model.specs.Kept.{destroys, lost_after, lost, lost_from, nobody}
-use Rattle.bhs_world.specs.Steps.{standing_at}
-use Rattle.bhs_world.proofs.LegalLemmas.{AllLegal, legal_told}
+use Rattle.bhs_model.specs.Standings.{standing_at}
+use Rattle.bhs_model.proofs.LegalLemmas.{AllLegal, legal_told}
 use Rattle.bhs_match.proofs.DepartedLemmas.{AreOnce, once_after, once_none}
 use Rattle.bhs_match.proofs.MoveLemmas.{IsGone, Moves, moves, within_quota}
 

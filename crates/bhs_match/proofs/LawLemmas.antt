@@ -5,11 +5,12 @@ use Rattle.bhs_model.specs.declared.events.Event.{Event}
 use Rattle.bhs_model.specs.declared.marks.Mark.{Mark}
 use Rattle.bhs_model.specs.declared.marks.Kept.{Kept}
 use Rattle.bhs_model.specs.Worlds.{World}
-use Rattle.bhs_model.specs.Runs.{Position, State, initial, run, reply}
+use Rattle.bhs_model.specs.Runs.{Position, State, initial, run, reply, replies}
+use Rattle.bhs_model.specs.KeptReplies.{kept_replies}
 use Rattle.bhs_model.specs.Kept.{keeps, kept_first, kept, lost, nobody}
 use Rattle.bhs_model.specs.Draws.{pool}
-use Rattle.bhs_model.specs.Marks.{events_of}
-use Rattle.bhs_model.proofs.KeptLemmas.{run-kept, lost-kept}
+use Rattle.bhs_model.specs.Marks.{events_of, read_if}
+use Rattle.bhs_model.proofs.KeptLemmas.{run-kept, lost-kept, replies-kept}
 use Rattle.bhs_model.proofs.AddLemmas.{kept-append}
 use Rattle.bhs_world.specs.Tables.{keeps_next, log_after}
 use Rattle.bhs_world.proofs.GrowthLemmas.{events_more}
@@ -27,7 +28,13 @@ logs_tell_all_lemma world events log is =
       state = same;
       pool = ap pool same;
       lost = sym (lost-kept world initial nobody events) ∙ ap (lost world) is;
+      replies = replies-kept world initial nobody events ∙ ap (replies world) is;
     }
+
+-- the replies in a log are those that the kept events were given among all that happened
+pub heard_in_log : (world : World) (log : List Kept) → map (λ one. read_if log one.mark) log ≡ replies world (events_of log) →
+    (events : List Event) → IsLogOf world events log → map (λ one. read_if log one.mark) log ≡ kept_replies world events
+heard_in_log world log replied events is = replied ∙ sym (logs_tell_all_lemma world events log is).replies
 
 -- by whether the event is kept
 log_chosen : (log : List Kept) (one : Kept) (is_kept : Bool) → events_of log ++ kept_first is_kept one.event [] ≡ events_of (if is_kept then log ++ one ∷ [] else log)

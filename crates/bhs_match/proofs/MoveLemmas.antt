@@ -7,7 +7,7 @@ use Rattle.bhs_model.specs.Views.{Standing, Outside, Present, Away, Ended, count
 use Rattle.bhs_model.specs.Replying.{accepts}
 use Rattle.bhs_model.specs.Worlds.{World, doomed}
 use Rattle.bhs_model.specs.Runs.{Position, Before, At, Bound, After, position_after}
-use Rattle.bhs_world.specs.Steps.{standing_at}
+use Rattle.bhs_model.specs.Standings.{standing_at}
 
 -- a lost agent is on the link that destroyed it, or has ended
 abbrev pub IsGone : World → Position → Type 0

@@ -1,10 +1,11 @@
 -- Matches side by side.
-use Rattle.std.specs.Prelude.{ℕ, ◌<◌, ◌≡◌, Option, Some, None, List, [], ◌∷◌, ◌++◌, length, if◌then◌else◌, slice_index_or, slice_set}
+use Rattle.std.specs.Prelude.{ℕ, ◌<◌, ◌≡◌, Option, Some, None, List, [], ◌∷◌, ◌++◌, length, if◌then◌else◌, slice_index_or, slice_set, option_and_then}
 use Rattle.bhs_model.specs.declared.events.Event.{Event}
 use Rattle.bhs_model.specs.declared.marks.Mark.{Mark}
 use Rattle.bhs_model.specs.Runs.{run, reply}
 use Rattle.bhs_model.specs.Arenas.{Happening, events_of}
-use Rattle.bhs_model.specs.Marks.{read_if}
+use Rattle.bhs_model.specs.Marks.{read_if, board_of, events_of as model_events}
+use Rattle.bhs_model.specs.Places.{written, named}
 use Rattle.bhs_world.specs.Tables.{keeps_next, log_after}
 use Rattle.bhs_match.specs.declared.answers.Answer.{Answer}
 use Rattle.bhs_match.specs.Matches.{Play, world_in, state_of}
@@ -22,6 +23,7 @@ play_at plays game = slice_index_or plays game nothing
 pub record IsPlayed (old : Play) (event : Event) (answer : Answer) (new : Play) : Type 0 where
   pub reply : read_if new.log answer.mark ≡ reply (world_in old) (state_of old) event
   pub log : new.log ≡ log_after (world_in old) old.log event answer.mark
+  pub shown : option_and_then board_of answer.mark ≡ named (world_in old) (state_of old) (written (world_in old) (model_events old.log)) event
   pub place : answer.place ≡ (if keeps_next (world_in old) old.log event then Some (length old.log) else None)
   pub net : new.net ≡ old.net
   pub setup : new.setup ≡ old.setup

@@ -6,6 +6,7 @@ use Rattle.bhs_model.specs.declared.marks.Kept.{Kept}
 use Rattle.bhs_model.specs.Worlds.{World}
 use Rattle.bhs_model.specs.Runs.{State, run, reply, replies}
 use Rattle.bhs_model.specs.Kept.{kept, lost}
+use Rattle.bhs_model.specs.KeptReplies.{kept_replies}
 use Rattle.bhs_model.specs.Draws.{pool}
 use Rattle.bhs_model.specs.Marks.{events_of, read_if}
 use Rattle.bhs_world.specs.Tables.{log_after}
@@ -16,11 +17,12 @@ abbrev pub IsLogOf : World → List Event → List Kept → Type 0
 IsLogOf world events log = kept world events ≡ events_of log
 
 -- The log tells what all that happened does: the same pasts, positions, last writes and pool, whether the match has
--- ended, and who is lost.
+-- ended, who is lost, and what the kept events were answered when they happened.
 pub record TellsAll (world : World) (events : List Event) (log : List Kept) : Type 0 where
   pub state : run world events ≡ run world (events_of log)
   pub pool : pool (run world events) ≡ pool (run world (events_of log))
   pub lost : lost world events ≡ lost world (events_of log)
+  pub replies : kept_replies world events ≡ replies world (events_of log)
 
 abbrev pub LogsTellAll : Type 0
 LogsTellAll = (world : World) (events : List Event) (log : List Kept) → IsLogOf world events log → TellsAll world events log

@@ -1,7 +1,10 @@
-ghost use Rattle.std.specs.Prelude.{◌≡◌, ◌<◌, ◌≤◌, ℕ, List, [], length, Some, None, Ok, Err, IfSome, IfOk, IfErr, OnOk, if◌then◌else◌, ◌⊎◌, map};
+ghost use Rattle.std.specs.Prelude.{◌≡◌, ◌<◌, ◌≤◌, ℕ, List, [], length, Some, None, Ok, Err, IfSome, IfOk, IfErr, OnOk, if◌then◌else◌, ◌⊎◌, map, option_and_then};
 ghost use Rattle.bhs_net.specs.Network.{nodes_of};
 ghost use Rattle.bhs_model.specs.declared.limits.TheConstants.{MAX_AGENTS, MAX_QUOTA};
+ghost use Rattle.bhs_model.specs.declared.events.Event.{Event as EventData};
 ghost use Rattle.bhs_model.specs.Kept.{kept};
+ghost use Rattle.bhs_model.specs.KeptReplies.{kept_replies};
+ghost use Rattle.bhs_model.specs.Places.{written, named, names};
 ghost use Rattle.bhs_model.specs.Marks.{events_of, read, read_if, text_at, board_of};
 ghost use Rattle.bhs_model.specs.Runs.{run, reply, replies, is_bound};
 ghost use Rattle.bhs_model.specs.Setups.{normal, IsNormal};
@@ -9,6 +12,7 @@ ghost use Rattle.bhs_world.specs.Faults.{first_fault, IsWithinLimits};
 ghost use Rattle.bhs_world.specs.Tables.{keeps_next, log_after};
 ghost use Rattle.bhs_match.specs.Matches.{world_in, state_of, most_kept, arrivals, bounds, shown_at};
 ghost use Rattle.bhs_match.specs.Keeping.{node_seen};
+ghost use Rattle.bhs_match.specs.Laws.{IsLogOf};
 
 use crate::answers::Answer;
 use crate::news::{News, no_news, note, places};
@@ -76,6 +80,10 @@ impl Match {
         // The log grows by the event where the definitions keep it, and the place is its index there.
         ensures log { self.new.log ≡ log_after (world_in self.old) self.old.log event result.mark }
         ensures place { result.place ≡ (if keeps_next (world_in self.old) self.old.log event then Some (length self.old.log) else None) }
+
+        // A mark that shows a whiteboard names the last Write there that was answered Written.
+        ensures shown { option_and_then board_of result.mark
+            ≡ named (world_in self.old) (state_of self.old) (written (world_in self.old) (events_of self.old.log)) event }
         ensures same { (self.new.net ≡ self.old.net) × (self.new.setup ≡ self.old.setup) }
     {
         let is_kept = self.world.keeps(&event);
@@ -102,6 +110,13 @@ impl Match {
         // It holds what the definitions keep, with what they reply.
         ensures kept { kept (world_in self.now) (events_of self.now.log) ≡ events_of self.now.log }
         ensures replies { map (λ one. read_if self.now.log one.mark) self.now.log ≡ replies (world_in self.now) (events_of self.now.log) }
+
+        // These are the replies that the kept ones were given among all that happened.
+        ensures heard { (events : List EventData) → IsLogOf (world_in self.now) events self.now.log
+            → map (λ one. read_if self.now.log one.mark) self.now.log ≡ kept_replies (world_in self.now) events }
+
+        // A mark that shows a whiteboard names the last Write there that was answered Written.
+        ensures shown { map (λ one. option_and_then board_of one.mark) self.now.log ≡ names (world_in self.now) (events_of self.now.log) }
         ensures bound { length self.now.log ≤ most_kept self.now.setup.agents self.now.setup.quota }
     {
         &self.log

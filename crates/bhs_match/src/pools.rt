@@ -44,9 +44,9 @@ pub(crate) fn settle(
     ensures capacity { vec_capacity pool.new ≡ vec_capacity pool.old }
 {
     match event {
-        Event::Tell { agent, .. } | Event::Deliver { agent } => settle_agent(
-            pool, *agent, was, now,
-        ),
+        Event::Tell { agent, .. } => settle_agent(pool, *agent, was, now),
+        // The destroyed stay on their links, and so in the pool.
+        Event::Deliver { agent } => settle_agent(pool, *agent, was, now),
         Event::Close => {}
     }
 }

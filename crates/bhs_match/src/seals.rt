@@ -1,9 +1,13 @@
-ghost use Rattle.std.specs.Prelude.{◌≡◌, ◌≤◌, true, length, map, IfOk};
+ghost use Rattle.std.specs.Prelude.{◌≡◌, ◌≤◌, true, length, map, List, IfOk, option_and_then};
+ghost use Rattle.bhs_model.specs.declared.events.Event.{Event as EventData};
 ghost use Rattle.bhs_model.specs.Kept.{kept};
+ghost use Rattle.bhs_model.specs.KeptReplies.{kept_replies};
+ghost use Rattle.bhs_model.specs.Places.{names};
 ghost use Rattle.bhs_model.specs.Marks.{events_of, read, read_if, text_at, board_of};
 ghost use Rattle.bhs_model.specs.Runs.{replies};
 ghost use Rattle.bhs_model.specs.Setups.{IsNormal};
 ghost use Rattle.bhs_world.specs.Faults.{IsWithinLimits};
+ghost use Rattle.bhs_match.specs.Laws.{IsLogOf};
 ghost use Rattle.bhs_match.specs.Matches.{world_in, state_of, most_kept};
 
 use crate::games::Match;
@@ -37,6 +41,13 @@ impl Sealed {
         // It holds what the definitions keep, with what they reply.
         ensures kept { kept (world_in self.now) (events_of self.now.log) ≡ events_of self.now.log }
         ensures replies { map (λ one. read_if self.now.log one.mark) self.now.log ≡ replies (world_in self.now) (events_of self.now.log) }
+
+        // These are the replies that the kept ones were given among all that happened.
+        ensures heard { (events : List EventData) → IsLogOf (world_in self.now) events self.now.log
+            → map (λ one. read_if self.now.log one.mark) self.now.log ≡ kept_replies (world_in self.now) events }
+
+        // A mark that shows a whiteboard names the last Write there that was answered Written.
+        ensures shown { map (λ one. option_and_then board_of one.mark) self.now.log ≡ names (world_in self.now) (events_of self.now.log) }
         ensures bound { length self.now.log ≤ most_kept self.now.setup.agents self.now.setup.quota }
     {
         self.game.log()

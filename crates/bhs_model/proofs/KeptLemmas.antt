@@ -1,13 +1,15 @@
 -- What is not kept changes nothing.
-use Rattle.std.proofs.Common.{ℕ, ◌≡◌, Bool, true, false, not, ◌&&◌, List, [], ◌∷◌, ◌==◌, if◌then◌else◌, refl, sym, ap, ap₂, ◌∙◌}
-use Rattle.std.proofs.lemmas.Bool.{cond-true, cond_both, or_parts, not-false, eqb-true}
+use Rattle.std.proofs.Common.{ℕ, ◌≡◌, Bool, true, false, not, ◌&&◌, Option, List, [], ◌∷◌, ◌==◌, if◌then◌else◌, refl, sym, ap, ap₂, ◌∙◌}
+use Rattle.std.proofs.lemmas.Bool.{cond-true, cond-false, cond_both, or_parts, not-false, eqb-true}
 use Rattle.bhs_model.specs.declared.events.Event.{Event}
 use Rattle.bhs_model.specs.declared.events.Event.TheVariants.{Tell, Deliver, Close}
 use Rattle.bhs_model.specs.Worlds.{World}
-use Rattle.bhs_model.specs.Runs.{State, initial, changed, arrives, next, run_from}
+use Rattle.bhs_model.specs.Runs.{State, initial, changed, arrives, next, run_from, reply, replies_from}
 use Rattle.bhs_model.specs.Kept.{destroys, lost_after, keeps, kept_from, lost_from, nobody, lost}
+use Rattle.bhs_model.specs.declared.replies.Reply.{Reply}
+use Rattle.bhs_model.specs.KeptReplies.{kept_replies_from}
 use Rattle.bhs_model.specs.Laws.{KeptSuffice}
-use Rattle.bhs_model.proofs.StepLemmas.{next_unheard, next_no_arrival, next_closed}
+use Rattle.bhs_model.proofs.StepLemmas.{by_cases, next_unheard, next_no_arrival, next_closed}
 
 -- an event that is not kept leaves the state itself
 pub unkept_state : (world : World) (state : State) (lost : ℕ → Bool) (event : Event) → keeps world state lost event ≡ false →
@@ -72,9 +74,26 @@ kept-kept world state lost (event ∷ events) =
     (λ unkept. ap₂ (λ (start : State) (known : ℕ → Bool). kept_from world start known rest)
     (sym (unkept_state world state lost event unkept)) (sym (unkept_lost world state lost event unkept)) ∙ same)
 
+pub replies-kept : (world : World) (state : State) (lost : ℕ → Bool) (events : List Event) →
+    kept_replies_from world state lost events ≡ replies_from world state (kept_from world state lost events)
+replies-kept world state lost [] = refl
+replies-kept world state lost (event ∷ events) =
+    let after = next world state event in
+    let marks = lost_after world state lost event in
+    let rest = kept_from world after marks events in
+    let told = kept_replies_from world after marks events in
+    let same = replies-kept world after marks events in
+    by_cases (keeps world state lost event) _
+    (λ is_kept. cond-true (keeps world state lost event) _ told is_kept ∙ ap (λ (others : List (Option Reply)). reply world state event ∷ others) same
+    ∙ sym (ap (replies_from world state) (cond-true (keeps world state lost event) (event ∷ rest) rest is_kept)))
+    (λ unkept. cond-false (keeps world state lost event) (reply world state event ∷ told) told unkept ∙ same
+    ∙ ap (λ (start : State). replies_from world start rest) (unkept_state world state lost event unkept)
+    ∙ sym (ap (replies_from world state) (cond-false (keeps world state lost event) (event ∷ rest) rest unkept)))
+
 pub kept_suffice_lemma : KeptSuffice
 kept_suffice_lemma world events = record {
   state = run-kept world initial nobody events;
   lost = lost-kept world initial nobody events;
   once = kept-kept world initial nobody events;
+  answers = replies-kept world initial nobody events;
 }

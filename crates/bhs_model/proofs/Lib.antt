@@ -5,6 +5,7 @@ pub mod TwinLemmas
 pub mod CutLemmas
 pub mod LeastCutLemmas
 pub mod SlowLemmas
+pub mod LegalLemmas
 pub mod FitLemmas
 pub mod ArenaLemmas
 pub mod ClosedLemmas

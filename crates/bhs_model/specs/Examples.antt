@@ -10,6 +10,7 @@ use Rattle.bhs_model.specs.Views.{Start, Told, Saw, Seen, Unwritten, WrittenBy}
 use Rattle.bhs_model.specs.Worlds.{World}
 use Rattle.bhs_model.specs.Setups.{network_of}
 use Rattle.bhs_model.specs.Runs.{run, replies, replies_to}
+use Rattle.bhs_model.specs.Places.{written, names}
 use Rattle.bhs_model.specs.Kept.{kept, lost}
 use Rattle.bhs_model.specs.Twins.{Twins, reveals}
 use Rattle.bhs_model.specs.Cuts.{at_places, footprints, is_closed, cut}
@@ -131,6 +132,23 @@ AWriteExpectsWhatItReplaces =
     ∷ Tell 1 (Write [] (codes "b"))
     ∷ [])
     ≡ entered ∷ entered ∷ Some Written ∷ Some (Changed (codes "a")) ∷ []
+
+-- A whiteboard, and an answer that shows it, name the last Write there that put its text: none that failed, and also one
+-- that put the empty text.
+abbrev pub writes : List Event
+writes =
+    Tell 0 Enter
+    ∷ Tell 1 Enter
+    ∷ Tell 0 (Write [] (codes "a"))
+    ∷ Tell 1 (Write [] (codes "b"))
+    ∷ Tell 0 (Write (codes "a") [])
+    ∷ Tell 1 Look
+    ∷ []
+
+abbrev pub AWhiteboardNamesItsWrite : Type 0
+AWhiteboardNamesItsWrite =
+    (written triangle writes 0 ≡ Some 4) × (written triangle writes 1 ≡ None)
+    × (names triangle writes ≡ None ∷ None ∷ None ∷ Some 2 ∷ None ∷ Some 4 ∷ [])
 
 -- five letters and the euro sign, which has three bytes
 abbrev pub with_euro : List ℕ

@@ -8,6 +8,7 @@ use Rattle.bhs_model.specs.Replying.{rep, reps}
 use Rattle.bhs_model.specs.Worlds.{World, doomed, StaysInRange}
 use Rattle.bhs_model.specs.Runs.{Position, Before, At, Bound, After, run, past, heard, next, reply, replies, replies_to}
 use Rattle.bhs_model.specs.Kept.{keeps, kept, lost, lost_after}
+use Rattle.bhs_model.specs.KeptReplies.{kept_replies}
 use Rattle.bhs_model.specs.Twins.{Twins}
 use Rattle.bhs_model.specs.Draws.{Held, Act, played, pool, SlowInstead}
 use Rattle.bhs_model.specs.Arenas.{Happening, events_of, arena, arena_replies}
@@ -57,11 +58,13 @@ abbrev pub EventsAdd : Type 0
 EventsAdd = (world : World) (events : List Event) (event : Event) → AddsOne world events event
 
 -- What is not kept changes nothing: the kept events lead to the same pasts, positions, last writes and pool,
--- the same agents are lost, and keeping twice is keeping once.
+-- the same agents are lost, keeping twice is keeping once, and each kept event was answered, among all events, what the
+-- kept events alone give at its place.
 pub record KeepsAll (world : World) (events : List Event) : Type 0 where
   pub state : run world (kept world events) ≡ run world events
   pub lost : lost world (kept world events) ≡ lost world events
   pub once : kept world (kept world events) ≡ kept world events
+  pub answers : kept_replies world events ≡ replies world (kept world events)
 
 abbrev pub KeptSuffice : Type 0
 KeptSuffice = (world : World) (events : List Event) → KeepsAll world events

@@ -3,7 +3,10 @@ pub mod Views
 pub mod Replying
 pub mod Worlds
 pub mod Runs
+pub mod Standings
+pub mod Places
 pub mod Kept
+pub mod KeptReplies
 pub mod Twins
 pub mod Cuts
 pub mod Draws

@@ -10,6 +10,7 @@ ghost use Rattle.bhs_model.specs.Examples.{
   ASightNeedsTheWrite,
   AStepNeedsTheStepsBefore,
   AWhiteboardHoldsSoManyBytes,
+  AWhiteboardNamesItsWrite,
   AWriteExpectsWhatItReplaces,
   AnAccusationIsNoted,
   AnAgentEnters,
@@ -70,7 +71,8 @@ pub fn events_add()
     ensures { EventsAdd }
 {}
 
-/// What a match doesn't keep in its log changes nothing.
+/// What a match doesn't keep in its log changes nothing, and each kept event was answered what the kept events alone
+/// give at its place.
 pub fn kept_suffice()
     ensures { KeptSuffice }
 {}
@@ -127,6 +129,7 @@ pub fn worked_examples()
     ensures a_dark_link_looks_held { ADarkLinkLooksHeld }
     ensures an_accusation_is_noted { AnAccusationIsNoted }
     ensures a_write_expects_what_it_replaces { AWriteExpectsWhatItReplaces }
+    ensures a_whiteboard_names_its_write { AWhiteboardNamesItsWrite }
     ensures a_whiteboard_holds_so_many_bytes { AWhiteboardHoldsSoManyBytes }
     ensures a_missing_port_is_used_up { AMissingPortIsUsedUp }
     ensures leaving_needs_no_quota { LeavingNeedsNoQuota }

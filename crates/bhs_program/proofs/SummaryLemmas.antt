@@ -5,7 +5,7 @@ use Rattle.std.proofs.Math.ListN.{drop_of_length-le}
 use Rattle.std.specs.List.{All}
 use Rattle.std.proofs.lemmas.List.Elements.{All-push}
 use Rattle.bhs_net.specs.Network.{Network}
-use Rattle.bhs_files.specs.declared.lineups.Ready.{Ready}
+use Rattle.bhs_lineup.specs.declared.lineups.Ready.{Ready}
 use Rattle.bhs_program.specs.Summary.{IsRead, match_line, summary_from}
 
 module _ (all : List Ready) (game : ℕ) (text whole : List ℕ) (so_far : text ++ summary_from game (drop game all) ≡ whole) where

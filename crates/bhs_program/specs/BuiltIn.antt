@@ -1,8 +1,9 @@
 -- The built-in tournament: one match of two agents on a triangle, with the black hole at node 2.
-use Rattle.std.specs.Prelude.{[], ◌∷◌, codes, replicate, Some}
+use Rattle.std.specs.Prelude.{[], ◌∷◌, codes, replicate}
 use Rattle.bhs_net.specs.Network.{Network}
 use Rattle.bhs_files.specs.Tournaments.{Planned, Plan}
-use Rattle.bhs_files.specs.Lineups.{Contest, ready_of}
+use Rattle.bhs_files.specs.Lineups.{ready_of}
+use Rattle.bhs_lineup.specs.Lineups.{Contest}
 
 -- three nodes, each joined to the others: per node the far ends of its ports
 abbrev pub triangle : Network
@@ -18,7 +19,8 @@ fixture = record {
   team = codes "red";
   network = codes "tri.toml";
   home = 0;
-  hole = Some 2;
+  holes = 2 ∷ [];
+  dark = [];
   quota = 10;
   board = 8;
   keys = codes "ka" ∷ codes "kb" ∷ [];

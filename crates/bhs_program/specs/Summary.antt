@@ -2,11 +2,12 @@
 use Rattle.std.specs.Prelude.{◌≡◌, ℕ, ◌+◌, ◌/◌, List, [], ◌∷◌, ◌++◌, codes, decimal, Option, Ok}
 use Rattle.std.specs.List.{All}
 use Rattle.bhs_net.specs.Network.{Network, nodes_of, ports_of}
-use Rattle.bhs_files.specs.declared.lineups.Ready.{Ready}
-use Rattle.bhs_files.specs.declared.lineups.Lineup.{Lineup}
+use Rattle.bhs_lineup.specs.declared.lineups.Ready.{Ready}
+use Rattle.bhs_lineup.specs.declared.lineups.Lineup.{Lineup}
 use Rattle.bhs_files.specs.NetworkFiles.{listing_in, IsNetworkOf}
 use Rattle.bhs_files.specs.Tournaments.{Plan, tournament_in}
-use Rattle.bhs_files.specs.Lineups.{contest, contest_in}
+use Rattle.bhs_files.specs.Lineups.{contest_in}
+use Rattle.bhs_lineup.specs.Lineups.{contest}
 
 -- how many links there are: each has two ports
 abbrev pub links_of : Network → ℕ

@@ -1,10 +1,11 @@
 ghost use Rattle.std.specs.Prelude.{◌≡◌, IfOk, MatchResult};
 ghost use Rattle.bhs_files.specs.declared.faults.FileFault.TheVariants as faults;
-ghost use Rattle.bhs_files.specs.Lineups.{contest};
+ghost use Rattle.bhs_lineup.specs.Lineups.{contest};
 ghost use Rattle.bhs_files.specs.Tournaments.{plan};
 ghost use Rattle.bhs_program.specs.BuiltIn as texts;
 
-use bhs_files::{FileFault, Lineup, Tournament, assemble, read_network, read_tournament};
+use bhs_files::{FileFault, Tournament, assemble, read_network, read_tournament};
+use bhs_lineup::Lineup;
 use bhs_net::{Memory, Net};
 use std::alloc::Global;
 
@@ -15,14 +16,14 @@ links = [[0,0,1,0],[1,1,2,0],[2,1,0,1]]
 ";
 
 /// The built-in tournament, as its file.
-const TOURNAMENT: &str = "version = 1
+const TOURNAMENT: &str = "version = 2
 seed = \"0000000000000000000000000000000000000000000000000000000000000000\"
 
 [[match]]
 team = \"red\"
 network = \"tri.toml\"
 home = 0
-hole = 2
+holes = [2]
 quota = 10
 board = 8
 keys = [\"ka\", \"kb\"]

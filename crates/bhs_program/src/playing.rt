@@ -7,7 +7,7 @@ ghost use Rattle.bhs_script.specs.Transcript.{all_printed, transcript};
 ghost use Rattle.bhs_program.specs.Playing.{StopsPlaying};
 
 use crate::faults::Fault;
-use bhs_files::Ready;
+use bhs_lineup::Ready;
 use bhs_net::Memory;
 use bhs_rehearsal::{Out, Rehearsal, RehearsalFault};
 use bhs_script::{Instruction, push_printed};

@@ -4,7 +4,7 @@ ghost use Rattle.bhs_program.specs.Rehearsal.{Plays, Stops, opening};
 
 use crate::faults::Fault;
 use crate::playing::play;
-use bhs_files::{Lineup, Ready};
+use bhs_lineup::{Lineup, Ready};
 use bhs_model::MAX_TEXT;
 use bhs_rehearsal::Rehearsal;
 use bhs_script::{CONNECTIONS, instructions_in};

@@ -3,7 +3,7 @@
 ghost use Rattle.std.specs.Prelude.{◌≡◌, IfOk, string_bytes};
 ghost use Rattle.bhs_program.specs.Summary.{match_line, summary_from};
 
-use bhs_files::Ready;
+use bhs_lineup::Ready;
 use bhs_net::Memory;
 use std::alloc::Global;
 

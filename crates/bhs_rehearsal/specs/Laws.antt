@@ -1,6 +1,6 @@
 -- The laws of rehearsals, over the definitions alone.
 use Rattle.std.specs.Prelude.{ℕ, ◌≡◌, ◌≢◌, ◌<◌, Bool, false, ◌||◌, ◌==◌, Option, Some, None, List, [], ◌∷◌, ◌++◌, length, map, if◌then◌else◌}
-use Rattle.bhs_files.specs.KeyTable.{Seat}
+use Rattle.bhs_lineup.specs.KeyTable.{Seat}
 use Rattle.bhs_net.specs.Network.{degree_of}
 use Rattle.bhs_model.specs.Worlds.{SameButDoom, doomed}
 use Rattle.bhs_model.specs.Twins.{Twins}

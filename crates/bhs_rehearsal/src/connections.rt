@@ -6,7 +6,7 @@ ghost use Rattle.bhs_rehearsal.specs.Rehearsing.{game_of, team_of, seen_item};
 
 use crate::items::Item;
 use crate::takings::take_items;
-use bhs_files::Ready;
+use bhs_lineup::Ready;
 use bhs_net::Memory;
 use bhs_wire::{Lines, Raw};
 use std::alloc::Global;

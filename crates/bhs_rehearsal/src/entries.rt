@@ -5,7 +5,7 @@ ghost use Rattle.bhs_rehearsal.specs.Takings.{seen_entry};
 
 use crate::connections::Connection;
 use crate::items::Item;
-use bhs_files::Keys;
+use bhs_lineup::Keys;
 use bhs_net::Memory;
 use bhs_session::key_in;
 use bhs_wire::{Denial, First};

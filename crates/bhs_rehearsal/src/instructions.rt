@@ -16,7 +16,7 @@ use crate::outs::Out;
 use crate::rehearsals::Rehearsal;
 use crate::takings::{play, push_reply};
 use bhs_deal::{Drawn, draw};
-use bhs_files::Ready;
+use bhs_lineup::Ready;
 use bhs_match::Match;
 use bhs_model::{Event, Kept, Reply};
 use bhs_net::Memory;

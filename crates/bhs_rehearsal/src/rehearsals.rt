@@ -7,7 +7,7 @@ ghost use Rattle.bhs_rehearsal.specs.Takings.{IsConcluded};
 use crate::connections::Connection;
 use crate::faults::RehearsalFault;
 use crate::outs::Out;
-use bhs_files::{Keys, Lineup, Ready};
+use bhs_lineup::{Keys, Lineup, Ready};
 use bhs_net::Memory;
 use std::alloc::Global;
 use std::marker::Model;

@@ -1,6 +1,6 @@
 -- A table that stands for the events of a log stands, after a step, for the log with the event.
 use Rattle.std.proofs.Common.{◌≡◌, ℕ, ◌+◌, ◌<◌, Bool, true, false, not, ◌&&◌, ◌||◌, Option, Some, None, List, [], ◌∷◌, ◌++◌, length, refl, sym, ap, ◌∙◌, subst, inl, inr, arith, nat_lt, ◌==◌, if◌then◌else◌}
-use Rattle.std.specs.Prelude.{slice_set}
+use Rattle.std.specs.Prelude.{slice_set, option_and_then}
 use Rattle.std.proofs.lemmas.List.{get_or_past}
 use Rattle.bhs_net.specs.Network.{Network, far_of}
 use Rattle.bhs_model.specs.declared.setups.Setup.{Setup}
@@ -20,14 +20,17 @@ use Rattle.bhs_model.specs.Worlds.{World, doomed}
 use Rattle.bhs_model.specs.Setups.{world_of}
 use Rattle.bhs_model.specs.Runs.{Position, Before, At, Bound, After, State, changed, initial, glance, position_after, last_writes_after, told, heard, is_doomed, is_let_through, arrives, arrived, delivered, next, run, reply, replies}
 use Rattle.bhs_model.specs.Kept.{destroys, lost_after, keeps, lost, nobody}
-use Rattle.bhs_model.specs.Marks.{events_of, read, read_if}
+use Rattle.bhs_model.specs.Marks.{events_of, read, read_if, board_of}
+use Rattle.bhs_model.specs.Places.{is_written, is_at, written_after, unwritten, written, position_by, place_shown, named, names}
 use Rattle.bhs_agent.specs.Agents.{Course, newcomer}
 use Rattle.bhs_board.specs.Boards.{Whiteboard}
 use Rattle.bhs_world.specs.Tables.{Table, agent_at, board_at, world_in, IsCourseOf, Shows, Agrees, IsNamed, StandsFor, keeps_next, log_after}
-use Rattle.bhs_world.specs.Steps.{IsSound, standing_at, agent_told, boards_told, mark_here, hears_in, heard_in, table_heard, mark_heard, mark_of_command, table_delivered, mark_delivered, table_after, mark_after, keeps_delivered, keeps_in}
+use Rattle.bhs_model.specs.Standings.{standing_at}
+use Rattle.bhs_world.specs.Steps.{IsSound, agent_told, boards_told, mark_here, hears_in, heard_in, table_heard, mark_heard, mark_of_command, table_delivered, mark_delivered, table_after, mark_after, keeps_delivered, keeps_in}
 use Rattle.bhs_world.proofs.ListLemmas.{each_set, changed_same, lt_tells}
-use Rattle.bhs_world.proofs.LegalLemmas.{AllLegal, KnowsPorts, either, all_run}
-use Rattle.bhs_world.proofs.GrowthLemmas.{run_from_more, lost_from_more, replies_from_more, events_more, shows_more, read_same, named_more, reads_same, all_named_more, all_append, map_more}
+use Rattle.bhs_model.proofs.LegalLemmas.{AllLegal, KnowsPorts, either, all_run}
+use Rattle.bhs_world.proofs.GrowthLemmas.{run_from_more, lost_from_more, written_from_more, names_from_more, events_count, replies_from_more, events_more, shows_more, read_same, named_more, reads_same, all_named_more, all_append, map_more}
+use Rattle.bhs_world.proofs.PlaceLemmas.{AllNamed, told_shown, unheard_shown, told_last}
 use Rattle.bhs_world.proofs.MarkLemmas.{KnownPorts, HasLimit, told_reads, told_named, told_shows, here_reads, here_named}
 
 pub chosen_true : {A : Type 0} (b : Bool) (x y : A) → b ≡ true → (if b then x else y) ≡ x
@@ -44,6 +47,7 @@ by_cases false P yes_case no_case = no_case refl
 pub record HasPlayed (table new : Table) (log : List Kept) (event : Event) (mark : Option Mark) : Type 0 where
   pub reply : read_if (log_after (world_in table) log event mark) mark ≡ reply (world_in table) (run (world_in table) (events_of log)) event
   pub stands : StandsFor new (log_after (world_in table) log event mark)
+  pub shown : option_and_then board_of mark ≡ named (world_in table) (run (world_in table) (events_of log)) (written (world_in table) (events_of log)) event
 
 -- the log that the event joins
 abbrev grown : List Kept → Event → Option Mark → List Kept
@@ -55,8 +59,10 @@ pub kept_played : (table : Table) (agents : List Course) (boards : List Whiteboa
     Agrees (record table { agents = agents; boards = boards; closed = closed }) (grown log event mark) (next (world_in table) (run (world_in table) (events_of log)) event) (lost_after (world_in table) (run (world_in table) (events_of log)) (lost (world_in table) (events_of log)) event) →
     read_if (grown log event mark) mark ≡ reply (world_in table) (run (world_in table) (events_of log)) event →
     IsNamed (grown log event mark) mark →
+    ((node : ℕ) → (board_at boards node).last ≡ written_after (world_in table) (run (world_in table) (events_of log)) (length log) (written (world_in table) (events_of log)) event node) →
+    option_and_then board_of mark ≡ named (world_in table) (run (world_in table) (events_of log)) (written (world_in table) (events_of log)) event →
     HasPlayed table (record table { agents = agents; boards = boards; closed = closed }) log event mark
-kept_played table agents boards closed log event mark stood is_kept agrees replied named =
+kept_played table agents boards closed log event mark stood is_kept agrees replied is_named last shown =
     let world : World = world_in table in
     let state : State = run world (events_of log) in
     let kept : Kept = record { event = event; mark = mark } in
@@ -65,6 +71,7 @@ kept_played table agents boards closed log event mark stood is_kept agrees repli
     let same_state : run world (events_of (grown log event mark)) ≡ next world state event = ap (run world) events ∙ run_from_more world initial (events_of log) event in
     let same_lost : lost world (events_of (grown log event mark)) ≡ lost_after world state (lost world (events_of log)) event = ap (lost world) events ∙ lost_from_more world initial nobody (events_of log) event in
     let same_log : log_after world log event mark ≡ grown log event mark = chosen_true (keeps_next world log event) (grown log event mark) log is_kept in
+    let counted : length log ≡ 0 + length (events_of log) = omega (arith, events_count log) in
     let stands : StandsFor new (grown log event mark) = record {
       state = subst (λ (state : State). Agrees new (grown log event mark) state (lost world (events_of (grown log event mark)))) (sym same_state)
           (subst (λ (lost : ℕ → Bool). Agrees new (grown log event mark) (next world state event) lost) (sym same_lost) agrees);
@@ -72,25 +79,37 @@ kept_played table agents boards closed log event mark stood is_kept agrees repli
           ∙ ap (λ (before : List (Option Reply)). before ++ read_if (grown log event mark) mark ∷ []) (reads_same log kept log stood.named ∙ stood.replies)
           ∙ ap (λ (last : Option Reply). replies world (events_of log) ++ last ∷ []) replied
           ∙ sym (ap (replies world) events ∙ replies_from_more world initial (events_of log) event);
-      named = all_append (λ (one : Kept). IsNamed (grown log event mark) one.mark) log kept (all_named_more log kept log stood.named) named;
+      named = all_append (λ (one : Kept). IsNamed (grown log event mark) one.mark) log kept (all_named_more log kept log stood.named) is_named;
+      last = λ node. last node ∙ sym (ap (λ (at : ℕ → Option ℕ). at node) (ap (written world) events ∙ written_from_more world initial 0 (length log) unwritten (events_of log) event counted));
+      shown = map_more (λ (one : Kept). option_and_then board_of one.mark) log kept
+          ∙ ap (λ (before : List (Option ℕ)). before ++ option_and_then board_of mark ∷ []) stood.shown
+          ∙ ap (λ (at : Option ℕ). names world (events_of log) ++ at ∷ []) shown
+          ∙ sym (ap (names world) events ∙ names_from_more world initial 0 unwritten (events_of log) event);
     } in
     record {
       reply = subst (λ (log' : List Kept). read_if log' mark ≡ reply world state event) (sym same_log) replied;
       stands = subst (StandsFor new) (sym same_log) stands;
+      shown = shown;
     }
 
 -- an event that is not kept
 pub unkept_played : (table new : Table) (log : List Kept) (event : Event) (mark : Option Mark) → StandsFor new log →
     keeps_next (world_in table) log event ≡ false →
     read_if log mark ≡ reply (world_in table) (run (world_in table) (events_of log)) event →
+    option_and_then board_of mark ≡ named (world_in table) (run (world_in table) (events_of log)) (written (world_in table) (events_of log)) event →
     HasPlayed table new log event mark
-unkept_played table new log event mark stands is_unkept replied =
+unkept_played table new log event mark stands is_unkept replied shown =
     let world : World = world_in table in
     let same_log : log_after world log event mark ≡ log = chosen_false (keeps_next world log event) (grown log event mark) log is_unkept in
     record {
       reply = subst (λ (log' : List Kept). read_if log' mark ≡ reply world (run world (events_of log)) event) (sym same_log) replied;
       stands = subst (StandsFor new) (sym same_log) stands;
+      shown = shown;
     }
+
+-- who is not answered is named no place
+none_shown : (world : World) (state : State) (at : ℕ → Option ℕ) (event : Event) → None ≡ reply world state event → None ≡ named world state at event
+none_shown world state at event replied = ap (λ (reply : Option Reply). place_shown at reply (position_by (next world state event) event)) replied
 
 -- a command
 
@@ -220,6 +239,41 @@ told_agrees table log state lost agent command mark sound agrees legal within =
       closed = agrees.closed;
     }
 
+-- the mark of a command that is heard
+tests_chosen : (x y z : Bool) (mark : Mark) (why : Why) → (x && (not y && z)) ≡ true → (if x then (if y then marks.Over else (if z then mark else marks.No why)) else marks.No whys.Agent) ≡ mark
+tests_chosen true false true mark why h = refl
+tests_chosen true true z mark why h = cc
+tests_chosen true false false mark why h = cc
+tests_chosen false y z mark why h = cc
+
+mark_is_heard : (table : Table) (log : List Kept) (agent : ℕ) (command : Command) → heard_in table agent command ≡ true → mark_of_command table log agent command ≡ mark_heard table log agent command
+mark_is_heard table log agent command heard_it =
+    tests_chosen (nat_lt agent table.setup.agents) table.closed (hears_in table agent command) (mark_heard table log agent command) (refusal (standing_at (agent_at table.agents agent).position) command) heard_it
+
+-- what whiteboards and the mark name then
+heard_last : (table : Table) (log : List Kept) (state : State) (lost : ℕ → Bool) (agent : ℕ) (command : Command) (at : ℕ → Option ℕ) → IsSound table → Agrees table log state lost →
+    Some (read log (mark_heard table log agent command)) ≡ reply (world_in table) state (Tell agent command) → AllNamed table.boards at →
+    (node : ℕ) → (board_at (table_heard table log agent command).boards node).last ≡ written_after (world_in table) state (length log) at (Tell agent command) node
+heard_last table log state lost agent command at sound agrees reads last node =
+    let position : Position = (agent_at table.agents agent).position in
+    told_last (world_in table) table.net log table.boards at position command last sound.boards (sound.places agent) node
+    ∙ ap (λ (reply : Option Reply). if is_written reply && is_at position node then Some (length log) else at node) reads
+    ∙ ap (λ (place : Position). if is_written (reply (world_in table) state (Tell agent command)) && is_at place node then Some (length log) else at node) (sym (agrees.agents agent).position)
+
+heard_shown : (table : Table) (log : List Kept) (state : State) (lost : ℕ → Bool) (agent : ℕ) (command : Command) (at : ℕ → Option ℕ) → Agrees table log state lost →
+    heard (world_in table) state agent command ≡ true → Some (read log (mark_heard table log agent command)) ≡ reply (world_in table) state (Tell agent command) → AllNamed table.boards at →
+    board_of (mark_heard table log agent command) ≡ named (world_in table) state at (Tell agent command)
+heard_shown table log state lost agent command at agrees is_heard reads last =
+    let world : World = world_in table in
+    let position : Position = (agent_at table.agents agent).position in
+    let moved : (next world state (Tell agent command)).position agent ≡ position_after world position command =
+    ap (λ (after : State). after.position agent) (chosen_true (heard world state agent command) (told world state agent command) state is_heard)
+    ∙ changed_same state.position agent (position_after world (state.position agent) command)
+    ∙ ap (λ (position : Position). position_after world position command) (agrees.agents agent).position in
+    told_shown world log table.boards at position command last
+    ∙ ap (λ (reply : Option Reply). place_shown at reply (position_after world position command)) reads
+    ∙ ap (λ (position : Position). place_shown at (reply world state (Tell agent command)) position) (sym moved)
+
 pub tell_played : (table : Table) (log : List Kept) (agent : ℕ) (command : Command) → IsSound table → StandsFor table log →
     HasPlayed table (table_after table log (Tell agent command)) log (Tell agent command) (mark_after table log (Tell agent command))
 tell_played table log agent command sound stood =
@@ -230,7 +284,8 @@ tell_played table log agent command sound stood =
     let legal : AllLegal world state = all_run world (events_of log) in
     let same = heard_same table log state lost agent command stood.state legal in
     let reads = command_reads table log state lost agent command sound stood.state legal in
-    let named : IsNamed log mark = command_named table log state lost agent command stood.state in
+    let is_named : IsNamed log mark = command_named table log state lost agent command stood.state in
+    let at : ℕ → Option ℕ = written world (events_of log) in
     by_cases (heard_in table agent command) _
     (λ heard_it.
     let within : agent < length table.agents = below_of table agent command sound heard_it in
@@ -239,11 +294,16 @@ tell_played table log agent command sound stood =
     (kept_played table (table_heard table log agent command).agents (table_heard table log agent command).boards table.closed log (Tell agent command) mark stood is_heard
     (subst (λ (after : State). Agrees (table_heard table log agent command) (grown log (Tell agent command) mark) after lost) (sym (chosen_true (heard world state agent command) (told world state agent command) state is_heard))
     (told_agrees table log state lost agent command mark sound stood.state legal within))
-    (read_same log (record { event = Tell agent command; mark = mark }) mark named ∙ reads)
-    (named_more log (record { event = Tell agent command; mark = mark }) mark named)))
+    (read_same log (record { event = Tell agent command; mark = mark }) mark is_named ∙ reads)
+    (named_more log (record { event = Tell agent command; mark = mark }) mark is_named)
+    (heard_last table log state lost agent command at sound stood.state (sym (ap (λ (mark : Mark). Some (read log mark)) (mark_is_heard table log agent command heard_it)) ∙ reads) stood.last)
+    (ap board_of (mark_is_heard table log agent command heard_it)
+    ∙ heard_shown table log state lost agent command at stood.state is_heard (sym (ap (λ (mark : Mark). Some (read log mark)) (mark_is_heard table log agent command heard_it)) ∙ reads) stood.last)))
     (λ unheard.
     subst (λ (new : Table). HasPlayed table new log (Tell agent command) mark) (sym (chosen_false (heard_in table agent command) (table_heard table log agent command) table unheard))
-    (unkept_played table table log (Tell agent command) mark stood (same ∙ unheard) reads))
+    (unkept_played table table log (Tell agent command) mark stood (same ∙ unheard) reads
+    (unheard_shown log at (nat_lt agent table.setup.agents) table.closed (hears_in table agent command) (mark_heard table log agent command) (refusal (standing_at (agent_at table.agents agent).position) command) _ unheard
+    ∙ ap (λ (reply : Option Reply). place_shown at reply ((next world state (Tell agent command)).position agent)) reads)))
 
 -- a Deliver
 
@@ -281,6 +341,7 @@ idle_played table log agent stood no_arrival no_destruction =
     unkept_played table table log (Deliver agent) None stood
     (ap (λ (arrival : Bool). arrival || (destroys world state agent && not (lost agent))) no_arrival ∙ ap (λ (destruction : Bool). destruction && not (lost agent)) no_destruction)
     (sym (chosen_false (arrives world state agent) (rep world.board ((next world state (Deliver agent)).past agent)) None no_arrival))
+    (none_shown world state (written world (events_of log)) (Deliver agent) (sym (chosen_false (arrives world state agent) (rep world.board ((next world state (Deliver agent)).past agent)) None no_arrival)))
 
 closed_idle : (closed b : Bool) → closed ≡ true → (not closed && b) ≡ false
 closed_idle closed b h = rw h refl
@@ -338,8 +399,10 @@ destroyed_played table log agent node port stood within is_open on is_doomed_lin
       };
       replies = stood.replies;
       named = stood.named;
+      last = stood.last;
+      shown = stood.shown;
     })
-    (same_keeps ∙ ap not was_lost) replied)
+    (same_keeps ∙ ap not was_lost) replied (none_shown world state (written world (events_of log)) (Deliver agent) replied))
     (λ not_lost.
     let after : ℕ → Bool = changed lost agent true in
     let same_lost : lost_after world state lost (Deliver agent) ≡ after = chosen_true (destroys world state agent) after lost destruction in
@@ -351,7 +414,7 @@ destroyed_played table log agent node port stood within is_open on is_doomed_lin
     kept_played table agents table.boards table.closed log (Deliver agent) None stood (same_keeps ∙ ap not not_lost)
     (subst (λ (state' : State). Agrees new (grown log (Deliver agent) None) state' (lost_after world state lost (Deliver agent))) (sym same_next)
     (subst (λ (lost' : ℕ → Bool). Agrees new (grown log (Deliver agent) None) state lost') (sym same_lost) now))
-    replied tt)
+    replied tt stood.last (none_shown world state (written world (events_of log)) (Deliver agent) replied))
 
 -- an agent that arrives
 arrived_agents : (table : Table) (log : List Kept) (state : State) (lost : ℕ → Bool) (agent node label : ℕ) → Agrees table log state lost → agent < length table.agents →
@@ -392,8 +455,9 @@ arrived_played table log agent node port stood within is_open on is_safe =
     let same_next : next world state (Deliver agent) ≡ arrived world state agent there label =
     chosen_true (arrives world state agent) (delivered world state agent (state.position agent)) state arrival ∙ ap (delivered world state agent) at in
     let same_lost : lost_after world state lost (Deliver agent) ≡ lost = chosen_false (destroys world state agent) (changed lost agent true) lost no_destruction in
+    let at_place : ℕ → Option ℕ = written world (events_of log) in
     let is_kept : keeps world state lost (Deliver agent) ≡ true = ap (λ (arrival : Bool). arrival || (destroys world state agent && not (lost agent))) arrival in
-    let named : IsNamed log mark = here_named table.setup.board world state.last_write log table.boards there (Some label) agrees.boards in
+    let is_named : IsNamed log mark = here_named table.setup.board world state.last_write log table.boards there (Some label) agrees.boards in
     let reads : read_if log mark ≡ rep world.board ((arrived world state agent there label).past agent) =
     ap Some (here_reads world state log table.boards there (Some label) agrees.boards) ∙ ap (rep world.board) (sym (changed_same state.past agent _)) in
     let replied : read_if log mark ≡ reply world state (Deliver agent) =
@@ -407,8 +471,12 @@ arrived_played table log agent node port stood within is_open on is_safe =
     kept_played table agents table.boards table.closed log (Deliver agent) mark stood is_kept
     (subst (λ (state' : State). Agrees new (grown log (Deliver agent) mark) state' (lost_after world state lost (Deliver agent))) (sym same_next)
     (subst (λ (lost' : ℕ → Bool). Agrees new (grown log (Deliver agent) mark) (arrived world state agent there label) lost') (sym same_lost) now))
-    (read_same log kept mark named ∙ replied)
-    (named_more log kept mark named)
+    (read_same log kept mark is_named ∙ replied)
+    (named_more log kept mark is_named)
+    stood.last
+    (stood.last there
+    ∙ ap (place_shown at_place (read_if log mark)) (sym (ap (λ (after : State). after.position agent) same_next ∙ changed_same state.position agent (At there (Some label))))
+    ∙ ap (λ (reply : Option Reply). place_shown at_place reply ((next world state (Deliver agent)).position agent)) replied)
 
 -- who is on a link is an agent
 bound_within : (table : Table) (agent node port : ℕ) → (agent_at table.agents agent).position ≡ Bound node port → agent < length table.agents
@@ -469,15 +537,17 @@ close_played table log stood =
       state = record { agents = agrees.agents; boards = agrees.boards; closed = agrees.closed ∙ is_closed };
       replies = stood.replies;
       named = stood.named;
+      last = stood.last;
+      shown = stood.shown;
     })
-    (ap not (agrees.closed ∙ is_closed)) refl)
+    (ap not (agrees.closed ∙ is_closed)) refl refl)
     (λ is_open. kept_played table table.agents table.boards true log Close None stood (ap not (agrees.closed ∙ is_open))
     (record {
       agents = λ k. record { position = (agrees.agents k).position; used = (agrees.agents k).used; lost = (agrees.agents k).lost };
       boards = λ k. shows_more log kept _ _ (agrees.boards k);
       closed = refl;
     })
-    refl tt)
+    refl tt stood.last refl)
 
 -- each event
 pub event_played : (table : Table) (log : List Kept) (event : Event) → IsSound table → StandsFor table log → HasPlayed table (table_after table log event) log event (mark_after table log event)

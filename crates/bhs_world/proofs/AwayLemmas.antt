@@ -10,10 +10,10 @@ use Rattle.bhs_model.specs.Views.{View, Told, Glance, Nothing, Standing, Away, s
 use Rattle.bhs_model.specs.Replying.{rep, answer, accepts, hears, refusal}
 use Rattle.bhs_model.specs.Worlds.{World}
 use Rattle.bhs_model.specs.Runs.{Position, Before, At, Bound, After, State, is_bound, glance, told, heard, next, run, reply}
-use Rattle.bhs_world.specs.Steps.{standing_at}
+use Rattle.bhs_model.specs.Standings.{standing_at}
 use Rattle.bhs_world.specs.Laws.{AwayAlike}
 use Rattle.bhs_world.proofs.ListLemmas.{changed_same}
-use Rattle.bhs_world.proofs.LegalLemmas.{IsLegal, all_run}
+use Rattle.bhs_model.proofs.LegalLemmas.{IsLegal, all_run}
 use Rattle.bhs_world.proofs.AgreeLemmas.{by_cases, chosen_true, chosen_false}
 
 standing_bound : (position : Position) → is_bound position ≡ true → standing_at position ≡ Away

@@ -1,5 +1,5 @@
 -- What an event more makes of a log, and of what the definitions say of it.
-use Rattle.std.proofs.Common.{◌≡◌, ℕ, zero, suc, Bool, Option, Some, None, List, [], ◌∷◌, ◌++◌, length, map, refl, sym, ap}
+use Rattle.std.proofs.Common.{◌≡◌, ℕ, zero, suc, ◌+◌, Bool, Option, Some, None, List, [], ◌∷◌, ◌++◌, length, map, refl, sym, ap, arith}
 use Rattle.std.specs.Prelude.{slice_get, IsSome, IfSome, option_and_then, unwrap_or}
 use Rattle.std.specs.List.{AllByRecursion}
 use Rattle.bhs_model.specs.declared.events.Event.{Event}
@@ -10,6 +10,7 @@ use Rattle.bhs_model.specs.declared.replies.Reply.TheVariants as replies
 use Rattle.bhs_model.specs.Worlds.{World}
 use Rattle.bhs_model.specs.Runs.{State, next, run_from, reply, replies_from}
 use Rattle.bhs_model.specs.Kept.{lost, lost_from, lost_after}
+use Rattle.bhs_model.specs.Places.{written_after, written_from, named, names_from}
 use Rattle.bhs_model.specs.Marks.{events_of, put_of, put_at, text_at, read_if, board_of}
 use Rattle.bhs_world.specs.Tables.{Shows, IsNamed}
 
@@ -26,6 +27,25 @@ lost_from_more world state lost (first ∷ events) event = lost_from_more world 
 pub replies_from_more : (world : World) (state : State) (events : List Event) (event : Event) → replies_from world state (events ++ event ∷ []) ≡ replies_from world state events ++ reply world (run_from world state events) event ∷ []
 replies_from_more world state [] event = refl
 replies_from_more world state (first ∷ events) event = ap (λ rest. reply world state first ∷ rest) (replies_from_more world (next world state first) events event)
+
+pub written_from_more : (world : World) (state : State) (place last : ℕ) (written : ℕ → Option ℕ) (events : List Event) (event : Event) → last ≡ place + length events →
+    written_from world state place written (events ++ event ∷ []) ≡ written_after world (run_from world state events) last (written_from world state place written events) event
+written_from_more world state place last written [] event is =
+    let same : place ≡ last = omega arith in
+    ap (λ (at : ℕ). written_after world state at written event) same
+written_from_more world state place last written (first ∷ events) event is =
+    written_from_more world (next world state first) (place + 1) last (written_after world state place written first) events event (omega arith)
+
+pub names_from_more : (world : World) (state : State) (place : ℕ) (written : ℕ → Option ℕ) (events : List Event) (event : Event) →
+    names_from world state place written (events ++ event ∷ [])
+    ≡ names_from world state place written events ++ named world (run_from world state events) (written_from world state place written events) event ∷ []
+names_from_more world state place written [] event = refl
+names_from_more world state place written (first ∷ events) event =
+    ap (λ rest. named world state written first ∷ rest) (names_from_more world (next world state first) (place + 1) (written_after world state place written first) events event)
+
+pub events_count : (log : List Kept) → length (events_of log) ≡ length log
+events_count [] = refl
+events_count (first ∷ log) = ap (λ n. suc n) (events_count log)
 
 pub events_more : (log : List Kept) (kept : Kept) → events_of (log ++ kept ∷ []) ≡ events_of log ++ kept.event ∷ []
 events_more [] kept = refl

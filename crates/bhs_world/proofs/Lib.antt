@@ -1,6 +1,6 @@
 pub mod ListLemmas
 pub mod SoundLemmas
-pub mod LegalLemmas
+pub mod PlaceLemmas
 pub mod GrowthLemmas
 pub mod MarkLemmas
 pub mod AgreeLemmas

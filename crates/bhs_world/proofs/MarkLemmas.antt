@@ -21,9 +21,10 @@ use Rattle.bhs_board.specs.declared.swaps.Swap.{Swap}
 use Rattle.bhs_board.specs.declared.swaps.Swap.TheVariants.{Long, Differs, Took}
 use Rattle.bhs_board.specs.Boards.{Whiteboard, last_after}
 use Rattle.bhs_world.specs.Tables.{board_at, untouched, Shows, IsNamed}
-use Rattle.bhs_world.specs.Steps.{IsPlaced, standing_at, swap_at, board_written, boards_told, mark_here, mark_of_swap, mark_told}
+use Rattle.bhs_model.specs.Standings.{standing_at}
+use Rattle.bhs_world.specs.Steps.{IsPlaced, swap_at, board_written, boards_told, mark_here, mark_of_swap, mark_told}
 use Rattle.bhs_world.proofs.ListLemmas.{each_set, changed_same}
-use Rattle.bhs_world.proofs.LegalLemmas.{either}
+use Rattle.bhs_model.proofs.LegalLemmas.{either}
 use Rattle.bhs_world.proofs.GrowthLemmas.{put_at_end, shows_more, text_shown, shows_named, NamesWrite}
 
 -- each whiteboard shows what its last write says

@@ -15,6 +15,7 @@ use Rattle.bhs_model.specs.Views as views
 use Rattle.bhs_model.specs.Replying.{accepts, refusal}
 use Rattle.bhs_model.specs.Worlds.{World, doomed}
 use Rattle.bhs_model.specs.Runs.{Position, Before, At, Bound, After, position_after}
+use Rattle.bhs_model.specs.Standings.{standing_at}
 use Rattle.bhs_model.specs.Setups.{IsNormal}
 use Rattle.bhs_model.specs.Marks.{text_at}
 use Rattle.bhs_agent.specs.Agents.{Course}
@@ -23,13 +24,6 @@ use Rattle.bhs_board.specs.declared.swaps.Swap.TheVariants.{Long, Differs, Took}
 use Rattle.bhs_board.specs.Boards.{Whiteboard, swap_of, last_after}
 use Rattle.bhs_world.specs.Faults.{IsWithinLimits}
 use Rattle.bhs_world.specs.Tables.{Table, agent_at, board_at, world_in}
-
--- the standing at a position
-abbrev pub standing_at : Position → views.Standing
-standing_at Before = views.Outside
-standing_at (At node came) = views.Present
-standing_at (Bound node port) = views.Away
-standing_at After = views.Ended
 
 -- why the command is not heard, if it is not
 abbrev pub refusal_of : views.Standing → (room : Bool) → Command → Option Why

@@ -11,6 +11,7 @@ use Rattle.bhs_model.specs.Replying.{text}
 use Rattle.bhs_model.specs.Worlds.{World}
 use Rattle.bhs_model.specs.Runs.{State, run, replies}
 use Rattle.bhs_model.specs.Kept.{lost, keeps}
+use Rattle.bhs_model.specs.Places.{written, names}
 use Rattle.bhs_model.specs.Setups.{world_of}
 use Rattle.bhs_model.specs.Marks.{events_of, put_at, read_if, board_of}
 use Rattle.bhs_agent.specs.Agents.{Course, newcomer}
@@ -60,12 +61,15 @@ pub record Agrees (table : Table) (log : List Kept) (state : State) (lost : ℕ 
 abbrev pub IsNamed : List Kept → Option Mark → Type 0
 IsNamed log mark = IfSome (option_and_then board_of mark) (λ place. IsSome (put_at log place))
 
--- The table stands for the events of a log: it agrees with the state that they lead to, and the marks beside
--- them are read as the definitions' replies.
+-- The table stands for the events of a log: it agrees with the state that they lead to; each whiteboard names the last
+-- Write there that put its text; and the marks beside the events are read as the definitions' replies, and name the
+-- places that these replies name.
 pub record StandsFor (table : Table) (log : List Kept) : Type 0 where
   pub state : Agrees table log (run (world_in table) (events_of log)) (lost (world_in table) (events_of log))
   pub replies : map (λ kept. read_if log kept.mark) log ≡ replies (world_in table) (events_of log)
   pub named : AllByRecursion (λ kept. IsNamed log kept.mark) log
+  pub last : (node : ℕ) → (board_at table.boards node).last ≡ written (world_in table) (events_of log) node
+  pub shown : map (λ kept. option_and_then board_of kept.mark) log ≡ names (world_in table) (events_of log)
 
 -- whether the next event is kept
 abbrev pub keeps_next : World → List Kept → Event → Bool

@@ -5,7 +5,8 @@ ghost use Rattle.bhs_model.specs.Replying.{accepts};
 ghost use Rattle.bhs_model.specs.Setups.{world_of};
 ghost use Rattle.bhs_agent.specs.Agents.{position_of};
 ghost use Rattle.bhs_world.specs.Tables.{board_at};
-ghost use Rattle.bhs_world.specs.Steps.{standing_at, refusal_of, agent_told, mark_here, mark_of_swap, swap_at, board_written, boards_told, mark_told, IsPlaced};
+ghost use Rattle.bhs_model.specs.Standings.{standing_at};
+ghost use Rattle.bhs_world.specs.Steps.{refusal_of, agent_told, mark_here, mark_of_swap, swap_at, board_written, boards_told, mark_told, IsPlaced};
 
 use bhs_agent::{Agent, Standing};
 use bhs_board::{Board, Swap};

@@ -1,12 +1,14 @@
-ghost use Rattle.std.specs.Prelude.{◌≡◌, ◌<◌, ◌^◌, ℕ, List, length, slice_get, [], Some, None, IfOk, IfErr, true, IsTrue, OnOk, MatchResult, if◌then◌else◌, ◌⊎◌, nat_lt};
+ghost use Rattle.std.specs.Prelude.{◌≡◌, ◌<◌, ◌^◌, ℕ, List, length, slice_get, [], Some, None, IfOk, IfErr, true, IsTrue, OnOk, MatchResult, if◌then◌else◌, ◌⊎◌, nat_lt, option_and_then};
 ghost use Rattle.bhs_net.specs.Network.{nodes_of};
 ghost use Rattle.bhs_model.specs.declared.marks.Kept.{Kept as KeptData};
-ghost use Rattle.bhs_model.specs.Marks.{events_of, read_if};
+ghost use Rattle.bhs_model.specs.Marks.{events_of, read_if, board_of};
+ghost use Rattle.bhs_model.specs.Places.{written, named};
 ghost use Rattle.bhs_model.specs.Runs.{run, reply};
 ghost use Rattle.bhs_model.specs.Setups.{normal, IsNormal};
 ghost use Rattle.bhs_world.specs.Faults.{first_fault, IsWithinLimits};
 ghost use Rattle.bhs_world.specs.Tables.{agent_at, board_at, world_in, StandsFor, keeps_next, log_after};
-ghost use Rattle.bhs_world.specs.Steps.{IsSound, IsPlaced, standing_at, refusal_of, hears_in, table_heard, mark_heard, table_after, mark_after, mark_of_command, heard_in, keeps_delivered, keeps_in};
+ghost use Rattle.bhs_model.specs.Standings.{standing_at};
+ghost use Rattle.bhs_world.specs.Steps.{IsSound, IsPlaced, refusal_of, hears_in, table_heard, mark_heard, table_after, mark_after, mark_of_command, heard_in, keeps_delivered, keeps_in};
 
 use crate::faults::SetupFault;
 use crate::hearing::{advance, answer, here, refusal};
@@ -91,11 +93,14 @@ impl World {
         &self.agents[usize::from(agent)]
     }
 
-    /// The place, in the log, of the Write whose text the whiteboard of the node shows; None where no Write has
-    /// changed it.
+    /// The place, in the log, of the Write whose text the whiteboard of the node shows; None where no Write was answered
+    /// Written there.
     pub fn last(&self, node: u16) -> Option<u32>
         requires { node < nodes_of self.now.net }
-        ensures { result ≡ (board_at self.now.boards node).last }
+        ensures kept { result ≡ (board_at self.now.boards node).last }
+
+        // The last Write there that was answered Written.
+        ensures place { (log : List KeptData) → StandsFor self.now log → result ≡ written (world_in self.now) (events_of log) node }
     {
         self.boards[usize::from(node)].last()
     }
@@ -126,6 +131,10 @@ impl World {
         ensures reply { let world = world_in self.old in
             read_if (log_after world log.now event.now result) result ≡ reply world (run world (events_of log.now)) event.now }
         ensures stands { StandsFor self.new (log_after (world_in self.old) log.now event.now result) }
+
+        // A mark that shows a whiteboard names the last Write there that was answered Written.
+        ensures shown { let world = world_in self.old in
+            option_and_then board_of result ≡ named world (run world (events_of log.now)) (written world (events_of log.now)) event.now }
         ensures same { (self.new.net ≡ self.old.net) × (self.new.setup ≡ self.old.setup) }
     {
         self.play(log, event)

@@ -1,6 +1,6 @@
 //! What `arena check` tells of files, as rows of text, and calls on the files' crate.
 
-use bhs_files::{FileFault, FileKey, Keys, assemble, is_team, read_network, read_tournament};
+use bhs_files::{FileFault, FileKey, assemble, is_team, read_network, read_tournament};
 use bhs_program::run;
 use std::alloc::Global;
 use std::fs;
@@ -18,7 +18,22 @@ nodes = 4
 links = [[0,0,1,0],[1,1,2,0],[2,1,3,0],[3,1,0,1]]
 ";
 
-pub const CUP: &str = r#"version = 1
+pub const CUP: &str = r#"version = 2
+seed = "0000000000000000000000000000000000000000000000000000000000000000"
+
+[[match]]
+team = "red"
+network = "tri.toml"
+home = 0
+holes = [2]
+quota = 10
+board = 8
+keys = ["ka", "kb"]
+held = []
+"#;
+
+/// The same tournament in version 1, as `examples/version1.toml` has it.
+pub const CUP_OF_VERSION_1: &str = r#"version = 1
 seed = "0000000000000000000000000000000000000000000000000000000000000000"
 
 [[match]]
@@ -37,7 +52,7 @@ const SECOND: &str = r#"
 team = "blue"
 network = "square.toml"
 home = 1
-hole = "none"
+holes = []
 quota = 7
 board = 0
 keys = ["kc"]
@@ -47,15 +62,16 @@ held = [[0, 1], [2, 0]]
 // `OLD => NEW => LINE`: where the first OLD of the tournament's file is NEW, this line is printed or told. `¶` stands
 // for a line feed, `right` for the line of the match.
 const TOURNAMENTS: &str = r#"held = []¶ =>  => right
-version = 1 => version = 0x1 => right
-version = 1 => version = 1¶name = 3 => right
-version = 1 => version = => cup.toml: toml
-version = 1 => version = 1¶version = 1 => cup.toml: toml
-version = 1 =>  => cup.toml: version
-version = 1 => version = 1.0 => cup.toml: version
-version = 1 => version = 2 => cup.toml: version
-version = 1 => version = "1" => cup.toml: version
-version = 1¶seed => version = true¶sand => cup.toml: version
+version = 2 => version = 0x2 => right
+version = 2 => version = 2¶name = 3 => right
+version = 2 => version = => cup.toml: toml
+version = 2 => version = 2¶version = 2 => cup.toml: toml
+version = 2 =>  => cup.toml: version
+version = 2 => version = 2.0 => cup.toml: version
+version = 2 => version = 3 => cup.toml: version
+version = 2 => version = 0 => cup.toml: version
+version = 2 => version = "2" => cup.toml: version
+version = 2¶seed => version = true¶sand => cup.toml: version
 seed => sand => cup.toml: missing seed
 seed = "00 => seed = "AB => right
 seed = "00 => seed = "0g => cup.toml: shape seed
@@ -83,7 +99,7 @@ tri.toml =>  => cup.toml: match 0 shape network
 tri.toml => tri\u0000 => cup.toml: match 0 shape network
 "tri.toml" => ["tri.toml"] => cup.toml: match 0 shape network
 tri.toml => bytes.toml => bytes.toml: text
-tri.toml => cup.toml => cup.toml: missing nodes
+tri.toml => cup.toml => cup.toml: version
 home = 0¶ =>  => cup.toml: match 0 missing home
 home = 0 => home = 3 => cup.toml: match 0 home
 home = 0 => home = 65535 => cup.toml: match 0 home
@@ -91,20 +107,37 @@ home = 0 => home = 65536 => cup.toml: match 0 shape home
 home = 0 => home = -1 => cup.toml: match 0 shape home
 home = 0 => home = 0.0 => cup.toml: match 0 shape home
 home = 0 => home = "0" => cup.toml: match 0 shape home
-home = 0¶hole = 2 => home = true => cup.toml: match 0 shape home
-hole = 2¶ =>  => cup.toml: match 0 missing hole
-hole = 2 => hole = 0 => cup.toml: match 0 hole
-hole = 2 => hole = "none" => right
-hole = 2 => hole = "None" => cup.toml: match 0 shape hole
-hole = 2 => hole = "2" => cup.toml: match 0 shape hole
-hole = 2¶quota = 10 => hole = -1 => cup.toml: match 0 shape hole
+home = 0¶holes = [2] => home = true => cup.toml: match 0 shape home
+holes = [2]¶ =>  => cup.toml: match 0 missing holes
+holes = [2] => hole = 2 => cup.toml: match 0 missing holes
+holes = [2] => dark = 0 => cup.toml: match 0 missing holes
+version = 2 => version = 1 => cup.toml: match 0 missing hole
+[2] => [] => right
+[2] => [2, 1] => right
+[2] => 2 => cup.toml: match 0 shape holes
+[2] => "none" => cup.toml: match 0 shape holes
+[2] => [2, 1.0] => cup.toml: match 0 shape holes
+[2]¶quota = 10 => [-1] => cup.toml: match 0 shape holes
+[2] => [0] => cup.toml: match 0 hole
+[2] => [1, 3] => cup.toml: match 0 hole
+[2] => [2, 2] => cup.toml: match 0 hole
+[2] => [2]¶dark = [] => right
+[2] => [2]¶dark = [[0, 1], [1, 0]] => right
+[2] => [2]¶dark = 0 => cup.toml: match 0 shape dark
+[2] => [2]¶dark = [0, 1] => cup.toml: match 0 shape dark
+[2]¶quota = 10 => [2]¶dark = [[0]] => cup.toml: match 0 shape dark
+[2] => [2]¶dark = [[0, 2]] => cup.toml: match 0 dark
+[2] => [2]¶dark = [[3, 0]] => cup.toml: match 0 dark
+[2] => [2]¶dark = [[0, 1], [2, 1]] => cup.toml: match 0 dark
+[2]¶quota = 10¶board = 8 => [2]¶dark = [[0, 2]]¶quota = 10¶board = 4097 => cup.toml: match 0 board
 quota = 10¶board = 8¶ =>  => cup.toml: match 0 missing quota
 quota = 10 => quota = 0 => cup.toml: match 0 quota
 quota = 10 => quota = 1001 => cup.toml: match 0 quota
 quota = 10 => quota = 1e1 => cup.toml: match 0 shape quota
 quota = 10 => quota = [10] => cup.toml: match 0 shape quota
 board = 8¶ =>  => cup.toml: match 0 missing board
-board = 8 => board = 1025 => cup.toml: match 0 board
+board = 8 => board = 4096 => right
+board = 8 => board = 4097 => cup.toml: match 0 board
 board = 8 => board = 8¶board = 8 => cup.toml: toml
 board = 8 => board = 8¶colour = "blue" => right
 board = 8¶keys => board = 1979-05-27¶locks => cup.toml: match 0 shape board
@@ -129,6 +162,22 @@ held = [] => held = [[0, 1], [0, 0], [3, 0], [0, 2]] => cup.toml: match 0 held 2
 held = [] => held = [[0, 1], [0, 1]] => right
 held = [] => [[match]]¶team = "b" => cup.toml: match 1 missing network
 held = [] => [[match]]¶team = 1 => cup.toml: match 1 shape team"#;
+
+// The same of the tournament in version 1.
+const TOURNAMENTS_OF_VERSION_1: &str = r#"held = []¶ =>  => right
+version = 1 => version = 0x1 => right
+tri.toml => cup.toml => cup.toml: missing nodes
+hole = 2¶ =>  => cup.toml: match 0 missing hole
+hole = 2 => holes = [2] => cup.toml: match 0 missing hole
+hole = 2 => hole = "none" => right
+hole = 2 => hole = "None" => cup.toml: match 0 shape hole
+hole = 2 => hole = "2" => cup.toml: match 0 shape hole
+hole = 2 => hole = [2] => cup.toml: match 0 shape hole
+hole = 2¶quota = 10 => hole = -1 => cup.toml: match 0 shape hole
+hole = 2 => hole = 0 => cup.toml: match 0 hole
+hole = 2 => hole = 2¶holes = 0¶dark = 0 => right
+board = 8 => board = 4096 => right
+board = 8 => board = 4097 => cup.toml: match 0 board"#;
 
 // The same of a tournament of two matches, the second on a square: setups are judged first, then keys, then held links.
 const TOURNAMENTS_OF_TWO: &str =
@@ -247,6 +296,10 @@ fn files_are_judged(rt: HostRuntime) -> Result<(), Fail> {
         let (cup, line) = changed(alloc, CUP, row)?;
         expect(&rt, alloc, cup.as_str(), TRIANGLE, line)?;
     }
+    for row in TOURNAMENTS_OF_VERSION_1.lines() {
+        let (cup, line) = changed(alloc, CUP_OF_VERSION_1, row)?;
+        expect(&rt, alloc, cup.as_str(), TRIANGLE, line)?;
+    }
     for row in TOURNAMENTS_OF_TWO.lines() {
         let (cup, line) = changed(alloc, two.as_str(), row)?;
         expect(&rt, alloc, cup.as_str(), TRIANGLE, line)?;
@@ -312,11 +365,14 @@ fn a_tournament_is_what_its_file_says(rt: HostRuntime) -> Result<(), Fail> {
     };
     assert!(rt; is_team(red.team.as_str()));
     assert_eq!(rt;
-        (red.home, red.hole, red.quota, red.board),
-        (0, Some(2), 10, 8)
+        (red.home, red.quota, red.board),
+        (0, 10, 8)
     );
+    assert_eq!(rt; red.holes.nodes(), [2].as_slice());
+    assert!(rt; red.dark.ends().is_empty());
+    let first = read_tournament(alloc, CUP_OF_VERSION_1)?;
+    assert_eq!(rt; first, read_tournament(alloc, CUP)?);
     assert_eq!(rt; blue.held.as_slice(), [(0, 1), (2, 0)].as_slice());
-    assert_eq!(rt; Keys::new(alloc, &tournament)?.find("kb"), Some((0, 1)));
     let names = tournament.networks(alloc)?;
     assert_eq!(rt; names.get_index(0).copied(), Some("tri.toml"));
     assert_eq!(rt; names.get_index(1).copied(), Some("square.toml"));
@@ -344,6 +400,7 @@ fn a_lineup_is_put_together(rt: HostRuntime) -> Result<(), Fail> {
     assert_eq!(rt; blue.game.setup().agents, 1);
     assert_eq!(rt; red.game.log().len(), 0);
     assert_eq!(rt; (red.held.has(0, 1), blue.held.has(0, 1)), (false, true));
-    assert_eq!(rt; lineup.keys.find("kc"), Some((1, 0)));
+    let seats = ["kb", "kc", "kd"].map(|key| lineup.keys.find(key));
+    assert_eq!(rt; seats, [Some((0, 1)), Some((1, 0)), None]);
     Ok(())
 }

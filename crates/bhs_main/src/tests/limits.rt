@@ -29,11 +29,11 @@ fn add(text: &mut Vec<u8>, count: usize, byte: u8) -> Result<(), Fail> {
     Ok(())
 }
 
-/// A script: who has entered sends a line of 20,000 letters; a look, with white space up to the longest line, and one
+/// A script: who has entered sends a line of 70,000 letters; a look, with white space up to the longest line, and one
 /// byte more; and looks with nested lists at a key that nobody reads.
 fn long_lines(alloc: Global) -> Result<Vec<u8>, Fail> {
     let mut script = Vec::from_slice(alloc, b"0 {\"do\":\"enter\",\"key\":\"ka\"}\n0 ")?;
-    add(&mut script, 20_000, b'a')?;
+    add(&mut script, 70_000, b'a')?;
     for bytes in [MAX_LINE, MAX_LINE + 1] {
         script.extend_from_slice(b"\n0 {\"do\":\"look\"}")?;
         add(&mut script, bytes - 13, b' ')?;

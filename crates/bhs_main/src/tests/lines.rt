@@ -153,14 +153,14 @@ fn kinds(rt: HostRuntime) -> Result<(), Fail> {
         assert_eq!(rt; kind_of(line), kind, "at {line:?}");
     }
     let full = padded(alloc, b"a", b'a', MAX_LINE - 1, b"")?;
-    assert_eq!(rt; full.len(), 16_384);
+    assert_eq!(rt; full.len(), 65_536);
     assert_eq!(rt; kind_of(&full), LineKind::Whole);
     assert_eq!(rt;
-        kind_of(&padded(alloc, b"", b' ', 16_384, b"")?),
+        kind_of(&padded(alloc, b"", b' ', 65_536, b"")?),
         LineKind::Blank
     );
     assert_eq!(rt;
-        kind_of(&padded(alloc, b"", b' ', 16_385, b"")?),
+        kind_of(&padded(alloc, b"", b' ', 65_537, b"")?),
         LineKind::Over
     );
     Ok(())
@@ -171,7 +171,7 @@ fn whole_lines(rt: HostRuntime) -> Result<(), Fail> {
     let alloc = rt.alloc();
     assert_eq!(rt; read_line(alloc, b" \r")?, None);
     let look = b"{\"do\":\"look\"}";
-    for (spaces, said) in [(16_371, Command::Look), (16_372, Command::Bad)] {
+    for (spaces, said) in [(65_523, Command::Look), (65_524, Command::Bad)] {
         let line = padded(alloc, look, b' ', spaces, b"")?;
         assert_eq!(rt;
             read_line(alloc, &line)?,
@@ -263,7 +263,7 @@ fn overlong_lines(rt: HostRuntime) -> Result<(), Fail> {
     let alloc = rt.alloc();
     let mut lines = Lines::new(alloc);
     assert_eq!(rt;
-        lines.feed(&padded(alloc, b"", b'a', 20_000, b"")?)?.len(),
+        lines.feed(&padded(alloc, b"", b'a', 70_000, b"")?)?.len(),
         0
     );
     assert_eq!(rt; lines.held(), 0);
@@ -274,16 +274,16 @@ fn overlong_lines(rt: HostRuntime) -> Result<(), Fail> {
     let look = Vec::from_slice(alloc, b"{\"do\":\"look\"}")?;
     let found = lines.feed(b"{\"do\":\"look\"}\n")?;
     assert_eq!(rt; found.as_slice(), [Raw::Whole(look)].as_slice());
-    let full = padded(alloc, b"{\"do\":\"look\"}", b' ', 16_371, b"")?;
+    let full = padded(alloc, b"{\"do\":\"look\"}", b' ', 65_523, b"")?;
     assert_eq!(rt; lines.feed(&full)?.len(), 0);
-    assert_eq!(rt; lines.held(), 16_384);
+    assert_eq!(rt; lines.held(), 65_536);
     assert_eq!(rt;
         lines.feed(b"\n")?.as_slice(),
         [Raw::Whole(full)].as_slice()
     );
-    let long = padded(alloc, b"{\"do\":\"look\"}", b' ', 16_372, b"\n")?;
+    let long = padded(alloc, b"{\"do\":\"look\"}", b' ', 65_524, b"\n")?;
     assert_eq!(rt; lines.feed(&long)?.as_slice(), [Raw::Over].as_slice());
-    let spaces = padded(alloc, b"", b' ', 16_385, b"\n")?;
+    let spaces = padded(alloc, b"", b' ', 65_537, b"\n")?;
     assert_eq!(rt; lines.feed(&spaces)?.as_slice(), [Raw::Over].as_slice());
     Ok(())
 }
@@ -291,8 +291,8 @@ fn overlong_lines(rt: HostRuntime) -> Result<(), Fail> {
 #[test]
 fn byte_by_byte(rt: HostRuntime) -> Result<(), Fail> {
     let alloc = rt.alloc();
-    let front = padded(alloc, b"look\n\n", b'a', 16_400, b"\nenter\r\n")?;
-    let stream = padded(alloc, &front, b' ', 16_384, b"\nleave")?;
+    let front = padded(alloc, b"look\n\n", b'a', 65_600, b"\nenter\r\n")?;
+    let stream = padded(alloc, &front, b' ', 65_536, b"\nleave")?;
     let mut whole = Lines::new(alloc);
     let at_once = whole.feed(&stream)?;
     assert_eq!(rt; at_once.len(), 3);

@@ -1,15 +1,25 @@
 ghost use Rattle.std.specs.Prelude.{IfOk, ◌≡◌, []};
 
-use super::triangle::{SETUP, network};
+use super::triangle::{network, setup};
 use bhs_match::{Arena, ArenaFault, Bound, Match};
-use bhs_model::{Command, Event, Mark, Reply, Setup, Text, Why};
+use bhs_model::{Command, DarkLinks, Event, Holes, Mark, Reply, Setup, Text, Why};
 use bhs_world::SetupFault;
 use std::alloc::{AllocError, Global};
 use std::test::Fail;
 
 /// The triangle with the black hole at node 2.
 fn triangle(alloc: Global) -> Result<Match, Fail> {
-    Ok(Match::new(alloc, network(alloc)?, SETUP)?)
+    Ok(Match::new(alloc, network(alloc)?, setup(alloc)?)?)
+}
+
+/// The triangle without a black hole, whose link between nodes 0 and 2 is dark.
+fn dark(alloc: Global) -> Result<Match, Fail> {
+    let setup = Setup {
+        holes: Holes::from(Vec::new(alloc)),
+        dark: DarkLinks::from(vec![in alloc; (0, 1)]?),
+        ..setup(alloc)?
+    };
+    Ok(Match::new(alloc, network(alloc)?, setup)?)
 }
 
 fn tell(agent: u16, command: Command) -> Event {
@@ -45,11 +55,12 @@ fn no(why: Why) -> Option<Mark> {
 
 #[test]
 fn a_setup_is_refused(rt: HostRuntime) -> Result<(), Fail> {
+    let alloc = rt.alloc();
     let setup = Setup {
-        agents: 17,
-        ..SETUP
+        agents: 65,
+        ..setup(alloc)?
     };
-    let refused = Match::new(rt.alloc(), network(rt.alloc())?, setup);
+    let refused = Match::new(alloc, network(alloc)?, setup);
     assert_eq!(rt; refused.err(), Some(SetupFault::Agents));
     Ok(())
 }
@@ -92,6 +103,76 @@ fn the_destroyed_stay_in_the_pool_until_they_leave(rt: HostRuntime) -> Result<()
     assert_eq!(rt; game.pool(), [bound].as_slice());
     assert_eq!(rt; game.apply(tell(0, Command::Leave)).mark, Some(Mark::Bye));
     assert!(rt; game.pool().is_empty());
+    Ok(())
+}
+
+#[test]
+fn a_dark_link_destroys_in_both_directions(rt: HostRuntime) -> Result<(), Fail> {
+    let alloc = rt.alloc();
+    let mut game = dark(alloc)?;
+    for (event, place, mark) in vec![in alloc;
+        (tell(0, Command::Enter), Some(0), here(None, None)),
+        (tell(0, depart(1)), Some(1), Some(Mark::Gone)),
+        (deliver(0), Some(2), None),
+        (tell(1, Command::Enter), Some(3), here(None, None)),
+        (tell(1, depart(0)), Some(4), Some(Mark::Gone)),
+        (deliver(1), Some(5), here(Some(0), None)),
+        (tell(1, depart(1)), Some(6), Some(Mark::Gone)),
+        (deliver(1), Some(7), here(Some(0), None)),
+        (tell(1, depart(1)), Some(8), Some(Mark::Gone)),
+        (deliver(1), Some(9), None),
+        (deliver(1), None, None),
+    ]? {
+        let answer = game.apply(event);
+        assert_eq!(rt; (answer.place, answer.mark), (place, mark));
+    }
+    let bound = |agent, node| Bound {
+        agent,
+        node,
+        port: 1,
+    };
+    assert_eq!(rt; game.pool(), [bound(0, 0), bound(1, 2)].as_slice());
+    assert_eq!(rt; game.news(1), [5, 7].as_slice());
+    Ok(())
+}
+
+#[test]
+fn a_match_has_64_agents(rt: HostRuntime) -> Result<(), Fail> {
+    let alloc = rt.alloc();
+    let setup = Setup {
+        agents: 64,
+        quota: 1000,
+        board: 4096,
+        ..setup(alloc)?
+    };
+    let mut game = Match::new(alloc, network(alloc)?, setup)?;
+    for agent in 0..64 {
+        let answer = game.apply(tell(agent, Command::Enter));
+        assert_eq!(rt; (answer.place, answer.mark), (Some(u32::from(agent)), here(None, None)));
+    }
+    let answer = game.apply(tell(64, Command::Look));
+    assert_eq!(rt; (answer.place, answer.mark), (None, no(Why::Agent)));
+    Ok(())
+}
+
+#[test]
+fn a_whiteboard_holds_4096_bytes(rt: HostRuntime) -> Result<(), Fail> {
+    let alloc = rt.alloc();
+    let setup = Setup {
+        board: 4096,
+        ..setup(alloc)?
+    };
+    let mut game = Match::new(alloc, network(alloc)?, setup)?;
+    game.apply(tell(0, Command::Enter));
+    let mut text = String::new(alloc);
+    for _ in 0..4096 {
+        text.push('a')?;
+    }
+    let full = write(alloc, "", text.as_str())?;
+    let longer = write(alloc, text.as_str(), format!(in alloc; "{text}a")?.as_str())?;
+    assert_eq!(rt; game.apply(tell(0, full)).mark, Some(Mark::Written));
+    assert_eq!(rt; game.apply(tell(0, longer)).mark, no(Why::Long));
+    assert_eq!(rt; game.seen(0).len(), 4096);
     Ok(())
 }
 
@@ -159,7 +240,7 @@ fn a_match_shows_what_follows_from_its_log(rt: HostRuntime) -> Result<(), Fail> 
         board,
     };
     assert_eq!(rt; game.reply(&mark)?, reply);
-    assert_eq!(rt; game.setup(), &SETUP);
+    assert_eq!(rt; game.setup(), &setup(alloc)?);
     assert_eq!(rt; game.net().nodes(), 3);
     Ok(())
 }
@@ -182,7 +263,7 @@ fn a_match_is_sealed_once_it_has_ended(rt: HostRuntime) -> Result<(), Fail> {
     assert_eq!(rt; sealed.log().len(), 4);
     assert_eq!(rt; sealed.text(&look), "a");
     assert_eq!(rt; sealed.reply(&Mark::Bye)?, Reply::Bye);
-    assert_eq!(rt; sealed.setup(), &SETUP);
+    assert_eq!(rt; sealed.setup(), &setup(alloc)?);
     assert_eq!(rt; sealed.net().nodes(), 3);
     Ok(())
 }

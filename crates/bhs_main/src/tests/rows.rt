@@ -4,7 +4,7 @@
 //! fault is told the status is 3, else 0. After `$` stand the words after the program's name; without them they are
 //! `rehearse`. Rows are parted by empty lines.
 
-use super::files::TRIANGLE;
+use super::files::{CUP, CUP_OF_VERSION_1, TRIANGLE};
 use bhs_program::run;
 use std::alloc::Global;
 use std::fs;
@@ -289,13 +289,81 @@ $ rehearse links.toml
 > 0 {"do":"enter","key":"ka"}
 ! links.toml: missing seed"#;
 
-const TWO: &str = r#"version = 1
+// The tournament of the file has two matches on the triangle: one whose link between nodes 0 and 2 is dark; and one
+// without a dark link, in which that link is held in both directions.
+const A_DARK_LINK: &str = r#"Who departs over a dark link is not heard of again, in either match.
+$ rehearse dark.toml
+> 0 {"do":"enter","key":"ka"}
+< 0 {"board":"","from":null,"ok":"here","ports":2}
+> 1 {"do":"enter","key":"kc"}
+< 1 {"board":"","from":null,"ok":"here","ports":2}
+> 0 {"do":"depart","port":1}
+< 0 {"ok":"gone"}
+> 1 {"do":"depart","port":1}
+< 1 {"ok":"gone"}
+> draw 0 0
+> draw 1 0
+> close 0
+< 0 {"ok":"over"}
+> close 1
+< 1 {"ok":"over"}
+
+The other links let agents arrive, and the dark one is accused from its other end.
+$ rehearse dark.toml
+> 0 {"do":"enter","key":"ka"}
+< 0 {"board":"","from":null,"ok":"here","ports":2}
+> 1 {"do":"enter","key":"kc"}
+< 1 {"board":"","from":null,"ok":"here","ports":2}
+> 0 {"do":"depart","port":0}
+< 0 {"ok":"gone"}
+> 1 {"do":"depart","port":0}
+< 1 {"ok":"gone"}
+> draw 0 0
+< 0 {"board":"","from":0,"ok":"here","ports":2}
+> draw 1 0
+< 1 {"board":"","from":0,"ok":"here","ports":2}
+> 0 {"do":"depart","port":1}
+< 0 {"ok":"gone"}
+> 1 {"do":"depart","port":1}
+< 1 {"ok":"gone"}
+> draw 0 0
+< 0 {"board":"","from":0,"ok":"here","ports":2}
+> draw 1 0
+< 1 {"board":"","from":0,"ok":"here","ports":2}
+> 0 {"do":"accuse","port":1}
+< 0 {"ok":"noted"}
+> 1 {"do":"accuse","port":1}
+< 1 {"ok":"noted"}
+> close 0
+> close 1
+
+The dark link destroys in the other direction as well.
+$ rehearse dark.toml
+> 0 {"do":"enter","key":"ka"}
+< 0 {"board":"","from":null,"ok":"here","ports":2}
+> 0 {"do":"depart","port":0}
+< 0 {"ok":"gone"}
+> draw 0 0
+< 0 {"board":"","from":0,"ok":"here","ports":2}
+> 0 {"do":"depart","port":1}
+< 0 {"ok":"gone"}
+> draw 0 0
+< 0 {"board":"","from":0,"ok":"here","ports":2}
+> 0 {"do":"depart","port":1}
+< 0 {"ok":"gone"}
+> draw 0 0
+> 0 {"do":"look"}
+> close 0
+< 0 {"ok":"over"}"#;
+
+const DARK: &str = r#"version = 2
 seed = "0000000000000000000000000000000000000000000000000000000000000000"
 [[match]]
 team = "red"
 network = "links.toml"
 home = 0
-hole = 2
+holes = []
+dark = [[0, 1]]
 quota = 10
 board = 8
 keys = ["ka", "kb"]
@@ -303,7 +371,28 @@ keys = ["ka", "kb"]
 team = "blue"
 network = "links.toml"
 home = 0
-hole = "none"
+holes = []
+quota = 10
+board = 8
+keys = ["kc", "kd"]
+held = [[0, 1], [2, 1]]
+"#;
+
+const TWO: &str = r#"version = 2
+seed = "0000000000000000000000000000000000000000000000000000000000000000"
+[[match]]
+team = "red"
+network = "links.toml"
+home = 0
+holes = [2]
+quota = 10
+board = 8
+keys = ["ka", "kb"]
+[[match]]
+team = "blue"
+network = "links.toml"
+home = 0
+holes = []
 quota = 10
 board = 8
 keys = ["kc", "kd"]
@@ -389,8 +478,28 @@ fn a_tournament_of_files(rt: HostRuntime) -> Result<(), Fail> {
     for row in TWO_MATCHES.split("\n\n") {
         plays(&rt, rt.alloc(), row)?;
     }
+    fs::write(&rt, "dark.toml", DARK)?;
+    for row in A_DARK_LINK.split("\n\n") {
+        plays(&rt, rt.alloc(), row)?;
+    }
+    // A tournament of version 1 sends what the same one of version 2 does: the built-in one.
+    fs::write(&rt, "tri.toml", TRIANGLE)?;
+    fs::write(&rt, "first.toml", CUP_OF_VERSION_1)?;
+    fs::write(&rt, "second.toml", CUP)?;
+    for name in ["first.toml", "second.toml"] {
+        let row = format!(in rt.alloc(); "$ rehearse {name}\n{ROAD}")?;
+        plays(&rt, rt.alloc(), row.as_str())?;
+    }
     Ok(())
 }
+
+const ROAD: &str = r#"> 0 {"do":"enter","key":"ka"}
+< 0 {"board":"","from":null,"ok":"here","ports":2}
+> 0 {"do":"depart","port":0}
+< 0 {"ok":"gone"}
+> draw 0 0
+< 0 {"board":"","from":0,"ok":"here","ports":2}
+"#;
 
 const ENTERS: &str = r#"> 0 {"do":"enter","key":"ka"}
 < 0 {"board":"","from":null,"ok":"here","ports":2}

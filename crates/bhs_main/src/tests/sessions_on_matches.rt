@@ -1,5 +1,5 @@
 // Whole sessions over memory, with a port that plays one agent of a match.
-use super::triangle::{SETUP, network};
+use super::triangle::{network, setup};
 use bhs_deal::{Held, draw};
 use bhs_match::Match;
 use bhs_model::{Command, Event, Mark, Reply, Setup};
@@ -60,7 +60,10 @@ impl Port for OneMatch {
 fn triangle(alloc: Global) -> Result<OneMatch, Fail> {
     let net = network(alloc)?;
     let held = Held::new(alloc, &net, &[])?;
-    let setup = Setup { agents: 1, ..SETUP };
+    let setup = Setup {
+        agents: 1,
+        ..setup(alloc)?
+    };
     Ok(OneMatch {
         game: Match::new(alloc, net, setup)?,
         held,

@@ -1,4 +1,4 @@
-use super::super::triangle::{SETUP, network};
+use super::super::triangle::{network, setup};
 use bhs_deal::{Dealer, Drawn, Held, draw};
 use bhs_match::Match;
 use bhs_model::{Command, Event, Reply, Text};
@@ -9,7 +9,7 @@ use std::test::Fail;
 fn triangle(alloc: Global, pairs: &[(u16, u16)]) -> Result<(Match, Held), Fail> {
     let net = network(alloc)?;
     let held = Held::new(alloc, &net, pairs)?;
-    Ok((Match::new(alloc, net, SETUP)?, held))
+    Ok((Match::new(alloc, net, setup(alloc)?)?, held))
 }
 
 fn tell(agent: u16, command: Command) -> Event {

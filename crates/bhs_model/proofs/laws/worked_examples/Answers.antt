@@ -12,6 +12,7 @@ returns c = record {
   a_dark_link_looks_held = refl;
   an_accusation_is_noted = refl;
   a_write_expects_what_it_replaces = refl;
+  a_whiteboard_names_its_write = (refl, refl, refl);
   a_whiteboard_holds_so_many_bytes = refl;
   a_missing_port_is_used_up = refl;
   leaving_needs_no_quota = refl;

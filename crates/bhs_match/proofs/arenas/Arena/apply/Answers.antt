@@ -8,6 +8,7 @@ returns-clause-history c =
     (played_in _ _ _ _ c.apply.result _ c.apply.new.self c.self.view_is (omega (arith, c.self.inside.games.ok)) c.index_mut-game.ensures.value (record {
       reply = c.apply.ensures.reply;
       log = c.apply.ensures.log;
+      shown = c.apply.ensures.shown;
       place = c.apply.ensures.place;
       net = c.apply.ensures.same.0;
       setup = c.apply.ensures.same.1;

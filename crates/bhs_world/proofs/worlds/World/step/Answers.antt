@@ -7,5 +7,8 @@ returns-clause-reply c = (step_played _ _ _ _ _ c.play.ensures.mark c.play.ensur
 pub returns-clause-stands : goal.returns-clause-stands
 returns-clause-stands c = (step_played _ _ _ _ _ c.play.ensures.mark c.play.ensures.world c.play.ensures.sound c.requires.stands).stands
 
+pub returns-clause-shown : goal.returns-clause-shown
+returns-clause-shown c = (step_played _ _ _ _ _ c.play.ensures.mark c.play.ensures.world c.play.ensures.sound c.requires.stands).shown
+
 pub returns-clause-same : goal.returns-clause-same
 returns-clause-same c = step_same c.args.self.now _ c.args.log.now c.args.event.now c.play.ensures.world

@@ -1,7 +1,0 @@
-use Rattle.std.proofs.Common.{◌≡◌, drop, map}
-use Rattle.bhs_files.specs.KeyTable.{distinct, seats_from, key_table}
-use Rattle.bhs_files.specs.Seats.{by_bytes}
-use Rattle.bhs_files.proofs.key_table.seats_of.Given as goal
-
-abbrev pub invariant-loop-game : goal.invariant-loop-game
-invariant-loop-game l = distinct (by_bytes l.seats.entries) (seats_from l.game (map (λ fixture. fixture.keys.items) (drop l.game l.matches))) ≡ key_table (map (λ fixture. fixture.keys.items) l.matches)

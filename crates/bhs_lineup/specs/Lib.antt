@@ -1,0 +1,3 @@
+pub mod KeyTable
+pub mod Seats
+pub mod Lineups

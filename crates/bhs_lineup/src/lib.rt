@@ -1,0 +1,11 @@
+//! A tournament that is ready to play: matches on their networks with the links that are held, and the keys that let
+//! agents enter.
+#![tactic(auto)]
+
+mod key_table;
+mod limits;
+mod lineups;
+
+pub use key_table::Keys;
+pub use limits::SEED_BYTES;
+pub use lineups::{Lineup, Ready};
