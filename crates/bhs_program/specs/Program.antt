@@ -3,7 +3,7 @@ use Rattle.std.specs.Prelude.{◌≡◌, ℕ, Bool, IsTrue, List, Some, None}
 use Rattle.std.specs.List.{list_any}
 use Rattle.bhs_model.specs.declared.limits.TheConstants.{MAX_TURNS}
 use Rattle.bhs_stream.specs.Streams.{Chunk, Taken}
-use Rattle.bhs_files.specs.declared.lineups.Lineup.{Lineup}
+use Rattle.bhs_lineup.specs.declared.lineups.Lineup.{Lineup}
 use Rattle.bhs_command_line.specs.CommandLine.{AreRefused, faults, is_asked, order_in}
 use Rattle.bhs_command_line.specs.declared.Order.{Order}
 use Rattle.bhs_command_line.specs.declared.Order.TheVariants.{Check, Rehearse}

@@ -7,8 +7,8 @@ use Rattle.bhs_stream.specs.Reading as reading
 use Rattle.bhs_stream.specs.Sending.{PutsAll}
 use Rattle.bhs_stream.specs.declared.reading.ReadFault.{ReadFault}
 use Rattle.bhs_stream.specs.declared.reading.ReadFault.TheVariants as reads
-use Rattle.bhs_files.specs.declared.lineups.Lineup.{Lineup}
-use Rattle.bhs_files.specs.Lineups.{Contest, contest}
+use Rattle.bhs_lineup.specs.declared.lineups.Lineup.{Lineup}
+use Rattle.bhs_lineup.specs.Lineups.{Contest, contest}
 use Rattle.bhs_rehearsal.specs.Games.{Game}
 use Rattle.bhs_rehearsal.specs.Stages.{Stage, Instruction, begun, stands_after}
 use Rattle.bhs_rehearsal.specs.Rehearsing.{game_of}

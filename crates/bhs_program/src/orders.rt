@@ -10,7 +10,7 @@ use crate::rehearsing::rehearse;
 use crate::showing::show;
 use crate::statuses::{DONE, REFUSED_WORDS};
 use bhs_command_line::{Order, Parsed, order_of};
-use bhs_files::Lineup;
+use bhs_lineup::Lineup;
 use bhs_model::MAX_TURNS;
 use bhs_stream::{Input, Output, finish, send};
 use std::alloc::Global;

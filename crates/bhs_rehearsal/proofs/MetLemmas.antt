@@ -15,7 +15,7 @@ use Rattle.bhs_model.specs.Views.{View, Start, Arrived, Sight, Away, standing}
 use Rattle.bhs_model.specs.Worlds.{World}
 use Rattle.bhs_model.specs.Runs.{State, initial, Position, Before, At, Bound, After, is_bound, sight_at, arrives, is_let_through, delivered, run_from}
 use Rattle.bhs_model.proofs.StepLemmas.{changed_same, arrival_by_past, no_arrival_no_reply, next_arrived}
-use Rattle.bhs_files.specs.KeyTable.{Seat}
+use Rattle.bhs_lineup.specs.KeyTable.{Seat}
 use Rattle.bhs_session.specs.Texts.{text_of}
 use Rattle.bhs_rehearsal.specs.Games.{Game, world_in, state_of, played, reply_to, is_away, drawn}
 use Rattle.bhs_rehearsal.specs.Connections.{Item, Connection, unfed, shut, taken}

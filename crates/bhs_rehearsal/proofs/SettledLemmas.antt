@@ -8,7 +8,7 @@ use Rattle.bhs_wire.specs.Lines.{said_by}
 use Rattle.bhs_wire.specs.declared.commands.First.{First}
 use Rattle.bhs_wire.specs.declared.commands.First.TheVariants as firsts
 use Rattle.bhs_wire.specs.declared.denials.Denial.TheVariants as denials
-use Rattle.bhs_files.specs.KeyTable.{seat_at}
+use Rattle.bhs_lineup.specs.KeyTable.{seat_at}
 use Rattle.bhs_session.specs.Texts.{denial_text}
 use Rattle.bhs_rehearsal.specs.Games.{Game, is_away}
 use Rattle.bhs_rehearsal.specs.Connections.{Item, Says, Ends, Connection, unfed, shut, Taken, taken, after}

@@ -9,13 +9,13 @@ use Rattle.bhs_model.specs.declared.replies.Reply.{Reply}
 use Rattle.bhs_model.specs.declared.replies.Reply.TheVariants.{Over}
 use Rattle.bhs_model.specs.Runs.{State}
 use Rattle.bhs_model.proofs.SlowLemmas.{MadeAlike}
-use Rattle.bhs_files.specs.KeyTable.{Seat}
+use Rattle.bhs_lineup.specs.KeyTable.{Seat}
 use Rattle.bhs_session.specs.Texts.{text_of}
 use Rattle.bhs_rehearsal.specs.Games.{Game, world_in, state_of, played, reply_to, is_away, drawn}
 use Rattle.bhs_rehearsal.specs.Connections.{Item, Ends, Connection, shut, taken}
 use Rattle.bhs_rehearsal.specs.Stages.{Stage, game_at, connection_at, with_game, with_connection, has_seat, Entry, Waits, Sits, IsDenied, Goes, entry, Moved, plays, enters, moves_in, moves, Instruction, Feeds, EndsInput, Draws, Closes, Stepped, sent_to, stepped, nothing, tells_arrival, delivers, waits_in, shut_in, told_over, closes, step}
 use Rattle.bhs_rehearsal.specs.Laws.{IsSlowFor, IsSlowStageFor, HoleSoundsSlow, IsSlowLineupFor, SlowLineupsSoundAlike}
-use Rattle.bhs_files.specs.declared.lineups.Lineup.{Lineup}
+use Rattle.bhs_lineup.specs.declared.lineups.Lineup.{Lineup}
 use Rattle.bhs_rehearsal.specs.Rehearsing.{game_of, first_game, first_stage}
 use Rattle.bhs_rehearsal.proofs.CuttingLemmas.{by_bool}
 use Rattle.bhs_rehearsal.proofs.TurnLemmas.{grown}

@@ -6,8 +6,8 @@ use Rattle.std.specs.declared.alloc.AllocError.{AllocError}
 use Rattle.std.proofs.lemmas.List.{get_or-map, get_or_read, map-set, length-map, with_items_is}
 use Rattle.std.proofs.Math.Seq.{map-set_same}
 use Rattle.bhs_model.specs.declared.replies.Reply.{Reply}
-use Rattle.bhs_files.specs.KeyTable.{Seat}
-use Rattle.bhs_files.specs.declared.lineups.Ready.{Ready}
+use Rattle.bhs_lineup.specs.KeyTable.{Seat}
+use Rattle.bhs_lineup.specs.declared.lineups.Ready.{Ready}
 use Rattle.bhs_rehearsal.specs.Games.{Game, drawn}
 use Rattle.bhs_rehearsal.specs.Connections.{Connection, unfed, shut, Taken, taken, after}
 use Rattle.bhs_rehearsal.specs.Stages.{game_at, connection_at, with_game, plays, waits_in, shut_in}

@@ -7,7 +7,7 @@ use Rattle.bhs_wire.specs.Lines.{found_in, left_by, said_by}
 use Rattle.bhs_wire.specs.declared.commands.First.{First}
 use Rattle.bhs_wire.specs.declared.commands.First.TheVariants as firsts
 use Rattle.bhs_wire.specs.declared.denials.Denial.TheVariants as denials
-use Rattle.bhs_files.specs.KeyTable.{seat_at}
+use Rattle.bhs_lineup.specs.KeyTable.{seat_at}
 use Rattle.bhs_session.specs.Texts.{denial_text}
 use Rattle.bhs_rehearsal.specs.Games.{Game}
 use Rattle.bhs_rehearsal.specs.Connections.{Item, Says, Ends, Connection, shut, Taken, taken, after}

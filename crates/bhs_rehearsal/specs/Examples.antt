@@ -1,6 +1,6 @@
 -- Worked scripts on a triangle, checked by computing the definitions.
 use Rattle.std.specs.Prelude.{ℕ, ◌≡◌, List, [], ◌∷◌, ◌++◌, codes}
-use Rattle.bhs_files.specs.KeyTable.{Seat}
+use Rattle.bhs_lineup.specs.KeyTable.{Seat}
 use Rattle.bhs_model.specs.declared.commands.Command.TheVariants.{Enter, Depart, Leave}
 use Rattle.bhs_model.specs.declared.events.Event.TheVariants.{Tell, Deliver}
 use Rattle.bhs_rehearsal.specs.Games.{Game}

@@ -6,7 +6,7 @@ use Rattle.bhs_model.specs.declared.setups.Setup.{Setup}
 use Rattle.bhs_model.specs.Views.{View, Start, Told, Nothing, standing}
 use Rattle.bhs_wire.specs.declared.denials.Denial.{Denial}
 use Rattle.bhs_wire.specs.Lines.{Line, lines}
-use Rattle.bhs_files.specs.KeyTable.{Seat}
+use Rattle.bhs_lineup.specs.KeyTable.{Seat}
 use Rattle.bhs_session.specs.Texts.{text_of, denial_text, command_of}
 use Rattle.bhs_rehearsal.specs.Games.{Game, state_of}
 use Rattle.bhs_rehearsal.specs.Stages.{Stage, game_at, connection_at, Instruction, begun, stands_after, said}

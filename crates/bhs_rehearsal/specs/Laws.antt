@@ -6,7 +6,7 @@ use Rattle.bhs_model.specs.Worlds.{SameButDoom, doomed}
 use Rattle.bhs_model.specs.Twins.{Twins}
 use Rattle.bhs_deal.specs.Links.{held_in}
 use Rattle.bhs_rehearsal.specs.Games.{Game, world_in, state_of, is_away}
-use Rattle.bhs_files.specs.declared.lineups.Lineup.{Lineup}
+use Rattle.bhs_lineup.specs.declared.lineups.Lineup.{Lineup}
 use Rattle.bhs_rehearsal.specs.Connections.{Connection}
 use Rattle.bhs_rehearsal.specs.Rehearsing.{first_stage, first_game}
 use Rattle.bhs_rehearsal.specs.Clients.{bytes_among, bytes_to}

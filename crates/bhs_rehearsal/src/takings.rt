@@ -10,7 +10,7 @@ ghost use Rattle.bhs_rehearsal.specs.Rehearsing.{game_of, team_of, seen_item};
 ghost use Rattle.bhs_rehearsal.specs.Takings.{behind, goes_on, left_if};
 
 use crate::items::Item;
-use bhs_files::Ready;
+use bhs_lineup::Ready;
 use bhs_model::{Command, Event, Mark, Reply};
 use bhs_net::Memory;
 use bhs_session::{command_in, ending_of, reply_text};

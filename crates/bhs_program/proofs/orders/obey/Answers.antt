@@ -1,5 +1,5 @@
 use Rattle.std.proofs.Common.{ap, refl, subst, ◌∙◌}
-use Rattle.bhs_files.specs.Lineups.{Contest}
+use Rattle.bhs_lineup.specs.Lineups.{Contest}
 use Rattle.bhs_command_line.specs.declared.Order.TheVariants.{Rehearse}
 use Rattle.bhs_model.specs.declared.limits.TheConstants.{MAX_TURNS}
 use Rattle.bhs_program.specs.Program.{rehearses, rehearses_on, refuses_file, checks}
