@@ -1,0 +1,5 @@
+use Rattle.bhs_lock.proofs.NewsLemmas.{news_found}
+use Rattle.bhs_lock.proofs.pass.Pass.hear_news.Goals as goal
+
+pub returns-clause-news : goal.returns-clause-news
+returns-clause-news c = news_found c.args.play.now _ _ _ _ _ _ c.log-log.ensures.log c.arrival_of.ensures c.in-Some.is c.in_ok-reply.ensures c.log-log.ensures.replies
