@@ -28,11 +28,10 @@ receipt_at log place = option_map (λ mark. record { place = place; reply = read
 abbrev pub arrival_of : Play → (agent index : ℕ) → Option Receipt
 arrival_of play agent index = option_and_then (receipt_at play.log) (slice_get (arrivals agent play.log) index)
 
--- whether a reply is one that news can be: an arrival, or that the match is over
-abbrev pub is_news : Reply → Bool
-is_news (Here ports came board) = true
-is_news Over = true
-is_news reply = false
+-- whether a reply says where the agent is
+abbrev pub is_here : Reply → Bool
+is_here (Here ports came board) = true
+is_here reply = false
 
 -- what news makes of a pass, where its agent has this next arrival, or none
 abbrev pub IsGivenIf : Option Receipt → Passed → Reply → Passed → Type 0

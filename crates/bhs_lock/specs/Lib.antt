@@ -5,3 +5,5 @@ pub mod Halls
 pub mod Recording
 pub mod Comparing
 pub mod Arrivals
+pub mod Unclaimed
+pub mod Cells

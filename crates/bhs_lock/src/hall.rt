@@ -1,8 +1,9 @@
-ghost use Rattle.std.specs.Prelude.{◌≡◌, [], IfOk, OnErr, IsTrue};
+ghost use Rattle.std.specs.Prelude.{◌≡◌, [], IfOk, OnErr};
 ghost use Rattle.bhs_lock.specs.Halls.{agrees, same_tally, is_below, IsAnswered};
 ghost use Rattle.bhs_lock.specs.Recording.{IsSubmitted};
 ghost use Rattle.bhs_lock.specs.Passes.{passes_of};
-ghost use Rattle.bhs_lock.specs.Arrivals.{IsGiven, is_news};
+ghost use Rattle.bhs_lock.specs.Cells.{IsNews};
+ghost use Rattle.bhs_lock.specs.Arrivals.{IsGiven};
 ghost use Rattle.bhs_model.specs.Draws.{draw};
 ghost use Rattle.bhs_match.specs.Matches.{state_of};
 ghost use Rattle.bhs_match.specs.Games.{IsPlayed};
@@ -46,20 +47,27 @@ impl Hall {
         ensures hall { IfOk result (λ made. made.0 ≡ record { game = game; play = play }) }
         ensures passes { IfOk result (λ made. made.1.items ≡ passes_of game play.setup.quota play.setup.agents) }
     {
-        let agents = play.setup().agents;
+        let passes = empty_passes(alloc, game, play.setup().quota, play.setup().agents)?;
+        let hall = Hall::alone(alloc, game, play)?;
+        Ok((hall, passes))
+    }
+
+    /// The hall of a match with an empty log.
+    pub(crate) fn alone(alloc: Global, game: u32, play: Match) -> Result<Hall, Memory>
+        requires { play.log ≡ [] }
+        ensures { IfOk result (λ hall. hall ≡ record { game = game; play = play }) }
+    {
         let nothing = Tally {
             heard: 0,
             ended: false,
         };
-        let tallies = Vec::from_elem(alloc, nothing, usize::from(agents))?;
-        let passes = empty_passes(alloc, game, play.setup().quota, agents)?;
+        let tallies = Vec::from_elem(alloc, nothing, usize::from(play.setup().agents))?;
         let _legal = play.log();
-        let hall = Hall {
+        Ok(Hall {
             game,
             play,
             tallies,
-        };
-        Ok((hall, passes))
+        })
     }
 
     /// The match.
@@ -138,7 +146,7 @@ impl Hall {
     /// Gives a pass its agent's next arrival.
     pub(crate) fn give(&self, pass: &mut Pass) -> Result<Reply, Memory>
         ensures given { IfOk result (λ said. IsGiven self.now.play pass.old said pass.new) }
-        ensures news { IfOk result (λ said. IsTrue (is_news said)) }
+        ensures news { IfOk result (λ said. IsNews pass.old said pass.new) }
         ensures failed { OnErr result (pass.new ≡ pass.old) }
     {
         pass.hear_news(&self.play)

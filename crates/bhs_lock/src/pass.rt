@@ -1,10 +1,11 @@
-ghost use Rattle.std.specs.Prelude.{◌≡◌, [], true, IfOk, OnErr, IsTrue, length, option_map, option_and_then, slice_get};
+ghost use Rattle.std.specs.Prelude.{◌≡◌, [], true, IfOk, OnErr, length, option_map, option_and_then, slice_get};
 ghost use Rattle.bhs_match.specs.Matches.{world_in, state_of, shown_at};
 ghost use Rattle.bhs_lock.specs.Passes.{Passed, empty_pass, is_end, tally_in, kind_of, gained, Ascend};
 ghost use Rattle.std.specs.Prelude.{MatchOption};
 ghost use Rattle.bhs_lock.specs.Comparing.{Tells, heard_in, receipted, IsFirstDifference};
 ghost use Rattle.bhs_lock.specs.Halls.{is_below, spoken, IsSpareFor, IsTold};
-ghost use Rattle.bhs_lock.specs.Arrivals.{arrival_at, receipt_at, is_news, IsGiven};
+ghost use Rattle.bhs_lock.specs.Cells.{IsNews};
+ghost use Rattle.bhs_lock.specs.Arrivals.{arrival_at, receipt_at, IsGiven};
 ghost use Rattle.bhs_model.specs.Marks.{read};
 ghost use Rattle.bhs_lock.specs.declared.model.Receipt.{Receipt as ReceiptData};
 
@@ -151,7 +152,7 @@ impl Pass {
     /// Takes over the agent's next arrival, which is answered, or answers that the match is over where there is none.
     pub(crate) fn hear_news(&mut self, play: &Match) -> Result<Reply, Memory>
         ensures given { IfOk result (λ said. IsGiven play.now self.old said self.new) }
-        ensures news { IfOk result (λ said. IsTrue (is_news said)) }
+        ensures news { IfOk result (λ said. IsNews self.old said self.new) }
         ensures failed { OnErr result (self.new ≡ self.old) }
     {
         let log = play.log();
