@@ -9,7 +9,7 @@ ghost use Rattle.bhs_model.specs.Marks.{events_of, read, read_if, text_at, board
 ghost use Rattle.bhs_model.specs.Runs.{run, reply, replies, is_bound};
 ghost use Rattle.bhs_model.specs.Setups.{normal, IsNormal};
 ghost use Rattle.bhs_world.specs.Faults.{first_fault, IsWithinLimits};
-ghost use Rattle.bhs_world.specs.Tables.{keeps_next, log_after};
+ghost use Rattle.bhs_world.specs.Tables.{keeps_next, log_after, is_of_board_if};
 ghost use Rattle.bhs_match.specs.Matches.{world_in, state_of, most_kept, arrivals, bounds, shown_at};
 ghost use Rattle.bhs_match.specs.Keeping.{node_seen};
 ghost use Rattle.bhs_match.specs.Laws.{IsLogOf};
@@ -20,7 +20,7 @@ use crate::pools::{Bound, link, link_by, settle};
 use crate::reading;
 use crate::seals::Sealed;
 use bhs_agent::Standing;
-use bhs_model::{Event, Kept, Mark, Reply, Setup, read, text_at};
+use bhs_model::{Command, Event, Kept, Mark, Reply, Setup, read, text_at};
 use bhs_net::{Memory, Net};
 use bhs_world::{SetupFault, World};
 use std::alloc::Global;
@@ -147,6 +147,14 @@ impl Match {
             Some(node) => text_at(&self.log, self.world.last(node)),
             None => "",
         }
+    }
+
+    /// Whether the reply to a command, if it were told now, would say what a whiteboard shows or that it was written. No
+    /// other reply needs a text.
+    pub fn shows(&self, agent: u16, command: &Command) -> bool
+        ensures { result ≡ is_of_board_if (reply (world_in self.now) (state_of self.now) (Event.Tell agent command.now)) }
+    {
+        self.world.shows(agent, command)
     }
 
     /// Whether the agent is on a link, destroyed or not. A number that is no agent's is on none.

@@ -6,3 +6,4 @@ pub mod MarkLemmas
 pub mod AgreeLemmas
 pub mod AwayLemmas
 pub mod JudgeLemmas
+mod ShowLemmas

@@ -1,6 +1,6 @@
 -- What a step does to a table, and which mark it answers. This says how the code goes about it; that it is
 -- what the definitions say is proved of it.
-use Rattle.std.specs.Prelude.{ℕ, ◌+◌, ◌<◌, ◌≡◌, Bool, true, false, not, ◌&&◌, Option, Some, None, List, length, nat_lt, if◌then◌else◌, slice_set}
+use Rattle.std.specs.Prelude.{ℕ, ◌+◌, ◌<◌, ◌≡◌, Bool, true, false, not, ◌&&◌, Option, Some, None, List, length, nat_lt, nat_le, if◌then◌else◌, slice_set}
 use Rattle.bhs_net.specs.Network.{Network, nodes_of, degree_of}
 use Rattle.bhs_model.specs.declared.commands.Command.{Command}
 use Rattle.bhs_model.specs.declared.commands.Command.TheVariants.{Enter, Look, Write, Depart, Accuse, Leave, Bad}
@@ -157,3 +157,24 @@ pub record IsSound (table : Table) : Type 0 where
   pub boards : length table.boards ≡ nodes_of table.net
   pub limits : (node : ℕ) → node < length table.boards → (board_at table.boards node).limit ≡ table.setup.board
   pub places : (agent : ℕ) → IsPlaced table.net (agent_at table.agents agent).position
+
+-- ---- which answers speak of a whiteboard
+
+-- whether a mark says what a whiteboard shows, or that it was written
+abbrev pub is_of_board : Mark → Bool
+is_of_board (marks.Here ports came board) = true
+is_of_board marks.Written = true
+is_of_board (marks.Changed board) = true
+is_of_board mark = false
+
+-- whether the answer to a command that is heard of an agent at this position does
+abbrev pub shows_from : (limit : ℕ) → Position → Command → Bool
+shows_from limit position Enter = true
+shows_from limit (At node came) Look = true
+shows_from limit (At node came) (Write expect put) = nat_le (length put) limit
+shows_from limit position command = false
+
+-- whether the answer to a command does
+abbrev pub shows_in : Table → (agent : ℕ) → Command → Bool
+shows_in table agent command =
+    heard_in table agent command && shows_from table.setup.board (agent_at table.agents agent).position command

@@ -1,15 +1,17 @@
 -- What a world keeps, and what it means that this stands for what happened.
-use Rattle.std.specs.Prelude.{ℕ, ◌++◌, ◌∷◌, Bool, Option, Some, None, List, [], ◌≡◌, IfSome, IsSome, if◌then◌else◌, option_and_then, map, slice_index_or}
+use Rattle.std.specs.Prelude.{ℕ, ◌++◌, ◌∷◌, Bool, true, false, Option, Some, None, List, [], ◌≡◌, IfSome, IsSome, if◌then◌else◌, option_and_then, map, slice_index_or}
 use Rattle.std.specs.List.{AllByRecursion}
 use Rattle.bhs_net.specs.Network.{Network}
 use Rattle.bhs_model.specs.declared.setups.Setup.{Setup}
 use Rattle.bhs_model.specs.declared.events.Event.{Event}
 use Rattle.bhs_model.specs.declared.marks.Mark.{Mark}
 use Rattle.bhs_model.specs.declared.marks.Kept.{Kept}
+use Rattle.bhs_model.specs.declared.replies.Reply.{Reply}
+use Rattle.bhs_model.specs.declared.replies.Reply.TheVariants as replies
 use Rattle.bhs_model.specs.Views.{used}
 use Rattle.bhs_model.specs.Replying.{text}
 use Rattle.bhs_model.specs.Worlds.{World}
-use Rattle.bhs_model.specs.Runs.{State, run, replies}
+use Rattle.bhs_model.specs.Runs.{State, run, replies as replies_of}
 use Rattle.bhs_model.specs.Kept.{lost, keeps}
 use Rattle.bhs_model.specs.Places.{written, names}
 use Rattle.bhs_model.specs.Setups.{world_of}
@@ -66,10 +68,21 @@ IsNamed log mark = IfSome (option_and_then board_of mark) (λ place. IsSome (put
 -- places that these replies name.
 pub record StandsFor (table : Table) (log : List Kept) : Type 0 where
   pub state : Agrees table log (run (world_in table) (events_of log)) (lost (world_in table) (events_of log))
-  pub replies : map (λ kept. read_if log kept.mark) log ≡ replies (world_in table) (events_of log)
+  pub replies : map (λ kept. read_if log kept.mark) log ≡ replies_of (world_in table) (events_of log)
   pub named : AllByRecursion (λ kept. IsNamed log kept.mark) log
   pub last : (node : ℕ) → (board_at table.boards node).last ≡ written (world_in table) (events_of log) node
   pub shown : map (λ kept. option_and_then board_of kept.mark) log ≡ names (world_in table) (events_of log)
+
+-- whether a reply says what a whiteboard shows, or that it was written
+abbrev pub is_of_board : Reply → Bool
+is_of_board (replies.Here ports came board) = true
+is_of_board replies.Written = true
+is_of_board (replies.Changed board) = true
+is_of_board reply = false
+
+abbrev pub is_of_board_if : Option Reply → Bool
+is_of_board_if (Some reply) = is_of_board reply
+is_of_board_if None = false
 
 -- whether the next event is kept
 abbrev pub keeps_next : World → List Kept → Event → Bool

@@ -6,7 +6,7 @@ ghost use Rattle.bhs_model.specs.Setups.{world_of};
 ghost use Rattle.bhs_agent.specs.Agents.{position_of};
 ghost use Rattle.bhs_world.specs.Tables.{board_at};
 ghost use Rattle.bhs_model.specs.Standings.{standing_at};
-ghost use Rattle.bhs_world.specs.Steps.{refusal_of, agent_told, mark_here, mark_of_swap, swap_at, board_written, boards_told, mark_told, IsPlaced};
+ghost use Rattle.bhs_world.specs.Steps.{refusal_of, agent_told, mark_here, mark_of_swap, swap_at, board_written, boards_told, mark_told, IsPlaced, shows_from};
 
 use bhs_agent::{Agent, Standing};
 use bhs_board::{Board, Swap};
@@ -132,5 +132,16 @@ pub(crate) fn answer(
         }
         (Standing::Present { .. }, Command::Bad) => Mark::No(Why::Line),
         _ => Mark::No(Why::Away),
+    }
+}
+
+/// Whether the answer to a command that is heard of an agent in this standing speaks of a whiteboard.
+pub(crate) fn shows_from(limit: u16, standing: Standing, command: &Command) -> bool
+    ensures { result ≡ shows_from limit (position_of standing) command.now }
+{
+    match (standing, command) {
+        (_, Command::Enter) | (Standing::Present { .. }, Command::Look) => true,
+        (Standing::Present { .. }, Command::Write { put, .. }) => put.as_str().len() <= usize::from(limit),
+        _ => false,
     }
 }

@@ -6,12 +6,12 @@ ghost use Rattle.bhs_model.specs.Places.{written, named};
 ghost use Rattle.bhs_model.specs.Runs.{run, reply};
 ghost use Rattle.bhs_model.specs.Setups.{normal, IsNormal};
 ghost use Rattle.bhs_world.specs.Faults.{first_fault, IsWithinLimits};
-ghost use Rattle.bhs_world.specs.Tables.{agent_at, board_at, world_in, StandsFor, keeps_next, log_after};
+ghost use Rattle.bhs_world.specs.Tables.{agent_at, board_at, world_in, StandsFor, keeps_next, log_after, is_of_board_if};
 ghost use Rattle.bhs_model.specs.Standings.{standing_at};
-ghost use Rattle.bhs_world.specs.Steps.{IsSound, IsPlaced, refusal_of, hears_in, table_heard, mark_heard, table_after, mark_after, mark_of_command, heard_in, keeps_delivered, keeps_in};
+ghost use Rattle.bhs_world.specs.Steps.{IsSound, IsPlaced, refusal_of, hears_in, table_heard, mark_heard, table_after, mark_after, mark_of_command, heard_in, keeps_delivered, keeps_in, shows_in};
 
 use crate::faults::SetupFault;
-use crate::hearing::{advance, answer, here, refusal};
+use crate::hearing::{advance, answer, here, refusal, shows_from};
 use crate::making::{empty_boards, in_order, judged, newcomers};
 use bhs_agent::Agent;
 use bhs_board::Board;
@@ -118,6 +118,14 @@ impl World {
         ensures { (log : List KeptData) → StandsFor self.now log → result ≡ keeps_next (world_in self.now) log event.now }
     {
         self.keeps_event(event)
+    }
+
+    /// Whether the answer to a command, if it were told now, would say what a whiteboard shows or that it was written.
+    /// No other answer needs a text.
+    pub fn shows(&self, agent: u16, command: &Command) -> bool
+        ensures { (log : List KeptData) → StandsFor self.now log → result ≡ is_of_board_if (reply (world_in self.now) (run (world_in self.now) (events_of log)) (Event.Tell agent command.now)) }
+    {
+        self.shows_board(agent, command)
     }
 
     /// Plays an event, and answers the mark of its reply, which is read in the log with the event and this mark
@@ -238,6 +246,16 @@ impl World {
             Event::Deliver { agent } => *agent < self.setup.agents && self.keeps_delivered(*agent),
             Event::Close => true,
         }
+    }
+
+    fn shows_board(&self, agent: u16, command: &Command) -> bool
+        ensures shows { result ≡ shows_in self.now agent command.now }
+        ensures sound { IsSound self.now }
+    {
+        if agent >= self.setup.agents || self.closed || self.refusal(agent, command).is_some() {
+            return false;
+        }
+        shows_from(self.setup.board, self.agents[usize::from(agent)].standing(), command)
     }
 
     /// Whether a Deliver of the agent is kept: it arrives, or is destroyed for the first time.

@@ -1,0 +1,12 @@
+mod NewLemmas
+mod NewsLemmas
+mod DrawLemmas
+mod RecordLemmas
+mod FitLemmas
+mod PassLemmas
+pub mod SeenLemmas
+mod SpareLemmas
+pub mod TallyLemmas
+pub mod ToldLemmas
+pub mod CompareLemmas
+pub mod EndLemmas

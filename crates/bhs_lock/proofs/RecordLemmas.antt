@@ -1,0 +1,221 @@
+-- What a pass says of a command, whatever stands under the lock.
+use Rattle.std.proofs.Common.{◌≡◌, ℕ, ◌+◌, ◌-◌, ◌<◌, ◌≤◌, Bool, true, false, not, ◌&&◌, Option, Some, None, List, length, refl, sym, ap, ◌∙◌, subst, nat_lt, ◌==◌, if◌then◌else◌, arith, inl, inr, ◌⊎◌}
+use Rattle.std.specs.Prelude.{nat_le, bytes_eq, option_map, is_some}
+use Rattle.std.proofs.lemmas.Bool.{cond_both, cond-true, cond-false, ltb-true, eq-eqb}
+use Rattle.std.proofs.lemmas.Bool.Decides.{eqb_tells, nat_tests}
+use Rattle.bhs_model.specs.declared.commands.Command.{Command}
+use Rattle.bhs_model.specs.declared.commands.Command.TheVariants.{Enter, Look, Write, Depart, Accuse, Leave, Bad}
+use Rattle.bhs_model.specs.declared.events.Event.TheVariants.{Tell}
+use Rattle.bhs_model.specs.declared.marks.Mark.{Mark}
+use Rattle.bhs_model.specs.declared.replies.Reply.{Reply}
+use Rattle.bhs_model.specs.declared.replies.Reply.TheVariants.{Written, Changed, Gone, Noted, Over, No}
+use Rattle.bhs_model.specs.declared.replies.Why.{Why}
+use Rattle.bhs_model.specs.declared.replies.Why.TheVariants as whys
+use Rattle.bhs_model.specs.Views.{View, Standing, Outside, Present, Away, Ended, standing, used, ports, Glance, Nothing, Saw, Seen}
+use Rattle.bhs_model.specs.Replying.{text, accepts, hears, answer, sight_answer, refusal}
+use Rattle.bhs_model.specs.Runs.{State, heard, glance, reply}
+use Rattle.bhs_match.specs.Matches.{Play, world_in, state_of}
+use Rattle.bhs_lock.specs.declared.model.Answer.{Answer}
+use Rattle.bhs_lock.specs.declared.model.Tally.{Tally}
+use Rattle.bhs_lock.specs.Tallies.{heard_count, has_ended, tally_of}
+use Rattle.bhs_lock.specs.Fitting.{Fits, AreFit}
+use Rattle.bhs_lock.specs.Passes.{Passed, Ascend, AreBelow, tally_in, gained}
+use Rattle.bhs_lock.specs.Halls.{Housed, agrees, IsTold}
+use Rattle.bhs_lock.specs.Recording.{is_unheard, spent_by, refusal_by, IsSubmitted}
+use Rattle.bhs_lock.proofs.FitLemmas.{HeardCommand, heard_command, reply_heard}
+use Rattle.bhs_lock.proofs.PassLemmas.{all_below}
+use Rattle.bhs_lock.proofs.TallyLemmas.{HasAgreed, has_agreed}
+
+-- ---- a command that is heard is not answered as one that is not
+
+sight_heard : (limit : ℕ) (command : Command) (glance : Glance) → is_unheard (sight_answer limit command glance) ≡ false
+sight_heard limit (Write expect put) (Saw (Seen ports came last_write)) =
+    let shown : List ℕ = text limit last_write in
+    cond_both (nat_le (length put) limit) (if bytes_eq shown expect then Written else Changed shown) (No whys.Long) (λ reply. is_unheard reply ≡ false)
+    (λ fits. cond_both (bytes_eq shown expect) Written (Changed shown) (λ reply. is_unheard reply ≡ false) (λ e. refl) (λ e. refl)) (λ long. refl)
+sight_heard limit (Write expect put) Nothing = refl
+sight_heard limit Enter (Saw (Seen ports came last_write)) = refl
+sight_heard limit Enter Nothing = refl
+sight_heard limit Look (Saw (Seen ports came last_write)) = refl
+sight_heard limit Look Nothing = refl
+sight_heard limit (Depart port) (Saw (Seen ports came last_write)) = refl
+sight_heard limit (Depart port) Nothing = refl
+sight_heard limit (Accuse port) (Saw (Seen ports came last_write)) = refl
+sight_heard limit (Accuse port) Nothing = refl
+sight_heard limit Leave (Saw (Seen ports came last_write)) = refl
+sight_heard limit Leave Nothing = refl
+sight_heard limit Bad (Saw (Seen ports came last_write)) = refl
+sight_heard limit Bad Nothing = refl
+
+port_heard : (b : Bool) (reply : Reply) → is_unheard reply ≡ false → is_unheard (if b then reply else No whys.Port) ≡ false
+port_heard true reply is = is
+port_heard false reply is = refl
+
+answer_heard : (limit : ℕ) (now : Standing) (ports : ℕ) (command : Command) (glance : Glance) → is_unheard (answer limit now ports command glance) ≡ false
+answer_heard limit Outside ports Leave glance = refl
+answer_heard limit Present ports Leave glance = refl
+answer_heard limit Away ports Leave glance = refl
+answer_heard limit Ended ports Leave glance = refl
+answer_heard limit Away ports Enter glance = refl
+answer_heard limit Away ports Look glance = refl
+answer_heard limit Away ports (Write expect put) glance = refl
+answer_heard limit Away ports (Depart port) glance = refl
+answer_heard limit Away ports (Accuse port) glance = refl
+answer_heard limit Away ports Bad glance = refl
+answer_heard limit Outside ports Bad glance = refl
+answer_heard limit Present ports Bad glance = refl
+answer_heard limit Ended ports Bad glance = refl
+answer_heard limit Outside ports (Depart port) glance = port_heard (nat_lt port ports) Gone refl
+answer_heard limit Present ports (Depart port) glance = port_heard (nat_lt port ports) Gone refl
+answer_heard limit Ended ports (Depart port) glance = port_heard (nat_lt port ports) Gone refl
+answer_heard limit Outside ports (Accuse port) glance = port_heard (nat_lt port ports) Noted refl
+answer_heard limit Present ports (Accuse port) glance = port_heard (nat_lt port ports) Noted refl
+answer_heard limit Ended ports (Accuse port) glance = port_heard (nat_lt port ports) Noted refl
+answer_heard limit Outside ports Enter glance = sight_heard limit Enter glance
+answer_heard limit Present ports Enter glance = sight_heard limit Enter glance
+answer_heard limit Ended ports Enter glance = sight_heard limit Enter glance
+answer_heard limit Outside ports Look glance = sight_heard limit Look glance
+answer_heard limit Present ports Look glance = sight_heard limit Look glance
+answer_heard limit Ended ports Look glance = sight_heard limit Look glance
+answer_heard limit Outside ports (Write expect put) glance = sight_heard limit (Write expect put) glance
+answer_heard limit Present ports (Write expect put) glance = sight_heard limit (Write expect put) glance
+answer_heard limit Ended ports (Write expect put) glance = sight_heard limit (Write expect put) glance
+
+-- ---- why a command is not heard, by the numbers
+
+not_none : (n used : ℕ) → n ≡ used + 1 → (n == 0) ≡ false
+not_none n used is = elim (eqb_tells n 0) [ inl h ↦ absurd (omega (arith, h.1, is)) | inr h ↦ h.0 ]
+
+some_not_none : (n : ℕ) → 0 < n → (n == 0) ≡ false
+some_not_none n some = elim (eqb_tells n 0) [ inl h ↦ absurd (omega (arith, h.1, some)) | inr h ↦ h.0 ]
+
+all_spent : (n used quota : ℕ) → n ≡ used + 1 → used ≤ quota → nat_lt used quota ≡ false → (n - 1 == quota) ≡ true
+all_spent n used quota is within none =
+    let full : quota ≤ used = grind (arith, nat_tests, none) in
+    eq-eqb (n - 1) quota (omega arith)
+
+spent_means : (quota used n : ℕ) (ended : Bool) (b : Bool) (why : Option Why) → (n == 0) ≡ false → ended ≡ false → (n - 1 == quota) ≡ true →
+    (if n == 0 then Some whys.Outside else (if ended then Some whys.Ended else (if n - 1 == quota then Some whys.Spent else None))) ≡ Some whys.Spent
+spent_means quota used n ended b why some going full = cond-false _ _ _ some ∙ cond-false _ _ _ going ∙ cond-true _ _ _ full
+
+-- the refusal of the definitions is that of the numbers
+pub refusal_same : (quota : ℕ) (now : Standing) (used : ℕ) (tally : Tally) (command : Command) → tally.ended ≡ has_ended now → Fits quota now used tally.heard → accepts now (nat_lt used quota) command ≡ false →
+    refusal_by quota tally command ≡ Some (refusal now command)
+refusal_same quota Outside used tally Enter ended fits none = absurd cc
+refusal_same quota Outside used tally Look ended fits none = cond-true _ _ _ (eq-eqb tally.heard 0 fits.0)
+refusal_same quota Outside used tally (Write expect put) ended fits none = cond-true _ _ _ (eq-eqb tally.heard 0 fits.0)
+refusal_same quota Outside used tally (Depart port) ended fits none = cond-true _ _ _ (eq-eqb tally.heard 0 fits.0)
+refusal_same quota Outside used tally (Accuse port) ended fits none = cond-true _ _ _ (eq-eqb tally.heard 0 fits.0)
+refusal_same quota Outside used tally Leave ended fits none = cond-true _ _ _ (eq-eqb tally.heard 0 fits.0)
+refusal_same quota Outside used tally Bad ended fits none = cond-true _ _ _ (eq-eqb tally.heard 0 fits.0)
+refusal_same quota Present used tally Enter ended fits none = cond-false _ _ _ (not_none tally.heard used fits.0)
+refusal_same quota Present used tally Look ended fits none = spent_means quota used tally.heard tally.ended true None (not_none tally.heard used fits.0) ended (all_spent tally.heard used quota fits.0 fits.1 none)
+refusal_same quota Present used tally (Write expect put) ended fits none = spent_means quota used tally.heard tally.ended true None (not_none tally.heard used fits.0) ended (all_spent tally.heard used quota fits.0 fits.1 none)
+refusal_same quota Present used tally (Depart port) ended fits none = spent_means quota used tally.heard tally.ended true None (not_none tally.heard used fits.0) ended (all_spent tally.heard used quota fits.0 fits.1 none)
+refusal_same quota Present used tally (Accuse port) ended fits none = spent_means quota used tally.heard tally.ended true None (not_none tally.heard used fits.0) ended (all_spent tally.heard used quota fits.0 fits.1 none)
+refusal_same quota Present used tally Leave ended fits none = absurd cc
+refusal_same quota Present used tally Bad ended fits none = spent_means quota used tally.heard tally.ended true None (not_none tally.heard used fits.0) ended (all_spent tally.heard used quota fits.0 fits.1 none)
+refusal_same quota Away used tally Enter ended fits none = cond-false _ _ _ (not_none tally.heard used fits.0)
+refusal_same quota Away used tally Look ended fits none = spent_means quota used tally.heard tally.ended true None (not_none tally.heard used fits.0) ended (all_spent tally.heard used quota fits.0 fits.1 none)
+refusal_same quota Away used tally (Write expect put) ended fits none = spent_means quota used tally.heard tally.ended true None (not_none tally.heard used fits.0) ended (all_spent tally.heard used quota fits.0 fits.1 none)
+refusal_same quota Away used tally (Depart port) ended fits none = spent_means quota used tally.heard tally.ended true None (not_none tally.heard used fits.0) ended (all_spent tally.heard used quota fits.0 fits.1 none)
+refusal_same quota Away used tally (Accuse port) ended fits none = spent_means quota used tally.heard tally.ended true None (not_none tally.heard used fits.0) ended (all_spent tally.heard used quota fits.0 fits.1 none)
+refusal_same quota Away used tally Leave ended fits none = absurd cc
+refusal_same quota Away used tally Bad ended fits none = spent_means quota used tally.heard tally.ended true None (not_none tally.heard used fits.0) ended (all_spent tally.heard used quota fits.0 fits.1 none)
+refusal_same quota Ended used tally Enter ended fits none = cond-false _ _ _ (some_not_none tally.heard fits)
+refusal_same quota Ended used tally Look ended fits none = cond-false _ _ _ (some_not_none tally.heard fits) ∙ cond-true _ _ _ ended
+refusal_same quota Ended used tally (Write expect put) ended fits none = cond-false _ _ _ (some_not_none tally.heard fits) ∙ cond-true _ _ _ ended
+refusal_same quota Ended used tally (Depart port) ended fits none = cond-false _ _ _ (some_not_none tally.heard fits) ∙ cond-true _ _ _ ended
+refusal_same quota Ended used tally (Accuse port) ended fits none = cond-false _ _ _ (some_not_none tally.heard fits) ∙ cond-true _ _ _ ended
+refusal_same quota Ended used tally Leave ended fits none = cond-false _ _ _ (some_not_none tally.heard fits) ∙ cond-true _ _ _ ended
+refusal_same quota Ended used tally Bad ended fits none = cond-false _ _ _ (some_not_none tally.heard fits) ∙ cond-true _ _ _ ended
+
+-- ---- what is said of a command
+
+by_known : (known closed hears : Bool) (answer : Option Reply) (why : Why) → known ≡ true → (known && (not closed && hears)) ≡ false →
+    ((if known then (if closed then Some Over else (if hears then answer else Some (No why))) else Some (No whys.Agent)) ≡ Some Over)
+    ⊎ ((hears ≡ false) × ((if known then (if closed then Some Over else (if hears then answer else Some (No why))) else Some (No whys.Agent)) ≡ Some (No why)))
+by_known false closed hears answer why known none = absurd cc
+by_known true true hears answer why known none = inl refl
+by_known true false true answer why known none = absurd cc
+by_known true false false answer why known none = inr (refl, refl)
+
+some_same : {A : Type 0} (x y : A) → Some x ≡ Some y → x ≡ y
+some_same x y is = cc
+
+-- the refusals are not replies to what is heard
+refused_unheard : (now : Standing) (command : Command) → is_unheard (No (refusal now command)) ≡ true
+refused_unheard Outside Enter = refl
+refused_unheard Outside Look = refl
+refused_unheard Outside (Write expect put) = refl
+refused_unheard Outside (Depart port) = refl
+refused_unheard Outside (Accuse port) = refl
+refused_unheard Outside Leave = refl
+refused_unheard Outside Bad = refl
+refused_unheard Present Enter = refl
+refused_unheard Present Look = refl
+refused_unheard Present (Write expect put) = refl
+refused_unheard Present (Depart port) = refl
+refused_unheard Present (Accuse port) = refl
+refused_unheard Present Leave = refl
+refused_unheard Present Bad = refl
+refused_unheard Away Enter = refl
+refused_unheard Away Look = refl
+refused_unheard Away (Write expect put) = refl
+refused_unheard Away (Depart port) = refl
+refused_unheard Away (Accuse port) = refl
+refused_unheard Away Leave = refl
+refused_unheard Away Bad = refl
+refused_unheard Ended Enter = refl
+refused_unheard Ended Look = refl
+refused_unheard Ended (Write expect put) = refl
+refused_unheard Ended (Depart port) = refl
+refused_unheard Ended (Accuse port) = refl
+refused_unheard Ended Leave = refl
+refused_unheard Ended Bad = refl
+
+-- a command of a pass that agrees
+submitted_agreed : (hall : Housed) (pass pass' : Passed) (command : Command) (place : Option ℕ) (mark : Mark) (said : Reply) (play' : Play) →
+    HasAgreed hall pass → AreFit hall.play → AreBelow (length hall.play.log) pass.receipts → IsTold hall.play pass command place mark said play' pass' →
+    (heard_now : Bool) → heard (world_in hall.play) (state_of hall.play) pass.agent command ≡ heard_now → IsSubmitted pass command place said pass'
+submitted_agreed hall pass pass' command place mark said play' has fit above is true is_heard =
+    let here : place ≡ Some (length hall.play.log) = is.at ∙ cond-true _ _ _ is_heard in
+    let how : HeardCommand hall.play pass.agent command = heard_command hall.play pass.agent command is_heard in
+    let answered = some_same _ _ (is.replied ∙ reply_heard hall.play pass.agent command how) in
+    subst (λ (place : Option ℕ). IsSubmitted pass command place said pass') (sym here) (record {
+      gains = subst (λ (place : Option ℕ). pass' ≡ gained pass command place said) here is.kept;
+      above = above;
+      heard = ap is_unheard answered ∙ answer_heard _ _ _ command _;
+    })
+submitted_agreed hall pass pass' command place mark said play' has fit above is false unheard =
+    let play : Play = hall.play in
+    let view : View = (state_of play).past pass.agent in
+    let none : place ≡ None = is.at ∙ cond-false _ _ _ unheard in
+    let same : pass' ≡ pass = is.kept ∙ ap (λ (place : Option ℕ). gained pass command place said) none in
+    subst (λ (place : Option ℕ). IsSubmitted pass command place said pass') (sym none)
+    (elim (by_known (nat_lt pass.agent play.setup.agents) (state_of play).closed (hears play.setup.quota view command) _ (refusal (standing view) command) known unheard) [
+      | inl over ↦
+          let reply_over : said ≡ Over = some_same said Over (is.replied ∙ over) in
+          record { same = same; unheard = ap is_unheard reply_over; why = inr (inl reply_over) }
+      | inr refused ↦
+          let reply_no : said ≡ No (refusal (standing view) command) = some_same said _ (is.replied ∙ refused.1) in
+          let by : refusal_by play.setup.quota (tally_of pass.agent play) command ≡ Some (refusal (standing view) command) =
+          refusal_same play.setup.quota (standing view) (used view) (tally_of pass.agent play) command refl (fit pass.agent) refused.0 in
+          let own : refusal_by pass.quota (tally_in pass.receipts) command ≡ Some (refusal (standing view) command) =
+          ap (λ (quota : ℕ). refusal_by quota (tally_in pass.receipts) command) has.quota ∙ ap (λ (tally : Tally). refusal_by play.setup.quota tally command) (sym has.tally) ∙ by in
+          record {
+            same = same;
+            unheard = ap is_unheard reply_no ∙ refused_unheard (standing view) command;
+            why = inr (inr (ap (λ (r : Reply). Some r) reply_no ∙ sym (ap (option_map No) own)));
+          }
+    ])
+  where
+    known : nat_lt pass.agent hall.play.setup.agents ≡ true
+    known = let within : pass.agent < hall.play.setup.agents = has.agent in grind (arith, nat_tests, within)
+
+pub submitted : (hall : Housed) (play play' : Play) (pass pass' : Passed) (command : Command) (place : Option ℕ) (mark : Mark) (said : Reply) →
+    play ≡ hall.play → agrees hall pass ≡ true → AreFit play → Ascend 0 pass.receipts → IsTold play pass command place mark said play' pass' → IsSubmitted pass command place said pass'
+submitted hall play play' pass pass' command place mark said same agreed fit order is =
+    let has : HasAgreed hall pass = has_agreed hall pass agreed in
+    let P : Play → Type 0 = λ play. AreFit play → IsTold play pass command place mark said play' pass' → IsSubmitted pass command place said pass' in
+    subst P (sym same) (λ fit is. submitted_agreed hall pass pass' command place mark said play' has fit (all_below 0 pass.receipts (length hall.play.log) order has.below) is _ refl) fit is

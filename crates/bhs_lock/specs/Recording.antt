@@ -1,0 +1,49 @@
+-- What a pass says of a command, whatever stood under the lock.
+use Rattle.std.specs.Prelude.{ℕ, ◌-◌, ◌≡◌, ◌⊎◌, Bool, true, false, Option, Some, None, option_map, ◌==◌, if◌then◌else◌}
+use Rattle.bhs_model.specs.declared.commands.Command.{Command}
+use Rattle.bhs_model.specs.declared.commands.Command.TheVariants.{Enter, Leave}
+use Rattle.bhs_model.specs.declared.replies.Reply.{Reply}
+use Rattle.bhs_model.specs.declared.replies.Reply.TheVariants.{Over, No}
+use Rattle.bhs_model.specs.declared.replies.Why.{Why}
+use Rattle.bhs_model.specs.declared.replies.Why.TheVariants.{Agent, Outside, Twice, Ended, Spent}
+use Rattle.bhs_lock.specs.declared.model.Tally.{Tally}
+use Rattle.bhs_lock.specs.Passes.{Passed, AreBelow, tally_in, gained}
+
+-- whether a command that is answered so was not heard
+abbrev pub is_unheard : Reply → Bool
+is_unheard Over = true
+is_unheard (No Agent) = true
+is_unheard (No Outside) = true
+is_unheard (No Twice) = true
+is_unheard (No Ended) = true
+is_unheard (No Spent) = true
+is_unheard reply = false
+
+-- why a command of an agent that has entered and not ended is not heard: the quota is used up, and the command is no Leave
+abbrev pub spent_by : (quota heard : ℕ) → Command → Option Why
+spent_by quota heard Leave = None
+spent_by quota heard command = if heard - 1 == quota then Some Spent else None
+
+-- why a command is not heard, by the numbers of its agent and the quota; None where it is
+abbrev pub refusal_by : (quota : ℕ) → Tally → Command → Option Why
+refusal_by quota tally Enter = if tally.heard == 0 then None else Some Twice
+refusal_by quota tally command =
+    if tally.heard == 0 then Some Outside else (if tally.ended then Some Ended else spent_by quota tally.heard command)
+
+-- a command that was heard: the pass gains its receipt, whose place is above those before it
+pub record IsRecorded (pass : Passed) (command : Command) (place : ℕ) (said : Reply) (pass' : Passed) : Type 0 where
+  pub gains : pass' ≡ gained pass command (Some place) said
+  pub above : AreBelow place pass.receipts
+  pub heard : is_unheard said ≡ false
+
+-- a command that was not heard: the pass is as it was, and the reply is that the pass is no agent's, that the match is
+-- over, or the refusal that the pass's own numbers give
+pub record IsUnrecorded (pass : Passed) (command : Command) (said : Reply) (pass' : Passed) : Type 0 where
+  pub same : pass' ≡ pass
+  pub unheard : is_unheard said ≡ true
+  pub why : (said ≡ No Agent) ⊎ ((said ≡ Over) ⊎ (Some said ≡ option_map No (refusal_by pass.quota (tally_in pass.receipts) command)))
+
+-- what a pass says of a command, by whether it has a place in the log
+abbrev pub IsSubmitted : Passed → Command → (place : Option ℕ) → Reply → Passed → Type 0
+IsSubmitted pass command (Some place) said pass' = IsRecorded pass command place said pass'
+IsSubmitted pass command None said pass' = IsUnrecorded pass command said pass'

@@ -1,0 +1,146 @@
+ghost use Rattle.std.specs.Prelude.{◌≡◌, [], IfOk, IfSome, OnErr, IsTrue};
+ghost use Rattle.bhs_deal.specs.Dealer.{moved_on};
+ghost use Rattle.bhs_lock.specs.Recording.{IsSubmitted};
+ghost use Rattle.bhs_lock.specs.Unclaimed.{IsFresh};
+ghost use Rattle.bhs_lock.specs.Cells.{IsNews};
+
+use crate::gates::Gate;
+use crate::hall::Hall;
+use crate::model::Answer;
+use crate::pass::Pass;
+use crate::unclaimed::Unclaimed;
+use bhs_deal::{Dealer, Drawn, Held};
+use bhs_match::Match;
+use bhs_model::{Command, Reply, Setup};
+use bhs_net::{Memory, Net};
+use std::alloc::Global;
+use std::marker::Model;
+use std::sync::{Condvar, Mutex, Wait};
+
+/// A match that threads share. Whatever is done with it is done under its lock, and what stands under the lock is always
+/// a legal history.
+#[derive(Drop)]
+pub struct Cell {
+    game: u32,
+    hall: Mutex<Hall>,
+    unclaimed: Mutex<Unclaimed>,
+    /// One for each agent: it is told of the agent's arrivals, and of the close.
+    news: Vec<Condvar>,
+    held: Held,
+    net: Net,
+    setup: Setup,
+}
+
+impl Model for Cell {
+    ghost use Rattle.bhs_lock.specs.Cells.{Given};
+
+    ghost Value = { Given };
+
+    ghost view = { λ cell. record { net = cell.net; setup = cell.setup } };
+}
+
+impl Cell {
+    ghost use Rattle.bhs_lock.specs.Cells.{Given};
+
+    /// The cell of a match with an empty log, whose draws let nobody arrive over the held links. It keeps a copy of the
+    /// network and the setup. All memory that the match and its passes need is taken here.
+    pub fn new(alloc: Global, game: u32, play: Match, held: Held) -> Result<Cell, Memory>
+        requires { play.log ≡ [] }
+        ensures { IfOk result (λ cell. cell ≡ record { net = play.net; setup = play.setup }) }
+    {
+        let net = play.net().try_clone(alloc)?;
+        let setup = play.setup().try_clone()?;
+        let agents = setup.agents;
+        let quota = setup.quota;
+        let mut news = Vec::with_capacity(alloc, usize::from(agents))?;
+        for _ in 0..agents {
+            news.push(Condvar::new())?;
+        }
+        let unclaimed = Unclaimed::new(alloc, game, quota, agents)?;
+        let hall = Hall::alone(alloc, game, play)?;
+        Ok(Cell {
+            game,
+            hall: Mutex::new(hall),
+            unclaimed: Mutex::new(unclaimed),
+            news,
+            held,
+            net,
+            setup,
+        })
+    }
+
+    /// The pass of an agent, once; None for a number that is no agent's, and for an agent whose pass was claimed before.
+    pub fn claim<R: Wait>(&self, rt: &R, agent: u16) -> Option<Pass>
+        ensures { IfSome result (IsFresh agent) }
+    {
+        self.unclaimed.lock(rt).take(agent)
+    }
+
+    /// Tells a command for the agent of a pass, under the match's lock. The answer has a place in the log exactly where
+    /// the command was heard, and the pass gains its receipt then; else the pass is as it was. A pass that does not agree
+    /// with what stands under the lock is answered as no agent's.
+    pub fn submit<R: Wait, G: Gate>(
+        &self,
+        rt: &R,
+        gate: &G,
+        pass: &mut Pass,
+        command: Command,
+    ) -> Result<Answer, Memory>
+        ensures submitted { IfOk result (λ answer. IsSubmitted pass.old command answer.place answer.reply pass.new) }
+        ensures failed { OnErr result (pass.new ≡ pass.old) }
+    {
+        let agent = pass.agent();
+        gate.asked(self.game, agent);
+        let answer = {
+            let mut hall = self.hall.lock(rt);
+            gate.locked(self.game, agent);
+            hall.told(pass, command)
+        };
+        gate.answered(self.game, agent);
+        answer
+    }
+
+    /// Waits until the agent of a pass has an arrival that the pass has not, which the pass then gains, or until the match
+    /// is over and it has none. A pass of another match is answered that the match is over.
+    pub fn news<R: Wait>(&self, rt: &R, pass: &mut Pass) -> Result<Reply, Memory>
+        ensures news { IfOk result (λ said. IsNews pass.old said pass.new) }
+        ensures failed { OnErr result (pass.new ≡ pass.old) }
+    {
+        let agent = pass.agent();
+        let given = pass.arrivals().len();
+        match self.news.get(usize::from(agent)) {
+            Some(bell) if pass.game() == self.game => {
+                let hall = bell.wait_while(
+                    rt,
+                    self.hall.lock(rt),
+                    |hall| !hall.has_news(agent, given),
+                );
+                hall.give(pass)
+            }
+            _ => Ok(Reply::Over),
+        }
+    }
+
+    /// Draws with the dealer's next word: plays at most one delivery, and wakes the agent that it delivered. Takes no
+    /// memory.
+    pub fn turn<R: Wait>(&self, rt: &R, dealer: &mut Dealer) -> Drawn
+        ensures { dealer.new ≡ moved_on dealer.old }
+    {
+        let word = dealer.next();
+        let drawn = self.hall.lock(rt).draw(&self.held, word);
+        if let Drawn::Delivered { agent } = drawn {
+            if let Some(bell) = self.news.get(usize::from(agent)) {
+                bell.notify_all();
+            }
+        }
+        drawn
+    }
+
+    /// Ends the match, and wakes all who wait for news. Takes no memory.
+    pub fn close<R: Wait>(&self, rt: &R) {
+        self.hall.lock(rt).close();
+        for bell in &self.news {
+            bell.notify_all();
+        }
+    }
+}

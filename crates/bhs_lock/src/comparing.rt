@@ -1,0 +1,132 @@
+ghost use Rattle.std.specs.Prelude.{◌≡◌, ◌↔◌, IsTrue, Some, MatchOption, length, option_copied};
+ghost use Rattle.bhs_model.specs.Marks.{read, read_if};
+ghost use Rattle.bhs_world.specs.Tables.{is_of_board};
+ghost use Rattle.bhs_lock.specs.Passes.{kept_command};
+ghost use Rattle.bhs_lock.specs.Comparing.{command_by, entry_of, entry_in, heard_in, receipted, IsFirstDifference};
+
+use crate::model::Receipt;
+use bhs_model::{Command, Event, Kept, Mark, Reply, text_at};
+
+/// The least index at which the agent's heard commands in a log differ from these receipts and kept commands, or one
+/// list ends. One pass over the log.
+pub(crate) fn difference(
+    log: &[Kept],
+    agent: u16,
+    receipts: &[Receipt],
+    commands: &[Command],
+) -> Option<usize>
+    requires { length receipts.now ≡ length commands.now }
+    ensures { MatchOption result (heard_in agent log.now ≡ receipted receipts.now commands.now) (λ index. IsFirstDifference (heard_in agent log.now) (receipted receipts.now commands.now) index) }
+{
+    let mut index = 0;
+    for (place, one) in log.iter().enumerate() {
+        let Some(command) = told_by(agent, &one.event) else {
+            continue;
+        };
+        if index == receipts.len() {
+            return Some(index);
+        }
+        if !is_entry(
+            log,
+            place,
+            command,
+            &one.mark,
+            &receipts[index],
+            &commands[index],
+        ) {
+            return Some(index);
+        }
+        index += 1;
+    }
+    if index < receipts.len() {
+        Some(index)
+    } else {
+        None
+    }
+}
+
+/// The command of this agent, if the event is one.
+fn told_by(agent: u16, event: &Event) -> Option<&Command>
+    ensures { option_copied result ≡ command_by agent event.now }
+{
+    match event {
+        Event::Tell {
+            agent: other,
+            command,
+        } if agent == *other => Some(command),
+        _ => None,
+    }
+}
+
+/// Whether a command of the log is what a receipt and a kept command say.
+fn is_entry(
+    log: &[Kept],
+    place: usize,
+    command: &Command,
+    mark: &Option<Mark>,
+    receipt: &Receipt,
+    kept: &Command,
+) -> bool
+    ensures { IsTrue result ↔ (entry_of log.now place command.now mark.now ≡ entry_in receipt.now kept.now) }
+{
+    receipt.place as usize == place
+        && is_reply(log, mark, &receipt.reply)
+        && is_kept(command, &receipt.reply, kept)
+}
+
+/// Whether a mark is read as this reply.
+fn is_reply(log: &[Kept], mark: &Option<Mark>, reply: &Reply) -> bool
+    ensures { IsTrue result ↔ (read_if log.now mark.now ≡ Some reply.now) }
+{
+    match mark {
+        Some(mark) => reads_as(log, mark, reply),
+        None => false,
+    }
+}
+
+fn reads_as(log: &[Kept], mark: &Mark, reply: &Reply) -> bool
+    ensures { IsTrue result ↔ (read log.now mark.now ≡ reply.now) }
+{
+    match (mark, reply) {
+        (
+            Mark::Here { ports, came, board },
+            Reply::Here {
+                ports: p,
+                came: c,
+                board: text,
+            },
+        ) => { *ports == *p && *came == *c && text_at(log, *board) == text.as_str() }
+        (Mark::Changed { board }, Reply::Changed { board: text }) => text_at(log, *board)
+            == text.as_str(),
+        (Mark::No(why), Reply::No(other)) => *why == *other,
+        (Mark::Written, Reply::Written)
+        | (Mark::Gone, Reply::Gone)
+        | (Mark::Noted, Reply::Noted)
+        | (Mark::Bye, Reply::Bye)
+        | (Mark::Over, Reply::Over) => true,
+        _ => false,
+    }
+}
+
+/// Whether this is what is kept of a command that was answered so.
+fn is_kept(command: &Command, reply: &Reply, kept: &Command) -> bool
+    ensures { IsTrue result ↔ (kept_command command.now reply.now ≡ kept.now) }
+{
+    match (command, kept) {
+        (Command::Write { .. }, Command::Write { expect, put }) if !is_of_board(reply) => expect
+            .as_str()
+            .is_empty()
+            && put.as_str().is_empty(),
+        _ => *command == *kept,
+    }
+}
+
+/// Whether a reply says what a whiteboard shows, or that it was written.
+fn is_of_board(reply: &Reply) -> bool
+    ensures { result ≡ is_of_board reply.now }
+{
+    matches!(
+        reply,
+        Reply::Here { .. } | Reply::Written | Reply::Changed { .. }
+    )
+}

@@ -1,0 +1,24 @@
+/// Is called before, under and after the lock of a match, for each command that is submitted. Tests make threads wait for
+/// each other by it.
+pub trait Gate {
+    /// Before the lock of match `game` is asked for, for a command of `agent`.
+    fn asked(&self, game: u32, agent: u16);
+
+    /// While the lock is held, before the command is told.
+    fn locked(&self, game: u32, agent: u16);
+
+    /// After the lock was released.
+    fn answered(&self, game: u32, agent: u16);
+}
+
+/// The gate that does nothing.
+#[derive(Clone, Copy, Debug)]
+pub struct Open;
+
+impl Gate for Open {
+    fn asked(&self, _game: u32, _agent: u16) {}
+
+    fn locked(&self, _game: u32, _agent: u16) {}
+
+    fn answered(&self, _game: u32, _agent: u16) {}
+}

@@ -1,0 +1,181 @@
+ghost use Rattle.std.specs.Prelude.{◌≡◌, [], IfOk, OnErr};
+ghost use Rattle.bhs_lock.specs.Halls.{agrees, same_tally, is_below, IsAnswered};
+ghost use Rattle.bhs_lock.specs.Recording.{IsSubmitted};
+ghost use Rattle.bhs_lock.specs.Passes.{passes_of};
+ghost use Rattle.bhs_lock.specs.Cells.{IsNews};
+ghost use Rattle.bhs_lock.specs.Arrivals.{IsGiven};
+ghost use Rattle.bhs_model.specs.Draws.{draw};
+ghost use Rattle.bhs_match.specs.Matches.{state_of};
+ghost use Rattle.bhs_match.specs.Games.{IsPlayed};
+ghost use Rattle.bhs_match.specs.declared.answers.Answer.{Answer as MatchAnswer};
+ghost use Rattle.bhs_deal.specs.Links.{held_in};
+ghost use Rattle.bhs_deal.specs.Drawing.{drawn, IsPlayedIf};
+
+use crate::model::{Answer, Tally};
+use crate::pass::Pass;
+use bhs_deal::{Drawn, Held, draw};
+use bhs_match::Match;
+use bhs_model::{Command, Event, Reply, Why};
+use bhs_net::Memory;
+use std::alloc::Global;
+use std::marker::Model;
+
+/// What stands under the lock: the match, and of each agent how many commands were heard and whether it has ended.
+#[derive(Debug, Drop)]
+pub struct Hall {
+    game: u32,
+    play: Match,
+    tallies: Vec<Tally>,
+}
+
+impl Model for Hall {
+    ghost use Rattle.bhs_lock.specs.Halls.{Housed};
+    ghost use Rattle.bhs_lock.specs.Tallies.{IsLegalHistory};
+    ghost use Rattle.bhs_lock.specs.Fitting.{AreFit};
+
+    ghost Value = { Housed };
+
+    ghost view = { λ hall. record { game = hall.game; play = hall.play } };
+
+    ghost invariant = { λ hall. IsLegalHistory hall.play hall.tallies.items × AreFit hall.play };
+}
+
+impl Hall {
+    /// The hall of a match with an empty log, and one pass for each agent, in order, with room for all that it can be told.
+    pub fn new(alloc: Global, game: u32, play: Match) -> Result<(Hall, Vec<Pass>), Memory>
+        requires { play.log ≡ [] }
+        ensures hall { IfOk result (λ made. made.0 ≡ record { game = game; play = play }) }
+        ensures passes { IfOk result (λ made. made.1.items ≡ passes_of game play.setup.quota play.setup.agents) }
+    {
+        let passes = empty_passes(alloc, game, play.setup().quota, play.setup().agents)?;
+        let hall = Hall::alone(alloc, game, play)?;
+        Ok((hall, passes))
+    }
+
+    /// The hall of a match with an empty log.
+    pub(crate) fn alone(alloc: Global, game: u32, play: Match) -> Result<Hall, Memory>
+        requires { play.log ≡ [] }
+        ensures { IfOk result (λ hall. hall ≡ record { game = game; play = play }) }
+    {
+        let nothing = Tally {
+            heard: 0,
+            ended: false,
+        };
+        let tallies = Vec::from_elem(alloc, nothing, usize::from(play.setup().agents))?;
+        let _legal = play.log();
+        Ok(Hall {
+            game,
+            play,
+            tallies,
+        })
+    }
+
+    /// The match.
+    pub fn state(&self) -> &Match
+        ensures { result.now ≡ self.now.play }
+    {
+        &self.play
+    }
+
+    /// Whether a pass is of this match, and agrees with what stands in its log.
+    fn agrees(&self, pass: &Pass) -> bool
+        ensures { result ≡ agrees self.now pass.now }
+    {
+        let agent = pass.agent();
+        pass.game() == self.game
+            && pass.quota() == self.play.setup().quota
+            && agent < self.play.setup().agents
+            && same_tally(self.tallies[usize::from(agent)], pass.tally())
+            && is_below(pass, self.play.log().len())
+    }
+
+    /// Tells a command for the agent of a pass.
+    pub fn told(&mut self, pass: &mut Pass, command: Command) -> Result<Answer, Memory>
+        ensures done { IfOk result (λ answer. IsAnswered (agrees self.old pass.old) self.old pass.old command answer self.new pass.new) }
+
+        // What the pass itself says of it.
+        ensures submitted { IfOk result (λ answer. IsSubmitted pass.old command answer.place answer.reply pass.new) }
+
+        // Where memory runs out, nothing changes.
+        ensures failed { OnErr result ((self.new ≡ self.old) × (pass.new ≡ pass.old)) }
+    {
+        if !self.agrees(pass) {
+            return Ok(Answer {
+                place: None,
+                reply: Reply::No(Why::Agent),
+            });
+        }
+        let agent = pass.agent();
+        let _order = pass.receipts();
+        let step = pass.tell(&mut self.play, command)?;
+        let _legal = self.play.log();
+        if step.place.is_some() {
+            self.tallies[usize::from(agent)] = pass.tally();
+        }
+        Ok(Answer {
+            place: step.place,
+            reply: step.reply,
+        })
+    }
+
+    /// Plays at most one delivery: that of the agent that the word picks out of the pool. Takes no memory.
+    pub(crate) fn draw(&mut self, held: &Held, word: u32) -> Drawn
+        ensures drawn { result ≡ drawn (held_in held.now) (state_of self.old.play) word }
+        ensures played { IsPlayedIf self.old.play (draw (held_in held.now) (state_of self.old.play) word) self.new.play }
+        ensures game { self.new.game ≡ self.old.game }
+    {
+        let drawn = draw(&mut self.play, held, word);
+        let _legal = self.play.log();
+        drawn
+    }
+
+    /// Ends the match. Takes no memory.
+    pub(crate) fn close(&mut self)
+        ensures closed { (answer : MatchAnswer) × IsPlayed self.old.play Event.Close answer self.new.play }
+        ensures game { self.new.game ≡ self.old.game }
+    {
+        self.play.apply(Event::Close);
+        let _legal = self.play.log();
+    }
+
+    /// Whether an agent has more arrivals than this, or the match is over.
+    pub(crate) fn has_news(&self, agent: u16, given: usize) -> bool {
+        self.play.news(agent).len() > given || self.play.closed()
+    }
+
+    /// Gives a pass its agent's next arrival.
+    pub(crate) fn give(&self, pass: &mut Pass) -> Result<Reply, Memory>
+        ensures given { IfOk result (λ said. IsGiven self.now.play pass.old said pass.new) }
+        ensures news { IfOk result (λ said. IsNews pass.old said pass.new) }
+        ensures failed { OnErr result (pass.new ≡ pass.old) }
+    {
+        pass.hear_news(&self.play)
+    }
+}
+
+/// One pass for each agent, in order.
+fn empty_passes(alloc: Global, game: u32, quota: u16, agents: u16) -> Result<Vec<Pass>, Memory>
+    ensures { IfOk result (λ passes. passes.items ≡ passes_of game quota agents) }
+{
+    let mut passes = Vec::with_capacity(alloc, usize::from(agents))?;
+    for agent in 0..agents {
+        passes.push(Pass::new(alloc, game, quota, agent)?)?;
+    }
+    Ok(passes)
+}
+
+fn same_tally(one: Tally, two: Tally) -> bool
+    ensures { result ≡ same_tally one two }
+{
+    one.heard == two.heard && (if one.ended { two.ended } else { !two.ended })
+}
+
+/// Whether the last receipt's place is below this length.
+fn is_below(pass: &Pass, length: usize) -> bool
+    ensures { result ≡ is_below pass.now.receipts length }
+{
+    match pass.receipts().last() {
+        Some(receipt) => (receipt.place as usize) < length,
+        None => true,
+    }
+}

@@ -1,0 +1,41 @@
+use bhs_model::{Command, Mark, Reply, Text};
+
+/// Where a heard command stands in the log, and what it was answered.
+#[derive(Debug, Drop)]
+pub struct Receipt {
+    pub place: u32,
+    pub reply: Reply,
+}
+
+/// What a command is answered, and its place in the log; None where it is not heard.
+#[derive(Debug, Drop)]
+pub struct Answer {
+    pub place: Option<u32>,
+    pub reply: Reply,
+}
+
+/// How many commands of an agent were heard, and whether it has ended.
+#[derive(Clone, Copy, Debug, PartialEq, Eq)]
+pub(crate) struct Tally {
+    pub(crate) heard: usize,
+    pub(crate) ended: bool,
+}
+
+/// What came of a command: its place, the mark that stands for its reply, and the reply.
+#[derive(Debug, Drop)]
+pub(crate) struct Step {
+    pub(crate) place: Option<u32>,
+    pub(crate) mark: Mark,
+    pub(crate) reply: Reply,
+}
+
+/// What is taken from memory before a command is told, so that nothing is taken after it.
+#[derive(Debug, Drop)]
+pub(crate) struct Spare {
+    /// The text of the whiteboard that the agent sees, if the reply will speak of it, for the answer.
+    pub(crate) text: Text,
+    /// The same for the receipt.
+    pub(crate) again: Text,
+    /// What will be kept of the command.
+    pub(crate) kept: Command,
+}

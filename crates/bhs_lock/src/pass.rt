@@ -1,0 +1,269 @@
+ghost use Rattle.std.specs.Prelude.{◌≡◌, [], true, IfOk, OnErr, length, option_map, option_and_then, slice_get};
+ghost use Rattle.bhs_match.specs.Matches.{world_in, state_of, shown_at};
+ghost use Rattle.bhs_lock.specs.Passes.{Passed, empty_pass, is_end, tally_in, kind_of, gained, Ascend};
+ghost use Rattle.std.specs.Prelude.{MatchOption};
+ghost use Rattle.bhs_lock.specs.Comparing.{Tells, heard_in, receipted, IsFirstDifference};
+ghost use Rattle.bhs_lock.specs.Halls.{is_below, spoken, IsSpareFor, IsTold};
+ghost use Rattle.bhs_lock.specs.Cells.{IsNews};
+ghost use Rattle.bhs_lock.specs.Arrivals.{arrival_at, receipt_at, IsGiven};
+ghost use Rattle.bhs_model.specs.Marks.{read};
+ghost use Rattle.bhs_lock.specs.declared.model.Receipt.{Receipt as ReceiptData};
+
+use crate::comparing::difference;
+use crate::model::{Receipt, Spare, Step, Tally};
+use bhs_match::{Answer, Match};
+use bhs_model::{Command, Event, Kept, Mark, Reply, Text};
+use bhs_net::Memory;
+use std::alloc::Global;
+use std::marker::Model;
+
+/// What one agent was told, and leave to tell for it.
+#[derive(Debug, Drop)]
+pub struct Pass {
+    game: u32,
+    quota: u16,
+    agent: u16,
+    ended: bool,
+    receipts: Vec<Receipt>,
+    commands: Vec<Command>,
+    arrivals: Vec<Receipt>,
+}
+
+impl Model for Pass {
+    ghost use Rattle.std.specs.Prelude.{◌≡◌};
+    ghost use Rattle.std.specs.Prelude.{length};
+    ghost use Rattle.std.specs.List.{list_any};
+    ghost use Rattle.bhs_lock.specs.Passes.{Passed, is_last, Ascend};
+
+    ghost Value = { Passed };
+
+    ghost view = { λ p. record { game = p.game; quota = p.quota; agent = p.agent; receipts = p.receipts.items; commands = p.commands.items; arrivals = p.arrivals.items } };
+
+    ghost invariant = { λ p. (p.ended ≡ list_any is_last p.receipts.items) × (length p.receipts.items ≡ length p.commands.items) × Ascend 0 p.receipts.items };
+}
+
+impl Pass {
+    /// A pass of an agent that was told nothing, with room for all that it can be told.
+    pub(crate) fn new(alloc: Global, game: u32, quota: u16, agent: u16) -> Result<Pass, Memory>
+        ensures { IfOk result (λ pass. pass ≡ empty_pass game quota agent) }
+    {
+        let room = usize::from(quota) + 2;
+        Ok(Pass {
+            game,
+            quota,
+            agent,
+            ended: false,
+            receipts: Vec::with_capacity(alloc, room)?,
+            commands: Vec::with_capacity(alloc, room)?,
+            arrivals: Vec::with_capacity(alloc, usize::from(quota))?,
+        })
+    }
+
+    pub(crate) fn game(&self) -> u32
+        ensures { result ≡ self.now.game }
+    {
+        self.game
+    }
+
+    pub(crate) fn quota(&self) -> u16
+        ensures { result ≡ self.now.quota }
+    {
+        self.quota
+    }
+
+    /// The agent that the pass is of.
+    pub fn agent(&self) -> u16
+        ensures { result ≡ self.now.agent }
+    {
+        self.agent
+    }
+
+    /// The places and replies of the commands that were heard, in order.
+    pub fn receipts(&self) -> &[Receipt]
+        ensures receipts { result.now ≡ self.now.receipts }
+
+        // Their places ascend.
+        ensures order { Ascend 0 self.now.receipts }
+    {
+        &self.receipts
+    }
+
+    /// The places and replies of the arrivals that were told, in order.
+    pub fn arrivals(&self) -> &[Receipt]
+        ensures { result.now ≡ self.now.arrivals }
+    {
+        &self.arrivals
+    }
+
+    /// The least index at which the receipts and kept commands differ from the agent's heard commands in a log, or one
+    /// of both ends.
+    pub(crate) fn difference(&self, log: &[Kept]) -> Option<usize>
+        ensures { MatchOption result (Tells log.now self.now) (λ index. IsFirstDifference (heard_in self.now.agent log.now) (receipted self.now.receipts self.now.commands) index) }
+    {
+        difference(log, self.agent, &self.receipts, &self.commands)
+    }
+
+    /// How many commands were heard, and whether the agent has ended.
+    pub(crate) fn tally(&self) -> Tally
+        ensures { result ≡ tally_in self.now.receipts }
+    {
+        Tally {
+            heard: self.receipts.len(),
+            ended: self.ended,
+        }
+    }
+
+    /// Tells a match a command of the pass's agent. Memory is taken before anything changes, and only where the reply
+    /// will speak of a whiteboard.
+    pub(crate) fn tell(&mut self, play: &mut Match, command: Command) -> Result<Step, Memory>
+        requires { is_below self.old.receipts (length play.old.log) ≡ true }
+        ensures done { IfOk result (λ step. IsTold play.old self.old command step.place step.mark step.reply play.new self.new) }
+        ensures failed { OnErr result ((self.new ≡ self.old) × (play.new ≡ play.old)) }
+    {
+        self.receipts.reserve(1)?;
+        self.commands.reserve(1)?;
+        let agent = self.agent;
+        let Spare { text, again, kept } = spare(*self.receipts.allocator(), play, agent, &command)?;
+        let Answer { place, mark } = play.apply(Event::Tell { agent, command });
+        let Some(mark) = mark else { unreachable!() };
+        let reply = spoken(mark, text);
+        let Some(place) = place else {
+            return Ok(Step {
+                place: None,
+                mark,
+                reply,
+            });
+        };
+        self.ended |= is_end(&reply);
+        self.commands.push_reserved(kept);
+        self.receipts.push_reserved(Receipt {
+            place,
+            reply: spoken(mark, again),
+        });
+        Ok(Step {
+            place: Some(place),
+            mark,
+            reply,
+        })
+    }
+}
+
+impl Pass {
+    /// Takes over the agent's next arrival, which is answered, or answers that the match is over where there is none.
+    pub(crate) fn hear_news(&mut self, play: &Match) -> Result<Reply, Memory>
+        ensures given { IfOk result (λ said. IsGiven play.now self.old said self.new) }
+        ensures news { IfOk result (λ said. IsNews self.old said self.new) }
+        ensures failed { OnErr result (self.new ≡ self.old) }
+    {
+        let log = play.log();
+        let Some((place, mark)) = arrival_of(play.news(self.agent), log, self.arrivals.len()) else {
+            return Ok(Reply::Over);
+        };
+        self.arrivals.reserve(1)?;
+        let reply = play.reply(&mark)?;
+        let again = play.reply(&mark)?;
+        self.arrivals.push_reserved(Receipt {
+            place,
+            reply: again,
+        });
+        Ok(reply)
+    }
+}
+
+/// The place and the mark of the arrival of this index, of an agent whose arrivals stand at these places.
+fn arrival_of(places: &[u32], log: &[Kept], index: usize) -> Option<(u32, Mark)>
+    ensures { option_map (λ found. record { place = found.0; reply = read log.now found.1 }) result ≡ option_and_then (receipt_at log.now) (slice_get places.now index) }
+{
+    let place = *places.get(index)?;
+    let mark = arrival_at(log, place)?;
+    Some((place, mark))
+}
+
+/// The mark of the arrival at a place of a log.
+fn arrival_at(log: &[Kept], place: u32) -> Option<Mark>
+    ensures { result ≡ arrival_at log.now place }
+{
+    let one = log.get(place as usize)?;
+    match one.event {
+        Event::Deliver { .. } => one.mark,
+        _ => None,
+    }
+}
+
+/// What a command may need, by what its reply will speak of.
+fn spare(alloc: Global, play: &Match, agent: u16, command: &Command) -> Result<Spare, Memory>
+    ensures { IfOk result (IsSpareFor play.now agent command.now) }
+{
+    if play.shows(agent, command) {
+        Ok(Spare {
+            text: seen(alloc, play, agent)?,
+            again: seen(alloc, play, agent)?,
+            kept: command.try_clone()?,
+        })
+    } else {
+        Ok(Spare {
+            text: no_text(alloc),
+            again: no_text(alloc),
+            kept: kind_of(alloc, command),
+        })
+    }
+}
+
+fn no_text(alloc: Global) -> Text
+    ensures { result ≡ [] }
+{
+    Text::from(String::new(alloc))
+}
+
+/// The command without its texts. Takes no memory.
+fn kind_of(alloc: Global, command: &Command) -> Command
+    ensures { result ≡ kind_of command.now }
+{
+    match command {
+        Command::Enter => Command::Enter,
+        Command::Look => Command::Look,
+        Command::Write { .. } => Command::Write {
+            expect: no_text(alloc),
+            put: no_text(alloc),
+        },
+        Command::Depart { port } => Command::Depart { port: *port },
+        Command::Accuse { port } => Command::Accuse { port: *port },
+        Command::Leave => Command::Leave,
+        Command::Bad => Command::Bad,
+    }
+}
+
+/// A copy of the text that the agent sees.
+fn seen(alloc: Global, play: &Match, agent: u16) -> Result<Text, Memory>
+    ensures { IfOk result (λ text. text ≡ shown_at (world_in play.now) (state_of play.now) ((state_of play.now).position agent)) }
+{
+    let text = String::from_str(alloc, play.seen(agent))?;
+    Ok(Text::from(text))
+}
+
+/// The reply of a mark whose whiteboard shows this text.
+fn spoken(mark: Mark, text: Text) -> Reply
+    ensures { result ≡ spoken mark text }
+{
+    match mark {
+        Mark::Here { ports, came, .. } => Reply::Here {
+            ports,
+            came,
+            board: text,
+        },
+        Mark::Written => Reply::Written,
+        Mark::Changed { .. } => Reply::Changed { board: text },
+        Mark::Gone => Reply::Gone,
+        Mark::Noted => Reply::Noted,
+        Mark::Bye => Reply::Bye,
+        Mark::Over => Reply::Over,
+        Mark::No(why) => Reply::No(why),
+    }
+}
+
+/// Whether an agent that is answered so has ended.
+fn is_end(reply: &Reply) -> bool
+    ensures { result ≡ is_end reply.now }
+{
+    matches!(reply, Reply::Noted | Reply::Bye)
+}
