@@ -1,3 +1,4 @@
+mod LeastLemmas
 mod NewLemmas
 mod NewsLemmas
 mod DrawLemmas

@@ -74,7 +74,7 @@ fn is_entry(
         && is_kept(command, &receipt.reply, kept)
 }
 
-/// Whether a mark is read as this reply.
+/// Whether a mark, if there is one, is read as this reply.
 fn is_reply(log: &[Kept], mark: &Option<Mark>, reply: &Reply) -> bool
     ensures { IsTrue result ↔ (read_if log.now mark.now ≡ Some reply.now) }
 {
@@ -84,7 +84,8 @@ fn is_reply(log: &[Kept], mark: &Option<Mark>, reply: &Reply) -> bool
     }
 }
 
-fn reads_as(log: &[Kept], mark: &Mark, reply: &Reply) -> bool
+/// Whether a mark is read as this reply.
+pub(crate) fn reads_as(log: &[Kept], mark: &Mark, reply: &Reply) -> bool
     ensures { IsTrue result ↔ (read log.now mark.now ≡ reply.now) }
 {
     match (mark, reply) {
