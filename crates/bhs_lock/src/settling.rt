@@ -1,4 +1,4 @@
-ghost use Rattle.std.specs.Prelude.{◌≡◌, ◌<◌, ¬◌, Some, None, IfSome, MatchOption, length, take, map};
+ghost use Rattle.std.specs.Prelude.{◌≡◌, ◌<◌, Some, None, IfSome, MatchOption, length, take, map};
 ghost use Rattle.bhs_match.specs.Matches.{state_of};
 ghost use Rattle.bhs_lock.specs.Settling.{lesser, has_pass, is_claimed, is_missing, NoneMissing, IsLeastMissing, IsLeast, commands_of, arrivals_of};
 

@@ -13,7 +13,6 @@ use Rattle.bhs_model.specs.Replying.{accepts, answer, here, rep, text, refusal, 
 use Rattle.bhs_model.specs.Worlds.{World}
 use Rattle.bhs_model.specs.Runs.{Position, Before, At, Bound, After, State, arrives, glance, position_after, heard, is_bound, next}
 use Rattle.bhs_model.proofs.StepLemmas.{by_cases, changed_same, next_heard, next_unheard, answered_by_past, no_arrival_no_reply}
-use Rattle.bhs_model.proofs.FitLemmas.{unheard}
 use Rattle.bhs_wire.specs.Lines.{Line, said_by}
 use Rattle.bhs_session.specs.declared.endings.Ended.{Ended as Ending}
 use Rattle.bhs_session.specs.Phase.{Phase, Ready, Awaits, ended_by, waiting, finished_or, answered_by}
@@ -61,6 +60,12 @@ present_ties world state limit node came (Depart port) = depart_ties (nat_lt por
 present_ties world state limit node came (Accuse port) = accuse_ties (nat_lt port (world.net.degree node)) node came
 present_ties world state limit node came Leave = refl
 present_ties world state limit node came Bad = refl
+
+-- a command that is not heard in a standing is not heard
+unheard : (standing stands : Standing) (room : Bool) (command : Command) (P : Type 0) →
+    standing ≡ stands → accepts standing room command ≡ true → accepts stands room command ≡ false → P
+unheard standing stands room command P is_so is_heard not_heard =
+    let both : true ≡ false = sym (ap (λ (one : Standing). accepts one room command) (sym is_so) ∙ is_heard) ∙ not_heard in absurd cc
 
 heard_ties : (world : World) (state : State) (view : View) (position : Position) (limit : ℕ) (room : Bool) (command : Command) →
     accepts (standing view) room command ≡ true → FitsHere world view position → is_bound position ≡ false →
