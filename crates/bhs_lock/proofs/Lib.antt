@@ -1,3 +1,5 @@
+mod SettleLemmas
+mod StrayLemmas
 mod LeastLemmas
 mod NewLemmas
 mod NewsLemmas
