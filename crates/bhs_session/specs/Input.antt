@@ -8,7 +8,8 @@ use Rattle.bhs_session.specs.declared.endings.Ended.{Ended}
 use Rattle.bhs_session.specs.declared.endings.Ended.TheVariants.{InputEnded, ReadFault, Memory}
 
 -- a piece that goes on a stream, with the lines that end in it
-pub record Brings {I : Type 0} (gives : I → Chunk → I → Type 0) (old new : I) (stream : List ℕ) (found : List Line) (held : Option (List ℕ)) : Type 0 where
+pub record Brings {I : Type 0} (gives : I → Chunk → I → Type 0) (old new : I) (stream : List ℕ) (found : List Line)
+    (held : Option (List ℕ)) : Type 0 where
   pub piece : List ℕ
   pub is_piece : IsPiece piece
   pub given : gives old (Bytes piece) new
