@@ -1,4 +1,4 @@
--- How the code takes items, move by move.
+-- How the code takes items, move by move. Only contracts of private functions cite it.
 use Rattle.std.specs.Prelude.{ℕ, ◌≡◌, Bool, true, false, Option, Some, None, List, [], ◌++◌, map, option_map}
 use Rattle.std.specs.Prelude.{option_and_then, slice_get, if◌then◌else◌, Vec, Ok, Err}
 use Rattle.std.specs.declared.alloc.Global.{Global}

@@ -1,4 +1,4 @@
--- What one read brings to a session.
+-- What one read brings to a session. Only contracts of private functions cite it.
 use Rattle.std.specs.Prelude.{◌≡◌, ℕ, List, ◌++◌}
 use Rattle.std.specs.declared.option.Option.{Option}
 use Rattle.bhs_wire.specs.Lines.{Line, lines, held_of}

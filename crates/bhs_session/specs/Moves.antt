@@ -1,4 +1,4 @@
--- What one part of the code adds to a session.
+-- What one part of the code adds to a session. Only contracts of private functions cite it.
 use Rattle.std.specs.Prelude.{ℕ, List, ◌++◌, MatchResult}
 use Rattle.std.specs.declared.result.Result.{Result}
 use Rattle.bhs_stream.specs.Streams.{Taken}
