@@ -18,7 +18,7 @@ use Rattle.bhs_rehearsal.proofs.TurnLemmas.{placed, plays_turn, enters_turn, tur
 use Rattle.bhs_rehearsal.proofs.SettledLemmas.{seat_after}
 use Rattle.bhs_session.specs.Met.{Meeting, view_from, view_of, commands, bytes_from, bytes, takes_commands, AreDue}
 use Rattle.bhs_rehearsal.specs.Clients.{Fed, fed_more, at_end}
-use Rattle.bhs_rehearsal.specs.Headline.{IsDenial, IsPastOf, IsSentOf}
+use Rattle.bhs_rehearsal.specs.SentAsMet.{IsDenial, IsPastOf, IsSentOf}
 use Rattle.bhs_rehearsal.proofs.EventLemmas.{Alike, alike_itself}
 use Rattle.bhs_rehearsal.proofs.TookLemmas.{lines_of, lines_of-append, lines_of-says, has_end, has_end-says, has_end-end, IsQuiet, Took, took, taken_alike}
 

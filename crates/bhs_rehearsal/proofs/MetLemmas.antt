@@ -31,7 +31,8 @@ use Rattle.bhs_rehearsal.proofs.SettlingLemmas.{settle_lemma, seat-shut_if, shut
 use Rattle.bhs_rehearsal.proofs.SlowGameLemmas.{state_of-played}
 use Rattle.bhs_session.specs.Met.{Arrives, bytes, takes_commands}
 use Rattle.bhs_rehearsal.specs.Clients.{Fed, nothing_fed, at_end, fed_by, fed_to}
-use Rattle.bhs_rehearsal.specs.Headline.{beginning, outcome, sent_in, match_of, past_of, IsDenial, OthersAreDenied, IsSentOf, IsSentAsMet, SentAsMet}
+use Rattle.bhs_rehearsal.specs.Headline.{beginning, outcome, sent_in, match_of, past_of}
+use Rattle.bhs_rehearsal.specs.SentAsMet.{IsDenial, OthersAreDenied, IsSentOf, IsSentAsMet, SentAsMet}
 use Rattle.bhs_rehearsal.proofs.EventLemmas.{Alike, alike_itself, alike-delivered, alike-no_arrival, setup-played}
 use Rattle.bhs_rehearsal.proofs.FitLemmas.{fits_here, away_stands}
 use Rattle.bhs_rehearsal.proofs.TookLemmas.{lines_of}

@@ -9,7 +9,8 @@ use Rattle.bhs_wire.specs.Lines.{lines}
 use Rattle.bhs_session.specs.Texts.{command_of}
 use Rattle.bhs_session.specs.Met.{Meeting, Hears, Refuses, Arrives, view_from, view_of, commands, bytes, takes_commands, AreDue}
 use Rattle.bhs_rehearsal.specs.Clients.{Fed, nothing_fed, fed_to}
-use Rattle.bhs_rehearsal.specs.Headline.{Rehearsed, sent_in, match_of, past_of, IsPastOf, IsSentAsMet, PastsAndCommandsSayWhatWasMet, Plays, EqualPastsAreSentEqualBytes}
+use Rattle.bhs_rehearsal.specs.Headline.{Rehearsed, sent_in, match_of, past_of, Plays, EqualPastsAreSentEqualBytes}
+use Rattle.bhs_rehearsal.specs.SentAsMet.{IsPastOf, IsSentAsMet, PastsAndCommandsSayWhatWasMet}
 use Rattle.bhs_rehearsal.proofs.MetLemmas.{sent_alone, sent_as_met_lemma}
 
 -- how many steps of a past they make

@@ -17,7 +17,7 @@ use Rattle.bhs_rehearsal.specs.Connections.{Item, Says, Ends, Taken, is_last, le
 use Rattle.bhs_rehearsal.proofs.CuttingLemmas.{by_bool, behind}
 use Rattle.bhs_rehearsal.proofs.SlowGameLemmas.{state_of-played}
 use Rattle.bhs_session.specs.Met.{Meeting, past_after, view_from, commands, answer_to, bytes_from, takes_commands, AreDue}
-use Rattle.bhs_rehearsal.specs.Headline.{IsPastOf, IsSentOf}
+use Rattle.bhs_rehearsal.specs.SentAsMet.{IsPastOf, IsSentOf}
 use Rattle.bhs_rehearsal.proofs.EventLemmas.{IsIn, played_in, Alike, alike_itself, alike_through, alike-told, closed-told, Answered, answered-open, answered-closed, unheard-closed}
 
 -- the lines among items

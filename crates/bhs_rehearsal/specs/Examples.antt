@@ -4,7 +4,8 @@ use Rattle.bhs_lineup.specs.KeyTable.{Seat}
 use Rattle.bhs_model.specs.declared.commands.Command.TheVariants.{Enter, Depart, Leave}
 use Rattle.bhs_model.specs.declared.events.Event.TheVariants.{Tell, Deliver}
 use Rattle.bhs_rehearsal.specs.Games.{Game}
-use Rattle.bhs_rehearsal.specs.Stages.{Stage, game_at, Instruction, Feeds, EndsInput, Draws, Closes, begun, stands_after, said}
+use Rattle.bhs_rehearsal.specs.Stages.{Stage, game_at, Instruction, Feeds, EndsInput, Draws, Closes, begun}
+use Rattle.bhs_rehearsal.specs.Stages.{stands_after, said}
 use Rattle.bhs_rehearsal.specs.Laws.{IsSlowFor}
 use Rattle.bhs_rehearsal.specs.Clients.{bytes_to}
 

@@ -10,8 +10,7 @@ use Rattle.bhs_lineup.specs.KeyTable.{Seat}
 use Rattle.bhs_session.specs.Texts.{text_of, denial_text, command_of}
 use Rattle.bhs_rehearsal.specs.Games.{Game, state_of}
 use Rattle.bhs_rehearsal.specs.Stages.{Stage, game_at, connection_at, Instruction, begun, stands_after, said}
-use Rattle.bhs_session.specs.Met.{Meeting, view_of, commands, bytes, takes_commands, AreDue}
-use Rattle.bhs_rehearsal.specs.Clients.{Fed, nothing_fed, fed_to, commands_fed, bytes_to}
+use Rattle.bhs_rehearsal.specs.Clients.{nothing_fed, fed_to, commands_fed, bytes_to}
 
 -- ---- a rehearsal that was played
 
@@ -44,57 +43,7 @@ match_of one seat = game_at (outcome one) seat.0
 abbrev pub past_of : Rehearsed → (seat : ℕ × ℕ) → View
 past_of one seat = (state_of (match_of one seat)).past seat.1
 
--- ---- who plays is sent the bytes of what was met
-
--- the past of an agent that met this: the end of its input may have made it leave, which is not answered
-abbrev pub IsPastOf : (has_ended : Bool) → View → View → Type 0
-IsPastOf has_ended view past = (past ≡ view) ⊎ ((past ≡ Told view Leave Nothing) × (has_ended ≡ true))
-
--- what is sent: these bytes, and behind them at most once that the match is over
-abbrev pub IsSentOf : (closed : Bool) → List ℕ → List ℕ → Type 0
-IsSentOf closed own sent = (sent ≡ own) ⊎ ((sent ≡ own ++ text_of Over) × (closed ≡ true))
-
--- What a connection was fed and sent, where its agent has this past.
-pub record IsSentAsMet (setup : Setup) (past : View) (closed : Bool) (fed : Fed) (sent : List ℕ) : Type 0 where
-  pub met : List Meeting
-  -- the lines that were taken, and those that were not
-  pub taken : List Line
-  pub over : List Line
-  pub split : lines fed.bytes ≡ taken ++ over
-  pub said : commands met ≡ map command_of taken
-  pub due : AreDue setup.quota Start met
-  pub lived : IsPastOf fed.has_ended (view_of met) past
-  pub heard : IsSentOf closed (bytes setup.board met) sent
-  -- before the close and the end of the input, all lines were taken of an agent of which commands are taken
-  pub all_taken : closed ≡ false → fed.has_ended ≡ false → takes_commands (standing (view_of met)) ≡ true → over ≡ []
-
--- Whoever plays an agent was sent the bytes of what the agent met, and nothing else.
-abbrev pub SentAsMet : Type 0
-SentAsMet =
-    (one : Rehearsed) (conn : ℕ) (seat : ℕ × ℕ) → BeginsEmpty one →
-    (connection_at (outcome one) conn).seat ≡ Some seat → seat.1 < (match_of one seat).setup.agents →
-    IsSentAsMet (match_of one seat).setup (past_of one seat) (state_of (match_of one seat)).closed
-    (fed_to conn nothing_fed one.script) (sent_in one conn)
-
--- ---- who plays nobody
-
--- nothing, or one denial
-abbrev pub IsDenial : List ℕ → Type 0
-IsDenial sent = (sent ≡ []) ⊎ ((denial : Denial) × (sent ≡ denial_text denial))
-
--- Whoever plays no agent was sent nothing, or one denial.
-abbrev pub OthersAreDenied : Type 0
-OthersAreDenied =
-    (one : Rehearsed) (conn : ℕ) → BeginsEmpty one → conn < one.connections →
-    (connection_at (outcome one) conn).seat ≡ None → IsDenial (sent_in one conn)
-
 -- ---- equal pasts
-
--- What was met is determined by the past and the commands.
-abbrev pub PastsAndCommandsSayWhatWasMet : Type 0
-PastsAndCommandsSayWhatWasMet =
-    (quota : ℕ) (met other : List Meeting) → AreDue quota Start met → AreDue quota Start other →
-    view_of met ≡ view_of other → commands met ≡ commands other → met ≡ other
 
 -- A connection plays this agent, and neither its match nor its input has ended.
 pub record Plays (one : Rehearsed) (conn : ℕ) (seat : ℕ × ℕ) : Type 0 where
@@ -104,8 +53,8 @@ pub record Plays (one : Rehearsed) (conn : ℕ) (seat : ℕ × ℕ) : Type 0 whe
   pub still_open : (state_of (match_of one seat)).closed ≡ false
   pub goes_on : (fed_to conn nothing_fed one.script).has_ended ≡ false
 
--- Two connections in any two rehearsals, in matches of equal quota and equal whiteboards, whose agents have equal pasts and
--- that were fed equal commands, were sent equal bytes.
+-- Two connections in any two rehearsals, in matches of equal quota and equal whiteboards, whose agents have equal
+-- pasts and that were fed equal commands, were sent equal bytes.
 abbrev pub EqualPastsAreSentEqualBytes : Type 0
 EqualPastsAreSentEqualBytes =
     (one two : Rehearsed) (conn conn2 : ℕ) (seat seat2 : ℕ × ℕ) → Plays one conn seat → Plays two conn2 seat2 →

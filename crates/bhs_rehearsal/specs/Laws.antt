@@ -10,7 +10,8 @@ use Rattle.bhs_lineup.specs.declared.lineups.Lineup.{Lineup}
 use Rattle.bhs_rehearsal.specs.Connections.{Connection}
 use Rattle.bhs_rehearsal.specs.Rehearsing.{first_stage, first_game}
 use Rattle.bhs_rehearsal.specs.Clients.{bytes_among, bytes_to}
-use Rattle.bhs_rehearsal.specs.Stages.{Stage, game_at, connection_at, moves, Instruction, Feeds, EndsInput, Draws, Closes, Stepped, nothing, sent_to, step, begun, stands_after, said}
+use Rattle.bhs_rehearsal.specs.Stages.{Stage, game_at, connection_at, moves, Instruction, Feeds, EndsInput, Draws}
+use Rattle.bhs_rehearsal.specs.Stages.{Closes, Stepped, nothing, sent_to, step, begun, stands_after, said}
 
 -- ---- cutting
 
@@ -37,7 +38,8 @@ TwoPiecesDoAlike =
 -- in a script the bytes that are fed to a connection may be cut otherwise
 abbrev pub CutsDoAlike : Type 0
 CutsDoAlike =
-    (stage : Stage) (conn : ℕ) (earlier later : List Instruction) (piece other : List ℕ) (pieces others : List (List ℕ)) →
+    (stage : Stage) (conn : ℕ) (earlier later : List Instruction) (piece other : List ℕ)
+    (pieces others : List (List ℕ)) →
     joined (piece ∷ pieces) ≡ joined (other ∷ others) →
     DoAlike stage (earlier ++ (fed conn (piece ∷ pieces) ++ later)) (earlier ++ (fed conn (other ∷ others) ++ later))
 
@@ -53,14 +55,16 @@ plays_in game connection = seated connection.seat where
 -- nothing happens but to one connection and to the match that it plays in
 pub record IsOfConnection (stage : Stage) (conn : ℕ) (new : Stepped) : Type 0 where
   pub connections : (other : ℕ) → other ≢ conn → connection_at new.stage other ≡ connection_at stage other
-  pub games : (game : ℕ) → plays_in game (connection_at new.stage conn) ≡ false → game_at new.stage game ≡ game_at stage game
+  pub games : (game : ℕ) → plays_in game (connection_at new.stage conn) ≡ false →
+      game_at new.stage game ≡ game_at stage game
   pub keys : new.stage.keys ≡ stage.keys
   pub outs : (other : ℕ) → other ≢ conn → bytes_among other new.outs ≡ []
 
 -- nothing happens but to one match and to the connections that play in it
 pub record IsOfGame (stage : Stage) (game : ℕ) (new : Stepped) : Type 0 where
   pub games : (other : ℕ) → other ≢ game → game_at new.stage other ≡ game_at stage other
-  pub connections : (conn : ℕ) → plays_in game (connection_at stage conn) ≡ false → connection_at new.stage conn ≡ connection_at stage conn
+  pub connections : (conn : ℕ) → plays_in game (connection_at stage conn) ≡ false →
+      connection_at new.stage conn ≡ connection_at stage conn
   pub keys : new.stage.keys ≡ stage.keys
   pub outs : (conn : ℕ) → plays_in game (connection_at stage conn) ≡ false → bytes_among conn new.outs ≡ []
 
@@ -87,13 +91,15 @@ awaits_arrival stage connection = seated connection.seat where
 
 -- all items were taken but those of connections whose agents are on a link, and no two connections play one agent
 pub record IsSettled (stage : Stage) : Type 0 where
-  pub all_taken : (conn : ℕ) → awaits_arrival stage (connection_at stage conn) ≡ false → (connection_at stage conn).queue ≡ []
+  pub all_taken : (conn : ℕ) → awaits_arrival stage (connection_at stage conn) ≡ false →
+      (connection_at stage conn).queue ≡ []
   pub one_each : (conn other : ℕ) (seat : ℕ × ℕ) →
       (connection_at stage conn).seat ≡ Some seat → (connection_at stage other).seat ≡ Some seat → conn ≡ other
 
 -- an instruction leads from a settled stage to a settled one
 abbrev pub SettledStagesSettle : Type 0
-SettledStagesSettle = (stage : Stage) (instruction : Instruction) → IsSettled stage → IsSettled (step stage instruction).stage
+SettledStagesSettle = (stage : Stage) (instruction : Instruction) → IsSettled stage →
+    IsSettled (step stage instruction).stage
 
 -- so is the stage after each script, from the start
 abbrev pub ScriptsSettle : Type 0
@@ -103,7 +109,8 @@ ScriptsSettle =
 
 -- in a settled stage no connection can take anything
 abbrev pub SettledConnectionsRest : Type 0
-SettledConnectionsRest = (stage : Stage) (conn : ℕ) → IsSettled stage → moves stage conn ≡ record { stage = stage; text = [] }
+SettledConnectionsRest = (stage : Stage) (conn : ℕ) → IsSettled stage →
+    moves stage conn ≡ record { stage = stage; text = [] }
 
 -- these connections take of their items what they can, one after the other
 abbrev pub moves_in_turn : Stage → (conns : List ℕ) → Stepped
@@ -125,18 +132,20 @@ AllItemsAreTaken =
 abbrev pub seats_of : Stage → List (Option (ℕ × ℕ))
 seats_of stage = map (λ connection. connection.seat) stage.connections
 
--- two stages are the same but for a match, whatever it is and however it stands, and for what the connections that play in
--- it have sent
+-- two stages are the same but for a match, whatever it is and however it stands, and for what the connections that
+-- play in it have sent
 pub record SameBut (game : ℕ) (one two : Stage) : Type 0 where
   pub keys : one.keys ≡ two.keys
   pub count : length one.games ≡ length two.games
   pub games : (other : ℕ) → other ≢ game → game_at one other ≡ game_at two other
   pub seats : seats_of one ≡ seats_of two
-  pub connections : (conn : ℕ) → plays_in game (connection_at one conn) ≡ false → connection_at one conn ≡ connection_at two conn
+  pub connections : (conn : ℕ) → plays_in game (connection_at one conn) ≡ false →
+      connection_at one conn ≡ connection_at two conn
 
--- two scripts, each on its stage, are heard alike by the connections that do not play in the match after them, and leave
--- stages that are the same but for the match
-pub record HeardAlike (game : ℕ) (one : Stage) (script : List Instruction) (two : Stage) (other_script : List Instruction) : Type 0 where
+-- two scripts, each on its stage, are heard alike by the connections that do not play in the match after them, and
+-- leave stages that are the same but for the match
+pub record HeardAlike (game : ℕ) (one : Stage) (script : List Instruction) (two : Stage)
+    (other_script : List Instruction) : Type 0 where
   pub stands : SameBut game (stands_after one script) (stands_after two other_script)
   pub sends : (conn : ℕ) → plays_in game (connection_at (stands_after one script) conn) ≡ false →
       bytes_to conn (said one script) ≡ bytes_to conn (said two other_script)
@@ -144,7 +153,8 @@ pub record HeardAlike (game : ℕ) (one : Stage) (script : List Instruction) (tw
 -- whoever plays elsewhere is sent the same, whatever the match is
 abbrev pub MatchesAreHeardApart : Type 0
 MatchesAreHeardApart =
-    (game : ℕ) (one two : Stage) (script : List Instruction) → SameBut game one two → HeardAlike game one script two script
+    (game : ℕ) (one two : Stage) (script : List Instruction) → SameBut game one two →
+    HeardAlike game one script two script
 
 -- whether an instruction is for a match: a draw, a close, or one for a connection that plays in it
 abbrev pub is_of_match : (game : ℕ) → Stage → Instruction → Bool
@@ -163,7 +173,8 @@ without game stage (instruction ∷ script) =
 -- whoever plays elsewhere is sent the same, with and without what is said and done in the match
 abbrev pub OtherMatchesAreNotHeard : Type 0
 OtherMatchesAreNotHeard =
-    (game : ℕ) (stage : Stage) (script : List Instruction) → HeardAlike game stage script stage (without game stage script)
+    (game : ℕ) (stage : Stage) (script : List Instruction) →
+    HeardAlike game stage script stage (without game stage script)
 
 -- ---- the silence of the black hole
 
@@ -212,8 +223,8 @@ HoleSoundsSlow =
 
 -- ---- two lineups
 
--- Two lineups are the same but for one match: in the second it has no black holes and no dark links, and each link into a
--- black hole, and each dark link in both directions, is held as well.
+-- Two lineups are the same but for one match: in the second it has no black holes and no dark links, and each link
+-- into a black hole, and each dark link in both directions, is held as well.
 pub record IsSlowLineupFor (game : ℕ) (one two : Lineup) : Type 0 where
   pub keys : one.keys ≡ two.keys
   pub count : length one.ready.items ≡ length two.ready.items

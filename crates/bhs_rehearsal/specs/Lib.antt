@@ -7,5 +7,6 @@ pub mod Laws
 pub mod MetExample
 pub mod OneMachine
 pub mod Rehearsing
+pub mod SentAsMet
 pub mod Stages
 pub mod Takings

@@ -5,7 +5,8 @@ use Rattle.bhs_model.specs.Views.{Nothing, Saw, Seen, Unwritten}
 use Rattle.bhs_rehearsal.specs.Stages.{Feeds, Draws}
 use Rattle.bhs_session.specs.Met.{Meeting, Hears, Arrives, view_of, bytes}
 use Rattle.bhs_rehearsal.specs.Headline.{Rehearsed, past_of, sent_in, Plays}
-use Rattle.bhs_rehearsal.specs.Examples.{triangle, keys, says, line, enter_ka, depart_by_0, look, here_at_home, gone, here_by_0}
+use Rattle.bhs_rehearsal.specs.Examples.{triangle, keys, says, line, enter_ka, depart_by_0, look, here_at_home}
+use Rattle.bhs_rehearsal.specs.Examples.{gone, here_by_0}
 
 -- a client says depart and look at once, and its agent arrives then
 abbrev pub hasty_look : Rehearsed

@@ -1,5 +1,5 @@
--- The connections of a rehearsal act as sessions do: their items are taken by the machine of a session, and a connection
--- waits where its phase awaits news, which is exactly where its agent is on a link.
+-- The connections of a rehearsal act as sessions do: their items are taken by the machine of a session, and a
+-- connection waits where its phase awaits news, which is exactly where its agent is on a link.
 use Rattle.std.specs.Prelude.{ℕ, ◌≡◌, false, if◌then◌else◌, Option, Some, None, List, [], ◌∷◌, ◌++◌}
 use Rattle.bhs_model.specs.declared.commands.Command.TheVariants.{Leave}
 use Rattle.bhs_model.specs.declared.events.Event.TheVariants.{Tell, Deliver}
@@ -34,8 +34,9 @@ heard_of (Some reply) = Answers reply
 abbrev pub rests : Phase → Game → List Item → Ran
 rests phase game items = record { game = game; phase = phase; left = items; text = [] }
 
--- In the phase Ready a line asks its command of the match, and what is answered is heard; at the end of the input the agent
--- leaves, which is not answered. While news are awaited nothing is taken, and a session that has ended takes nothing.
+-- In the phase Ready a line asks its command of the match, and what is answered is heard; at the end of the input the
+-- agent leaves, which is not answered. While news are awaited nothing is taken, and a session that has ended takes
+-- nothing.
 abbrev pub runs : Phase → Game → (agent : ℕ) → List Item → Ran
 runs Ready game agent [] = rests Ready game []
 runs Ready game agent (Says line ∷ items) =
@@ -64,7 +65,8 @@ pub record Agree (agent : ℕ) (taken : Taken) (ran : Ran) : Type 0 where
 
 abbrev pub ItemsAreTakenByTheMachine : Type 0
 ItemsAreTakenByTheMachine =
-    (game : Game) (agent : ℕ) (items : List Item) → Agree agent (taken game agent items) (runs (phase_in game agent) game agent items)
+    (game : Game) (agent : ℕ) (items : List Item) → Agree agent (taken game agent items)
+    (runs (phase_in game agent) game agent items)
 
 -- an arrival is news to a session that awaits it, and then takes lines
 pub record IsNews (game : Game) (agent : ℕ) (reply : Reply) : Type 0 where
@@ -73,7 +75,8 @@ pub record IsNews (game : Game) (agent : ℕ) (reply : Reply) : Type 0 where
   pub arrived : phase_in (played game (Deliver agent)) agent ≡ Ready
 
 abbrev pub ArrivalsAreNews : Type 0
-ArrivalsAreNews = (game : Game) (agent : ℕ) (reply : Reply) → reply_to game (Deliver agent) ≡ Some reply → IsNews game agent reply
+ArrivalsAreNews = (game : Game) (agent : ℕ) (reply : Reply) → reply_to game (Deliver agent) ≡ Some reply →
+    IsNews game agent reply
 
 -- the close is news that end it
 abbrev pub ClosesEndTheWait : Type 0

@@ -1,5 +1,6 @@
 -- A rehearsal, and what its calls make of it.
-use Rattle.std.specs.Prelude.{ℕ, ◌≡◌, ◌<◌, Bool, true, false, nat_lt, Option, Some, None, List, [], ◌∷◌, ◌++◌, length, map, if◌then◌else◌, Vec, Ok, Err}
+use Rattle.std.specs.Prelude.{ℕ, ◌≡◌, ◌<◌, Bool, true, false, nat_lt, Option, Some, None, List, [], ◌∷◌, ◌++◌}
+use Rattle.std.specs.Prelude.{length, map, if◌then◌else◌, Vec, Ok, Err}
 use Rattle.std.specs.declared.alloc.Global.{Global}
 use Rattle.std.specs.declared.result.Result.{Result}
 use Rattle.bhs_model.specs.Marks.{events_of}
@@ -9,7 +10,8 @@ use Rattle.bhs_lineup.specs.declared.lineups.Ready.{Ready}
 use Rattle.bhs_lineup.specs.declared.lineups.Lineup.{Lineup}
 use Rattle.bhs_rehearsal.specs.Games.{Game}
 use Rattle.bhs_rehearsal.specs.Connections.{Item, Says, Ends, Connection}
-use Rattle.bhs_rehearsal.specs.Stages.{Stage, Instruction, Feeds, EndsInput, Draws, Closes, game_at, begun, step, stands_after, said}
+use Rattle.bhs_rehearsal.specs.Stages.{Stage, Instruction, Feeds, EndsInput, Draws, Closes, game_at, begun, step}
+use Rattle.bhs_rehearsal.specs.Stages.{stands_after, said}
 use Rattle.bhs_rehearsal.specs.declared.items.Item.{Item as ItemOfCode}
 use Rattle.bhs_rehearsal.specs.declared.items.Item.TheVariants as items
 use Rattle.bhs_rehearsal.specs.declared.outs.Out.{Out}
@@ -20,7 +22,12 @@ use Rattle.bhs_rehearsal.specs.declared.faults.RehearsalFault.TheVariants.{Conn,
 
 -- a match with its held links
 abbrev pub game_of : Ready → Game
-game_of ready = record { net = ready.game.net; setup = ready.game.setup; held = ready.held; log = events_of ready.game.log }
+game_of ready = record {
+  net = ready.game.net;
+  setup = ready.game.setup;
+  held = ready.held;
+  log = events_of ready.game.log;
+}
 
 abbrev pub team_of : Ready → List ℕ
 team_of ready = ready.team
@@ -76,14 +83,16 @@ abbrev pub on_stage : Rehearsing → Stage → Rehearsing
 on_stage old stage = record old { stage = stage }
 
 -- a call that is carried out: it sends what the instruction sends, and leaves the stage that the instruction leaves
-pub record Obeys (old : Rehearsing) (instruction : Instruction) (sent : List (ℕ × List ℕ)) (new : Rehearsing) : Type 0 where
+pub record Obeys (old : Rehearsing) (instruction : Instruction) (sent : List (ℕ × List ℕ))
+    (new : Rehearsing) : Type 0 where
   pub works : old.has_failed ≡ false
   pub names : fault_of old.stage instruction ≡ None
   pub outs : sent ≡ (step old.stage instruction).outs
   pub stands : new ≡ on_stage old (step old.stage instruction).stage
 
 -- a call that names nothing: it changes nothing
-pub record Refuses (old : Rehearsing) (instruction : Instruction) (fault : RehearsalFault) (new : Rehearsing) : Type 0 where
+pub record Refuses (old : Rehearsing) (instruction : Instruction) (fault : RehearsalFault)
+    (new : Rehearsing) : Type 0 where
   pub works : old.has_failed ≡ false
   pub names : fault_of old.stage instruction ≡ Some fault
   pub same : new ≡ old
@@ -103,4 +112,5 @@ pub record Grows (start : Stage) (script : List Instruction) (instruction : Inst
   pub sends : said start (script ++ instruction ∷ []) ≡ said start script ++ (step (stands_after start script) instruction).outs ∷ []
 
 abbrev pub StandsForTheScript : Type 0
-StandsForTheScript = (start : Stage) (script : List Instruction) (instruction : Instruction) → Grows start script instruction
+StandsForTheScript = (start : Stage) (script : List Instruction) (instruction : Instruction) →
+    Grows start script instruction

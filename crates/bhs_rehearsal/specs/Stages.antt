@@ -1,5 +1,6 @@
 -- A rehearsal: what a script makes of the matches and connections, and what it sends to each connection.
-use Rattle.std.specs.Prelude.{ℕ, ◌+◌, Bool, true, false, ◌&&◌, ◌==◌, nat_lt, Option, Some, None, List, [], ◌∷◌, ◌++◌, length, map, replicate, if◌then◌else◌, slice_index_or, slice_set}
+use Rattle.std.specs.Prelude.{ℕ, ◌+◌, Bool, true, false, ◌&&◌, ◌==◌, nat_lt, Option, Some, None, List, [], ◌∷◌}
+use Rattle.std.specs.Prelude.{◌++◌, length, map, replicate, if◌then◌else◌, slice_index_or, slice_set}
 use Rattle.std.specs.List.{list_any, position}
 use Rattle.bhs_model.specs.declared.events.Event.{Event}
 use Rattle.bhs_model.specs.declared.events.Event.TheVariants.{Deliver, Close}
@@ -25,7 +26,12 @@ pub record Stage : Type 0 where
 
 -- no match is there
 abbrev no_game : Game
-no_game = record { net = []; setup = record { home = 0; holes = []; dark = []; agents = 0; quota = 0; board = 0 }; held = []; log = [] }
+no_game = record {
+  net = [];
+  setup = record { home = 0; holes = []; dark = []; agents = 0; quota = 0; board = 0 };
+  held = [];
+  log = [];
+}
 
 -- the match of a number
 abbrev pub game_at : Stage → (game : ℕ) → Game
@@ -70,7 +76,8 @@ let_in stage (Some seat) =
     then (if list_any (has_seat seat) stage.connections then IsDenied denials.Taken else Sits seat)
     else IsDenied denials.Key
 
--- what comes of that which a session asks for its first line. It asks for a key or denies the client: nothing else comes
+-- what comes of that which a session asks for its first line. It asks for a key or denies the client: nothing else
+-- comes
 abbrev pub entry_of : Stage → Ask → Entry
 entry_of stage (Asks (Enters key)) = let_in stage (seat_at key stage.keys)
 entry_of stage (Asks (Tells command)) = Waits

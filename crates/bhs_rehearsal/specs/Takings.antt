@@ -1,5 +1,6 @@
--- How the code takes items, move by move.
-use Rattle.std.specs.Prelude.{ℕ, ◌≡◌, Bool, true, false, Option, Some, None, List, [], ◌++◌, map, option_map, option_and_then, slice_get, if◌then◌else◌, Vec, Ok, Err}
+-- How the code takes items, move by move. Only contracts of private functions cite it.
+use Rattle.std.specs.Prelude.{ℕ, ◌≡◌, Bool, true, false, Option, Some, None, List, [], ◌++◌, map, option_map}
+use Rattle.std.specs.Prelude.{option_and_then, slice_get, if◌then◌else◌, Vec, Ok, Err}
 use Rattle.std.specs.declared.alloc.Global.{Global}
 use Rattle.std.specs.declared.alloc.AllocError.{AllocError}
 use Rattle.std.specs.declared.result.Result.{Result}
@@ -49,7 +50,8 @@ IsStepped old stepped (Ok outs) new = (map seen_out outs.items ≡ stepped.outs)
 IsStepped old stepped (Err memory) new = Unit {0}
 
 -- what a call gives of it: a rehearsal without memory has failed
-abbrev pub IsConcluded : Rehearsing → Result (Vec Out Global) AllocError → Result (Vec Out Global) RehearsalFault → Rehearsing → Type 0
+abbrev pub IsConcluded : Rehearsing → Result (Vec Out Global) AllocError → Result (Vec Out Global) RehearsalFault →
+    Rehearsing → Type 0
 IsConcluded old (Ok outs) result new = (result ≡ Ok outs) × (new ≡ old)
 IsConcluded old (Err memory) result new = (result ≡ Err Memory) × (new.has_failed ≡ true)
 
@@ -59,12 +61,18 @@ pub record Drawn : Type 0 where
   pub arrival : Option (ℕ × Reply)
 
 abbrev pub after_draw : Game → Option Event → Drawn
-after_draw game (Some (Deliver agent)) = record { game = played game (Deliver agent); arrival = option_map (λ reply. (agent, reply)) (reply_to game (Deliver agent)) }
+after_draw game (Some (Deliver agent)) =
+    record {
+      game = played game (Deliver agent);
+      arrival = option_map (λ reply. (agent, reply))
+          (reply_to game (Deliver agent));
+    }
 after_draw game event = record { game = game; arrival = None }
 
 -- what a draw makes of a rehearsal, and gives
 abbrev pub IsDrawn : Rehearsing → (game : ℕ) → Drawn → Result (Option (ℕ × Reply)) AllocError → Rehearsing → Type 0
-IsDrawn old game drawn (Ok arrival) new = (arrival ≡ drawn.arrival) × (new ≡ on_stage old (with_game old.stage game drawn.game))
+IsDrawn old game drawn (Ok arrival) new = (arrival ≡ drawn.arrival) ×
+    (new ≡ on_stage old (with_game old.stage game drawn.game))
 IsDrawn old game drawn (Err memory) new = Unit {0}
 
 -- the mark at a place of a log; none behind its end

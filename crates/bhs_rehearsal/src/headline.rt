@@ -1,7 +1,9 @@
 //! The headline over bytes. Each contract is a law, which holds for every lineup and script; the functions do nothing.
 
-ghost use Rattle.bhs_rehearsal.specs.Headline.{EqualPastsAreSentEqualBytes, OthersAreDenied, PastsAndCommandsSayWhatWasMet, SentAsMet};
-ghost use Rattle.bhs_rehearsal.specs.MetExample.{TheBytesAreOfWhatWasMet, TheBytesAreThese, TheHeadlineSpeaksOfIt, ThePastIsOfWhatWasMet};
+ghost use Rattle.bhs_rehearsal.specs.Headline.{EqualPastsAreSentEqualBytes};
+ghost use Rattle.bhs_rehearsal.specs.SentAsMet.{OthersAreDenied, PastsAndCommandsSayWhatWasMet, SentAsMet};
+ghost use Rattle.bhs_rehearsal.specs.MetExample.{TheBytesAreOfWhatWasMet, TheBytesAreThese, TheHeadlineSpeaksOfIt};
+ghost use Rattle.bhs_rehearsal.specs.MetExample.{ThePastIsOfWhatWasMet};
 
 /// Two connections in any two rehearsals, in matches of equal quota and equal whiteboards, whose agents have equal
 /// pasts and that were fed equal commands, were sent equal bytes, as long as neither their matches nor their inputs

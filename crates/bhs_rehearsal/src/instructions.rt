@@ -7,7 +7,8 @@ ghost use Rattle.bhs_model.specs.declared.replies.Reply.TheVariants.{Over};
 ghost use Rattle.bhs_session.specs.Texts.{text_of};
 ghost use Rattle.bhs_model.specs.declared.events.Event.TheVariants.{Close};
 ghost use Rattle.bhs_rehearsal.specs.Games.{drawn, played};
-ghost use Rattle.bhs_rehearsal.specs.Stages.{feeds, ends, delivers, tells_arrival, closes, game_at, with_game, has_seat, sent_to, told_over, shut_in};
+ghost use Rattle.bhs_rehearsal.specs.Stages.{feeds, ends, delivers, tells_arrival, closes, game_at, with_game};
+ghost use Rattle.bhs_rehearsal.specs.Stages.{has_seat, sent_to, told_over, shut_in};
 ghost use Rattle.bhs_rehearsal.specs.Rehearsing.{game_of, team_of, seen_out, on_stage};
 ghost use Rattle.bhs_rehearsal.specs.Takings.{IsStepped, IsDrawn, after_draw, mark_at};
 

@@ -1,9 +1,20 @@
 //! The laws of rehearsals. Each holds for every script; the functions do nothing.
 
 ghost use Rattle.bhs_rehearsal.specs.Rehearsing.{StandsForTheScript};
-ghost use Rattle.bhs_rehearsal.specs.OneMachine.{ArrivalsAreNews, ClosesEndTheWait, HeardFirst, ItemsAreTakenByTheMachine};
-ghost use Rattle.bhs_rehearsal.specs.Laws.{AllItemsAreTaken, ClientsKeepToThemselves, CutsDoAlike, HoleSoundsSlow, LinksCanBeHeld, MatchesAreHeardApart, MatchesKeepToThemselves, OtherMatchesAreNotHeard, ScriptsSettle, SettledConnectionsRest, SettledStagesSettle, SlowLineupsSoundAlike, SlowMatchesBegin, TwoPiecesDoAlike};
-ghost use Rattle.bhs_rehearsal.specs.Examples.{AFirstLookIsDenied, AKeyLetsIn, ALineMayComeInPieces, AStrangeKeyIsDenied, AUsedKeyIsDenied, AnEndWaitsForTheArrival, HeldLinksSendTheSame, LinesWaitForTheArrival, TheAgentOfAnEndLeaves, TheBlackHoleIsSilent, TheOtherMatchIsNotHeard, ThePresentAreToldLater, TheQuotaIsSpent, TheSecondWriterSeesTheFirst, TheSlowTriangleIsSlow, WhatIsNotThereDoesNothing};
+ghost use Rattle.bhs_rehearsal.specs.OneMachine.{ArrivalsAreNews, ClosesEndTheWait, HeardFirst};
+ghost use Rattle.bhs_rehearsal.specs.OneMachine.{ItemsAreTakenByTheMachine};
+ghost use Rattle.bhs_rehearsal.specs.Laws.{AllItemsAreTaken, ClientsKeepToThemselves, CutsDoAlike, HoleSoundsSlow};
+ghost use Rattle.bhs_rehearsal.specs.Laws.{LinksCanBeHeld, MatchesAreHeardApart, MatchesKeepToThemselves};
+ghost use Rattle.bhs_rehearsal.specs.Laws.{OtherMatchesAreNotHeard, ScriptsSettle, SettledConnectionsRest};
+ghost use Rattle.bhs_rehearsal.specs.Laws.{SettledStagesSettle, SlowLineupsSoundAlike, SlowMatchesBegin};
+ghost use Rattle.bhs_rehearsal.specs.Laws.{TwoPiecesDoAlike};
+ghost use Rattle.bhs_rehearsal.specs.Examples.{AFirstLookIsDenied, AKeyLetsIn, ALineMayComeInPieces};
+ghost use Rattle.bhs_rehearsal.specs.Examples.{AStrangeKeyIsDenied, AUsedKeyIsDenied, AnEndWaitsForTheArrival};
+ghost use Rattle.bhs_rehearsal.specs.Examples.{HeldLinksSendTheSame, LinesWaitForTheArrival, TheAgentOfAnEndLeaves};
+ghost use Rattle.bhs_rehearsal.specs.Examples.{TheBlackHoleIsSilent, TheOtherMatchIsNotHeard};
+ghost use Rattle.bhs_rehearsal.specs.Examples.{ThePresentAreToldLater, TheQuotaIsSpent};
+ghost use Rattle.bhs_rehearsal.specs.Examples.{TheSecondWriterSeesTheFirst, TheSlowTriangleIsSlow};
+ghost use Rattle.bhs_rehearsal.specs.Examples.{WhatIsNotThereDoesNothing};
 
 /// A rehearsal whose calls were the instructions of a script stands for that script: its stage is the one that the
 /// script leads to, and its calls have sent what the script sends. One call more is one instruction more.
@@ -53,8 +64,8 @@ pub fn matches_keep_to_themselves()
     ensures { MatchesKeepToThemselves }
 {}
 
-/// Each connection acts as a session does. Its items are taken by the machine of a session, and it waits where its phase
-/// awaits news: exactly where its agent is on a link.
+/// Each connection acts as a session does. Its items are taken by the machine of a session, and it waits where its
+/// phase awaits news: exactly where its agent is on a link.
 pub fn acts_as_a_session()
     ensures first { HeardFirst }
     ensures items { ItemsAreTakenByTheMachine }

@@ -14,7 +14,8 @@ use Rattle.bhs_session.specs.declared.port.Entered.TheVariants.{In}
 use Rattle.bhs_session.specs.Port.{Asked, Enters, Tells, News, Heard, LetIn, Answers}
 use Rattle.bhs_session.specs.Phase.{Phase, Owes, Leaves, Finished}
 use Rattle.bhs_session.specs.Texts.{command_of, text_of, denial_text}
-use Rattle.bhs_session.specs.Met.{Meeting, Hears, Refuses, Arrives, past_after, command_in, commands, answer_to, bytes, AreDue}
+use Rattle.bhs_session.specs.Met.{Meeting, Hears, Refuses, Arrives, past_after, command_in, commands, answer_to}
+use Rattle.bhs_session.specs.Met.{bytes, AreDue}
 
 -- ---- the port
 
@@ -43,7 +44,8 @@ pub record Comes (limit : ℕ) (old : View) (reply : Reply) (new : View) : Type 
   pub new_is : new ≡ Arrived old sight
 
 -- Each state of the port has the past of its agent, and each answer is the one that the definitions give to that past.
-pub record AnswersByPasts {P : Type 0} (calls : P → Asked → Heard → P → Type 0) (quota limit : ℕ) (past : P → View) : Type 0 where
+pub record AnswersByPasts {P : Type 0} (calls : P → Asked → Heard → P → Type 0) (quota limit : ℕ)
+    (past : P → View) : Type 0 where
   pub enters : (old new : P) (key : List ℕ) (reply : Reply) → calls old (Enters key) (LetIn (In reply)) new →
       IsOver reply (past old) (past new) ⊎ Meets quota limit (past old) Enter reply (past new)
   pub tells : (old new : P) (command : Command) (reply : Reply) → calls old (Tells command) (Answers reply) new →

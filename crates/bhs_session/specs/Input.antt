@@ -1,4 +1,4 @@
--- What one read brings to a session.
+-- What one read brings to a session. Only contracts of private functions cite it.
 use Rattle.std.specs.Prelude.{◌≡◌, ℕ, List, ◌++◌}
 use Rattle.std.specs.declared.option.Option.{Option}
 use Rattle.bhs_wire.specs.Lines.{Line, lines, held_of}
@@ -8,7 +8,8 @@ use Rattle.bhs_session.specs.declared.endings.Ended.{Ended}
 use Rattle.bhs_session.specs.declared.endings.Ended.TheVariants.{InputEnded, ReadFault, Memory}
 
 -- a piece that goes on a stream, with the lines that end in it
-pub record Brings {I : Type 0} (gives : I → Chunk → I → Type 0) (old new : I) (stream : List ℕ) (found : List Line) (held : Option (List ℕ)) : Type 0 where
+pub record Brings {I : Type 0} (gives : I → Chunk → I → Type 0) (old new : I) (stream : List ℕ) (found : List Line)
+    (held : Option (List ℕ)) : Type 0 where
   pub piece : List ℕ
   pub is_piece : IsPiece piece
   pub given : gives old (Bytes piece) new

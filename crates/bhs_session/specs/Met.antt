@@ -51,7 +51,8 @@ answer_to limit view (Arrives sight) = here limit sight
 
 abbrev pub bytes_from : (limit : ℕ) → View → List Meeting → List ℕ
 bytes_from limit view [] = []
-bytes_from limit view (meeting ∷ met) = text_of (answer_to limit view meeting) ++ bytes_from limit (past_after view meeting) met
+bytes_from limit view (meeting ∷ met) =
+    text_of (answer_to limit view meeting) ++ bytes_from limit (past_after view meeting) met
 
 -- the lines that are sent for it, one after the other
 abbrev pub bytes : (limit : ℕ) → List Meeting → List ℕ

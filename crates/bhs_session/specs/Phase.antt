@@ -61,7 +61,8 @@ finished_or (Some ended) next = Finished ended
 abbrev pub answered_by : (waits : Bool) → Reply → Phase
 answered_by waits reply = finished_or (ended_by reply) (waiting waits reply)
 
--- the phase after a call of `tell`, or of `news` where it does not wait. Neither lets anyone in: the last line never comes
+-- the phase after a call of `tell`, or of `news` where it does not wait. Neither lets anyone in: the last line never
+-- comes
 abbrev pub after_answer : (waits : Bool) → Heard → Phase
 after_answer waits (Answers reply) = Owes (text_of reply) (answered_by waits reply)
 after_answer waits NoMemory = Leaves endings.Memory
@@ -93,8 +94,10 @@ stopped (Finished ended) cause = Finished cause
 
 -- In this phase these bytes are written, the output going from one state to the next, and this phase follows: the
 -- whole text, less of it where a write failed or took nothing, or none where there is no memory for it.
-pub data Sends {O : Type 0} (takes : O → List ℕ → Taken → O → Type 0) (old : O) : Phase → List ℕ → O → Phase → Type 0 where
-  all : (text : List ℕ) (next : Phase) (new : O) → PutsAll takes old text new → Sends takes old (Owes text next) text new next
+pub data Sends {O : Type 0} (takes : O → List ℕ → Taken → O → Type 0) (old : O) : Phase → List ℕ → O → Phase →
+    Type 0 where
+  all : (text : List ℕ) (next : Phase) (new : O) → PutsAll takes old text new →
+      Sends takes old (Owes text next) text new next
   part : (text : List ℕ) (next : Phase) (new : O) (some : PutsPart takes old text new)
       → Sends takes old (Owes text next) (take some.sent text) new (stopped next endings.WriteFault)
   none : (text : List ℕ) (next : Phase) → Sends takes old (Owes text next) [] old (stopped next endings.Memory)

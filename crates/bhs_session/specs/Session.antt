@@ -51,13 +51,16 @@ IsChunk End = Unit {0}
 IsChunk Fails = Unit {0}
 
 -- The steps of a session that reads nothing, on an output and a port that may answer so.
-pub data Step {O P : Type 0} (takes : O → List ℕ → Taken → O → Type 0) (calls : P → Asked → Heard → P → Type 0) : Point O P → Point O P → Type 0 where
+pub data Step {O P : Type 0} (takes : O → List ℕ → Taken → O → Type 0)
+    (calls : P → Asked → Heard → P → Type 0) : Point O P → Point O P → Type 0 where
   -- the next line asks something of the port
-  asks : (p : Point O P) (line : Line) (asked : Asked) (heard : Heard) (port : P) → ask p.phase (said_by line) ≡ Asks asked → IsNext p.read p.taken line
+  asks : (p : Point O P) (line : Line) (asked : Asked) (heard : Heard) (port : P) →
+      ask p.phase (said_by line) ≡ Asks asked → IsNext p.read p.taken line
       → calls p.port asked heard port
       → Step takes calls p (record p { port = port; taken = p.taken ++ line ∷ []; phase = hear p.phase heard })
   -- or the client is denied
-  denies : (p : Point O P) (line : Line) (denial : Denial) → ask p.phase (said_by line) ≡ Denies denial → IsNext p.read p.taken line
+  denies : (p : Point O P) (line : Line) (denial : Denial) → ask p.phase (said_by line) ≡ Denies denial →
+      IsNext p.read p.taken line
       → Step takes calls p (record p { taken = p.taken ++ line ∷ []; phase = denied denial })
   -- the port is asked for news
   awaits : (p : Point O P) (heard : Heard) (port : P) → p.phase ≡ Awaits → calls p.port News heard port
@@ -72,34 +75,49 @@ pub data Step {O P : Type 0} (takes : O → List ℕ → Taken → O → Type 0)
   tires : (p : Point O P) → TakesLines p.phase → p.taken ≡ lines p.read → p.turns ≡ 0
       → Step takes calls p (record p { phase = stopped p.phase endings.Turns })
   -- its agent leaves, and what is answered is not written
-  leaves : (p : Point O P) (ended : Ended) (heard : Heard) (port : P) → p.phase ≡ Leaves ended → calls p.port (Tells commands.Leave) heard port
+  leaves : (p : Point O P) (ended : Ended) (heard : Heard) (port : P) → p.phase ≡ Leaves ended →
+      calls p.port (Tells commands.Leave) heard port
       → Step takes calls p (record p { port = port; phase = Finished ended })
 
 -- the second point is reached from the first, by steps that read nothing
-pub data Talk {O P : Type 0} (takes : O → List ℕ → Taken → O → Type 0) (calls : P → Asked → Heard → P → Type 0) (start : Point O P) : Point O P → Type 0 where
+pub data Talk {O P : Type 0} (takes : O → List ℕ → Taken → O → Type 0) (calls : P → Asked → Heard → P → Type 0)
+    (start : Point O P) : Point O P → Type 0 where
   begins : Talk takes calls start start
   goes_on : (p q : Point O P) → Talk takes calls start p → Step takes calls p q → Talk takes calls start q
 
 -- an input and a point are reached from others, by reads and steps; more is read where every whole line was taken
 -- and a turn is left
-pub data Session {I O P : Type 0} (gives : I → Chunk → I → Type 0) (takes : O → List ℕ → Taken → O → Type 0) (calls : P → Asked → Heard → P → Type 0) (from : I) (start : Point O P) : I → Point O P → Type 0 where
+pub data Session {I O P : Type 0} (gives : I → Chunk → I → Type 0) (takes : O → List ℕ → Taken → O → Type 0)
+    (calls : P → Asked → Heard → P → Type 0) (from : I) (start : Point O P) : I → Point O P → Type 0 where
   opens : Session gives takes calls from start from start
   reads : (input next : I) (p : Point O P) (chunk : Chunk) → Session gives takes calls from start input p
       → TakesLines p.phase → p.taken ≡ lines p.read → 0 < p.turns → IsChunk chunk → gives input chunk next
       → Session gives takes calls from start next (after_read chunk p)
-  steps : (input : I) (p q : Point O P) → Session gives takes calls from start input p → Step takes calls p q → Session gives takes calls from start input q
+  steps : (input : I) (p q : Point O P) → Session gives takes calls from start input p → Step takes calls p q →
+      Session gives takes calls from start input q
 
 -- a session before its first step
 abbrev pub fresh : {O P : Type 0} → O → P → (turns : ℕ) → Point O P
-fresh output port turns = record { output = output; port = port; turns = turns; read = []; taken = []; written = []; phase = Fresh }
+fresh output port turns =
+    record { output = output; port = port; turns = turns; read = []; taken = []; written = []; phase = Fresh }
 
 -- What a session makes of an input, an output and a port that it is lent: by reads and steps it came from its start to
 -- this phase.
-pub record Serves {I O P : Type 0} (gives : I → Chunk → I → Type 0) (takes : O → List ℕ → Taken → O → Type 0) (calls : P → Asked → Heard → P → Type 0)
-    (input_old input_new : I) (output_old output_new : O) (port_old port_new : P) (turns : ℕ) (phase : Phase) : Type 0 where
+pub record Serves {I O P : Type 0} (gives : I → Chunk → I → Type 0) (takes : O → List ℕ → Taken → O → Type 0)
+    (calls : P → Asked → Heard → P → Type 0)
+    (input_old input_new : I) (output_old output_new : O) (port_old port_new : P) (turns : ℕ)
+    (phase : Phase) : Type 0 where
   pub left : ℕ
   pub read : List ℕ
   pub taken : List Line
   pub written : List ℕ
   pub session : Session gives takes calls input_old (fresh output_old port_old turns) input_new
-      (record { output = output_new; port = port_new; turns = left; read = read; taken = taken; written = written; phase = phase })
+      (record {
+        output = output_new;
+        port = port_new;
+        turns = left;
+        read = read;
+        taken = taken;
+        written = written;
+        phase = phase;
+      })

@@ -20,7 +20,12 @@ pub(crate) fn answer<W: Output, P: Port>(
     reply: &Reply,
 ) -> Result<(), Stop>
     ensures { (p : Point W P) → Ends W.takes P.calls
-        (record p { output = writer.old; port = port.old; phase = Owes (text_of reply.now) (answered_by true reply.now) })
+        (record p {
+          output = writer.old;
+          port = port.old;
+          phase = Owes (text_of reply.now)
+              (answered_by true reply.now);
+        })
         writer.new port.new p.taken (λ _. Ready) result }
 {
     write_reply(alloc, writer, reply)?;
@@ -41,7 +46,11 @@ fn waits_for_news(reply: &Reply) -> bool
 // Asks for news, and writes them.
 fn write_news<W: Output, P: Port>(alloc: Global, writer: &mut W, port: &mut P) -> Result<(), Stop>
     ensures { (p : Point W P) → Ends W.takes P.calls
-        (record p { output = writer.old; port = port.old; phase = Awaits }) writer.new port.new p.taken (λ _. Ready) result }
+        (record p {
+          output = writer.old;
+          port = port.old;
+          phase = Awaits;
+        }) writer.new port.new p.taken (λ _. Ready) result }
 {
     match port.news() {
         Ok(news) => write_reply(alloc, writer, &news),

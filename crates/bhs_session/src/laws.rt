@@ -13,22 +13,26 @@ use bhs_stream::{Input, Output};
 
 /// The lines that a session took are the first of the lines that it read, in order.
 pub fn lines_in_order<I: Input, O: Output, P: Port>()
-    ensures { (from input : I) (output : O) (start : P) (turns : ℕ) (p : Point O P) → Session I.gives O.takes P.calls from (fresh output start turns) input p
+    ensures { (from input : I) (output : O) (start : P) (turns : ℕ) (p : Point O P) →
+        Session I.gives O.takes P.calls from (fresh output start turns) input p
         → (left : List Line) × (lines p.read ≡ p.taken ++ left) }
 {}
 
 /// A session that may not read at all asks its port nothing and writes nothing. It ends by its turns.
 pub fn no_turns<I: Input, O: Output, P: Port>()
-    ensures { (from input : I) (output : O) (start : P) (p : Point O P) (ended : Ended) → Session I.gives O.takes P.calls from (fresh output start 0) input p
+    ensures { (from input : I) (output : O) (start : P) (p : Point O P) (ended : Ended) →
+        Session I.gives O.takes P.calls from (fresh output start 0) input p
         → p.phase ≡ Finished ended
-        → (ended ≡ Ended.Turns) × (input ≡ from) × (p.output ≡ output) × (p.port ≡ start) × (p.written ≡ []) × (p.read ≡ []) }
+        → (ended ≡ Ended.Turns) × (input ≡ from) × (p.output ≡ output) × (p.port ≡ start) × (p.written ≡ []) ×
+        (p.read ≡ []) }
 {}
 
-/// On a port that answers as the definitions say, a session has written the bytes of what its agent met, and behind them
-/// at most one line: that the match is over, or a denial. Where a write failed or memory ran out, it has written a front
-/// of that.
+/// On a port that answers as the definitions say, a session has written the bytes of what its agent met, and behind
+/// them at most one line: that the match is over, or a denial. Where a write failed or memory ran out, it has written
+/// a front of that.
 pub fn written_as_met<I: Input, O: Output, P: Port>()
-    ensures { (quota limit : ℕ) (past : P → View) (from input : I) (output : O) (start : P) (turns : ℕ) (p : Point O P) → AnswersByPasts P.calls quota limit past
+    ensures { (quota limit : ℕ) (past : P → View) (from input : I) (output : O) (start : P) (turns : ℕ)
+        (p : Point O P) → AnswersByPasts P.calls quota limit past
         → past start ≡ Start → Session I.gives O.takes P.calls from (fresh output start turns) input p
         → WritesAsMet quota limit p.written p.taken p.phase }
 {}

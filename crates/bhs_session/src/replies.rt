@@ -56,7 +56,8 @@ pub fn reply_text(alloc: Global, reply: &Reply) -> Result<String, Memory>
 // Writes the line that tells a client why it is not let in.
 pub(crate) fn write_denial<W: Output>(writer: &mut W, denial: Denial) -> Stop
     ensures sends { (more : List ℕ)
-        × Sends W.takes writer.old (Owes (denial_text denial) (Finished Ended.Denied)) more writer.new (phase_of result) }
+        × Sends W.takes writer.old (Owes (denial_text denial)
+        (Finished Ended.Denied)) more writer.new (phase_of result) }
     ensures cause { StopsAtLines result }
 {
     match send_denial(writer, denial) {

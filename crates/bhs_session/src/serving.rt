@@ -19,8 +19,8 @@ use std::alloc::Global;
 /// anything else ends it and its agent has entered, the agent is told to leave, once and last, and what that
 /// answers is not written. A line is written by as many writes as it takes.
 ///
-/// No clause says that `ReadFault` comes only where a read failed, or `WriteFault` where a write failed or
-/// took nothing: tests show it.
+/// `ReadFault` comes only after a read that failed, `WriteFault` only after a write that failed or took nothing,
+/// `InputEnded` only after a read that gave nothing, and `Turns` only where one more read was needed.
 pub fn serve<R: Input, W: Output, P: Port>(
     alloc: Global,
     reader: &mut R,
