@@ -1,5 +1,5 @@
--- Which place of a list of events a whiteboard names, and which one an answer names: the place of the Write that put the
--- text which they show.
+-- Which place of a list of events a whiteboard names, and which one an answer names: that of the Write whose text they
+-- show.
 use Rattle.std.specs.Prelude.{ℕ, ◌+◌, Bool, true, false, ◌&&◌, ◌==◌, Option, Some, None, List, [], ◌∷◌, if◌then◌else◌}
 use Rattle.bhs_model.specs.declared.events.Event.{Event}
 use Rattle.bhs_model.specs.declared.events.Event.TheVariants.{Tell, Deliver, Close}
