@@ -6,7 +6,7 @@ use Rattle.bhs_model.specs.declared.events.Event.TheVariants.{Tell, Deliver, Clo
 use Rattle.bhs_model.specs.declared.replies.Reply.{Reply}
 use Rattle.bhs_model.specs.declared.replies.Reply.TheVariants.{Here, Written, Changed}
 use Rattle.bhs_model.specs.Worlds.{World}
-use Rattle.bhs_model.specs.Runs.{Position, Before, At, State, initial, next, run, reply}
+use Rattle.bhs_model.specs.Runs.{Position, Before, At, State, initial, next, reply}
 
 -- whether the reply says that a Write put its text
 abbrev pub is_written : Option Reply → Bool
