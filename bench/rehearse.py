@@ -43,11 +43,11 @@ def key(game, agent):
 
 
 def tournament(network):
-    parts = ["version = 1\n", f'seed = "{"0" * 64}"\n']
+    parts = ["version = 2\n", f'seed = "{"0" * 64}"\n']
     for game in range(MATCHES):
         keys = ", ".join(f'"{key(game, agent)}"' for agent in range(AGENTS))
         parts.append(
-            f'[[match]]\nteam = "team-{game}"\nnetwork = "{network}"\nhome = 0\nhole = \"none\"\n'
+            f'[[match]]\nteam = "team-{game}"\nnetwork = "{network}"\nhome = 0\nholes = []\n'
             f"quota = 1000\nboard = 64\nkeys = [{keys}]\n"
         )
     return "".join(parts)

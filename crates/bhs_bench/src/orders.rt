@@ -3,9 +3,9 @@
 /// What the program says of itself.
 pub const USAGE: &str = "usage: bhs_bench step N [time]
 
-Plays N events on a match of the largest size: 16 agents with a quota of 1000 each, on a torus of 16 by 16 nodes. The
-events are picked by the words of a fixed seed, so the counts that are printed are the same each time. A match that has
-ended is followed by a new one.
+Plays N events on a match of 16 agents with a quota of 1000 each, on a torus of 16 by 16 nodes. The events are picked by
+the words of a fixed seed, so the counts that are printed are the same each time. A match that has ended is followed by a
+new one.
 
   time   also prints the seconds that this took, and the events in a second
 ";

@@ -1,7 +1,9 @@
 use crate::deeds::{Deed, deed_of};
 use crate::run::{DONE, REFUSED_WORDS, run};
 use crate::torus::{links, torus};
-use bhs_net::Link;
+use bhs_match::Match;
+use bhs_model::{Command, DarkLinks, Event, Holes, Setup, Text};
+use bhs_net::{Link, Net};
 use std::alloc::Global;
 use std::test::Fail;
 use std::time::Clock;
@@ -110,4 +112,76 @@ fn output_of<C: Clock>(
     let written = String::from_utf8(writer).map_err(|_| "the output is text")?;
     let told = String::from_utf8(errors).map_err(|_| "the faults are text")?;
     Ok((status, written, told))
+}
+
+const TRIANGLE: [Link; 3] = [
+    Link {
+        v: 0,
+        p: 0,
+        w: 1,
+        q: 0,
+    },
+    Link {
+        v: 1,
+        p: 1,
+        w: 2,
+        q: 0,
+    },
+    Link {
+        v: 2,
+        p: 1,
+        w: 0,
+        q: 1,
+    },
+];
+
+// Two agents meet at a whiteboard, and one goes on and is lost.
+fn events(alloc: Global) -> Result<Vec<Event>, Fail> {
+    let tell = |agent, command| Event::Tell { agent, command };
+    let write = Command::Write {
+        expect: Text::from(String::new(alloc)),
+        put: Text::from(String::from_str(alloc, "b")?),
+    };
+    Ok(vec![in alloc;
+        tell(0, Command::Enter),
+        tell(1, Command::Enter),
+        tell(1, Command::Depart { port: 0 }),
+        Event::Deliver { agent: 1 },
+        tell(1, write),
+        tell(0, Command::Look),
+        tell(0, Command::Depart { port: 0 }),
+        Event::Deliver { agent: 0 },
+        tell(0, Command::Look),
+        tell(1, Command::Depart { port: 1 }),
+        Event::Deliver { agent: 1 },
+        tell(1, Command::Leave),
+        Event::Close,
+    ]?)
+}
+
+// Each request for memory is granted here, unless the run refuses one (`rt try --test --fail-alloc N`, as
+// `tools/no_memory_after_new` does). The first request after the match is made is the one of the last lines.
+#[test]
+fn playing_takes_no_memory(rt: HostRuntime) -> Result<(), Fail> {
+    let alloc = rt.alloc();
+    let setup = Setup {
+        home: 0,
+        holes: Holes::from(vec![in alloc; 2]?),
+        dark: DarkLinks::from(Vec::new(alloc)),
+        agents: 2,
+        quota: 10,
+        board: 8,
+    };
+    let events = events(alloc)?;
+    let net = Net::try_new(alloc, 3, &TRIANGLE)?;
+    let mut game = Match::new(alloc, net, setup)?;
+    for event in events {
+        let answer = game.apply(event);
+        assert!(rt; answer.place.is_some());
+    }
+    assert_eq!(rt; game.log().len(), 13);
+    match Vec::<u8>::with_capacity(alloc, 1) {
+        Ok(_) => Ok(()),
+        Err(_) => Err(Fail::from("the request after the play was refused")),
+    }
 }

@@ -1,4 +1,4 @@
-//! Matches of the largest size, one after the other, whose events are picked by words.
+//! Matches on a large torus, one after the other, whose events are picked by words.
 
 use crate::deeds::{Deed, deed_of};
 use crate::faults::BenchFault;

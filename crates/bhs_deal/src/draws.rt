@@ -16,8 +16,8 @@ pub enum Drawn {
     Nobody,
     /// The link of the agent that was picked is held.
     Stays,
-    /// The link of the agent let it arrive. Where the link leads to the black hole, this destroys the agent, which stays
-    /// in the pool.
+    /// The link of the agent let it arrive. Where the link is dark or leads to a black hole, this destroys the agent,
+    /// which stays in the pool.
     Delivered { agent: u16 },
 }
 

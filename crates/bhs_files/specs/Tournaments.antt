@@ -38,8 +38,8 @@ plan t = record { seed = t.seed; matches = map planned t.matches.items }
 abbrev pub Dangers : Type 0
 Dangers = List ℕ × List (ℕ × ℕ)
 
--- In version 1 of the file `hole` is the node of the one black hole, or `none`, and no link is dark. Later `holes` lists
--- the black holes, and `dark` the dark links, if there are any.
+-- In version 1 of the file `hole` is the node of the one black hole, or `none`, and no link is dark. In version 2
+-- `holes` lists the black holes, and `dark` the dark links, if there are any.
 abbrev pub dangers_in : (version : ℕ) → Option ℕ → Members → Result Dangers FileFault
 dangers_in version game members =
     if version == 1 then (required game Hole hole members >>= λ hole. Ok (option_to_list hole, []))

@@ -1,4 +1,4 @@
-//! The files of a tournament: networks and matches in TOML, the keys that let agents enter, and what they make together.
+//! The files of a tournament: networks and matches in TOML, and what they make together.
 #![tactic(auto)]
 
 mod assembling;

@@ -50,8 +50,8 @@ impl Model for Match {
 }
 
 impl Match {
-    /// A match with an empty log, set up by the normal form of the setup. The first fault of the setup is told; Memory is told only where memory was refused.
-    /// All memory that the match needs is taken here.
+    /// A match with an empty log, set up by the normal form of the setup. The first fault of the setup is told; Memory
+    /// is told only where memory was refused. All memory that the match needs is taken here.
     pub fn new(alloc: Global, net: Net, setup: Setup) -> Result<Match, SetupFault>
         ensures fit { OnOk result ((first_fault net setup ≡ None) × IsWithinLimits net setup) }
         ensures given { IfOk result (λ game. game ≡ record { net = net; setup = normal net setup; log = [] }) }

@@ -2,8 +2,8 @@
 
 ghost use Rattle.bhs_match.specs.Laws.{ArrivalsAreBounded, LogsAreBounded, LogsGrow, LogsTellAll, PoolsAreOfAgents};
 
-/// What a match does not keep in its log changes nothing: pasts, positions, last writes and the pool of all that happened
-/// are those of the log.
+/// What a match does not keep in its log changes nothing: pasts, positions, last writes and the pool of all that
+/// happened are those of the log, and so is what the kept events were answered.
 pub fn logs_tell_all()
     ensures { LogsTellAll }
 {}

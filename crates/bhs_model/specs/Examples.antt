@@ -133,8 +133,8 @@ AWriteExpectsWhatItReplaces =
     ∷ [])
     ≡ entered ∷ entered ∷ Some Written ∷ Some (Changed (codes "a")) ∷ []
 
--- A whiteboard, and an answer that shows it, name the last Write there that put its text: none that failed, and also one
--- that put the empty text.
+-- A whiteboard, and an answer that shows it, name the last Write there that put its text: none that failed, and also
+-- one that put the empty text.
 abbrev pub writes : List Event
 writes =
     Tell 0 Enter

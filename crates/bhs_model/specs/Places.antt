@@ -1,12 +1,12 @@
--- Which place of a list of events a whiteboard names, and which one an answer names: the place of the Write that put the
--- text which they show.
+-- Which place of a list of events a whiteboard names, and which one an answer names: that of the Write whose text they
+-- show.
 use Rattle.std.specs.Prelude.{ℕ, ◌+◌, Bool, true, false, ◌&&◌, ◌==◌, Option, Some, None, List, [], ◌∷◌, if◌then◌else◌}
 use Rattle.bhs_model.specs.declared.events.Event.{Event}
 use Rattle.bhs_model.specs.declared.events.Event.TheVariants.{Tell, Deliver, Close}
 use Rattle.bhs_model.specs.declared.replies.Reply.{Reply}
 use Rattle.bhs_model.specs.declared.replies.Reply.TheVariants.{Here, Written, Changed}
 use Rattle.bhs_model.specs.Worlds.{World}
-use Rattle.bhs_model.specs.Runs.{Position, Before, At, State, initial, next, run, reply}
+use Rattle.bhs_model.specs.Runs.{Position, Before, At, State, initial, next, reply}
 
 -- whether the reply says that a Write put its text
 abbrev pub is_written : Option Reply → Bool

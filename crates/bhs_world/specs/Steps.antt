@@ -14,7 +14,7 @@ use Rattle.bhs_model.specs.declared.replies.Why.TheVariants as whys
 use Rattle.bhs_model.specs.Views as views
 use Rattle.bhs_model.specs.Replying.{accepts, refusal}
 use Rattle.bhs_model.specs.Worlds.{World, doomed}
-use Rattle.bhs_model.specs.Runs.{Position, Before, At, Bound, After, position_after}
+use Rattle.bhs_model.specs.Runs.{Position, At, Bound, position_after}
 use Rattle.bhs_model.specs.Standings.{standing_at}
 use Rattle.bhs_model.specs.Setups.{IsNormal}
 use Rattle.bhs_model.specs.Marks.{text_at}

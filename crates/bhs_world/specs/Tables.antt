@@ -48,7 +48,8 @@ pub record IsCourseOf (course : Course) (state : State) (is_lost : Bool) (agent 
   pub used : used (state.past agent) ≡ course.used
   pub lost : is_lost ≡ course.lost
 
--- a whiteboard that names this place shows this text: a Write stands there that put it, or no place is named and the text is empty
+-- a whiteboard that names this place shows this text: a Write stands there that put it, or no place is named and the
+-- text is empty
 abbrev pub Shows : List Kept → (board : Option ℕ) → (shown : List ℕ) → Type 0
 Shows log None shown = shown ≡ []
 Shows log (Some place) shown = put_at log place ≡ Some shown

@@ -46,8 +46,8 @@ impl Model for World {
 }
 
 impl World {
-    /// A world at the start of a match, set up by the normal form of the setup. The first fault of the setup is told; Memory is told only where memory
-    /// was refused.
+    /// A world at the start of a match, set up by the normal form of the setup. The first fault of the setup is told;
+    /// Memory is told only where memory was refused.
     pub fn new(alloc: Global, net: Net, setup: Setup) -> Result<World, SetupFault>
         ensures fit { OnOk result ((first_fault net setup ≡ None) × IsWithinLimits net setup) }
         ensures given { IfOk result (λ world. (world.net ≡ net) × (world.setup ≡ normal net setup)) }
@@ -93,8 +93,8 @@ impl World {
         &self.agents[usize::from(agent)]
     }
 
-    /// The place, in the log, of the Write whose text the whiteboard of the node shows; None where no Write was answered
-    /// Written there.
+    /// The place, in the log, of the Write whose text the whiteboard of the node shows; None where no Write was
+    /// answered Written there.
     pub fn last(&self, node: u16) -> Option<u32>
         requires { node < nodes_of self.now.net }
         ensures kept { result ≡ (board_at self.now.boards node).last }
