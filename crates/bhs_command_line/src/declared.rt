@@ -85,17 +85,18 @@ and agents there are. What is wrong with a file is told on standard error, as
 
 A tournament's file is TOML:
 
-  version = 1
+  version = 2
   seed = \"00..\"            64 hexadecimal digits
 
   [[match]]                 one for each match, 1 to 64
   team = \"red\"              1 to 16 of a to z, 0 to 9 and -
   network = \"tri.toml\"      a file, as a path from the working directory
   home = 0                  the node where the agents enter
-  hole = 2                  the black hole, or \"none\"
+  holes = [2]               the black holes; [] in a practice match
+  dark = []                 dark links, each by [node, port] of one end
   quota = 10                how many commands an agent may say, 1 to 1000
-  board = 8                 how many bytes a whiteboard holds, 0 to 1024
-  keys = [\"ka\", \"kb\"]       a key for each agent, 1 to 16; none stands twice
+  board = 8                 how many bytes a whiteboard holds, 0 to 4096
+  keys = [\"ka\", \"kb\"]       a key for each agent, 1 to 64; none stands twice
   held = []                 links [node, port] over which no agent arrives
 
 A network's file is TOML too. A link [v, p, w, q] joins port p of node v and

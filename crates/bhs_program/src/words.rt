@@ -1,4 +1,5 @@
 ghost use Rattle.std.specs.Prelude.{◌≡◌, ◌⊎◌, IfErr};
+ghost use Rattle.bhs_program.specs.Fault.{IsStatus};
 ghost use Rattle.bhs_program.specs.declared.statuses.TheConstants.{NO_MEMORY, REFUSED_WORDS};
 
 use crate::faults::{Fault, report};
@@ -19,7 +20,8 @@ pub fn words_of<V: Env, E: Write>(
     process: &V,
     errors: &mut E,
 ) -> Result<Vec<String>, u8>
-    ensures { IfErr result (λ code. (code ≡ REFUSED_WORDS) ⊎ (code ≡ NO_MEMORY)) }
+    ensures refused { IfErr result (λ code. (code ≡ REFUSED_WORDS) ⊎ (code ≡ NO_MEMORY)) }
+    ensures status { IfErr result IsStatus }
 {
     let mut words = Vec::new(alloc);
     for number in 1..usize::MAX {
