@@ -8,7 +8,8 @@ use Rattle.bhs_model.proofs.NormalLemmas.{range_more}
 use Rattle.bhs_world.proofs.GrowthLemmas.{map_more}
 use Rattle.bhs_match.specs.Matches.{Play}
 use Rattle.bhs_lock.specs.Passes.{Passed}
-use Rattle.bhs_lock.specs.Comparing.{Heard, IsFirstDifference}
+use Rattle.bhs_model.specs.declared.marks.Kept.{Kept}
+use Rattle.bhs_lock.specs.Comparing.{Heard, heard_in, receipted, IsFirstDifference}
 use Rattle.bhs_lock.specs.Settling.{Compared, IsLeast, lesser, has_pass, told_by, told_by_none, without_pass}
 use Rattle.bhs_lock.proofs.LeastLemmas.{least_more}
 
@@ -66,3 +67,12 @@ none_more play passes agent best now index has least at made =
     ∙ ap (λ (rest : List (Compared Heard)). map (told_by play) passes ++ rest) (map_more (told_by_none play) (without_pass passes agent) agent)
     ∙ sym (append_assoc (map (told_by play) passes) (map (told_by_none play) (without_pass passes agent)) (told_by_none play agent ∷ [])) in
     rw (grown, made) (least_more (map (told_by play) passes ++ map (told_by_none play) (without_pass passes agent)) (told_by_none play agent) best index least at)
+
+-- the same of commands, where the log is read
+pub told_more : (play : Play) (log : List Kept) (passes : List Passed) (place : ℕ) (pass : Passed) (best now : Option (ℕ × ℕ)) (agent : ℕ) (index : Option ℕ) →
+    IsLeast (map (told_by play) (take place passes)) best → place < length passes → pass ≡ get_or passes place pass → agent ≡ pass.agent → log ≡ play.log →
+    MatchOption index (heard_in pass.agent log ≡ receipted pass.receipts pass.commands) (λ index. IsFirstDifference (heard_in pass.agent log) (receipted pass.receipts pass.commands) index) →
+    now ≡ lesser best agent index → IsLeast (map (told_by play) (take (place + 1) passes)) now
+told_more play log passes place pass best now agent index least inside is its same at made =
+    let P : List Kept → Type 0 = λ log. MatchOption index (heard_in pass.agent log ≡ receipted pass.receipts pass.commands) (λ index. IsFirstDifference (heard_in pass.agent log) (receipted pass.receipts pass.commands) index) in
+    mapped_more (told_by play) passes place pass best now agent index least inside is its (subst P same at) made
