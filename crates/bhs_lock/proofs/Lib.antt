@@ -1,6 +1,3 @@
-mod SettleLemmas
-mod StrayLemmas
-mod LeastLemmas
 mod NewLemmas
 mod NewsLemmas
 mod DrawLemmas

@@ -7,4 +7,3 @@ pub mod Comparing
 pub mod Arrivals
 pub mod Unclaimed
 pub mod Cells
-pub mod Settling
