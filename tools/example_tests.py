@@ -32,7 +32,14 @@ fn prints<R: Abort + Files>(
 ) -> Result<(), Fail> {
     let mut output = Vec::new(alloc);
     let mut errors = Vec::new(alloc);
-    let status = run(alloc, rt, words, &mut script.as_bytes(), &mut output, &mut errors);
+    let status = run(
+        alloc,
+        rt,
+        words,
+        &mut script.as_bytes(),
+        &mut output,
+        &mut errors,
+    );
     assert_eq!(rt; errors.as_slice(), b"".as_slice());
     assert_eq!(rt; output.as_slice(), printed.as_bytes());
     assert_eq!(rt; status, 0);

@@ -11,7 +11,7 @@ const FILES: [(&str, &str); 5] = [
     (
         "examples/first.toml",
         r#"# A first tournament: four matches of three teams. The names of the networks are paths from the root of the repository.
-version = 1
+version = 2
 seed = "2b7e151628aed2a6abf7158809cf4f3c2b7e151628aed2a6abf7158809cf4f3c"
 
 # Two agents on a ring of 8 nodes.
@@ -19,7 +19,7 @@ seed = "2b7e151628aed2a6abf7158809cf4f3c2b7e151628aed2a6abf7158809cf4f3c"
 team = "red"
 network = "examples/ring8.toml"
 home = 0
-hole = 5
+holes = [5]
 quota = 100
 board = 64
 keys = ["red-ring-0", "red-ring-1"]
@@ -29,7 +29,7 @@ keys = ["red-ring-0", "red-ring-1"]
 team = "blue"
 network = "examples/hypercube16.toml"
 home = 0
-hole = 11
+holes = [11]
 quota = 300
 board = 128
 keys = ["blue-cube-0", "blue-cube-1", "blue-cube-2"]
@@ -39,7 +39,7 @@ keys = ["blue-cube-0", "blue-cube-1", "blue-cube-2"]
 team = "green"
 network = "examples/torus25.toml"
 home = 12
-hole = 4
+holes = [4]
 quota = 500
 board = 256
 keys = ["green-torus-0", "green-torus-1", "green-torus-2"]
@@ -49,7 +49,7 @@ keys = ["green-torus-0", "green-torus-1", "green-torus-2"]
 team = "red"
 network = "examples/triangle.toml"
 home = 0
-hole = 2
+holes = [2]
 quota = 10
 board = 8
 keys = ["red-triangle-0", "red-triangle-1"]

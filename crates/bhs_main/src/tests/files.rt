@@ -364,10 +364,7 @@ fn a_tournament_is_what_its_file_says(rt: HostRuntime) -> Result<(), Fail> {
         return Err(Fail::from("two matches"));
     };
     assert!(rt; is_team(red.team.as_str()));
-    assert_eq!(rt;
-        (red.home, red.quota, red.board),
-        (0, 10, 8)
-    );
+    assert_eq!(rt; (red.home, red.quota, red.board), (0, 10, 8));
     assert_eq!(rt; red.holes.nodes(), [2].as_slice());
     assert!(rt; red.dark.ends().is_empty());
     let first = read_tournament(alloc, CUP_OF_VERSION_1)?;

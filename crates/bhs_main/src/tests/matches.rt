@@ -148,7 +148,10 @@ fn a_match_has_64_agents(rt: HostRuntime) -> Result<(), Fail> {
     let mut game = Match::new(alloc, network(alloc)?, setup)?;
     for agent in 0..64 {
         let answer = game.apply(tell(agent, Command::Enter));
-        assert_eq!(rt; (answer.place, answer.mark), (Some(u32::from(agent)), here(None, None)));
+        assert_eq!(rt;
+            (answer.place, answer.mark),
+            (Some(u32::from(agent)), here(None, None))
+        );
     }
     let answer = game.apply(tell(64, Command::Look));
     assert_eq!(rt; (answer.place, answer.mark), (None, no(Why::Agent)));
