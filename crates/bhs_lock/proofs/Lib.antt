@@ -1,3 +1,6 @@
+mod SettleLemmas
+mod StrayLemmas
+mod LeastLemmas
 mod NewLemmas
 mod NewsLemmas
 mod DrawLemmas

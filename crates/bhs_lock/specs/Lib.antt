@@ -7,3 +7,4 @@ pub mod Comparing
 pub mod Arrivals
 pub mod Unclaimed
 pub mod Cells
+pub mod Settling

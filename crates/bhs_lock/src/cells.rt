@@ -31,6 +31,16 @@ pub struct Cell {
     setup: Setup,
 }
 
+/// What a cell is made of, once no thread shares it: what stood under its locks, and what it was given.
+#[derive(Debug, Drop)]
+pub struct Parts {
+    pub hall: Hall,
+    /// The passes that nobody claimed, by agent; None for one that was.
+    pub left: Vec<Option<Pass>>,
+    pub net: Net,
+    pub setup: Setup,
+}
+
 impl Model for Cell {
     ghost use Rattle.bhs_lock.specs.Cells.{Given};
 
@@ -141,6 +151,27 @@ impl Cell {
         self.hall.lock(rt).close();
         for bell in &self.news {
             bell.notify_all();
+        }
+    }
+
+    /// The parts of a cell that no thread shares any more.
+    pub fn into_parts(self) -> Parts
+        ensures { (result.net ≡ self.net) × (result.setup ≡ self.setup) }
+    {
+        let Cell {
+            game: _,
+            hall,
+            unclaimed,
+            news: _,
+            held: _,
+            net,
+            setup,
+        } = self;
+        Parts {
+            hall: hall.into_inner(),
+            left: unclaimed.into_inner().into_left(),
+            net,
+            setup,
         }
     }
 }

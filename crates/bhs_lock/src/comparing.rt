@@ -85,7 +85,7 @@ fn is_reply(log: &[Kept], mark: &Option<Mark>, reply: &Reply) -> bool
 }
 
 /// Whether a mark is read as this reply.
-fn reads_as(log: &[Kept], mark: &Mark, reply: &Reply) -> bool
+pub(crate) fn reads_as(log: &[Kept], mark: &Mark, reply: &Reply) -> bool
     ensures { IsTrue result ↔ (read log.now mark.now ≡ reply.now) }
 {
     match (mark, reply) {

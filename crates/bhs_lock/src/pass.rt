@@ -1,15 +1,16 @@
-ghost use Rattle.std.specs.Prelude.{◌≡◌, [], true, IfOk, OnErr, length, option_map, option_and_then, slice_get};
+ghost use Rattle.std.specs.Prelude.{◌≡◌, [], true, IfOk, OnErr, length, option_map, option_and_then, slice_get, map, Some, IsTrue, ◌↔◌};
 ghost use Rattle.bhs_match.specs.Matches.{world_in, state_of, shown_at};
 ghost use Rattle.bhs_lock.specs.Passes.{Passed, empty_pass, is_end, tally_in, kind_of, gained, Ascend};
 ghost use Rattle.std.specs.Prelude.{MatchOption};
 ghost use Rattle.bhs_lock.specs.Comparing.{Tells, heard_in, receipted, IsFirstDifference};
 ghost use Rattle.bhs_lock.specs.Halls.{is_below, spoken, IsSpareFor, IsTold};
 ghost use Rattle.bhs_lock.specs.Cells.{IsNews};
+ghost use Rattle.bhs_lock.specs.Settling.{arrived_by};
 ghost use Rattle.bhs_lock.specs.Arrivals.{arrival_at, receipt_at, IsGiven};
 ghost use Rattle.bhs_model.specs.Marks.{read};
 ghost use Rattle.bhs_lock.specs.declared.model.Receipt.{Receipt as ReceiptData};
 
-use crate::comparing::difference;
+use crate::comparing::{difference, reads_as};
 use crate::model::{Receipt, Spare, Step, Tally};
 use bhs_match::{Answer, Match};
 use bhs_model::{Command, Event, Kept, Mark, Reply, Text};
@@ -167,6 +168,32 @@ impl Pass {
             reply: again,
         });
         Ok(reply)
+    }
+}
+
+impl Pass {
+    /// The least index at which the pass's arrivals are not those of its agent in the log of a match.
+    pub(crate) fn stray(&self, play: &Match) -> Option<usize>
+        ensures { MatchOption result ((arrived_by play.now self.now).logged ≡ (arrived_by play.now self.now).said) (IsFirstDifference (arrived_by play.now self.now).logged (arrived_by play.now self.now).said) }
+    {
+        let places = play.news(self.agent);
+        let log = play.log();
+        for (index, receipt) in self.arrivals.iter().enumerate() {
+            if !is_arrival(places, log, index, receipt) {
+                return Some(index);
+            }
+        }
+        None
+    }
+}
+
+/// Whether the arrival of this index, of an agent whose arrivals stand at these places, is this receipt.
+fn is_arrival(places: &[u32], log: &[Kept], index: usize, receipt: &Receipt) -> bool
+    ensures { IsTrue result ↔ (slice_get (map (receipt_at log.now) places.now) index ≡ Some (Some receipt.now)) }
+{
+    match arrival_of(places, log, index) {
+        Some((place, mark)) => receipt.place == place && reads_as(log, &mark, &receipt.reply),
+        None => false,
     }
 }
 

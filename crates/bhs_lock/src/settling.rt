@@ -1,0 +1,85 @@
+ghost use Rattle.std.specs.Prelude.{◌≡◌, ◌<◌, Some, None, IfSome, MatchOption, length, take, map};
+ghost use Rattle.bhs_match.specs.Matches.{state_of};
+ghost use Rattle.bhs_lock.specs.Settling.{lesser, has_pass, is_claimed, is_missing, NoneMissing, IsLeastMissing, IsLeast, commands_of, arrivals_of};
+
+use crate::comparing::difference;
+use crate::pass::Pass;
+use bhs_match::Match;
+
+/// An agent, and an index into its commands or arrivals.
+pub type Place = (u16, usize);
+
+/// The lesser of what was found and of an index of an agent, if there are such.
+fn lesser(best: Option<Place>, agent: u16, index: Option<usize>) -> Option<Place>
+    ensures { result ≡ lesser best agent index }
+{
+    match (best, index) {
+        (best, None) => best,
+        (None, Some(index)) => Some((agent, index)),
+        (Some(best), Some(index)) => if agent < best.0 || (agent == best.0 && index < best.1) {
+            Some((agent, index))
+        } else {
+            Some(best)
+        },
+    }
+}
+
+/// Whether one of these passes is the agent's.
+fn has_pass(passes: &[Pass], agent: u16) -> bool
+    ensures { result ≡ has_pass passes.now agent }
+{
+    passes.iter().any(|pass| pass.agent() == agent)
+}
+
+/// Whether the pass of an agent was claimed and does not come back.
+fn is_missing(left: &[Option<Pass>], passes: &[Pass], agent: u16) -> bool
+    ensures { result ≡ is_missing left.now passes.now agent }
+{
+    match left.get(usize::from(agent)) {
+        Some(None) => !has_pass(passes, agent),
+        _ => false,
+    }
+}
+
+/// The least agent, of the first `agents`, whose pass was claimed and is not among those handed in. `left` are the passes
+/// that nobody claimed, by agent. Takes no memory.
+pub fn missing(agents: u16, left: &[Option<Pass>], passes: &[Pass]) -> Option<u16>
+    ensures { MatchOption result (NoneMissing agents left.now passes.now) (IsLeastMissing left.now passes.now) }
+{
+    for agent in 0..agents {
+        if is_missing(left, passes, agent) {
+            return Some(agent);
+        }
+    }
+    None
+}
+
+/// The least agent and index at which the receipts of a pass, or none for an agent without a pass, are not the agent's
+/// heard commands in the log of a match; None where each pass has the agent's heard commands, each once, in order, with
+/// places and replies, and an agent without a pass has none. Takes no memory; goes over the log once for each agent.
+pub fn first_difference(play: &Match, passes: &[Pass]) -> Option<Place>
+    ensures { IsLeast (commands_of play.now passes.now) result }
+{
+    let mut best = None;
+    for (_index, pass) in passes.iter().enumerate() {
+        best = lesser(best, pass.agent(), pass.difference(play.log()));
+    }
+    for agent in 0..play.setup().agents {
+        if !has_pass(passes, agent) {
+            best = lesser(best, agent, difference(play.log(), agent, &[], &[]));
+        }
+    }
+    best
+}
+
+/// The least agent and index at which an arrival of a pass is not the agent's arrival of that index in the log of a match;
+/// None where the arrivals of each pass are the agent's first ones, with places and replies. Takes no memory.
+pub fn first_stray(play: &Match, passes: &[Pass]) -> Option<Place>
+    ensures { IsLeast (arrivals_of play.now passes.now) result }
+{
+    let mut best = None;
+    for (_index, pass) in passes.iter().enumerate() {
+        best = lesser(best, pass.agent(), pass.stray(play));
+    }
+    best
+}
