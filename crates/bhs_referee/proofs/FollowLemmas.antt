@@ -1,10 +1,9 @@
 -- A walk over a log follows the definitions: after each event it keeps what they say of the events so far.
-use Rattle.std.proofs.Common.{◌≡◌, ℕ, ◌+◌, ◌<◌, ◌≤◌, Bool, true, false, not, ◌&&◌, ◌||◌, Option, Some, None, List, [], ◌∷◌, length, map, zero, suc, refl, sym, ap, ap₂, ◌∙◌, subst, inl, inr, arith, length-set, ◌==◌, if◌then◌else◌}
+use Rattle.std.proofs.Common.{◌≡◌, ℕ, ◌+◌, ◌<◌, ◌≤◌, Bool, true, false, not, ◌&&◌, ◌||◌, Option, Some, None, List, [], ◌∷◌, length, map, zero, suc, refl, sym, ap, ap₂, ◌∙◌, subst, arith, length-set, ◌==◌}
 use Rattle.std.specs.Prelude.{slice_set, slice_index_or, replicate, is_some}
 use Rattle.std.proofs.lemmas.List.{length-replicate}
-use Rattle.std.proofs.lemmas.Bool.{and_parts, or_parts, cond_both, cond-true, cond-false}
-use Rattle.std.proofs.lemmas.Bool.Decides.{eqb_tells}
-use Rattle.bhs_net.specs.Network.{Network, nodes_of, degree_of, far_of, IsNetwork}
+use Rattle.std.proofs.lemmas.Bool.{and_parts, cond-true, cond-false}
+use Rattle.bhs_net.specs.Network.{Network, degree_of, far_of, IsNetwork}
 use Rattle.bhs_net.specs.declared.faults.TheConstants.{MAX_NODES}
 use Rattle.bhs_model.specs.declared.limits.TheConstants.{MAX_AGENTS}
 use Rattle.bhs_model.specs.declared.commands.Command.{Command}
@@ -17,8 +16,8 @@ use Rattle.bhs_model.specs.declared.setups.Setup.{Setup}
 use Rattle.bhs_model.specs.Marks.{read_if, events_of}
 use Rattle.bhs_model.specs.Views.{View, Arrived}
 use Rattle.bhs_model.specs.Replying.{rep}
-use Rattle.bhs_model.specs.Worlds.{World, doomed}
-use Rattle.bhs_model.specs.Runs.{Position, Before, At, Bound, After, State, initial, changed, sight_at, is_doomed, position_after, told, arrived, delivered, heard, arrives, next, run_from, run, reply, replies_from, replies}
+use Rattle.bhs_model.specs.Worlds.{World}
+use Rattle.bhs_model.specs.Runs.{Position, Before, At, Bound, After, State, initial, changed, sight_at, is_doomed, position_after, told, arrived, delivered, arrives, next, run_from, run, reply, replies_from, replies}
 use Rattle.bhs_model.specs.Kept.{destroys, lost_after, keeps, kept_first, kept_from, lost_from, nobody, kept, lost as lost_in}
 use Rattle.bhs_model.specs.Setups.{world_of}
 use Rattle.bhs_model.proofs.StepLemmas.{by_cases, changed_same, changed_other, next_heard, next_arrived, next_no_arrival, arrival_by_past, no_arrival_no_reply}
@@ -28,11 +27,11 @@ use Rattle.bhs_agent.specs.Agents.{position_of}
 use Rattle.bhs_world.specs.Faults.{IsWithinLimits}
 use Rattle.bhs_world.proofs.ListLemmas.{each_set}
 use Rattle.bhs_world.proofs.SoundLemmas.{far_placed}
-use Rattle.bhs_match.proofs.FairLemmas.{IsFair, IsHeard, heard_means, bound_within, IsArriving, arrival_means, fair_next, fair_initial}
+use Rattle.bhs_match.proofs.FairLemmas.{IsFair, heard_means, bound_within, arrival_means, fair_next, fair_initial}
 use Rattle.bhs_referee.specs.declared.walks.Track.{Track}
 use Rattle.bhs_referee.specs.declared.walks.Walk.{Walk}
 use Rattle.bhs_referee.specs.Findings.{Findings, nothing_found, accused_by, moves_by, reached_by, found_after, found_from, findings}
-use Rattle.bhs_referee.specs.Walks.{fresh, track_at, standing_told, track_told, walk_told, walk_arrived, walk_lost, walk_delivered, walk_by, walk_after, walk_from, start, IsPlaced, AllPlaced}
+use Rattle.bhs_referee.specs.Walks.{fresh, track_at, track_told, walk_told, walk_arrived, walk_lost, walk_delivered, walk_by, walk_after, walk_from, start, IsPlaced, AllPlaced}
 use Rattle.bhs_referee.proofs.WalkLemmas.{told_position, told_accused, told_moves, start_fresh, start_placed, after_placed}
 
 -- what is kept of an agent is what the definitions say of it
@@ -68,7 +67,7 @@ told_agents net setup log walk state lost found agent command mark answer follow
     (record {
       position = told_position net setup (track_at walk.agents agent).standing command ∙ ap (λ (p : Position). position_after (world_of net setup) p command) old.position ∙ sym (changed_same state.position agent _);
       accused = told_accused log mark (track_at walk.agents agent).standing command (track_at walk.agents agent).accused ∙ ap (λ (r : Option Reply). accused_by r (position_of (track_at walk.agents agent).standing) command (track_at walk.agents agent).accused) read
-      ∙ ap (λ (p : Position). accused_by answer p command (track_at walk.agents agent).accused) old.position ∙ ap (accused_by answer (state.position agent) command) old.accused ∙ sym (changed_same found.accused agent _);
+          ∙ ap (λ (p : Position). accused_by answer p command (track_at walk.agents agent).accused) old.position ∙ ap (accused_by answer (state.position agent) command) old.accused ∙ sym (changed_same found.accused agent _);
       lost = old.lost;
     })
     (λ (k : ℕ) (apart : (k == agent) ≡ false). record {
@@ -107,18 +106,18 @@ arrived_follows net setup walk state lost found agent node port follows lt node_
       tracks = simp length-set follows.tracks;
       nodes = simp length-set follows.nodes;
       agents = each_set (λ (k : ℕ) (track : Track). IsTrackOf track (changed state.position agent (At far.0 (Some far.1)) k) (found.accused k) (lost k)) walk.agents agent _ fresh lt
-      (record {
-        position = sym (changed_same state.position agent (At far.0 (Some far.1)));
-        accused = (follows.agents agent).accused;
-        lost = (follows.agents agent).lost;
-      })
-      (λ (k : ℕ) (apart : (k == agent) ≡ false). record {
-        position = (follows.agents k).position ∙ sym (changed_other state.position agent k _ apart);
-        accused = (follows.agents k).accused;
-        lost = (follows.agents k).lost;
-      });
+          (record {
+            position = sym (changed_same state.position agent (At far.0 (Some far.1)));
+            accused = (follows.agents agent).accused;
+            lost = (follows.agents agent).lost;
+          })
+          (λ (k : ℕ) (apart : (k == agent) ≡ false). record {
+            position = (follows.agents k).position ∙ sym (changed_other state.position agent k _ apart);
+            accused = (follows.agents k).accused;
+            lost = (follows.agents k).lost;
+          });
       reached = each_set (λ (k : ℕ) (mark : Bool). mark ≡ changed found.reached far.0 true k) walk.reached far.0 true false node_lt
-      (sym (changed_same found.reached far.0 true)) (λ (k : ℕ) (apart : (k == far.0) ≡ false). follows.reached k ∙ sym (changed_other found.reached far.0 k true apart));
+          (sym (changed_same found.reached far.0 true)) (λ (k : ℕ) (apart : (k == far.0) ≡ false). follows.reached k ∙ sym (changed_other found.reached far.0 k true apart));
       moves = follows.moves;
     }
 
@@ -128,16 +127,16 @@ lost_follows walk state lost found agent follows lt = record {
   tracks = simp length-set follows.tracks;
   nodes = follows.nodes;
   agents = each_set (λ (k : ℕ) (track : Track). IsTrackOf track (state.position k) (found.accused k) (changed lost agent true k)) walk.agents agent _ fresh lt
-  (record {
-    position = (follows.agents agent).position;
-    accused = (follows.agents agent).accused;
-    lost = sym (changed_same lost agent true);
-  })
-  (λ (k : ℕ) (apart : (k == agent) ≡ false). record {
-    position = (follows.agents k).position;
-    accused = (follows.agents k).accused;
-    lost = (follows.agents k).lost ∙ sym (changed_other lost agent k true apart);
-  });
+      (record {
+        position = (follows.agents agent).position;
+        accused = (follows.agents agent).accused;
+        lost = sym (changed_same lost agent true);
+      })
+      (λ (k : ℕ) (apart : (k == agent) ≡ false). record {
+        position = (follows.agents k).position;
+        accused = (follows.agents k).accused;
+        lost = (follows.agents k).lost ∙ sym (changed_other lost agent k true apart);
+      });
   reached = follows.reached;
   moves = follows.moves;
 }
@@ -294,3 +293,7 @@ start_follows = record {
 pub walk_follows : (net : Network) (setup : Setup) (log : List Kept) → IsSetUp net setup → kept (world_of net setup) (events_of log) ≡ events_of log → map (λ (one : Kept). read_if log one.mark) log ≡ replies (world_of net setup) (events_of log) →
     Follows (walk_from net setup.home start log) (run (world_of net setup) (events_of log)) (lost_in (world_of net setup) (events_of log)) (findings (world_of net setup) (events_of log))
 walk_follows net setup log is same read = follows_from net setup log log start initial nobody nothing_found is start_follows (fair_initial (world_of net setup)) (start_placed net) same read
+
+pub walk_given : (net : Network) (setup : Setup) (log : List Kept) (walk : Walk) → IsNetwork net → IsWithinLimits net setup → kept (world_of net setup) (events_of log) ≡ events_of log → map (λ (one : Kept). read_if log one.mark) log ≡ replies (world_of net setup) (events_of log) →
+    walk ≡ walk_from net setup.home start log → Follows walk (run (world_of net setup) (events_of log)) (lost_in (world_of net setup) (events_of log)) (findings (world_of net setup) (events_of log))
+walk_given net setup log walk network within same read is = rw is (walk_follows net setup log (record { network = network; within = within }) same read)

@@ -1,9 +1,9 @@
 -- What holds of each walk over a log, whatever the log is.
-use Rattle.std.proofs.Common.{◌≡◌, ℕ, ◌+◌, ◌<◌, ◌≤◌, Bool, true, false, Option, Some, None, List, [], ◌∷◌, length, drop, get_or, zero, suc, refl, sym, ap, ◌∙◌, inl, inr, arith, nat_lt, if◌then◌else◌}
-use Rattle.std.specs.Prelude.{slice_set, slice_index_or, replicate}
+use Rattle.std.proofs.Common.{◌≡◌, ℕ, ◌+◌, ◌<◌, ◌≤◌, Bool, true, false, Option, Some, None, List, ◌∷◌, length, drop, get_or, zero, suc, refl, sym, ap, ◌∙◌, inl, inr, arith, nat_lt, if◌then◌else◌}
+use Rattle.std.specs.Prelude.{slice_set, replicate}
 use Rattle.std.proofs.lemmas.Bool.{ltb-true, cond_both}
 use Rattle.std.proofs.lemmas.List.{set_past}
-use Rattle.bhs_net.specs.Network.{Network, nodes_of, degree_of, far_of, IsNetwork}
+use Rattle.bhs_net.specs.Network.{Network, nodes_of, degree_of, IsNetwork}
 use Rattle.bhs_model.specs.declared.commands.Command.{Command}
 use Rattle.bhs_model.specs.declared.commands.Command.TheVariants.{Enter, Look, Write, Depart, Accuse, Leave, Bad}
 use Rattle.bhs_model.specs.declared.events.Event.{Event}
@@ -14,7 +14,7 @@ use Rattle.bhs_model.specs.declared.marks.Kept.{Kept}
 use Rattle.bhs_model.specs.declared.limits.TheConstants.{MAX_AGENTS}
 use Rattle.bhs_model.specs.declared.setups.Setup.{Setup}
 use Rattle.bhs_model.specs.Marks.{read_if}
-use Rattle.bhs_model.specs.Runs.{Position, Before, At, Bound, After, position_after}
+use Rattle.bhs_model.specs.Runs.{position_after}
 use Rattle.bhs_model.specs.Setups.{world_of}
 use Rattle.bhs_agent.specs.declared.standings.Standing.{Standing}
 use Rattle.bhs_agent.specs.declared.standings.Standing.TheVariants.{Outside, Present, Away, Ended}
@@ -25,7 +25,7 @@ use Rattle.bhs_world.proofs.SoundLemmas.{far_placed}
 use Rattle.bhs_referee.specs.declared.walks.Track.{Track}
 use Rattle.bhs_referee.specs.declared.walks.Walk.{Walk}
 use Rattle.bhs_referee.specs.Findings.{accused_by, moves_by}
-use Rattle.bhs_referee.specs.Walks.{fresh, track_at, standing_told, accused_told, track_told, moves_told, walk_told, walk_arrived, walk_lost, walk_delivered, walk_by, walk_after, walk_from, start, IsPlaced, AllPlaced}
+use Rattle.bhs_referee.specs.Walks.{fresh, track_at, standing_told, accused_told, moves_told, walk_delivered, walk_by, walk_after, walk_from, start, IsPlaced, AllPlaced}
 
 standing_placed : (net : Network) (home : ℕ) (standing : Standing) (command : Command) → home < nodes_of net → IsPlaced net standing → IsPlaced net (standing_told net home standing command)
 standing_placed net home Outside Enter home_in placed = home_in

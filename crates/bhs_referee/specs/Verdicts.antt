@@ -1,8 +1,8 @@
 -- The verdict on a match that has ended.
-use Rattle.std.specs.Prelude.{ℕ, Bool, true, false, not, ◌&&◌, ◌||◌, Option, Some, None, List, ◌==◌, if◌then◌else◌, count_by, find}
+use Rattle.std.specs.Prelude.{ℕ, Bool, true, false, not, ◌&&◌, ◌||◌, Option, Some, None, ◌==◌, if◌then◌else◌, count_by, find}
 use Rattle.std.specs.List.{list_any, range_with_len}
 use Rattle.bhs_model.specs.Worlds.{World, is_hole, names, is_dark, doomed}
-use Rattle.bhs_model.specs.Runs.{Position, At, State, run}
+use Rattle.bhs_model.specs.Runs.{Position, At, run}
 use Rattle.bhs_model.specs.Kept.{lost}
 use Rattle.bhs_model.specs.Marks.{events_of}
 use Rattle.bhs_match.specs.Matches.{Play, world_in}
@@ -52,9 +52,9 @@ abbrev pub is_present : Position → Bool
 is_present (At node came) = true
 is_present position = false
 
--- whether some agent is at a node
-abbrev pub is_unfinished : World → State → Bool
-is_unfinished world state = list_any (λ agent. is_present (state.position agent)) (range_with_len 0 world.agents)
+-- whether some agent is at a node, by the agents' positions
+abbrev pub is_unfinished : World → (position : ℕ → Position) → Bool
+is_unfinished world position = list_any (λ agent. is_present (position agent)) (range_with_len 0 world.agents)
 
 -- whether no agent arrived at a node that is neither the home base nor a black hole
 abbrev pub is_unreached : World → Findings → (node : ℕ) → Bool
@@ -71,23 +71,23 @@ guess_or_solved None = Solved
 
 -- The first that holds: an accusation is wrong; none is made, or a black hole or a dark link is left out; an agent is
 -- still at a node; an accusation of a link that is not dark was made while a node was not reached; or all is well.
-abbrev pub outcome_of : World → State → Findings → Outcome
-outcome_of world state found =
+abbrev pub outcome_of : World → (position : ℕ → Position) → Findings → Outcome
+outcome_of world position found =
     if accuses world found (λ link. not (is_right world link)) then Wrong
     else (if is_silent world found then Silent
-    else (if is_unfinished world state then Unfinished
+    else (if is_unfinished world position then Unfinished
     else (if accuses world found (λ link. not (is_over_dark world link))
     then guess_or_solved (first_unreached world found)
     else Solved)))
 
--- the verdict on a match, by the state at its end: the outcome, the number of moves, and how many agents are lost
+-- the verdict on a match that has ended: the outcome, the number of moves, and how many agents are lost
 abbrev pub verdict_of : Play → Verdict
 verdict_of play =
     let world = world_in play in
     let events = events_of play.log in
     let found = findings world events in
     record {
-      outcome = outcome_of world (run world events) found;
+      outcome = outcome_of world (run world events).position found;
       moves = found.moves;
       lost = count_by (lost world events) (range_with_len 0 world.agents);
     }

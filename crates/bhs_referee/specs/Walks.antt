@@ -9,12 +9,15 @@ use Rattle.bhs_model.specs.declared.events.Event.TheVariants.{Tell, Deliver, Clo
 use Rattle.bhs_model.specs.declared.marks.Mark.{Mark}
 use Rattle.bhs_model.specs.declared.marks.Mark.TheVariants.{Gone, Noted}
 use Rattle.bhs_model.specs.declared.marks.Kept.{Kept}
+use Rattle.bhs_model.specs.Runs.{Position}
+use Rattle.bhs_agent.specs.Agents.{position_of}
 use Rattle.bhs_agent.specs.declared.standings.Standing.{Standing}
 use Rattle.bhs_agent.specs.declared.standings.Standing.TheVariants.{Outside, Present, Away, Ended}
 use Rattle.bhs_net.specs.declared.faults.TheConstants.{MAX_NODES}
 use Rattle.bhs_model.specs.declared.limits.TheConstants.{MAX_AGENTS}
 use Rattle.bhs_referee.specs.declared.walks.Track.{Track}
 use Rattle.bhs_referee.specs.declared.walks.Walk.{Walk}
+use Rattle.bhs_referee.specs.Findings.{Findings}
 
 -- an agent that has not entered
 abbrev pub fresh : Track
@@ -102,3 +105,19 @@ IsPlaced net standing = Unit {0}
 
 abbrev pub AllPlaced : Network → List Track → Type 0
 AllPlaced net tracks = (agent : ℕ) → IsPlaced net (track_at tracks agent).standing
+
+-- what a walk has found
+abbrev pub found_in : Walk → Findings
+found_in walk = record {
+  accused = λ agent. (track_at walk.agents agent).accused;
+  reached = λ node. slice_index_or walk.reached node false;
+  moves = walk.moves;
+}
+
+-- where a walk has an agent
+abbrev pub position_in : Walk → (agent : ℕ) → Position
+position_in walk agent = position_of (track_at walk.agents agent).standing
+
+-- who is lost by a walk
+abbrev pub lost_in : Walk → (agent : ℕ) → Bool
+lost_in walk agent = (track_at walk.agents agent).lost

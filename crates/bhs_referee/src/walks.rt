@@ -1,4 +1,4 @@
-ghost use Rattle.std.specs.Prelude.{◌≡◌, ◌+◌, ◌-◌, ◌<◌, ◌^◌, length, true, slice_set};
+ghost use Rattle.std.specs.Prelude.{◌≡◌, ◌+◌, ◌-◌, ◌<◌, ◌^◌, length, true, false, slice_set, slice_index_or};
 ghost use Rattle.bhs_net.specs.Network.{IsNetwork, nodes_of};
 ghost use Rattle.bhs_referee.specs.Walks.{fresh, start, track_at, standing_told, accused_told, track_told, moves_told, walk_told, walk_delivered, walk_after, walk_from, IsPlaced, AllPlaced};
 
@@ -114,6 +114,16 @@ impl Walk {
         match self.agents.get(usize::from(agent)) {
             Some(track) => *track,
             None => Track::fresh(),
+        }
+    }
+
+    /// Whether an agent arrived at this node.
+    pub(crate) fn is_reached(&self, node: u16) -> bool
+        ensures { result ≡ slice_index_or self.now.reached node false }
+    {
+        match self.reached.get(usize::from(node)) {
+            Some(reached) => *reached,
+            None => false,
         }
     }
 

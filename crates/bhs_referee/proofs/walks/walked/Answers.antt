@@ -1,5 +1,4 @@
-use Rattle.std.proofs.Common.{◌≡◌, ◌∙◌, sym, ap, refl, arith, drop, length}
-use Rattle.bhs_referee.specs.Walks.{walk_from, walk_after}
+use Rattle.std.proofs.Common.{◌∙◌, refl, arith}
 use Rattle.bhs_referee.proofs.WalkLemmas.{start_placed, after_placed, after_few, stepped}
 use Rattle.bhs_referee.proofs.walks.walked.Goals as goal
 
