@@ -9,3 +9,6 @@ mod walks;
 
 pub use judging::judge;
 pub use verdicts::{Outcome, Verdict};
+
+#[cfg(test)]
+mod tests;
