@@ -22,7 +22,7 @@ fn a_table_of_two(rt: HostRuntime) -> Result<(), Fail> {
         row(alloc, "red", Outcome::Solved, 1)?,
     ];
     let places = rank(alloc, &rows)?;
-    assert_eq!(rt; places.as_slice(), &[1, 0]);
+    assert_eq!(rt; places.as_slice(), [1, 0].as_slice());
     let text = table(alloc, &rows)?;
     let expected = "  # team             outcome     moves lost\n\
                     \x20 1 red              solved          1    0\n\
