@@ -1,5 +1,5 @@
 -- The order of a table of verdicts.
-use Rattle.std.specs.Prelude.{ℕ, Bool, Option, List, length, slice_get, string_bytes}
+use Rattle.std.specs.Prelude.{ℕ, Bool, List, length, slice_get, string_bytes}
 use Rattle.std.specs.List.{range_with_len}
 use Rattle.std.specs.List.Sorted.{IsPermutation, IsSortedBy, IsStableBy}
 use Rattle.std.specs.Ordering.{nat_cmp, is_lt, on, then_cmp}

@@ -1,4 +1,4 @@
-use Rattle.std.proofs.Common.{rules, refl, ◌≡◌, ◌∙◌, sym, ap, ◌++◌, List, ℕ, string_bytes}
+use Rattle.std.proofs.Common.{refl, ◌∙◌, ap, ◌++◌, List, ℕ, string_bytes}
 use Rattle.bhs_standings.proofs.TableLemmas.{goes_on}
 use Rattle.bhs_standings.proofs.printing.table.Goals as goal
 

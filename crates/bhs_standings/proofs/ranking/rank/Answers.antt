@@ -1,4 +1,4 @@
-use Rattle.std.proofs.Common.{rules, ◌≡◌, ◌∙◌, sym, ap, ◌++◌, ◌∷◌, [], arith, subst}
+use Rattle.std.proofs.Common.{rules, arith}
 use Rattle.std.proofs.lemmas.Fn.{always_returns_same}
 use Rattle.bhs_model.proofs.NormalLemmas.{range_more}
 use Rattle.bhs_standings.specs.Ranks.{precedes}
