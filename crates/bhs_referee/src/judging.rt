@@ -1,0 +1,48 @@
+ghost use Rattle.std.specs.Prelude.{◌≡◌};
+ghost use Rattle.bhs_model.specs.Setups.{world_of};
+ghost use Rattle.bhs_referee.specs.Verdicts.{outcome_of, verdict_of};
+ghost use Rattle.bhs_referee.specs.Walks.{found_in, position_in};
+
+use crate::looks::{first_unreached, is_past_dark, is_silent, is_unfinished, is_wrong, lost};
+use crate::verdicts::{Outcome, Verdict};
+use crate::walks::{Walk, walked};
+use bhs_match::Sealed;
+use bhs_model::Setup;
+use bhs_net::Net;
+
+/// The verdict on a match that has ended. Takes no memory, and one pass over the log.
+pub fn judge(sealed: &Sealed) -> Verdict
+    ensures { result ≡ verdict_of sealed.now }
+{
+    let net = sealed.net();
+    let setup = sealed.setup();
+    let nodes = net.nodes();
+    let walk = walked(net, setup.home, sealed.log());
+    Verdict {
+        outcome: outcome(net, setup, &walk),
+        moves: walk.moves,
+        lost: lost(setup, &walk),
+    }
+}
+
+/// The outcome that a walk over the whole log leads to.
+fn outcome(net: &Net, setup: &Setup, walk: &Walk) -> Outcome
+    ensures { result ≡ outcome_of (world_of net.now setup.now) (position_in walk.now) (found_in walk.now) }
+{
+    if is_wrong(net, setup, walk) {
+        return Outcome::Wrong;
+    }
+    if is_silent(net, setup, walk) {
+        return Outcome::Silent;
+    }
+    if is_unfinished(net, setup, walk) {
+        return Outcome::Unfinished;
+    }
+    if !is_past_dark(net, setup, walk) {
+        return Outcome::Solved;
+    }
+    match first_unreached(net, setup, walk) {
+        Some(node) => Outcome::Guess { node },
+        None => Outcome::Solved,
+    }
+}

@@ -1,0 +1,14 @@
+//! The referee: the verdict on a match that has ended.
+#![tactic(auto)]
+
+mod judging;
+mod links;
+mod looks;
+mod verdicts;
+mod walks;
+
+pub use judging::judge;
+pub use verdicts::{Outcome, Verdict};
+
+#[cfg(test)]
+mod tests;

@@ -1,0 +1,54 @@
+//! What is to be known of a link that was accused, which is named by a node and a port.
+
+ghost use Rattle.std.specs.Prelude.{◌≡◌};
+ghost use Rattle.bhs_net.specs.Network.{far_of};
+ghost use Rattle.bhs_model.specs.Worlds.{is_hole, names};
+ghost use Rattle.bhs_model.specs.Setups.{world_of};
+ghost use Rattle.bhs_referee.specs.Verdicts.{is_same_link, is_over_dark, is_right};
+
+use bhs_model::Setup;
+use bhs_net::Net;
+
+/// The far end of a link; (0, 0) where there is no such port.
+pub(crate) fn far(net: &Net, link: (u16, u16)) -> (u16, u16)
+    ensures { result ≡ far_of net.now link.0 link.1 }
+{
+    let (node, port) = link;
+    if node < net.nodes() && port < net.degree(node) {
+        net.far(node, port)
+    } else {
+        (0, 0)
+    }
+}
+
+/// Whether this node is a black hole.
+pub(crate) fn is_hole(setup: &Setup, node: u16) -> bool
+    ensures { result ≡ is_hole setup.now.holes node }
+{
+    setup.holes.nodes().iter().any(|hole| *hole == node)
+}
+
+/// Whether two ends are of one link.
+pub(crate) fn is_same_link(net: &Net, setup: &Setup, link: (u16, u16), end: (u16, u16)) -> bool
+    ensures { result ≡ is_same_link (world_of net.now setup.now) link end }
+{
+    end == link || far(net, end) == link
+}
+
+/// Whether a link is dark.
+pub(crate) fn is_dark(net: &Net, setup: &Setup, link: (u16, u16)) -> bool
+    ensures { result ≡ is_over_dark (world_of net.now setup.now) link }
+{
+    setup
+        .dark
+        .ends()
+        .iter()
+        .any(|end| is_same_link(net, setup, link, *end))
+}
+
+/// Whether a link leads to a black hole or is dark.
+pub(crate) fn is_right(net: &Net, setup: &Setup, link: (u16, u16)) -> bool
+    ensures { result ≡ is_right (world_of net.now setup.now) link }
+{
+    is_hole(setup, far(net, link).0) || is_dark(net, setup, link)
+}
