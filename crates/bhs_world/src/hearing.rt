@@ -141,7 +141,8 @@ pub(crate) fn shows_from(limit: u16, standing: Standing, command: &Command) -> b
 {
     match (standing, command) {
         (_, Command::Enter) | (Standing::Present { .. }, Command::Look) => true,
-        (Standing::Present { .. }, Command::Write { put, .. }) => put.as_str().len() <= usize::from(limit),
+        (Standing::Present { .. }, Command::Write { put, .. }) => put.as_str().len()
+            <= usize::from(limit),
         _ => false,
     }
 }

@@ -255,7 +255,11 @@ impl World {
         if agent >= self.setup.agents || self.closed || self.refusal(agent, command).is_some() {
             return false;
         }
-        shows_from(self.setup.board, self.agents[usize::from(agent)].standing(), command)
+        shows_from(
+            self.setup.board,
+            self.agents[usize::from(agent)].standing(),
+            command,
+        )
     }
 
     /// Whether a Deliver of the agent is kept: it arrives, or is destroyed for the first time.
