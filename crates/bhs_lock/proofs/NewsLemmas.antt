@@ -13,7 +13,8 @@ use Rattle.bhs_model.specs.Marks.{events_of, read, read_if}
 use Rattle.bhs_model.specs.Views.{Arrived}
 use Rattle.bhs_model.specs.Replying.{rep}
 use Rattle.bhs_model.specs.Worlds.{World}
-use Rattle.bhs_model.specs.Runs.{Position, Before, At, Bound, After, State, initial, next, delivered, arrives, is_bound, sight_at, reply, replies, replies_from}
+use Rattle.bhs_model.specs.Runs.{Position, Before, At, Bound, After, State, initial, next, delivered, arrives, is_bound, sight_at, reply}
+use Rattle.bhs_model.specs.InOrder.{replies, replies_from}
 use Rattle.bhs_world.proofs.ListLemmas.{changed_same}
 use Rattle.bhs_match.specs.Matches.{Play, world_in}
 use Rattle.bhs_lock.specs.declared.model.Receipt.{Receipt}

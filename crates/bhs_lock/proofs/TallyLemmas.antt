@@ -17,7 +17,8 @@ use Rattle.bhs_model.specs.Marks.{events_of, read, read_if}
 use Rattle.bhs_model.specs.Views.{View, Told, Standing, standing, standing_after, used, ports, counts}
 use Rattle.bhs_model.specs.Replying.{accepts, hears, answer, rep}
 use Rattle.bhs_model.specs.Worlds.{World}
-use Rattle.bhs_model.specs.Runs.{State, run, next, heard, glance, replies, reply, reply_to_command, reply_in_play}
+use Rattle.bhs_model.specs.Runs.{State, run, next, heard, glance, reply, reply_to_command, reply_in_play}
+use Rattle.bhs_model.specs.InOrder.{replies}
 use Rattle.bhs_world.specs.Tables.{keeps_next, log_after}
 use Rattle.bhs_world.proofs.ListLemmas.{each_set, changed_same}
 use Rattle.bhs_world.proofs.GrowthLemmas.{run_from_more, events_more}

@@ -14,7 +14,8 @@ use Rattle.bhs_model.specs.declared.marks.Kept.{Kept}
 use Rattle.bhs_model.specs.declared.setups.Setup.{Setup}
 use Rattle.bhs_model.specs.Replying.{text}
 use Rattle.bhs_model.specs.Worlds.{World}
-use Rattle.bhs_model.specs.Runs.{Position, Before, At, Bound as OnLink, After, State, initial, is_bound, is_doomed, next, run, run_from, reply, replies}
+use Rattle.bhs_model.specs.Runs.{Position, Before, At, Bound as OnLink, After, State, initial, is_bound, is_doomed, next, run, run_from, reply}
+use Rattle.bhs_model.specs.InOrder.{replies}
 use Rattle.bhs_model.specs.Kept.{keeps, kept_first, kept_from, kept, lost, lost_from, lost_after, nobody}
 use Rattle.bhs_model.specs.Setups.{world_of}
 use Rattle.bhs_model.specs.Marks.{events_of, read_if, text_at}

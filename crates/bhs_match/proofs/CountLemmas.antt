@@ -9,6 +9,7 @@ use Rattle.bhs_model.specs.Views.{View, Told, used}
 use Rattle.bhs_model.specs.Worlds.{World, doomed}
 use Rattle.bhs_model.specs.Runs.{Position, Before, At, Bound, After, State, initial, changed, glance, position_after, told, is_doomed, arrives, arrived, delivered, heard, next, run, run_from}
 use Rattle.bhs_model.specs.Kept.{destroys, lost_after, keeps, kept_first, kept_from, kept, lost, lost_from, nobody}
+use Rattle.bhs_model.proofs.StepLemmas.{by_cases}
 use Rattle.bhs_match.specs.Matches.{most_kept}
 use Rattle.bhs_match.proofs.MoveLemmas.{IsGone, Moves, weight}
 use Rattle.bhs_match.proofs.FairLemmas.{IsFair, IsHeard, heard_means, moves_of, IsArriving, arrival_means, bound_within, fair_next, fair_run, fair_run_from, fair_initial}
@@ -63,10 +64,6 @@ total : World → State → (ℕ → Bool) → ℕ
 total world state lost = sum_to world.agents (share state lost) + bit state.closed
 
 -- each step that is kept uses up one more
-
-by_cases : (b : Bool) (P : Type 0) → (b ≡ true → P) → (b ≡ false → P) → P
-by_cases true P yes_case no_case = yes_case refl
-by_cases false P yes_case no_case = no_case refl
 
 heavier : (position : Position) (is_lost : Bool) → weight position is_lost ≤ weight position true
 heavier Before is_lost = omega arith

@@ -5,7 +5,8 @@ use Rattle.bhs_model.specs.declared.events.Event.{Event}
 use Rattle.bhs_model.specs.declared.marks.Mark.{Mark}
 use Rattle.bhs_model.specs.declared.marks.Kept.{Kept}
 use Rattle.bhs_model.specs.Worlds.{World}
-use Rattle.bhs_model.specs.Runs.{Position, State, initial, run, reply, replies}
+use Rattle.bhs_model.specs.Runs.{Position, State, initial, run, reply}
+use Rattle.bhs_model.specs.InOrder.{replies}
 use Rattle.bhs_model.specs.KeptReplies.{kept_replies}
 use Rattle.bhs_model.specs.Kept.{keeps, kept_first, kept, lost, nobody}
 use Rattle.bhs_model.specs.Draws.{pool}

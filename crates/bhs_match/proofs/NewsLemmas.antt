@@ -11,7 +11,8 @@ use Rattle.bhs_model.specs.declared.replies.Reply.{Reply}
 use Rattle.bhs_model.specs.Views.{used}
 use Rattle.bhs_model.specs.Replying.{rep}
 use Rattle.bhs_model.specs.Worlds.{World}
-use Rattle.bhs_model.specs.Runs.{Position, Before, At, Bound, After, State, initial, changed, told, arrived, delivered, arrives, heard, next, run, run_from, reply, replies, replies_from}
+use Rattle.bhs_model.specs.Runs.{Position, Before, At, Bound, After, State, initial, changed, told, arrived, delivered, arrives, heard, next, run, run_from, reply}
+use Rattle.bhs_model.specs.InOrder.{replies, replies_from}
 use Rattle.bhs_model.specs.Kept.{lost_after, lost, nobody}
 use Rattle.bhs_model.specs.Marks.{events_of, read_if}
 use Rattle.bhs_match.specs.Matches.{is_arrival, arrivals_from, arrivals}

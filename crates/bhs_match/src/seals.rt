@@ -4,7 +4,7 @@ ghost use Rattle.bhs_model.specs.Kept.{kept};
 ghost use Rattle.bhs_model.specs.KeptReplies.{kept_replies};
 ghost use Rattle.bhs_model.specs.Places.{names};
 ghost use Rattle.bhs_model.specs.Marks.{events_of, read, read_if, text_at, board_of};
-ghost use Rattle.bhs_model.specs.Runs.{replies};
+ghost use Rattle.bhs_model.specs.InOrder.{replies};
 ghost use Rattle.bhs_model.specs.Setups.{IsNormal};
 ghost use Rattle.bhs_world.specs.Faults.{IsWithinLimits};
 ghost use Rattle.bhs_match.specs.Laws.{IsLogOf};

@@ -3,7 +3,8 @@ use Rattle.std.proofs.Common.{ℕ, ◌≡◌, Bool, true, false, Option, List, [
 use Rattle.bhs_model.specs.declared.events.Event.{Event}
 use Rattle.bhs_model.specs.declared.replies.Reply.{Reply}
 use Rattle.bhs_model.specs.Worlds.{World}
-use Rattle.bhs_model.specs.Runs.{State, initial, next, run_from, reply, replies_from}
+use Rattle.bhs_model.specs.Runs.{State, initial, next, run_from, reply}
+use Rattle.bhs_model.specs.InOrder.{replies_from}
 use Rattle.bhs_model.specs.Kept.{keeps, kept_first, kept_from, lost_after, lost_from, nobody}
 use Rattle.bhs_model.specs.Laws.{EventsAdd}
 

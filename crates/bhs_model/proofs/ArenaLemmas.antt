@@ -3,7 +3,8 @@ use Rattle.std.proofs.Common.{ℕ, ◌≡◌, Bool, true, false, Option, List, [
 use Rattle.std.proofs.lemmas.Bool.{eqb-true}
 use Rattle.bhs_model.specs.declared.replies.Reply.{Reply}
 use Rattle.bhs_model.specs.Worlds.{World}
-use Rattle.bhs_model.specs.Runs.{State, changed, next, run_from, reply, replies_from}
+use Rattle.bhs_model.specs.Runs.{State, changed, next, run_from, reply}
+use Rattle.bhs_model.specs.InOrder.{replies_from}
 use Rattle.bhs_model.specs.Arenas.{Happening, events_of, arena_from, arena_replies_from, none_begun}
 use Rattle.bhs_model.specs.Laws.{MatchesAreApart, AmongMatches}
 use Rattle.bhs_model.specs.Replying.{reps}

@@ -12,7 +12,8 @@ use Rattle.bhs_model.specs.declared.replies.Why.TheVariants.{Agent}
 use Rattle.bhs_model.specs.Views.{View, Told, Arrived, Saw, Glance, Seen, LastWrite, WrittenBy, standing}
 use Rattle.bhs_model.specs.Replying.{rep, hears, refusal}
 use Rattle.bhs_model.specs.Worlds.{World}
-use Rattle.bhs_model.specs.Runs.{Position, Before, At, Bound, After, State, initial, changed, glance, position_after, last_writes_after, heard, arrives, is_let_through, told, delivered, next, reply, replies_from}
+use Rattle.bhs_model.specs.Runs.{Position, Before, At, Bound, After, State, initial, changed, glance, position_after, last_writes_after, heard, arrives, is_let_through, told, delivered, next, reply}
+use Rattle.bhs_model.specs.InOrder.{replies_from}
 use Rattle.bhs_model.specs.Cuts.{at_places, Footprint, node_seen, node_written, node_reached, footprint, footprints_from, meet, needs, is_closed}
 use Rattle.bhs_model.specs.Laws.{ClosedSetsStandAlone}
 use Rattle.bhs_model.proofs.StepLemmas.{changed_other, by_cases, next_heard, next_unheard, next_arrived, next_no_arrival}

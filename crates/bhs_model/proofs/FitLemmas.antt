@@ -6,9 +6,9 @@ use Rattle.bhs_model.specs.declared.commands.Command.TheVariants.{Enter, Look, W
 use Rattle.bhs_model.specs.declared.events.Event.{Event}
 use Rattle.bhs_model.specs.declared.events.Event.TheVariants.{Tell, Deliver, Close}
 use Rattle.bhs_model.specs.Views.{View}
-use Rattle.bhs_model.specs.Worlds.{World, StaysInRange}
+use Rattle.bhs_model.specs.Worlds.{World}
+use Rattle.bhs_model.specs.Laws.{StaysInRange, Fits, PastsFitPositions}
 use Rattle.bhs_model.specs.Runs.{Position, Before, At, Bound, After, State, initial, changed, position_after, heard, arrives, delivered, next, run, run_from}
-use Rattle.bhs_model.specs.Laws.{Fits, PastsFitPositions}
 use Rattle.bhs_model.proofs.StepLemmas.{by_cases}
 use Rattle.bhs_model.proofs.LegalLemmas.{IsLegal, either, all_run}
 

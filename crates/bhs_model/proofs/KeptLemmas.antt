@@ -4,7 +4,8 @@ use Rattle.std.proofs.lemmas.Bool.{cond-true, cond-false, cond_both, or_parts, n
 use Rattle.bhs_model.specs.declared.events.Event.{Event}
 use Rattle.bhs_model.specs.declared.events.Event.TheVariants.{Tell, Deliver, Close}
 use Rattle.bhs_model.specs.Worlds.{World}
-use Rattle.bhs_model.specs.Runs.{State, initial, changed, arrives, next, run_from, reply, replies_from}
+use Rattle.bhs_model.specs.Runs.{State, initial, changed, arrives, next, run_from, reply}
+use Rattle.bhs_model.specs.InOrder.{replies_from}
 use Rattle.bhs_model.specs.Kept.{destroys, lost_after, keeps, kept_from, lost_from, nobody, lost}
 use Rattle.bhs_model.specs.declared.replies.Reply.{Reply}
 use Rattle.bhs_model.specs.KeptReplies.{kept_replies_from}

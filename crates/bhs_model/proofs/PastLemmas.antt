@@ -9,7 +9,8 @@ use Rattle.bhs_model.specs.declared.replies.Reply.TheVariants.{No}
 use Rattle.bhs_model.specs.Views.{View, standing}
 use Rattle.bhs_model.specs.Replying.{rep, reps, hears, refusal}
 use Rattle.bhs_model.specs.Worlds.{World}
-use Rattle.bhs_model.specs.Runs.{Position, Before, At, Bound, After, State, initial, changed, past, run, run_from, arrives, is_let_through, delivered, next, reply, is_of, replies_to_from}
+use Rattle.bhs_model.specs.Runs.{Position, Before, At, Bound, After, State, initial, changed, past, run, run_from, arrives, is_let_through, delivered, next, reply}
+use Rattle.bhs_model.specs.InOrder.{is_of, replies_to_from}
 use Rattle.bhs_model.specs.Kept.{lost_after, keeps, kept_from, nobody}
 use Rattle.bhs_model.specs.Laws.{EqualPasts, RepliesAreOfPasts}
 use Rattle.bhs_model.proofs.StepLemmas.{changed_same, by_cases, heard_by_past, refused_by_past, answered_by_past, arrival_by_past, no_arrival_no_reply, next_heard, next_arrived, next_no_arrival}

@@ -6,7 +6,8 @@ use Rattle.bhs_model.specs.declared.events.Event.{Event}
 use Rattle.bhs_model.specs.declared.events.Event.TheVariants.{Tell, Deliver, Close}
 use Rattle.bhs_model.specs.declared.replies.Reply.{Reply}
 use Rattle.bhs_model.specs.Worlds.{World}
-use Rattle.bhs_model.specs.Runs.{State, initial, next, run_from, reply, replies_from, is_of, replies_to_from}
+use Rattle.bhs_model.specs.Runs.{State, initial, next, run_from, reply}
+use Rattle.bhs_model.specs.InOrder.{replies_from, is_of, replies_to_from}
 use Rattle.bhs_model.specs.Cuts.{at_places, Footprint, footprint, footprints_from, footprints, needs, is_closed, HasAllOf, cut}
 use Rattle.bhs_model.specs.Laws.{CutsSuffice}
 use Rattle.bhs_model.proofs.StepLemmas.{by_cases}

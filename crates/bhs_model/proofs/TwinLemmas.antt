@@ -5,10 +5,11 @@ use Rattle.bhs_model.specs.declared.events.Event.{Event}
 use Rattle.bhs_model.specs.declared.events.Event.TheVariants.{Tell, Deliver, Close}
 use Rattle.bhs_model.specs.declared.replies.Reply.{Reply}
 use Rattle.bhs_model.specs.Replying.{rep}
-use Rattle.bhs_model.specs.Worlds.{World, SameButDoom}
-use Rattle.bhs_model.specs.Runs.{Position, Before, At, Bound, After, State, initial, run_from, run, is_bound, arrives, is_let_through, delivered, next, reply, is_of, replies_to_from}
+use Rattle.bhs_model.specs.Worlds.{World}
+use Rattle.bhs_model.specs.Twins.{SameButDoom, is_struck, strike_from, strike, reveals, RevealsNothing}
+use Rattle.bhs_model.specs.Runs.{Position, Before, At, Bound, After, State, initial, run_from, run, is_bound, arrives, is_let_through, delivered, next, reply}
+use Rattle.bhs_model.specs.InOrder.{is_of, replies_to_from}
 use Rattle.bhs_model.specs.Runs.{is_doomed}
-use Rattle.bhs_model.specs.Twins.{is_struck, strike_from, strike, reveals, RevealsNothing}
 use Rattle.bhs_model.specs.Laws.{TwinsLookAlike}
 use Rattle.bhs_model.proofs.StepLemmas.{next_no_arrival, no_arrival_no_reply}
 

@@ -3,7 +3,8 @@ use Rattle.std.specs.Prelude.{ℕ, ◌≡◌, ◌%◌, Bool, false, ◌||◌, Op
 use Rattle.bhs_model.specs.declared.commands.Command.{Command}
 use Rattle.bhs_model.specs.declared.events.Event.{Event}
 use Rattle.bhs_model.specs.declared.events.Event.TheVariants.{Tell, Deliver, Close}
-use Rattle.bhs_model.specs.Worlds.{World, SameButDoom, doomed}
+use Rattle.bhs_model.specs.Worlds.{World, doomed}
+use Rattle.bhs_model.specs.Twins.{SameButDoom}
 use Rattle.bhs_model.specs.Runs.{Position, Bound, State, initial, is_bound, next}
 
 -- the agents that are on a link, destroyed ones too, in order of their last departure

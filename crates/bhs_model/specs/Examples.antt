@@ -9,7 +9,8 @@ use Rattle.bhs_model.specs.declared.replies.Why.TheVariants.{Agent, Outside, Twi
 use Rattle.bhs_model.specs.Views.{Start, Told, Saw, Seen, Unwritten, WrittenBy}
 use Rattle.bhs_model.specs.Worlds.{World}
 use Rattle.bhs_model.specs.Setups.{network_of}
-use Rattle.bhs_model.specs.Runs.{run, replies, replies_to}
+use Rattle.bhs_model.specs.Runs.{run}
+use Rattle.bhs_model.specs.InOrder.{replies, replies_to}
 use Rattle.bhs_model.specs.Places.{written, names}
 use Rattle.bhs_model.specs.Kept.{kept, lost}
 use Rattle.bhs_model.specs.Twins.{Twins, reveals}

@@ -5,8 +5,9 @@ use Rattle.bhs_model.specs.declared.events.Event.{Event}
 use Rattle.bhs_model.specs.declared.events.Event.TheVariants.{Tell}
 use Rattle.bhs_model.specs.Views.{View, Outside, Present, Away, Ended, standing, ports}
 use Rattle.bhs_model.specs.Replying.{rep, reps}
-use Rattle.bhs_model.specs.Worlds.{World, doomed, StaysInRange}
-use Rattle.bhs_model.specs.Runs.{Position, Before, At, Bound, After, run, past, heard, next, reply, replies, replies_to}
+use Rattle.bhs_model.specs.Worlds.{World, doomed}
+use Rattle.bhs_model.specs.Runs.{Position, Before, At, Bound, After, run, past, heard, next, reply}
+use Rattle.bhs_model.specs.InOrder.{replies, replies_to}
 use Rattle.bhs_model.specs.Kept.{keeps, kept, lost, lost_after}
 use Rattle.bhs_model.specs.KeptReplies.{kept_replies}
 use Rattle.bhs_model.specs.Twins.{Twins}
@@ -139,6 +140,12 @@ HasSlowTwin = (world : World) (held : Held) →
 abbrev pub HoleLooksSlow : Type 0
 HoleLooksSlow = (world : World) (held : Held) (slow : World) (still : Held) (acts : List Act) →
     SlowInstead world held slow still → LooksSlow world held slow still acts
+
+-- the home base is a node, and each port leads to a node
+pub record StaysInRange (world : World) : Type 0 where
+  pub home : world.home < world.net.nodes
+  pub far : (node port : ℕ) → node < world.net.nodes → port < world.net.degree node →
+      (world.net.far node port).0 < world.net.nodes
 
 -- the past of an agent says what its position does: what it is doing, and how many ports its node has
 abbrev pub Fits : World → View → Position → Type 0

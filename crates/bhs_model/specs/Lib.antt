@@ -3,6 +3,7 @@ pub mod Views
 pub mod Replying
 pub mod Worlds
 pub mod Runs
+pub mod InOrder
 pub mod Standings
 pub mod Places
 pub mod Kept

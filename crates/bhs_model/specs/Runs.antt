@@ -1,5 +1,5 @@
 -- What happens in a match, as a fold over its events, and what is answered.
-use Rattle.std.specs.Prelude.{ℕ, Bool, true, false, not, ◌&&◌, Option, Some, None, List, [], ◌∷◌, ◌++◌, if◌then◌else◌, ◌==◌, nat_lt, filter, option_to_list}
+use Rattle.std.specs.Prelude.{ℕ, Bool, true, false, not, ◌&&◌, Option, Some, None, List, [], ◌∷◌, ◌++◌, if◌then◌else◌, ◌==◌, nat_lt, filter}
 use Rattle.bhs_model.specs.declared.commands.Command.{Command}
 use Rattle.bhs_model.specs.declared.commands.Command.TheVariants.{Enter, Look, Write, Depart, Accuse, Leave}
 use Rattle.bhs_model.specs.declared.events.Event.{Event}
@@ -170,28 +170,3 @@ reply world state (Deliver agent) =
     then rep world.board ((next world state (Deliver agent)).past agent)
     else None
 reply world state Close = None
-
--- the replies to these events
-abbrev pub replies_from : World → State → List Event → List (Option Reply)
-replies_from world state [] = []
-replies_from world state (event ∷ events) =
-    reply world state event ∷ replies_from world (next world state event) events
-
-abbrev pub replies : World → List Event → List (Option Reply)
-replies world events = replies_from world initial events
-
--- whether an event is the agent's
-abbrev pub is_of : (agent : ℕ) → Event → Bool
-is_of agent (Tell other command) = agent == other
-is_of agent (Deliver other) = agent == other
-is_of agent Close = false
-
--- what an agent was answered
-abbrev pub replies_to_from : World → State → (agent : ℕ) → List Event → List Reply
-replies_to_from world state agent [] = []
-replies_to_from world state agent (event ∷ events) =
-    (if is_of agent event then option_to_list (reply world state event) else [])
-    ++ replies_to_from world (next world state event) agent events
-
-abbrev pub replies_to : World → (agent : ℕ) → List Event → List Reply
-replies_to world agent events = replies_to_from world initial agent events

@@ -3,9 +3,17 @@
 use Rattle.std.specs.Prelude.{Bool, false, ◌&&◌, ◌||◌, ◌≡◌, List, [], ◌∷◌, if◌then◌else◌}
 use Rattle.bhs_model.specs.declared.events.Event.{Event}
 use Rattle.bhs_model.specs.declared.events.Event.TheVariants.{Deliver}
-use Rattle.bhs_model.specs.Worlds.{World, SameButDoom}
+use Rattle.bhs_model.specs.Worlds.{World}
 use Rattle.bhs_model.specs.Runs.{State, initial, next}
 use Rattle.bhs_model.specs.Runs.{is_doomed, arrives}
+
+-- two worlds that are equal but for what destroys
+pub record SameButDoom (one two : World) : Type 0 where
+  pub net : one.net ≡ two.net
+  pub home : one.home ≡ two.home
+  pub agents : one.agents ≡ two.agents
+  pub quota : one.quota ≡ two.quota
+  pub board : one.board ≡ two.board
 
 -- whether an event is struck: a Deliver that finds its agent on a link that destroys in either world
 abbrev pub is_struck : (world other : World) → State → Event → Bool

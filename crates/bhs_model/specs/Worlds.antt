@@ -1,5 +1,5 @@
 -- The world that a match is played in.
-use Rattle.std.specs.Prelude.{ℕ, Bool, ◌||◌, List, ◌==◌, ◌&&◌, ◌≡◌, ◌<◌}
+use Rattle.std.specs.Prelude.{ℕ, Bool, ◌||◌, List, ◌==◌, ◌&&◌}
 use Rattle.std.specs.List.{list_any}
 
 -- a network: its nodes are numbered from 0, and so are the ports of a node. far gives the node at the
@@ -36,17 +36,3 @@ is_dark far dark node port = list_any (λ end. names node port end || names node
 -- destroys: the link leads to a black hole, or is dark.
 abbrev pub doomed : World → (node port : ℕ) → Bool
 doomed world node port = is_hole world.holes (world.net.far node port).0 || is_dark world.net.far world.dark node port
-
--- two worlds that are equal but for what destroys
-pub record SameButDoom (one two : World) : Type 0 where
-  pub net : one.net ≡ two.net
-  pub home : one.home ≡ two.home
-  pub agents : one.agents ≡ two.agents
-  pub quota : one.quota ≡ two.quota
-  pub board : one.board ≡ two.board
-
--- the home base is a node, and each port leads to a node
-pub record StaysInRange (world : World) : Type 0 where
-  pub home : world.home < world.net.nodes
-  pub far : (node port : ℕ) → node < world.net.nodes → port < world.net.degree node →
-      (world.net.far node port).0 < world.net.nodes

@@ -17,7 +17,8 @@ use Rattle.bhs_model.specs.Marks.{read_if, events_of}
 use Rattle.bhs_model.specs.Views.{View, Arrived}
 use Rattle.bhs_model.specs.Replying.{rep}
 use Rattle.bhs_model.specs.Worlds.{World}
-use Rattle.bhs_model.specs.Runs.{Position, Before, At, Bound, After, State, initial, changed, sight_at, is_doomed, position_after, told, arrived, delivered, arrives, next, run_from, run, reply, replies_from, replies}
+use Rattle.bhs_model.specs.Runs.{Position, Before, At, Bound, After, State, initial, changed, sight_at, is_doomed, position_after, told, arrived, delivered, arrives, next, run_from, run, reply}
+use Rattle.bhs_model.specs.InOrder.{replies_from, replies}
 use Rattle.bhs_model.specs.Kept.{destroys, lost_after, keeps, kept_first, kept_from, lost_from, nobody, kept, lost as lost_in}
 use Rattle.bhs_model.specs.Setups.{world_of}
 use Rattle.bhs_model.proofs.StepLemmas.{by_cases, changed_same, changed_other, next_heard, next_arrived, next_no_arrival, arrival_by_past, no_arrival_no_reply}

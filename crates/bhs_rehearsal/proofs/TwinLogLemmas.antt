@@ -4,10 +4,10 @@ use Rattle.std.proofs.lemmas.Bool.{and_right, cond-false, cond-true, or_from, or
 use Rattle.bhs_model.specs.declared.events.Event.{Event}
 use Rattle.bhs_model.specs.declared.events.Event.TheVariants.{Tell, Deliver, Close}
 use Rattle.bhs_model.specs.Replying.{hears}
-use Rattle.bhs_model.specs.Worlds.{World, SameButDoom}
+use Rattle.bhs_model.specs.Worlds.{World}
+use Rattle.bhs_model.specs.Twins.{SameButDoom, Twins, is_struck, reveals, strike_from, strike, RevealsNothing}
 use Rattle.bhs_model.specs.Runs.{State, initial, arrives, is_bound, is_doomed, next, run, run_from}
 use Rattle.bhs_model.specs.Kept.{keeps}
-use Rattle.bhs_model.specs.Twins.{Twins, is_struck, reveals, strike_from, strike, RevealsNothing}
 use Rattle.bhs_rehearsal.proofs.CuttingLemmas.{by_bool}
 
 -- ---- one event more

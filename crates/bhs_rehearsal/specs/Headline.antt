@@ -1,13 +1,7 @@
 -- The headline over bytes: what a client is sent is a function of what its agent met.
-use Rattle.std.specs.Prelude.{ℕ, ◌≡◌, ◌<◌, ◌⊎◌, Bool, true, false, Some, None, List, [], ◌++◌, map}
-use Rattle.bhs_model.specs.declared.commands.Command.TheVariants.{Leave}
-use Rattle.bhs_model.specs.declared.replies.Reply.TheVariants.{Over}
-use Rattle.bhs_model.specs.declared.setups.Setup.{Setup}
-use Rattle.bhs_model.specs.Views.{View, Start, Told, Nothing, standing}
-use Rattle.bhs_wire.specs.declared.denials.Denial.{Denial}
-use Rattle.bhs_wire.specs.Lines.{Line, lines}
+use Rattle.std.specs.Prelude.{ℕ, ◌≡◌, ◌<◌, false, Some, List, []}
+use Rattle.bhs_model.specs.Views.{View}
 use Rattle.bhs_lineup.specs.KeyTable.{Seat}
-use Rattle.bhs_session.specs.Texts.{text_of, denial_text, command_of}
 use Rattle.bhs_rehearsal.specs.Games.{Game, state_of}
 use Rattle.bhs_rehearsal.specs.Stages.{Stage, game_at, connection_at, Instruction, begun, stands_after, said}
 use Rattle.bhs_rehearsal.specs.Clients.{nothing_fed, fed_to, commands_fed, bytes_to}

@@ -2,8 +2,8 @@
 use Rattle.std.specs.Prelude.{ℕ, ◌≡◌, ◌≢◌, ◌<◌, Bool, false, ◌||◌, ◌==◌, Option, Some, None, List, [], ◌∷◌, ◌++◌, length, map, if◌then◌else◌}
 use Rattle.bhs_lineup.specs.KeyTable.{Seat}
 use Rattle.bhs_net.specs.Network.{degree_of}
-use Rattle.bhs_model.specs.Worlds.{SameButDoom, doomed}
-use Rattle.bhs_model.specs.Twins.{Twins}
+use Rattle.bhs_model.specs.Worlds.{doomed}
+use Rattle.bhs_model.specs.Twins.{SameButDoom, Twins}
 use Rattle.bhs_deal.specs.Links.{held_in}
 use Rattle.bhs_rehearsal.specs.Games.{Game, world_in, state_of, is_away}
 use Rattle.bhs_lineup.specs.declared.lineups.Lineup.{Lineup}

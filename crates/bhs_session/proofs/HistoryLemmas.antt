@@ -9,7 +9,8 @@ use Rattle.bhs_model.specs.declared.replies.Reply.TheVariants as replies
 use Rattle.bhs_model.specs.Views.{View, Told, Arrived, Sight}
 use Rattle.bhs_model.specs.Replying.{hears, rep}
 use Rattle.bhs_model.specs.Worlds.{World}
-use Rattle.bhs_model.specs.Runs.{State, initial, Position, Before, At, Bound, After, glance, heard, told, arrives, delivered, is_let_through, sight_at, is_of, next, run, run_from, reply}
+use Rattle.bhs_model.specs.Runs.{State, initial, Position, Before, At, Bound, After, glance, heard, told, arrives, delivered, is_let_through, sight_at, next, run, run_from, reply}
+use Rattle.bhs_model.specs.InOrder.{is_of}
 use Rattle.bhs_model.proofs.AddLemmas.{run-append}
 use Rattle.bhs_model.proofs.StepLemmas.{by_cases, changed_same, changed_other, heard_by_past, refused_by_past, answered_by_past, arrival_by_past, no_arrival_no_reply, next_heard, next_unheard, next_arrived}
 use Rattle.bhs_session.specs.Port.{Asked, Heard}

@@ -7,7 +7,8 @@ use Rattle.bhs_model.specs.declared.events.Event.TheVariants.{Tell, Deliver}
 use Rattle.bhs_model.specs.declared.replies.Reply.{Reply}
 use Rattle.bhs_model.specs.declared.replies.Reply.TheVariants.{Over}
 use Rattle.bhs_model.specs.Worlds.{World}
-use Rattle.bhs_model.specs.Runs.{run, past, reply, is_of}
+use Rattle.bhs_model.specs.Runs.{run, past, reply}
+use Rattle.bhs_model.specs.InOrder.{is_of}
 use Rattle.bhs_session.specs.declared.port.Entered.TheVariants.{In}
 use Rattle.bhs_session.specs.Port.{Asked, Enters, Tells, News, Heard, LetIn, Answers}
 use Rattle.bhs_session.specs.Answering.{AnswersByPasts}

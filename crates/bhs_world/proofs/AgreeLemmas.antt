@@ -18,7 +18,8 @@ use Rattle.bhs_model.specs.Views.{View, Told, Standing, standing, ports, used, c
 use Rattle.bhs_model.specs.Replying.{rep, answer, accepts, hears, refusal, text}
 use Rattle.bhs_model.specs.Worlds.{World, doomed}
 use Rattle.bhs_model.specs.Setups.{world_of}
-use Rattle.bhs_model.specs.Runs.{Position, Before, At, Bound, After, State, changed, initial, glance, position_after, last_writes_after, told, heard, is_doomed, is_let_through, arrives, arrived, delivered, next, run, reply, replies}
+use Rattle.bhs_model.specs.Runs.{Position, Before, At, Bound, After, State, changed, initial, glance, position_after, last_writes_after, told, heard, is_doomed, is_let_through, arrives, arrived, delivered, next, run, reply}
+use Rattle.bhs_model.specs.InOrder.{replies}
 use Rattle.bhs_model.specs.Kept.{destroys, lost_after, keeps, lost, nobody}
 use Rattle.bhs_model.specs.Marks.{events_of, read, read_if, board_of}
 use Rattle.bhs_model.specs.Places.{is_written, is_at, written_after, unwritten, written, position_by, place_shown, named, names}
@@ -28,6 +29,7 @@ use Rattle.bhs_world.specs.Tables.{Table, agent_at, board_at, world_in, IsCourse
 use Rattle.bhs_model.specs.Standings.{standing_at}
 use Rattle.bhs_world.specs.Steps.{IsSound, agent_told, boards_told, mark_here, hears_in, heard_in, table_heard, mark_heard, mark_of_command, table_delivered, mark_delivered, table_after, mark_after, keeps_delivered, keeps_in}
 use Rattle.bhs_world.proofs.ListLemmas.{each_set, changed_same, lt_tells}
+use Rattle.bhs_model.proofs.StepLemmas.{by_cases}
 use Rattle.bhs_model.proofs.LegalLemmas.{AllLegal, KnowsPorts, either, all_run}
 use Rattle.bhs_world.proofs.GrowthLemmas.{run_from_more, lost_from_more, written_from_more, names_from_more, events_count, replies_from_more, events_more, shows_more, read_same, named_more, reads_same, all_named_more, all_append, map_more}
 use Rattle.bhs_world.proofs.PlaceLemmas.{AllNamed, told_shown, unheard_shown, told_last}
@@ -38,10 +40,6 @@ chosen_true b x y h = rw h refl
 
 pub chosen_false : {A : Type 0} (b : Bool) (x y : A) → b ≡ false → (if b then x else y) ≡ y
 chosen_false b x y h = rw h refl
-
-pub by_cases : (b : Bool) (P : Type 0) → (b ≡ true → P) → (b ≡ false → P) → P
-by_cases true P yes_case no_case = yes_case refl
-by_cases false P yes_case no_case = no_case refl
 
 -- what a step is to bring about
 pub record HasPlayed (table new : Table) (log : List Kept) (event : Event) (mark : Option Mark) : Type 0 where

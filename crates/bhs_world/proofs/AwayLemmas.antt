@@ -14,7 +14,8 @@ use Rattle.bhs_model.specs.Standings.{standing_at}
 use Rattle.bhs_world.specs.Laws.{AwayAlike}
 use Rattle.bhs_world.proofs.ListLemmas.{changed_same}
 use Rattle.bhs_model.proofs.LegalLemmas.{IsLegal, all_run}
-use Rattle.bhs_world.proofs.AgreeLemmas.{by_cases, chosen_true, chosen_false}
+use Rattle.bhs_model.proofs.StepLemmas.{by_cases}
+use Rattle.bhs_world.proofs.AgreeLemmas.{chosen_true, chosen_false}
 
 standing_bound : (position : Position) → is_bound position ≡ true → standing_at position ≡ Away
 standing_bound Before h = cc

@@ -8,7 +8,8 @@ use Rattle.bhs_model.specs.declared.marks.Mark.TheVariants.{Here, Written, Chang
 use Rattle.bhs_model.specs.declared.marks.Kept.{Kept}
 use Rattle.bhs_model.specs.declared.replies.Reply.TheVariants as replies
 use Rattle.bhs_model.specs.Worlds.{World}
-use Rattle.bhs_model.specs.Runs.{State, next, run_from, reply, replies_from}
+use Rattle.bhs_model.specs.Runs.{State, next, run_from, reply}
+use Rattle.bhs_model.specs.InOrder.{replies_from}
 use Rattle.bhs_model.specs.Kept.{lost, lost_from, lost_after}
 use Rattle.bhs_model.specs.Places.{written_after, written_from, named, names_from}
 use Rattle.bhs_model.specs.Marks.{events_of, put_of, put_at, text_at, read_if, board_of}

@@ -11,7 +11,8 @@ use Rattle.bhs_model.specs.declared.replies.Reply.TheVariants as replies
 use Rattle.bhs_model.specs.Views.{used}
 use Rattle.bhs_model.specs.Replying.{text}
 use Rattle.bhs_model.specs.Worlds.{World}
-use Rattle.bhs_model.specs.Runs.{State, run, replies as replies_of}
+use Rattle.bhs_model.specs.Runs.{State, run}
+use Rattle.bhs_model.specs.InOrder.{replies as replies_of}
 use Rattle.bhs_model.specs.Kept.{lost, keeps}
 use Rattle.bhs_model.specs.Places.{written, names}
 use Rattle.bhs_model.specs.Setups.{world_of}
