@@ -1,5 +1,5 @@
 -- The least difference, found by going on.
-use Rattle.std.proofs.Common.{◌≡◌, ℕ, ◌+◌, ◌<◌, ◌≤◌, Bool, true, false, not, ◌⊎◌, inl, inr, Option, Some, None, List, [], ◌∷◌, ◌++◌, length, refl, sym, ap, ◌∙◌, subst, arith, nat_lt, ◌==◌, if◌then◌else◌}
+use Rattle.std.proofs.Common.{◌≡◌, ℕ, ◌<◌, ◌≤◌, true, false, ◌⊎◌, inl, inr, Option, Some, None, List, [], ◌∷◌, ◌++◌, refl, sym, ap, ◌∙◌, subst, arith, nat_lt, ◌==◌, if◌then◌else◌}
 use Rattle.std.specs.Prelude.{slice_get, MatchOption}
 use Rattle.std.specs.List.{AllByRecursion}
 use Rattle.std.proofs.lemmas.Bool.{cond-true, cond-false}
@@ -7,7 +7,7 @@ use Rattle.std.proofs.lemmas.Bool.Decides.{eqb_tells}
 use Rattle.bhs_world.proofs.ListLemmas.{lt_tells}
 use Rattle.bhs_world.proofs.GrowthLemmas.{all_append}
 use Rattle.bhs_lock.specs.Comparing.{IsFirstDifference}
-use Rattle.bhs_lock.specs.Settling.{Compared, Agree, IsBefore, DiffersAt, IsLeastDifference, IsLeast, precedes, lesser}
+use Rattle.bhs_lock.specs.Settling.{Compared, IsBefore, DiffersAt, IsLeast, precedes, lesser}
 
 all_map : {A : Type 0} (P Q : A → Type 0) (xs : List A) → ((x : A) → P x → Q x) → AllByRecursion P xs → AllByRecursion Q xs
 all_map P Q [] f all = tt

@@ -13,3 +13,5 @@ pub mod TallyLemmas
 pub mod ToldLemmas
 pub mod CompareLemmas
 pub mod EndLemmas
+mod WorldLemmas
+mod PlaceLemmas

@@ -1,9 +1,8 @@
 -- The loops of a settlement.
-use Rattle.std.proofs.Common.{◌≡◌, ℕ, ◌+◌, ◌<◌, ◌≤◌, Bool, true, false, not, Option, Some, None, List, [], ◌∷◌, ◌++◌, length, take, map, refl, sym, ap, ◌∙◌, subst, arith, get_or, append_assoc, append-nil, if◌then◌else◌}
+use Rattle.std.proofs.Common.{◌≡◌, ℕ, ◌+◌, ◌<◌, ◌≤◌, Bool, true, false, not, Option, List, [], ◌∷◌, ◌++◌, length, take, map, refl, sym, ap, ◌∙◌, subst, get_or, append_assoc, append-nil, if◌then◌else◌}
 use Rattle.std.specs.Prelude.{MatchOption, filter}
 use Rattle.std.specs.List.{range_with_len}
 use Rattle.std.proofs.lemmas.List.{take_more, take_all}
-use Rattle.std.proofs.lemmas.Bool.{cond-true, cond-false}
 use Rattle.bhs_model.proofs.NormalLemmas.{range_more}
 use Rattle.bhs_world.proofs.GrowthLemmas.{map_more}
 use Rattle.bhs_match.specs.Matches.{Play}

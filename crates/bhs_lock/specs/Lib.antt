@@ -8,3 +8,4 @@ pub mod Arrivals
 pub mod Unclaimed
 pub mod Cells
 pub mod Settling
+pub mod Disputes

@@ -20,7 +20,7 @@ pub(crate) fn difference(
 {
     let mut index = 0;
     for (place, one) in log.iter().enumerate() {
-        let Some(command) = told_by(agent, &one.event) else {
+        let Some(command) = command_by(agent, &one.event) else {
             continue;
         };
         if index == receipts.len() {
@@ -46,7 +46,7 @@ pub(crate) fn difference(
 }
 
 /// The command of this agent, if the event is one.
-fn told_by(agent: u16, event: &Event) -> Option<&Command>
+fn command_by(agent: u16, event: &Event) -> Option<&Command>
     ensures { option_copied result ≡ command_by agent event.now }
 {
     match event {

@@ -7,7 +7,7 @@ use crate::pass::Pass;
 use bhs_match::Match;
 
 /// An agent, and an index into its commands or arrivals.
-pub type Place = (u16, usize);
+pub(crate) type Place = (u16, usize);
 
 /// The lesser of what was found and of an index of an agent, if there are such.
 fn lesser(best: Option<Place>, agent: u16, index: Option<usize>) -> Option<Place>
@@ -43,8 +43,9 @@ fn is_missing(left: &[Option<Pass>], passes: &[Pass], agent: u16) -> bool
 
 /// The least agent, of the first `agents`, whose pass was claimed and is not among those handed in. `left` are the passes
 /// that nobody claimed, by agent. Takes no memory.
-pub fn missing(agents: u16, left: &[Option<Pass>], passes: &[Pass]) -> Option<u16>
-    ensures { MatchOption result (NoneMissing agents left.now passes.now) (IsLeastMissing left.now passes.now) }
+pub(crate) fn missing(agents: u16, left: &[Option<Pass>], passes: &[Pass]) -> Option<u16>
+    ensures least { MatchOption result (NoneMissing agents left.now passes.now) (IsLeastMissing left.now passes.now) }
+    ensures agent { IfSome result (λ agent. agent < agents) }
 {
     for agent in 0..agents {
         if is_missing(left, passes, agent) {
@@ -57,11 +58,11 @@ pub fn missing(agents: u16, left: &[Option<Pass>], passes: &[Pass]) -> Option<u1
 /// The least agent and index at which the receipts of a pass, or none for an agent without a pass, are not the agent's
 /// heard commands in the log of a match; None where each pass has the agent's heard commands, each once, in order, with
 /// places and replies, and an agent without a pass has none. Takes no memory; goes over the log once for each agent.
-pub fn first_difference(play: &Match, passes: &[Pass]) -> Option<Place>
+pub(crate) fn first_difference(play: &Match, passes: &[Pass]) -> Option<Place>
     ensures { IsLeast (commands_of play.now passes.now) result }
 {
     let mut best = None;
-    for (_index, pass) in passes.iter().enumerate() {
+    for pass in passes {
         best = lesser(best, pass.agent(), pass.difference(play.log()));
     }
     for agent in 0..play.setup().agents {
@@ -74,11 +75,11 @@ pub fn first_difference(play: &Match, passes: &[Pass]) -> Option<Place>
 
 /// The least agent and index at which an arrival of a pass is not the agent's arrival of that index in the log of a match;
 /// None where the arrivals of each pass are the agent's first ones, with places and replies. Takes no memory.
-pub fn first_stray(play: &Match, passes: &[Pass]) -> Option<Place>
+pub(crate) fn first_stray(play: &Match, passes: &[Pass]) -> Option<Place>
     ensures { IsLeast (arrivals_of play.now passes.now) result }
 {
     let mut best = None;
-    for (_index, pass) in passes.iter().enumerate() {
+    for pass in passes {
         best = lesser(best, pass.agent(), pass.stray(play));
     }
     best
