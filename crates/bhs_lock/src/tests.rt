@@ -1,3 +1,5 @@
+ghost use Rattle.std.specs.Prelude.{◌≡◌, [], IfOk};
+
 use crate::{Cell, Dispute, Gate, Hall, Open, Pass, settle};
 use bhs_deal::{Dealer, Drawn, Held};
 use bhs_match::Match;
@@ -34,7 +36,9 @@ const TRIANGLE: [Link; 3] = [
 ];
 
 /// A match on the triangle: black hole 2, whiteboards of 8 bytes.
-fn triangle(alloc: Global, agents: u16, quota: u16) -> Result<Match, Fail> {
+fn triangle(alloc: Global, agents: u16, quota: u16) -> Result<Match, Fail>
+    ensures { IfOk result (λ play. play.log ≡ []) }
+{
     let net = Net::try_new(alloc, 3, &TRIANGLE)?;
     let setup = Setup {
         home: 0,
@@ -59,7 +63,10 @@ fn claimed<R: Abort + Wait>(rt: &R, cell: &Cell, agent: u16) -> Pass {
 }
 
 fn write(alloc: Global, expect: &str, put: &str) -> Command {
-    match (String::from_str(alloc, expect), String::from_str(alloc, put)) {
+    match (
+        String::from_str(alloc, expect),
+        String::from_str(alloc, put),
+    ) {
         (Ok(expect), Ok(put)) => Command::Write {
             expect: Text::from(expect),
             put: Text::from(put),
@@ -134,8 +141,14 @@ fn one_of_two_writes_is_taken(rt: HostRuntime) -> Result<(), Fail> {
     };
     assert_eq!(rt; told(&mut hall, &mut first, Command::Enter), "here");
     assert_eq!(rt; told(&mut hall, &mut second, Command::Enter), "here");
-    assert_eq!(rt; told(&mut hall, &mut first, write(alloc, "", "a")), "written");
-    assert_eq!(rt; told(&mut hall, &mut second, write(alloc, "", "b")), "changed");
+    assert_eq!(rt;
+        told(&mut hall, &mut first, write(alloc, "", "a")),
+        "written"
+    );
+    assert_eq!(rt;
+        told(&mut hall, &mut second, write(alloc, "", "b")),
+        "changed"
+    );
     assert_eq!(rt; seen(&second), "a");
     Ok(())
 }
@@ -198,7 +211,10 @@ fn a_claimed_pass_is_missing(rt: HostRuntime) -> Result<(), Fail> {
 #[test]
 fn a_match_has_not_ended(rt: HostRuntime) -> Result<(), Fail> {
     let (shared, passes) = entered(&rt, rt.alloc())?;
-    assert_eq!(rt; outcome(shared, passes), (2, Some(Dispute::NotClosed), 2, 2));
+    assert_eq!(rt;
+        outcome(shared, passes),
+        (2, Some(Dispute::NotClosed), 2, 2)
+    );
     Ok(())
 }
 
@@ -234,9 +250,15 @@ fn a_turn_brings_news(rt: HostRuntime) -> Result<(), Fail> {
     let shared = cell(alloc, 0, 2, 10)?;
     let mut mine = claimed(&rt, &shared, 0);
     assert_eq!(rt; tell(&rt, &shared, &mut mine, Command::Enter), "here");
-    assert_eq!(rt; tell(&rt, &shared, &mut mine, Command::Depart { port: 0 }), "gone");
+    assert_eq!(rt;
+        tell(&rt, &shared, &mut mine, Command::Depart { port: 0 }),
+        "gone"
+    );
     let mut dealer = Dealer::new([0; 32], 0);
-    assert_eq!(rt; shared.turn(&rt, &mut dealer), Drawn::Delivered { agent: 0 });
+    assert_eq!(rt;
+        shared.turn(&rt, &mut dealer),
+        Drawn::Delivered { agent: 0 }
+    );
     assert_eq!(rt; news(&rt, &shared, &mut mine), "here");
     shared.close(&rt);
     assert_eq!(rt; news(&rt, &shared, &mut mine), "over");
@@ -348,7 +370,12 @@ fn played<R: Wait>(rt: &R, alloc: Global, cell: &Cell, mut pass: Pass, commands:
 }
 
 /// The passes of all agents of a cell.
-fn all_claimed<R: Abort + Wait>(rt: &R, alloc: Global, cell: &Cell, agents: u16) -> Result<Vec<Pass>, Fail> {
+fn all_claimed<R: Abort + Wait>(
+    rt: &R,
+    alloc: Global,
+    cell: &Cell,
+    agents: u16,
+) -> Result<Vec<Pass>, Fail> {
     let mut passes = Vec::with_capacity(alloc, usize::from(agents))?;
     for agent in 0..agents {
         passes.push(claimed(rt, cell, agent))?;
@@ -380,13 +407,24 @@ fn the_least_agent_is_missing(rt: HostRuntime) -> Result<(), Fail> {
     Ok(())
 }
 
-/// Plays agent 0 on the cell of this place, and agent 1 on the one before.
+/// Plays an agent on the cell of this place.
+fn played_there<R: Abort + Wait>(
+    rt: &R,
+    alloc: Global,
+    cells: &[Cell],
+    place: usize,
+    agent: u16,
+) -> Pass {
+    let cell = cells.get(place).expect(rt, "a cell of this place");
+    played(rt, alloc, cell, claimed(rt, cell, agent), 11)
+}
+
+/// Plays agent 0 on the cell of this place, and agent 1 on the next of 64.
 fn on_two<R: Abort + Wait>(rt: &R, alloc: Global, cells: &[Cell], place: usize) -> (Pass, Pass) {
-    let own = &cells[place];
-    let before = &cells[if place == 0 { cells.len() - 1 } else { place - 1 }];
-    let first = played(rt, alloc, own, claimed(rt, own, 0), 11);
-    let second = played(rt, alloc, before, claimed(rt, before, 1), 11);
-    (first, second)
+    (
+        played_there(rt, alloc, cells, place, 0),
+        played_there(rt, alloc, cells, (place % 64 + 1) % 64, 1),
+    )
 }
 
 #[test]
@@ -403,7 +441,9 @@ fn sixty_four_threads_play_sixty_four_matches(rt: HostRuntime) -> Result<(), Fai
         firsts.push(first)?;
         seconds.push(second)?;
     }
-    seconds.rotate_left(1);
+    if let Some(last) = seconds.pop() {
+        seconds.insert(0, last)?;
+    }
     for ((shared, first), second) in cells.into_iter().zip(firsts).zip(seconds) {
         shared.close(&rt);
         let passes = vec![in alloc; first, second]?;
