@@ -15,3 +15,6 @@ pub mod CompareLemmas
 pub mod EndLemmas
 mod WorldLemmas
 mod PlaceLemmas
+mod KeptLemmas
+mod FoundLemmas
+mod OnePassLemmas

@@ -1,5 +1,5 @@
 -- Small lemmas on lists and on what is found in them.
-use Rattle.std.proofs.Common.{◌≡◌, ℕ, zero, suc, ◌<◌, Bool, true, false, ◌||◌, Some, None, List, [], ◌∷◌, ◌++◌, length, take, refl, ap, ◌∙◌, arith}
+use Rattle.std.proofs.Common.{◌≡◌, ℕ, zero, suc, ◌<◌, Bool, true, false, ◌||◌, Some, None, List, [], ◌∷◌, ◌++◌, take, refl, ap, ◌∙◌, arith}
 use Rattle.std.specs.Prelude.{slice_get}
 use Rattle.std.specs.List.{list_any}
 use Rattle.std.proofs.lemmas.List.Folds.{list_any-append}
@@ -17,12 +17,6 @@ get_take zero xs k below = absurd (omega (arith, below))
 get_take (suc n) [] k below = refl
 get_take (suc n) (x ∷ xs) zero below = refl
 get_take (suc n) (x ∷ xs) (suc k) below = get_take n xs k (omega (arith, below))
-
--- within the first of two lists
-pub get_first : {A : Type 0} (xs tail : List A) (k : ℕ) → k < length xs → slice_get (xs ++ tail) k ≡ slice_get xs k
-get_first [] tail k below = absurd (omega (arith, below))
-get_first (x ∷ xs) tail zero below = refl
-get_first (x ∷ xs) tail (suc k) below = get_first xs tail k (omega (arith, below))
 
 -- lists that have the same at each place are the same
 pub same_at_each : {A : Type 0} (xs ys : List A) → ((k : ℕ) → slice_get xs k ≡ slice_get ys k) → xs ≡ ys

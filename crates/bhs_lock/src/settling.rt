@@ -1,10 +1,12 @@
 ghost use Rattle.std.specs.Prelude.{◌≡◌, ◌<◌, Some, None, IfSome, MatchOption, length, take, map};
 ghost use Rattle.bhs_match.specs.Matches.{state_of};
+ghost use Rattle.bhs_lock.specs.Comparing.{entry_of};
+ghost use Rattle.bhs_lock.specs.Looking.{IsSaid};
 ghost use Rattle.bhs_lock.specs.Settling.{lesser, has_pass, is_claimed, is_missing, NoneMissing, IsLeastMissing, IsLeast, commands_of, arrivals_of};
 
-use crate::comparing::difference;
 use crate::pass::Pass;
 use bhs_match::Match;
+use bhs_model::{Command, Event, Kept, MAX_AGENTS, Mark};
 
 /// An agent, and an index into its commands or arrivals.
 pub(crate) type Place = (u16, usize);
@@ -57,20 +59,56 @@ pub(crate) fn missing(agents: u16, left: &[Option<Pass>], passes: &[Pass]) -> Op
 
 /// The least agent and index at which the receipts of a pass, or none for an agent without a pass, are not the agent's
 /// heard commands in the log of a match; None where each pass has the agent's heard commands, each once, in order, with
-/// places and replies, and an agent without a pass has none. Takes no memory; goes over the log once for each agent.
+/// places and replies, and an agent without a pass has none. Takes no memory; goes over the log once.
 pub(crate) fn first_difference(play: &Match, passes: &[Pass]) -> Option<Place>
     ensures { IsLeast (commands_of play.now passes.now) result }
 {
+    let log = play.log();
+    let _few = play.setup();
+    let mut heard = [0; MAX_AGENTS as usize];
     let mut best = None;
-    for pass in passes {
-        best = lesser(best, pass.agent(), pass.difference(play.log()));
+    for (place, one) in log.iter().enumerate() {
+        let Event::Tell { agent, command } = &one.event else {
+            continue;
+        };
+        let index = heard[usize::from(*agent)];
+        if !is_said(passes, *agent, index, log, place, command, &one.mark) {
+            best = lesser(best, *agent, Some(index));
+        }
+        heard[usize::from(*agent)] = index + 1;
     }
-    for agent in 0..play.setup().agents {
-        if !has_pass(passes, agent) {
-            best = lesser(best, agent, difference(play.log(), agent, &[], &[]));
+    for pass in passes {
+        let index = heard.get(usize::from(pass.agent())).copied().unwrap_or(0);
+        if index < pass.told() {
+            best = lesser(best, pass.agent(), Some(index));
         }
     }
     best
+}
+
+/// Whether an agent has a pass, and each of its passes has a command of the log at this index.
+fn is_said(
+    passes: &[Pass],
+    agent: u16,
+    index: usize,
+    log: &[Kept],
+    place: usize,
+    command: &Command,
+    mark: &Option<Mark>,
+) -> bool
+    ensures { IsSaid result passes.now agent index (entry_of log.now place command.now mark.now) }
+{
+    let mut has_pass = false;
+    for pass in passes {
+        if pass.agent() != agent {
+            continue;
+        }
+        if !pass.says(index, log, place, command, mark) {
+            return false;
+        }
+        has_pass = true;
+    }
+    has_pass
 }
 
 /// The least agent and index at which an arrival of a pass is not the agent's arrival of that index in the log of a match;
