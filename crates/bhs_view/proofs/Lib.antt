@@ -1,0 +1,3 @@
+pub mod ForwardLemmas
+pub mod BackLemmas
+pub mod CutLemmas
