@@ -117,7 +117,7 @@ needed_more needed own chosen footprint are_needed = record {
   any = refl;
 }
 
-unmarked : (n k : ℕ) → slice_index_or (replicate n false) k false ≡ false
+pub unmarked : (n k : ℕ) → slice_index_or (replicate n false) k false ≡ false
 unmarked n k = elim (leb_tells n k) [
   | inl h ↦ get_or-eq_default (replicate n false) false (let len = length-replicate n false in omega arith)
   | inr h ↦ get_or-replicate n k false false h.1

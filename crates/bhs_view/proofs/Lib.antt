@@ -1,3 +1,9 @@
 pub mod ForwardLemmas
 pub mod BackLemmas
 pub mod CutLemmas
+pub mod FaultLemmas
+pub mod PlayingLemmas
+pub mod SetLemmas
+pub mod ClosedLemmas
+pub mod AloneLemmas
+pub mod RestrictLemmas

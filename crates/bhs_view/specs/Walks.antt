@@ -13,6 +13,7 @@ use Rattle.bhs_model.specs.Worlds.{World}
 use Rattle.bhs_model.specs.declared.marks.Kept.{Kept}
 use Rattle.bhs_model.specs.Runs.{Position, Before, At, Bound, After}
 use Rattle.bhs_model.specs.Cuts.{Footprint, meet}
+use Rattle.bhs_view.specs.Entries.{closes}
 use Rattle.bhs_view.specs.declared.spots.Spot.{Spot}
 use Rattle.bhs_view.specs.declared.spots.Spot.TheVariants.{Off, Stays, Rides}
 
@@ -86,10 +87,6 @@ who_of Close = None
 abbrev pub written_by : Event → (seen : Option ℕ) → Option ℕ
 written_by (Tell agent (Write expect put)) seen = seen
 written_by event seen = None
-
-abbrev pub closes : Event → Bool
-closes Close = true
-closes event = false
 
 -- the node that an event with this mark and this site sees: Enter, Look and Write see it, and so does a Deliver that is
 -- answered

@@ -4,6 +4,9 @@
 
 mod cuts;
 mod needed;
+mod playing;
+mod restricting;
 mod spots;
 
 pub use cuts::{cut_and_looks, cut_of};
+pub use restricting::{RestrictFault, restrict};
