@@ -195,7 +195,7 @@ moved_fits net setup test labelled within in_order clear =
     (nodes_fit net setup.home test clear)
     (ap (λ (setup : Setup). are_links_fit net [] setup.dark) (sym in_order.same) ∙ links_fit net (is_dark (far_of net) setup.dark) labelled)
 
-home_clear : (net : Network) (setup : Setup) → IsWithinLimits net setup → is_hole setup.holes setup.home ≡ false
+pub home_clear : (net : Network) (setup : Setup) → IsWithinLimits net setup → is_hole setup.holes setup.home ≡ false
 home_clear net setup within = false_of _ (λ is. (within.holes setup.home is).1 refl)
 
 pub normal_fits : (net : Network) (setup : Setup) → IsPortLabelled net → IsWithinLimits net setup → IsNormal net setup → first_fault net setup ≡ None

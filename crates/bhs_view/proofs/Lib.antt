@@ -7,3 +7,8 @@ pub mod SetLemmas
 pub mod ClosedLemmas
 pub mod AloneLemmas
 pub mod RestrictLemmas
+pub mod TwinLemmas
+pub mod TwinSetupLemmas
+pub mod TwinPlayLemmas
+pub mod PassLemmas
+pub mod TwinReadLemmas

@@ -29,11 +29,11 @@ paired [] replied = []
 paired (event ∷ events) [] = []
 paired (event ∷ events) (one ∷ replied) = (event, one) ∷ paired events replied
 
-entries_paired : (log all : List Kept) → map (λ one. (one.event, read_if all one.mark)) log ≡ paired (events_of log) (map (λ one. read_if all one.mark) log)
+pub entries_paired : (log all : List Kept) → map (λ one. (one.event, read_if all one.mark)) log ≡ paired (events_of log) (map (λ one. read_if all one.mark) log)
 entries_paired [] all = refl
 entries_paired (one ∷ log) all = ap (λ (others : List Entry). (one.event, read_if all one.mark) ∷ others) (entries_paired log all)
 
-chosen_paired : (log all : List Kept) (set : List Bool) →
+pub chosen_paired : (log all : List Kept) (set : List Bool) →
     at_places (map (λ one. (one.event, read_if all one.mark)) log) set ≡ paired (at_places (events_of log) set) (at_places (map (λ one. read_if all one.mark) log) set)
 chosen_paired [] all set = refl
 chosen_paired (one ∷ log) all [] = refl

@@ -3,3 +3,5 @@ pub mod Places
 pub mod Sites
 pub mod Walks
 pub mod Restrictions
+pub mod Twins
+pub mod TwinWalks

@@ -7,6 +7,8 @@ mod needed;
 mod playing;
 mod restricting;
 mod spots;
+mod twins;
 
 pub use cuts::{cut_and_looks, cut_of};
 pub use restricting::{RestrictFault, restrict};
+pub use twins::{TwinFault, twin_of};
