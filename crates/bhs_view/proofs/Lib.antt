@@ -12,3 +12,4 @@ pub mod TwinSetupLemmas
 pub mod TwinPlayLemmas
 pub mod PassLemmas
 pub mod TwinReadLemmas
+pub mod LawLemmas

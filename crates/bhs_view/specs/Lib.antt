@@ -5,3 +5,4 @@ pub mod Walks
 pub mod Restrictions
 pub mod Twins
 pub mod TwinWalks
+pub mod Laws

@@ -3,6 +3,7 @@
 #![tactic(auto)]
 
 mod cuts;
+pub mod laws;
 mod needed;
 mod playing;
 mod restricting;
@@ -12,3 +13,6 @@ mod twins;
 pub use cuts::{cut_and_looks, cut_of};
 pub use restricting::{RestrictFault, restrict};
 pub use twins::{TwinFault, twin_of};
+
+#[cfg(test)]
+mod tests;

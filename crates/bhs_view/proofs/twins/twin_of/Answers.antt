@@ -5,9 +5,10 @@ use Rattle.bhs_model.specs.Setups.{world_of}
 use Rattle.bhs_model.specs.declared.setups.Setup.{Setup}
 use Rattle.bhs_view.specs.declared.twins.TwinFault.TheVariants.{Reached}
 use Rattle.bhs_view.specs.Twins.{moved}
+use Rattle.bhs_view.specs.Laws.{IsEnded}
 use Rattle.bhs_view.proofs.CutLemmas.{IsRead}
 use Rattle.bhs_view.proofs.TwinReadLemmas.{sites_count, left_count, read_arrival, read_hole, read_left, twin_setup, fits_twin, fault_is}
-use Rattle.bhs_view.proofs.TwinPlayLemmas.{IsEnded, is_twin}
+use Rattle.bhs_view.proofs.TwinPlayLemmas.{is_twin}
 use Rattle.bhs_view.proofs.twins.twin_of.Goals as goal
 
 pub first_arrival-requires-clause-sites : goal.first_arrival-requires-clause-sites
@@ -58,9 +59,8 @@ returns-clause-twin c =
     let old = read_hole c.args.sealed.now c.net-net.result.now c.setup-setup.result.now c.log-log.result.now c.in_ok-sites.sites.items c.deref-2.result.now c.replaced-old.result read c.in_ok-sites.ensures c.deref-2.ensures.value c.replaced-old.ensures in
     let unreached = read_arrival c.args.sealed.now c.net-net.result.now c.setup-setup.result.now c.log-log.result.now c.args.node c.in_ok-sites.sites.items c.deref.result.now c.first_arrival.result read c.in_ok-sites.ensures c.deref.ensures.value c.first_arrival.ensures in
     let setup = twin_setup c.args.sealed.now c.net-net.result.now c.setup-setup.result.now c.in_ok-try_clone.field-0 c.in_ok-holes.holes c.replaced-old.result c.args.node c.net-net.ensures c.setup-setup.ensures.setup c.in_ok-try_clone.ensures c.in_ok-holes.ensures in
-    let ended : IsEnded c.args.sealed.now = record { within = c.setup-setup.ensures.within; closed = c.log-log.ensures.closed; kept = c.log-log.ensures.kept; replies = c.log-log.ensures.replies } in
-    let twins = is_twin c.args.sealed.now c.in_ok-replay.field-0 c.in_ok-game.game c.net-net.result.now _ c.log-log.result.now c.args.node c.deref-4.result.now c.net-net.ensures c.log-log.ensures.log
-    (rw (sym c.net-net.ensures) c.nodes-nodes.ensures.network.labelled) ended (rw (sym (c.nodes-nodes.ensures.count ∙ ap nodes_of c.net-net.ensures)) c.if-node-nodes.false)
+    let ended : IsEnded c.args.sealed.now = record { network = rw (sym c.net-net.ensures) c.nodes-nodes.ensures.network; within = c.setup-setup.ensures.within; closed = c.log-log.ensures.closed; kept = c.log-log.ensures.kept; replies = c.log-log.ensures.replies } in
+    let twins = is_twin c.args.sealed.now c.in_ok-replay.field-0 c.in_ok-game.game c.net-net.result.now _ c.log-log.result.now c.args.node c.deref-4.result.now c.net-net.ensures c.log-log.ensures.log ended (rw (sym (c.nodes-nodes.ensures.count ∙ ap nodes_of c.net-net.ensures)) c.if-node-nodes.false)
     (unreached ∙ c.in_default.is)
     (setup ∙ ap (λ (old : Option ℕ). moved c.args.sealed.now.net c.args.sealed.now.setup old c.args.node) old) c.in_ok-game.ensures
     (read_left c.args.sealed.now c.net-net.result.now c.setup-setup.result.now c.log-log.result.now c.in_ok-sites.sites.items c.deref-3.result.now c.replaced-old.result c.in_ok-set.set.items c.deref-4.result.now read
@@ -82,9 +82,8 @@ returns-clause-alike c =
     let old = read_hole c.args.sealed.now c.net-net.result.now c.setup-setup.result.now c.log-log.result.now c.in_ok-sites.sites.items c.deref-2.result.now c.replaced-old.result read c.in_ok-sites.ensures c.deref-2.ensures.value c.replaced-old.ensures in
     let unreached = read_arrival c.args.sealed.now c.net-net.result.now c.setup-setup.result.now c.log-log.result.now c.args.node c.in_ok-sites.sites.items c.deref.result.now c.first_arrival.result read c.in_ok-sites.ensures c.deref.ensures.value c.first_arrival.ensures in
     let setup = twin_setup c.args.sealed.now c.net-net.result.now c.setup-setup.result.now c.in_ok-try_clone.field-0 c.in_ok-holes.holes c.replaced-old.result c.args.node c.net-net.ensures c.setup-setup.ensures.setup c.in_ok-try_clone.ensures c.in_ok-holes.ensures in
-    let ended : IsEnded c.args.sealed.now = record { within = c.setup-setup.ensures.within; closed = c.log-log.ensures.closed; kept = c.log-log.ensures.kept; replies = c.log-log.ensures.replies } in
-    let twins = is_twin c.args.sealed.now c.in_ok-replay.field-0 c.in_ok-game.game c.net-net.result.now _ c.log-log.result.now c.args.node c.deref-4.result.now c.net-net.ensures c.log-log.ensures.log
-    (rw (sym c.net-net.ensures) c.nodes-nodes.ensures.network.labelled) ended (rw (sym (c.nodes-nodes.ensures.count ∙ ap nodes_of c.net-net.ensures)) c.if-node-nodes.false)
+    let ended : IsEnded c.args.sealed.now = record { network = rw (sym c.net-net.ensures) c.nodes-nodes.ensures.network; within = c.setup-setup.ensures.within; closed = c.log-log.ensures.closed; kept = c.log-log.ensures.kept; replies = c.log-log.ensures.replies } in
+    let twins = is_twin c.args.sealed.now c.in_ok-replay.field-0 c.in_ok-game.game c.net-net.result.now _ c.log-log.result.now c.args.node c.deref-4.result.now c.net-net.ensures c.log-log.ensures.log ended (rw (sym (c.nodes-nodes.ensures.count ∙ ap nodes_of c.net-net.ensures)) c.if-node-nodes.false)
     (unreached ∙ c.in_default.is)
     (setup ∙ ap (λ (old : Option ℕ). moved c.args.sealed.now.net c.args.sealed.now.setup old c.args.node) old) c.in_ok-game.ensures
     (read_left c.args.sealed.now c.net-net.result.now c.setup-setup.result.now c.log-log.result.now c.in_ok-sites.sites.items c.deref-3.result.now c.replaced-old.result c.in_ok-set.set.items c.deref-4.result.now read
