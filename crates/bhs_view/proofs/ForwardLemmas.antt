@@ -155,15 +155,16 @@ some_mark : (log : List Kept) (mark : Option Mark) → is_some (read_if log mark
 some_mark log None read = cc
 some_mark log (Some mark) read = (mark, refl)
 
-pub arrival_marked : (world : World) (state : State) (log : List Kept) (agent : ℕ) (mark : Option Mark) → arrives world state agent ≡ true → read_if log mark ≡ reply world state (Deliver agent) →
-    (one : Mark) × (mark ≡ Some one)
-arrival_marked world state log agent mark arrival read =
+pub arrival_replied : (world : World) (state : State) (agent : ℕ) → arrives world state agent ≡ true → is_some (reply world state (Deliver agent)) ≡ true
+arrival_replied world state agent arrival =
     let means = arrival_means world state agent arrival in
     let there = world.net.far means.node means.port in
-    let replied : is_some (reply world state (Deliver agent)) ≡ true =
     ap (λ (r : Option Reply). is_some r) (arrival_by_past world state agent arrival)
-    ∙ rw means.on (ap (λ (view : View). is_some (rep world.board view)) (changed_same state.past agent (Arrived (state.past agent) (sight_at world state there.0 (Some there.1))))) in
-    some_mark log mark (ap (λ (r : Option Reply). is_some r) read ∙ replied)
+    ∙ rw means.on (ap (λ (view : View). is_some (rep world.board view)) (changed_same state.past agent (Arrived (state.past agent) (sight_at world state there.0 (Some there.1)))))
+
+pub arrival_marked : (world : World) (state : State) (log : List Kept) (agent : ℕ) (mark : Option Mark) → arrives world state agent ≡ true → read_if log mark ≡ reply world state (Deliver agent) →
+    (one : Mark) × (mark ≡ Some one)
+arrival_marked world state log agent mark arrival read = some_mark log mark (ap (λ (r : Option Reply). is_some r) read ∙ arrival_replied world state agent arrival)
 
 pub no_arrival_unmarked : (world : World) (state : State) (log : List Kept) (agent : ℕ) (mark : Option Mark) → arrives world state agent ≡ false → read_if log mark ≡ reply world state (Deliver agent) → mark ≡ None
 no_arrival_unmarked world state log agent mark stays read = no_mark log mark (read ∙ no_arrival_no_reply world state agent stays)

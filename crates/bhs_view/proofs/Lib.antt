@@ -13,3 +13,4 @@ pub mod TwinPlayLemmas
 pub mod PassLemmas
 pub mod TwinReadLemmas
 pub mod LawLemmas
+pub mod GuessLemmas

@@ -91,15 +91,15 @@ first_hole_same world log all read = first_hole_from world initial nobody log lo
 
 -- the places that are left
 
-bound_same : (world : World) (state : State) (node : Option ℕ) (event : Event) → is_bound_for event (site world state event) node ≡ heads_for world node state event
-bound_same world state node (Tell agent command) = refl
-bound_same world state node (Deliver agent) = refl
-bound_same world state node Close = refl
+bound_same : (world : World) (state : State) (old : Option ℕ) (event : Event) → is_bound_for event (site world state event) old ≡ heads_for world old state event
+bound_same world state old (Tell agent command) = refl
+bound_same world state old (Deliver agent) = refl
+bound_same world state old Close = refl
 
-pub left_same_from : (world : World) (state : State) (node : Option ℕ) (log : List Kept) → left_at node log (sites_from world state (events_of log)) ≡ left_from world node state (events_of log)
-left_same_from world state node [] = refl
-left_same_from world state node (one ∷ log) =
-    ap₂ (λ (b : Bool) (others : List Bool). not b ∷ others) (bound_same world state node one.event) (left_same_from world (next world state one.event) node log)
+pub left_same_from : (world : World) (state : State) (old : Option ℕ) (log : List Kept) → left_at old log (sites_from world state (events_of log)) ≡ left_from world old state (events_of log)
+left_same_from world state old [] = refl
+left_same_from world state old (one ∷ log) =
+    ap₂ (λ (b : Bool) (others : List Bool). not b ∷ others) (bound_same world state old one.event) (left_same_from world (next world state one.event) old log)
 
 -- the first arrival
 

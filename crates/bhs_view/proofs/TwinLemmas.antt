@@ -62,13 +62,13 @@ pub record HappensAlike (world twin : World) (state : State) (lost lose : ℕ �
   pub fewer : (agent : ℕ) → lost_after world state lost event agent ≡ false → lost_after twin state lose event agent ≡ false
 
 -- an event that is taken out does nothing
-record HappensNot (world twin : World) (state : State) (lost lose : ℕ → Bool) (event : Event) : Type 0 where
+pub record HappensNot (world twin : World) (state : State) (lost lose : ℕ → Bool) (event : Event) : Type 0 where
   pub struck : is_struck world twin state event ≡ true
   pub hides : reveals world twin state event ≡ false
   pub next : next world state event ≡ state
   pub fewer : (agent : ℕ) → lost_after world state lost event agent ≡ false → lose agent ≡ false
 
-abbrev LosesNoMore : (lost lose : ℕ → Bool) → Type 0
+abbrev pub LosesNoMore : (lost lose : ℕ → Bool) → Type 0
 LosesNoMore lost lose = (agent : ℕ) → lost agent ≡ false → lose agent ≡ false
 
 lost_as_well : (b : Bool) (lost lose : ℕ → Bool) (agent other : ℕ) → LosesNoMore lost lose → (if b then changed lost agent true else lost) other ≡ false → (if b then changed lose agent true else lose) other ≡ false
@@ -145,7 +145,7 @@ arrived_alike world holes dark old new state lost lose agent moved fewer other s
     }
 
 -- each event that is left
-left_alike : (world : World) (holes : List ℕ) (dark : List (ℕ × ℕ)) (old : Option ℕ) (new : ℕ) (state : State) (lost lose : ℕ → Bool) (event : Event) → HasMoved world holes dark old new → LosesNoMore lost lose →
+pub left_alike : (world : World) (holes : List ℕ) (dark : List (ℕ × ℕ)) (old : Option ℕ) (new : ℕ) (state : State) (lost lose : ℕ → Bool) (event : Event) → HasMoved world holes dark old new → LosesNoMore lost lose →
     heads_for world old state event ≡ false → keeps world state lost event ≡ true → arrives_at world new state event ≡ false → HappensAlike world (with_these world holes dark) state lost lose event
 left_alike world holes dark old new state lost lose (Tell agent command) moved fewer other is_kept elsewhere =
     record { struck = refl; hides = refl; hides_too = refl; next = refl; reply = refl; keeps = is_kept; fewer = fewer }
@@ -172,7 +172,7 @@ heads_somewhere world (Some hole) Before is = absurd (false≢true is)
 heads_somewhere world (Some hole) (At node came) is = absurd (false≢true is)
 heads_somewhere world (Some hole) After is = absurd (false≢true is)
 
-taken_out : (world : World) (holes : List ℕ) (dark : List (ℕ × ℕ)) (old : Option ℕ) (new : ℕ) (state : State) (lost lose : ℕ → Bool) (event : Event) → HasMoved world holes dark old new → LosesNoMore lost lose →
+pub taken_out : (world : World) (holes : List ℕ) (dark : List (ℕ × ℕ)) (old : Option ℕ) (new : ℕ) (state : State) (lost lose : ℕ → Bool) (event : Event) → HasMoved world holes dark old new → LosesNoMore lost lose →
     heads_for world old state event ≡ true → HappensNot world (with_these world holes dark) state lost lose event
 taken_out world holes dark old new state lost lose (Tell agent command) moved fewer heads = absurd (false≢true heads)
 taken_out world holes dark old new state lost lose (Deliver agent) moved fewer heads =

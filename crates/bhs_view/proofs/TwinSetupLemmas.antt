@@ -80,7 +80,7 @@ accused_is_hole world state (Deliver agent) hole is = cc
 accused_is_hole world state Close hole is = cc
 
 -- the first or else the second
-option_cases : (P : ℕ → Type 0) (one two : Option ℕ) → ((hole : ℕ) → one ≡ Some hole → P hole) → ((hole : ℕ) → two ≡ Some hole → P hole) → (hole : ℕ) → option_or one two ≡ Some hole → P hole
+pub option_cases : (P : ℕ → Type 0) (one two : Option ℕ) → ((hole : ℕ) → one ≡ Some hole → P hole) → ((hole : ℕ) → two ≡ Some hole → P hole) → (hole : ℕ) → option_or one two ≡ Some hole → P hole
 option_cases P (Some first) two here there hole is = here hole is
 option_cases P None two here there hole is = there hole is
 
@@ -90,7 +90,7 @@ first_is_hole world state (event ∷ events) hole is =
     option_cases (λ hole. is_hole world.holes hole ≡ true) (hole_accused world state event) (first_accused_from world (next world state event) events)
     (accused_is_hole world state event) (first_is_hole world (next world state event) events) hole is
 
-found_passes : (test : ℕ → Bool) (xs : List ℕ) (x : ℕ) → find test xs ≡ Some x → test x ≡ true
+pub found_passes : (test : ℕ → Bool) (xs : List ℕ) (x : ℕ) → find test xs ≡ Some x → test x ≡ true
 found_passes test [] x is = cc
 found_passes test (y ∷ xs) x is =
     by_cases (test y) _

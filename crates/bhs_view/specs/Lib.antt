@@ -6,3 +6,4 @@ pub mod Restrictions
 pub mod Twins
 pub mod TwinWalks
 pub mod Laws
+pub mod Guesses

@@ -14,6 +14,7 @@ const RING: [(u16, u16, u16, u16); 4] = [(0, 0, 1, 0), (1, 1, 2, 0), (2, 1, 3, 0
 /// enter, `l` for look, `w` for a write, `v` for a Deliver, `d` or `a` with a port for depart or accuse.
 fn played(
     alloc: Global,
+    nodes: u16,
     links: &[(u16, u16, u16, u16)],
     holes: &[u16],
     row: &str,
@@ -35,7 +36,6 @@ fn played(
         quota: 10,
         board: 8,
     };
-    let nodes = links.len() as u16;
     let mut game = Match::new(alloc, Net::try_new(alloc, nodes, &list)?, setup)?;
     for word in row.split(' ') {
         game.apply(event(alloc, word.as_bytes())?);
@@ -83,7 +83,7 @@ fn what_an_agent_saw(rt: HostRuntime) -> Result<(), Fail> {
         (SEARCH, &[0, 1, 2, 3, 4, 5, 6, 7], 10),
     ];
     for (row, places, looks) in rows {
-        let sealed = played(alloc, &TRIANGLE, &[2], row)?;
+        let sealed = played(alloc, 3, &TRIANGLE, &[2], row)?;
         let found = cut_and_looks(alloc, &sealed, 0)?;
         assert_eq!(rt; found.0.as_slice(), places);
         assert_eq!(rt; found.1, looks);
@@ -97,13 +97,13 @@ fn what_an_agent_saw(rt: HostRuntime) -> Result<(), Fail> {
 #[test]
 fn closed_sets(rt: HostRuntime) -> Result<(), Fail> {
     let alloc = rt.alloc();
-    let sealed = played(alloc, &TRIANGLE, &[2], "0e 1e 1d0 1v 1w 0l")?;
+    let sealed = played(alloc, 3, &TRIANGLE, &[2], "0e 1e 1d0 1v 1w 0l")?;
     let part = restrict(alloc, &sealed, &[0, 5])?;
     assert_eq!(rt; part.log().len(), 3);
     assert_eq!(rt; part.log()[1].mark, sealed.log()[5].mark);
     assert_eq!(rt; part.log()[2].event, Event::Close);
     assert_eq!(rt; restrict(alloc, &sealed, &[0, 5, 6])?.log().len(), 3);
-    let longer = played(alloc, &TRIANGLE, &[2], SEARCH)?;
+    let longer = played(alloc, 3, &TRIANGLE, &[2], SEARCH)?;
     let rows: [(&Sealed, &[u32], RestrictFault); 4] = [
         (&sealed, &[4], RestrictFault::NotClosed { place: 1 }),
         (&sealed, &[5, 0], RestrictFault::Places { index: 1 }),
@@ -123,7 +123,7 @@ fn closed_sets(rt: HostRuntime) -> Result<(), Fail> {
 #[test]
 fn twins(rt: HostRuntime) -> Result<(), Fail> {
     let alloc = rt.alloc();
-    let reached = played(alloc, &TRIANGLE, &[2], "0e 0d0 0v")?;
+    let reached = played(alloc, 3, &TRIANGLE, &[2], "0e 0d0 0v")?;
     let rows = [
         (3, TwinFault::Node),
         (0, TwinFault::Home),
@@ -133,17 +133,17 @@ fn twins(rt: HostRuntime) -> Result<(), Fail> {
     for (node, fault) in rows {
         assert_eq!(rt; twin_of(alloc, &reached, node).err(), Some(fault));
     }
-    let guess = played(alloc, &TRIANGLE, &[2], "0e 0a1")?;
+    let guess = played(alloc, 3, &TRIANGLE, &[2], "0e 0a1")?;
     assert_eq!(rt; judge(&guess).outcome, Outcome::Guess { node: 1 });
     let twin = twin_of(alloc, &guess, 1)?;
     assert_eq!(rt; judge(&twin).outcome, Outcome::Wrong);
     assert_eq!(rt; twin.setup().holes.nodes(), [1].as_slice());
     assert_eq!(rt; twin.log()[0].mark, guess.log()[0].mark);
-    let lost = played(alloc, &TRIANGLE, &[2], "0e 0d1 0v 0l")?;
+    let lost = played(alloc, 3, &TRIANGLE, &[2], "0e 0d1 0v 0l")?;
     let twin = twin_of(alloc, &lost, 1)?;
     assert_eq!(rt; lost.log().len(), 5);
     assert_eq!(rt; twin.log().len(), 4);
-    let two = played(alloc, &RING, &[1, 3], "0e 0a0 1e 1a1")?;
+    let two = played(alloc, 4, &RING, &[1, 3], "0e 0a0 1e 1a1")?;
     assert_eq!(rt; judge(&two).outcome, Outcome::Guess { node: 2 });
     assert_eq!(rt; twin_of(alloc, &two, 3).err(), Some(TwinFault::Same));
     let twin = twin_of(alloc, &two, 2)?;
