@@ -16,6 +16,7 @@ pub fn judge(sealed: &Sealed) -> Verdict
 {
     let net = sealed.net();
     let setup = sealed.setup();
+    let nodes = net.nodes();
     let walk = walked(net, setup.home, sealed.log());
     Verdict {
         outcome: outcome(net, setup, &walk),

@@ -2,7 +2,7 @@
 #![tactic(auto)]
 
 mod judging;
-mod links;
+pub mod links;
 mod looks;
 mod verdicts;
 mod walks;

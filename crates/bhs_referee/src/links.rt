@@ -1,4 +1,4 @@
-//! What is to be known of a link that was accused, which is named by a node and a port.
+//! What is to be known of a link that was accused, which is named by a node and a port, and of the node behind it.
 
 ghost use Rattle.std.specs.Prelude.{◌≡◌};
 ghost use Rattle.bhs_net.specs.Network.{far_of};
@@ -10,7 +10,7 @@ use bhs_model::Setup;
 use bhs_net::Net;
 
 /// The far end of a link; (0, 0) where there is no such port.
-pub(crate) fn far(net: &Net, link: (u16, u16)) -> (u16, u16)
+pub fn far(net: &Net, link: (u16, u16)) -> (u16, u16)
     ensures { result ≡ far_of net.now link.0 link.1 }
 {
     let (node, port) = link;
@@ -22,7 +22,7 @@ pub(crate) fn far(net: &Net, link: (u16, u16)) -> (u16, u16)
 }
 
 /// Whether this node is a black hole.
-pub(crate) fn is_hole(setup: &Setup, node: u16) -> bool
+pub fn is_hole(setup: &Setup, node: u16) -> bool
     ensures { result ≡ is_hole setup.now.holes node }
 {
     setup.holes.nodes().iter().any(|hole| *hole == node)
@@ -35,8 +35,8 @@ pub(crate) fn is_same_link(net: &Net, setup: &Setup, link: (u16, u16), end: (u16
     end == link || far(net, end) == link
 }
 
-/// Whether a link is dark.
-pub(crate) fn is_dark(net: &Net, setup: &Setup, link: (u16, u16)) -> bool
+/// Whether a link, named by a node and a port, is dark.
+pub fn is_dark(net: &Net, setup: &Setup, link: (u16, u16)) -> bool
     ensures { result ≡ is_over_dark (world_of net.now setup.now) link }
 {
     setup

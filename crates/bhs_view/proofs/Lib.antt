@@ -1,0 +1,16 @@
+pub mod ForwardLemmas
+pub mod BackLemmas
+pub mod CutLemmas
+pub mod FaultLemmas
+pub mod PlayingLemmas
+pub mod SetLemmas
+pub mod ClosedLemmas
+pub mod AloneLemmas
+pub mod RestrictLemmas
+pub mod TwinLemmas
+pub mod TwinSetupLemmas
+pub mod TwinPlayLemmas
+pub mod PassLemmas
+pub mod TwinReadLemmas
+pub mod LawLemmas
+pub mod GuessLemmas

@@ -1,0 +1,23 @@
+-- What a log says, apart from the places that its marks name.
+use Rattle.std.specs.Prelude.{Bool, true, false, not, Option, None, List, [], ◌∷◌, ◌++◌, map, filter}
+use Rattle.bhs_model.specs.declared.events.Event.{Event}
+use Rattle.bhs_model.specs.declared.events.Event.TheVariants.{Close}
+use Rattle.bhs_model.specs.declared.replies.Reply.{Reply}
+use Rattle.bhs_model.specs.declared.marks.Kept.{Kept}
+use Rattle.bhs_model.specs.Marks.{read_if}
+
+-- an event and its reply, if it was given one
+abbrev pub Entry : Type 0
+Entry = Event × Option Reply
+
+-- the entries of a log
+abbrev pub entries : List Kept → List Entry
+entries log = map (λ one. (one.event, read_if log one.mark)) log
+
+abbrev pub closes : Event → Bool
+closes Close = true
+closes event = false
+
+-- all but the Close, and then one Close
+abbrev pub closed_once : List Entry → List Entry
+closed_once chosen = filter (λ entry. not (closes entry.0)) chosen ++ (Close, None) ∷ []

@@ -1,0 +1,109 @@
+-- Twins of a match: the same match with a black hole elsewhere, at a node where no agent arrived.
+use Rattle.std.specs.Prelude.{ℕ, suc, ◌≡◌, Bool, true, false, not, ◌&&◌, ◌||◌, ◌==◌, Option, Some, None, List, [], ◌∷◌, if◌then◌else◌, nat_lt, find, option_map}
+use Rattle.std.specs.List.{range_with_len}
+use Rattle.std.specs.Option.{option_or}
+use Rattle.bhs_net.specs.Network.{Network, nodes_of}
+use Rattle.bhs_model.specs.declared.commands.Command.{Command}
+use Rattle.bhs_model.specs.declared.commands.Command.TheVariants.{Accuse}
+use Rattle.bhs_model.specs.declared.events.Event.{Event}
+use Rattle.bhs_model.specs.declared.events.Event.TheVariants.{Tell, Deliver, Close}
+use Rattle.bhs_model.specs.declared.replies.Reply.{Reply}
+use Rattle.bhs_model.specs.declared.replies.Reply.TheVariants.{Noted}
+use Rattle.bhs_model.specs.declared.setups.Setup.{Setup}
+use Rattle.bhs_model.specs.Worlds.{World, is_hole, is_dark}
+use Rattle.bhs_model.specs.Runs.{Position, At, State, initial, arrives, next, reply}
+use Rattle.bhs_model.specs.Cuts.{at_places, meet, node_reached}
+use Rattle.bhs_model.specs.Marks.{events_of}
+use Rattle.bhs_model.specs.Setups.{normal, nodes_where}
+use Rattle.bhs_match.specs.Matches.{Play, world_in}
+use Rattle.bhs_view.specs.declared.twins.TwinFault.{TwinFault}
+use Rattle.bhs_view.specs.declared.twins.TwinFault.TheVariants.{Node, Home, Same, Reached}
+use Rattle.bhs_view.specs.Entries.{entries}
+
+-- the black hole that the link at a port leads to, where the link is not dark
+abbrev pub hole_beyond : World → (node port : ℕ) → Option ℕ
+hole_beyond world node port =
+    let far = (world.net.far node port).0 in
+    if is_hole world.holes far && not (is_dark world.net.far world.dark node port) then Some far else None
+
+abbrev pub hole_from : World → Position → (port : ℕ) → Option ℕ
+hole_from world (At node came) port = hole_beyond world node port
+hole_from world position port = None
+
+abbrev pub is_noted : Option Reply → Bool
+is_noted (Some Noted) = true
+is_noted reply = false
+
+-- the black hole that an event accuses by a link that is not dark: the event is an accusation that is noted
+abbrev pub hole_accused : World → State → Event → Option ℕ
+hole_accused world state (Tell agent (Accuse port)) =
+    if is_noted (reply world state (Tell agent (Accuse port))) then hole_from world (state.position agent) port else None
+hole_accused world state event = None
+
+abbrev pub first_accused_from : World → State → List Event → Option ℕ
+first_accused_from world state [] = None
+first_accused_from world state (event ∷ events) =
+    option_or (hole_accused world state event) (first_accused_from world (next world state event) events)
+
+-- the black hole that gives way: the first that is accused by a link that is not dark; without such an accusation the
+-- least; none where there is none
+abbrev pub replaced : World → List Event → Option ℕ
+replaced world events =
+    option_or (first_accused_from world initial events) (find (is_hole world.holes) (range_with_len 0 world.net.nodes))
+
+-- whether a node is a black hole once one has given way to another
+abbrev pub is_moved : List ℕ → (old : Option ℕ) → (new node : ℕ) → Bool
+is_moved holes old new node = node == new || (is_hole holes node && not (meet old (Some node)))
+
+-- the setup in which a black hole has given way to another
+abbrev pub moved : Network → Setup → (old : Option ℕ) → (new : ℕ) → Setup
+moved net setup old new = record setup { holes = nodes_where net (is_moved setup.holes old new) }
+
+-- whether an event is a Deliver that finds its agent bound for a node
+abbrev pub heads_for : World → (old : Option ℕ) → State → Event → Bool
+heads_for world old state (Deliver agent) = meet old (node_reached world (state.position agent))
+heads_for world old state event = false
+
+abbrev pub left_from : World → (old : Option ℕ) → State → List Event → List Bool
+left_from world old state [] = []
+left_from world old state (event ∷ events) =
+    not (heads_for world old state event) ∷ left_from world old (next world state event) events
+
+-- the set of the places that are left when each Deliver that finds its agent bound for a node is taken out
+abbrev pub left : World → (old : Option ℕ) → List Event → List Bool
+left world old events = left_from world old initial events
+
+-- whether an event makes its agent arrive at a node
+abbrev pub arrives_at : World → (node : ℕ) → State → Event → Bool
+arrives_at world node state (Deliver agent) =
+    arrives world state agent && meet (Some node) (node_reached world (state.position agent))
+arrives_at world node state event = false
+
+abbrev pub first_arrival_from : World → (node : ℕ) → State → (place : ℕ) → List Event → Option ℕ
+first_arrival_from world node state place [] = None
+first_arrival_from world node state place (event ∷ events) =
+    if arrives_at world node state event
+    then Some place else first_arrival_from world node (next world state event) (suc place) events
+
+-- the place of the first arrival at a node
+abbrev pub first_arrival : World → (node : ℕ) → List Event → Option ℕ
+first_arrival world node events = first_arrival_from world node initial 0 events
+
+-- why a match has no twin with a black hole at this node: it is no node, or the home base, or a black hole already, or an
+-- agent arrived there
+abbrev pub twin_fault : Play → (node : ℕ) → Option TwinFault
+twin_fault play node =
+    if not (nat_lt node (nodes_of play.net)) then Some Node
+    else (if node == play.setup.home then Some Home
+    else (if is_hole play.setup.holes node then Some Same
+    else option_map Reached (first_arrival (world_in play) node (events_of play.log))))
+
+-- the twin of a match with a black hole at this node: the hole that gives way is no hole, each Deliver that finds its agent
+-- bound for it is taken out, and all else happened with the replies that it had
+pub record IsTwin (whole : Play) (node : ℕ) (twin : Play) : Type 0 where
+  pub net : twin.net ≡ whole.net
+  pub setup : twin.setup
+      ≡ normal whole.net (moved whole.net whole.setup (replaced (world_in whole) (events_of whole.log)) node)
+  pub log : entries twin.log
+      ≡ at_places (entries whole.log)
+      (left (world_in whole) (replaced (world_in whole) (events_of whole.log)) (events_of whole.log))

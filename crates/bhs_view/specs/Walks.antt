@@ -1,0 +1,156 @@
+-- How the walks over a log go about it: forward they note the site of each place, back they keep what the chosen places
+-- need. That this is what the definitions say is proved of it.
+use Rattle.std.specs.Prelude.{ℕ, zero, suc, ◌+◌, ◌<◌, ◌≡◌, Bool, true, false, ◌&&◌, ◌||◌, Option, Some, None, List, [], ◌∷◌, if◌then◌else◌, nat_lt, map, length, replicate, slice_index_or, slice_set, IfSome}
+use Rattle.std.specs.List.{AllByRecursion, list_any}
+use Rattle.bhs_net.specs.Network.{Network, nodes_of, degree_of}
+use Rattle.bhs_model.specs.declared.setups.Setup.{Setup}
+use Rattle.bhs_model.specs.declared.commands.Command.{Command}
+use Rattle.bhs_model.specs.declared.commands.Command.TheVariants.{Enter, Look, Write, Depart, Accuse, Leave}
+use Rattle.bhs_model.specs.declared.events.Event.{Event}
+use Rattle.bhs_model.specs.declared.events.Event.TheVariants.{Tell, Deliver, Close}
+use Rattle.bhs_model.specs.declared.marks.Mark.{Mark}
+use Rattle.bhs_model.specs.Worlds.{World}
+use Rattle.bhs_model.specs.declared.marks.Kept.{Kept}
+use Rattle.bhs_model.specs.Runs.{Position, Before, At, Bound, After}
+use Rattle.bhs_model.specs.Cuts.{Footprint, meet}
+use Rattle.bhs_view.specs.Entries.{closes}
+use Rattle.bhs_view.specs.declared.spots.Spot.{Spot}
+use Rattle.bhs_view.specs.declared.spots.Spot.TheVariants.{Off, Stays, Rides}
+
+-- a position without the label of the link by which the agent came
+abbrev pub spot_of : Position → Spot
+spot_of Before = Off
+spot_of (At node came) = Stays node
+spot_of (Bound node port) = Rides node port
+spot_of After = Off
+
+-- the node at which a heard command is said, by where its agent is
+abbrev pub told_site : (home : ℕ) → Spot → Command → Option ℕ
+told_site home spot Enter = Some home
+told_site home (Stays node) command = Some node
+told_site home spot command = None
+
+-- where a heard command leaves its agent
+abbrev pub told_spot : World → Spot → Command → Spot
+told_spot world spot Enter = Stays world.home
+told_spot world spot Leave = Off
+told_spot world (Stays node) (Depart port) =
+    if nat_lt port (world.net.degree node) then Rides node port else Stays node
+told_spot world (Stays node) (Accuse port) = if nat_lt port (world.net.degree node) then Off else Stays node
+told_spot world spot command = spot
+
+-- the node that an agent on a link is bound for
+abbrev pub delivered_site : World → Spot → Option ℕ
+delivered_site world (Rides node port) = Some (world.net.far node port).0
+delivered_site world spot = None
+
+-- where a Deliver leaves an agent that is bound for a node: there, where the Deliver is answered
+abbrev pub landed : Spot → Option Mark → Option ℕ → Spot
+landed spot (Some mark) (Some node) = Stays node
+landed spot mark site = spot
+
+abbrev pub spot_at : List Spot → (agent : ℕ) → Spot
+spot_at spots agent = slice_index_or spots agent Off
+
+-- the site of an event, by where the agents are
+abbrev pub site_by : World → List Spot → Event → Option ℕ
+site_by world spots (Tell agent command) = told_site world.home (spot_at spots agent) command
+site_by world spots (Deliver agent) = delivered_site world (spot_at spots agent)
+site_by world spots Close = None
+
+-- where the agents are after an event with this mark
+abbrev pub spots_after : World → List Spot → Event → Option Mark → List Spot
+spots_after world spots (Tell agent command) mark =
+    slice_set spots agent (told_spot world (spot_at spots agent) command)
+spots_after world spots (Deliver agent) mark =
+    slice_set spots agent (landed (spot_at spots agent) mark (delivered_site world (spot_at spots agent)))
+spots_after world spots Close mark = spots
+
+-- a spot in the network
+abbrev pub IsOn : Network → Spot → Type 0
+IsOn net Off = Unit {0}
+IsOn net (Stays node) = node < nodes_of net
+IsOn net (Rides node port) = (node < nodes_of net) × (port < degree_of net node)
+
+-- an event of an agent that there is, and that is in the network
+abbrev pub IsReady : Network → List Spot → Event → Type 0
+IsReady net spots (Tell agent command) = (agent < length spots) × IsOn net (spot_at spots agent)
+IsReady net spots (Deliver agent) = (agent < length spots) × IsOn net (spot_at spots agent)
+IsReady net spots Close = Unit {0}
+
+-- whose event this is
+abbrev pub who_of : Event → Option ℕ
+who_of (Tell agent command) = Some agent
+who_of (Deliver agent) = Some agent
+who_of Close = None
+
+abbrev pub written_by : Event → (seen : Option ℕ) → Option ℕ
+written_by (Tell agent (Write expect put)) seen = seen
+written_by event seen = None
+
+-- the node that an event with this mark and this site sees: Enter, Look and Write see it, and so does a Deliver that is
+-- answered
+abbrev pub seen_by : Event → Option Mark → Option ℕ → Option ℕ
+seen_by (Tell agent Enter) mark site = site
+seen_by (Tell agent Look) mark site = site
+seen_by (Tell agent (Write expect put)) mark site = site
+seen_by (Deliver agent) (Some mark) site = site
+seen_by event mark site = None
+
+-- the footprint of an event that sees this node
+abbrev pub footprint_by : Event → (seen : Option ℕ) → Footprint
+footprint_by event seen =
+    record { who = who_of event; seen = seen; written = written_by event seen; closes = closes event }
+
+-- the footprint of a place of a log, by its site
+abbrev pub footprint_at : Kept → (site : Option ℕ) → Footprint
+footprint_at kept site = footprint_by kept.event (seen_by kept.event kept.mark site)
+
+abbrev pub footprints_at : List Kept → (sites : List (Option ℕ)) → List Footprint
+footprints_at [] sites = []
+footprints_at (kept ∷ log) [] = []
+footprints_at (kept ∷ log) (site ∷ sites) = footprint_at kept site ∷ footprints_at log sites
+
+-- what chosen places need of the earlier ones: those of these agents, those that write these nodes, and, where there is
+-- any chosen place, each Close
+pub record Needed : Type 0 where
+  pub agents : List Bool
+  pub nodes : List Bool
+  pub any : Bool
+
+abbrev pub nothing_needed : (agents nodes : ℕ) → Needed
+nothing_needed agents nodes = record { agents = replicate agents false; nodes = replicate nodes false; any = false }
+
+abbrev pub marked : List Bool → Option ℕ → Bool
+marked marks None = false
+marked marks (Some place) = slice_index_or marks place false
+
+abbrev pub marks_with : List Bool → Option ℕ → List Bool
+marks_with marks None = marks
+marks_with marks (Some place) = slice_set marks place true
+
+-- whether a place is needed
+abbrev pub is_needed : Needed → Footprint → Bool
+is_needed needed early =
+    (early.closes && needed.any) || (marked needed.agents early.who || marked needed.nodes early.written)
+
+-- what is needed where one more place is chosen
+abbrev pub needed_after : Needed → Footprint → Needed
+needed_after needed late =
+    record { agents = marks_with needed.agents late.who; nodes = marks_with needed.nodes late.seen; any = true }
+
+-- the agent and the node of a footprint are there
+pub record IsInRange (agents nodes : ℕ) (footprint : Footprint) : Type 0 where
+  pub who : IfSome footprint.who (λ agent. agent < agents)
+  pub seen : IfSome footprint.seen (λ node. node < nodes)
+
+abbrev pub AreInRange : (agents nodes : ℕ) → List Footprint → Type 0
+AreInRange agents nodes footprints = AllByRecursion (IsInRange agents nodes) footprints
+
+-- what is needed is what these chosen places need, and all places of this agent
+pub record AreNeeded (needed : Needed) (own : Option ℕ) (chosen : List Footprint) : Type 0 where
+  pub agents : (agent : ℕ) → agent < length needed.agents → slice_index_or needed.agents agent false
+      ≡ (meet own (Some agent) || list_any (λ late. meet late.who (Some agent)) chosen)
+  pub nodes : (node : ℕ) → node < length needed.nodes →
+      slice_index_or needed.nodes node false ≡ list_any (λ late. meet late.seen (Some node)) chosen
+  pub any : needed.any ≡ list_any (λ late. true) chosen
