@@ -1,0 +1,14 @@
+pub mod Each
+pub mod EventData
+pub mod EventTexts
+pub mod EventReads
+pub mod Spellings
+pub mod WritingLemmas
+pub mod Fitting
+pub mod FitLemmas
+pub mod HeadLists
+pub mod HeadReads
+pub mod HeadTexts
+pub mod LinkLists
+pub mod OpeningLemmas
+pub mod ReplayTexts
