@@ -12,3 +12,10 @@ pub mod HeadTexts
 pub mod LinkLists
 pub mod OpeningLemmas
 pub mod ReplayTexts
+pub mod TextLines
+pub mod ReaderLemmas
+pub mod FeedLemmas
+pub mod StageLemmas
+pub mod ReadLemmas
+pub mod PlayLemmas
+pub mod SoundTexts

@@ -9,3 +9,5 @@ pub mod Replay
 pub mod Spelling
 pub mod Stages
 pub mod Writing
+pub mod Reading
+pub mod Readers

@@ -31,9 +31,13 @@ ended = ended_after []
 abbrev pub is_digit : ℕ → Bool
 is_digit byte = nat_le 48 byte && nat_le byte 57
 
--- a number in plain decimal: digits, and no zero before others
+-- no zero stands before other digits
+abbrev pub starts_plain : List ℕ → Bool
+starts_plain digits = length digits == 1 || not (slice_index digits 0 == 48)
+
+-- a number in plain decimal
 abbrev pub is_plain : List ℕ → Bool
-is_plain digits = list_all is_digit digits && (length digits == 1 || not (slice_index digits 0 == 48))
+is_plain digits = list_all is_digit digits && starts_plain digits
 
 -- whether this is the end line of some number, however large
 abbrev pub is_end_line : List ℕ → Bool

@@ -2,10 +2,15 @@
 
 ghost use Rattle.std.specs.Prelude.{◌≡◌, true, ℕ, List, Option, Some};
 ghost use Rattle.std.specs.Str.{IsUtf8};
+ghost use Rattle.bhs_net.specs.Network.{Network};
+ghost use Rattle.bhs_replay.specs.Head.{CanSay};
 ghost use Rattle.bhs_replay.specs.EventLine.{event_line};
+ghost use Rattle.bhs_replay.specs.Replay.{replay};
+ghost use Rattle.bhs_replay.specs.Stages.{Ends, Comes};
 ghost use Rattle.bhs_replay.specs.Spelling.{spelled, may_stand, EventFits, ReplyFits};
 
-use bhs_model::{Event, Reply};
+use crate::heads::Version;
+use bhs_model::{Event, Reply, Setup};
 
 /// A line spells an event and a reply exactly where it is their line, so no line is that of two.
 pub fn one_spelling()
@@ -19,4 +24,11 @@ pub fn one_spelling()
         → spelled text ≡ Some (event, reply) → EventFits event × ReplyFits reply }
     ensures utf8 { (text : List ℕ) (event : Event) (reply : Option Reply)
         → spelled text ≡ Some (event, reply) → IsUtf8 text }
+{}
+
+/// What is read as a match is the replay of that match, in one of the versions: every other text has a fault.
+pub fn only_replays_are_read()
+    ensures { (text : List ℕ) (net : Network) (setup : Setup) (events : List Event)
+        → Comes text (Ends net setup events)
+        → (version : Version) × CanSay version setup × (text ≡ replay version net setup events) }
 {}

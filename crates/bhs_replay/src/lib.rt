@@ -8,13 +8,16 @@ mod laws;
 mod lines;
 mod links;
 mod opening;
+mod read;
+mod reader;
 mod reading;
+mod steps;
 mod tokens;
 mod writing;
 
 pub use faults::{ReplayFault, WritingFault};
 pub use heads::Version;
-pub use laws::one_spelling;
+pub use laws::{one_spelling, only_replays_are_read};
 pub use lines::event_line;
-pub use reading::{Spelled, read_event};
+pub use read::read_replay;
 pub use writing::write_replay;
