@@ -17,6 +17,9 @@ pub enum BenchFault {
     /// The held links were refused.
     #[error("held: {0}")]
     Held(HeldFault),
+    /// A match did not settle.
+    #[error("unsettled")]
+    Unsettled,
     /// A write failed.
     #[error("write")]
     Write,

@@ -1,4 +1,4 @@
-//! The program `bhs_bench`: how many steps of a match are done in a second.
+//! The program `bhs_bench`: how many steps of a match are done in a second, and how many commands under its lock.
 #![tactic(auto)]
 
 mod deeds;
@@ -6,6 +6,7 @@ mod faults;
 mod orders;
 mod report;
 mod run;
+mod submitting;
 mod torus;
 mod workload;
 
@@ -15,19 +16,30 @@ use std::process::ExitCode;
 use std::{env, io};
 
 fn main(rt: HostRuntime) -> ExitCode {
-    ExitCode::from(match started(&rt) {
-        Ok(status) => status,
-        Err(error) if error.kind() == ErrorKind::OutOfMemory => NO_MEMORY,
-        Err(_) => FAILED_STREAM,
-    })
+    let alloc = rt.alloc();
+    let words = match words(&rt) {
+        Ok(words) => words,
+        Err(error) => return ExitCode::from(status_of(error)),
+    };
+    let mut writer = match BufWriter::new(alloc, io::writer(&rt)) {
+        Ok(writer) => writer,
+        Err(error) => return ExitCode::from(status_of(error)),
+    };
+    let mut errors = rt.stderr();
+    ExitCode::from(run::run(alloc, &rt, words.as_slice(), &mut writer, &mut errors))
 }
 
-fn started(rt: &HostRuntime) -> io::Result<u8> {
-    let alloc = rt.alloc();
-    let words: Vec<String> = env::args(rt)?.skip(1).collect(alloc)?;
-    let mut writer = BufWriter::new(alloc, io::writer(rt))?;
-    let mut errors = rt.stderr();
-    Ok(run::run(alloc, rt, words.as_slice(), &mut writer, &mut errors))
+/// The words after the program's name.
+fn words(rt: &HostRuntime) -> io::Result<Vec<String>> {
+    Ok(env::args(rt)?.skip(1).collect(rt.alloc())?)
+}
+
+fn status_of(error: io::Error) -> u8 {
+    if error.kind() == ErrorKind::OutOfMemory {
+        NO_MEMORY
+    } else {
+        FAILED_STREAM
+    }
 }
 
 #[cfg(test)]

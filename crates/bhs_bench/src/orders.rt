@@ -2,12 +2,17 @@
 
 /// What the program says of itself.
 pub const USAGE: &str = "usage: bhs_bench step N [time]
+       bhs_bench submit N [time]
 
-Plays N events on a match of 16 agents with a quota of 1000 each, on a torus of 16 by 16 nodes. The events are picked by
+step plays N events on a match of 16 agents with a quota of 1000 each, on a torus of 16 by 16 nodes. The events are picked by
 the words of a fixed seed, so the counts that are printed are the same each time. A match that has ended is followed by a
 new one.
 
-  time   also prints the seconds that this took, and the events in a second
+submit tells 1001 commands for each of 64 agents, N times over: by one thread, to a match under no lock; by 1, 4 and 16
+threads that share one match; and by 4 and 16 threads of which each has a match of its own. The matches are then settled.
+Of the commands of an agent the first lets it enter. Of four others one writes, one is refused, and two look.
+
+  time   also prints the seconds that this took, and the events or commands in a second
 ";
 
 /// What the program is to do.
@@ -17,24 +22,35 @@ pub enum Order {
     Help,
     /// Plays so many events; `is_timed` says whether the time is printed.
     Step { events: u64, is_timed: bool },
+    /// Tells commands, so many times over; `is_timed` says whether the time is printed.
+    Submit { rounds: u64, is_timed: bool },
 }
 
 /// The order that the words after the program's name give, if they give one.
 pub fn order_of(words: &[String]) -> Option<Order> {
     match words {
         [help] if help.as_str() == "--help" => Some(Order::Help),
-        [step, events] if step.as_str() == "step" => {
-            Some(Order::Step {
-                events: number_of(events.as_str())?,
-                is_timed: false,
-            })
-        }
-        [step, events, time] if step.as_str() == "step" && time.as_str() == "time" => {
-            Some(Order::Step {
-                events: number_of(events.as_str())?,
-                is_timed: true,
-            })
-        }
+        [deed, number] => order_to(deed.as_str(), number.as_str(), false),
+        [deed, number, time] if time.as_str() == "time" => order_to(
+            deed.as_str(),
+            number.as_str(),
+            true,
+        ),
+        _ => None,
+    }
+}
+
+fn order_to(deed: &str, number: &str, is_timed: bool) -> Option<Order> {
+    let number = number_of(number)?;
+    match deed {
+        "step" => Some(Order::Step {
+            events: number,
+            is_timed,
+        }),
+        "submit" => Some(Order::Submit {
+            rounds: number,
+            is_timed,
+        }),
         _ => None,
     }
 }

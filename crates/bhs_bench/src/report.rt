@@ -1,6 +1,7 @@
 //! What is printed.
 
 use crate::faults::BenchFault;
+use crate::submitting::{Sharing, Told};
 use crate::workload::Counts;
 use bhs_stream::send;
 use std::alloc::Global;
@@ -32,10 +33,45 @@ pub fn print_time<W: Write>(
     events: u64,
     time: Duration,
 ) -> Result<(), BenchFault> {
-    let micros = time.as_micros().max(1);
-    let rate = u128::from(events) * 1_000_000 / micros;
+    let rate = rate(events, time);
     let seconds = time.as_secs();
     let millis = time.subsec_millis();
     let text = format!(in alloc; "seconds {seconds}.{millis:03}\nevents in a second {rate}\n")?;
     Ok(send(writer, text.as_bytes())?)
+}
+
+/// How many were done in a second.
+fn rate(number: u64, time: Duration) -> u128 {
+    let micros = time.as_micros().max(1);
+    u128::from(number) * 1_000_000 / micros
+}
+
+/// Prints what came of a run, in one line.
+pub fn print_told<W: Write>(
+    alloc: Global,
+    writer: &mut W,
+    sharing: Sharing,
+    told: Told,
+    is_timed: bool,
+) -> Result<(), BenchFault> {
+    let (threads, matches) = match sharing {
+        Sharing::Alone => (0, 1),
+        Sharing::One { threads } => (threads, 1),
+        Sharing::Many { threads } => (threads, threads),
+    };
+    let Told {
+        commands,
+        kept,
+        time,
+    } = told;
+    let text = format!(in alloc;
+        "threads {threads} matches {matches} commands {commands} kept {kept}"
+    )?;
+    send(writer, text.as_bytes())?;
+    if is_timed {
+        let rate = rate(commands, time);
+        let text = format!(in alloc; " in a second {rate}")?;
+        send(writer, text.as_bytes())?;
+    }
+    Ok(send(writer, b"\n")?)
 }

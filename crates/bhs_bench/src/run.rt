@@ -1,10 +1,13 @@
 use crate::faults::BenchFault;
 use crate::orders::{Order, USAGE, order_of};
-use crate::report::{print_counts, print_time};
+use crate::report::{print_counts, print_time, print_told};
+use crate::submitting::{RUNS, Told, run_once};
 use crate::workload::Workload;
 use bhs_stream::{finish, send};
 use std::alloc::Global;
 use std::io::Write;
+use std::sync::Wait;
+use std::thread::Threads;
 use std::time::{Clock, Instant};
 
 /// The exit status where all was done.
@@ -24,16 +27,17 @@ pub const FAILED_STREAM: u8 = 6;
 
 /// Does what the words after the program's name order, and answers the exit status. What is asked for goes to
 /// `writer`; why it could not be done goes to `errors`.
-pub fn run<C: Clock, W: Write, E: Write>(
+pub fn run<R: Threads + Wait + Clock + Sync, W: Write, E: Write>(
     alloc: Global,
-    clock: &C,
+    rt: &R,
     words: &[String],
     writer: &mut W,
     errors: &mut E,
 ) -> u8 {
     let done = match order_of(words) {
         Some(Order::Help) => show(writer),
-        Some(Order::Step { events, is_timed }) => step(alloc, clock, writer, events, is_timed),
+        Some(Order::Step { events, is_timed }) => step(alloc, rt, writer, events, is_timed),
+        Some(Order::Submit { rounds, is_timed }) => submit(alloc, rt, writer, rounds, is_timed),
         None => {
             let _ = send(errors, USAGE.as_bytes());
             return REFUSED_WORDS;
@@ -72,10 +76,31 @@ fn step<C: Clock, W: Write>(
     Ok(())
 }
 
+fn submit<R: Threads + Wait + Clock + Sync, W: Write>(
+    alloc: Global,
+    rt: &R,
+    writer: &mut W,
+    rounds: u64,
+    is_timed: bool,
+) -> Result<(), BenchFault> {
+    for sharing in RUNS {
+        let mut all = Told::none();
+        for _ in 0..rounds {
+            all = all.with(run_once(rt, alloc, sharing)?);
+        }
+        print_told(alloc, writer, sharing, all, is_timed)?;
+    }
+    finish(writer)?;
+    Ok(())
+}
+
 fn tell<E: Write>(fault: BenchFault, errors: &mut E) -> u8 {
     let _ = writeln!(errors, "bhs_bench: {fault}");
     match fault {
-        BenchFault::Network(_) | BenchFault::Setup(_) | BenchFault::Held(_) => REFUSED_MATCH,
+        BenchFault::Network(_)
+        | BenchFault::Setup(_)
+        | BenchFault::Held(_)
+        | BenchFault::Unsettled => REFUSED_MATCH,
         BenchFault::Memory => NO_MEMORY,
         BenchFault::Write | BenchFault::Clock => FAILED_STREAM,
     }

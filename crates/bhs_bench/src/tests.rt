@@ -5,7 +5,9 @@ use bhs_match::Match;
 use bhs_model::{Command, DarkLinks, Event, Holes, Setup, Text};
 use bhs_net::{Link, Net};
 use std::alloc::Global;
+use std::sync::Wait;
 use std::test::Fail;
+use std::thread::Threads;
 use std::time::Clock;
 
 #[test]
@@ -48,6 +50,7 @@ fn words_that_give_no_order_are_refused(rt: HostRuntime) -> Result<(), Fail> {
         &["step", ""][..],
         &["step", "18446744073709551616"][..],
         &["step", "7", "times"][..],
+        &["submit", "1", "2"][..],
         &["--help", "step"][..],
     ] {
         let (status, written, told) = output_of(&rt, alloc, words)?;
@@ -96,9 +99,24 @@ fn the_time_is_told_on_request(rt: HostRuntime) -> Result<(), Fail> {
     Ok(())
 }
 
+#[test]
+fn runs_are_printed(rt: HostRuntime) -> Result<(), Fail> {
+    let (status, written, _told) = output_of(&rt, rt.alloc(), &["submit", "0"])?;
+    assert_eq!(rt; status, DONE);
+    let counted = "threads 0 matches 1 commands 0 kept 0
+threads 1 matches 1 commands 0 kept 0
+threads 4 matches 1 commands 0 kept 0
+threads 16 matches 1 commands 0 kept 0
+threads 4 matches 4 commands 0 kept 0
+threads 16 matches 16 commands 0 kept 0
+";
+    assert_eq!(rt; written.as_str(), counted);
+    Ok(())
+}
+
 /// The exit status for these words, and what is written on the one side and on the other.
-fn output_of<C: Clock>(
-    clock: &C,
+fn output_of<R: Threads + Wait + Clock + Sync>(
+    rt: &R,
     alloc: Global,
     words: &[&str],
 ) -> Result<(u8, String, String), Fail> {
@@ -108,7 +126,7 @@ fn output_of<C: Clock>(
     }
     let mut writer = Vec::new(alloc);
     let mut errors = Vec::new(alloc);
-    let status = run(alloc, clock, given.as_slice(), &mut writer, &mut errors);
+    let status = run(alloc, rt, given.as_slice(), &mut writer, &mut errors);
     let written = String::from_utf8(writer).map_err(|_| "the output is text")?;
     let told = String::from_utf8(errors).map_err(|_| "the faults are text")?;
     Ok((status, written, told))

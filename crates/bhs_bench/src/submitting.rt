@@ -1,0 +1,247 @@
+//! Commands that are told for the agents of matches, under a lock by several threads, or without one.
+
+ghost use Rattle.std.specs.Prelude.{◌≡◌, [], IfOk};
+
+use crate::faults::BenchFault;
+use crate::torus::{PORTS, torus};
+use bhs_deal::Held;
+use bhs_lock::{Cell, Hall, Open, Pass, settle};
+use bhs_match::Match;
+use bhs_model::{Command, DarkLinks, Holes, MAX_QUOTA, Setup, Text};
+use bhs_net::Memory;
+use std::alloc::Global;
+use std::sync::Wait;
+use std::thread;
+use std::thread::Threads;
+use std::time::{Clock, Duration, Instant};
+
+/// How many agents play, on all matches of a run together.
+const AGENTS: u16 = 64;
+
+/// How many commands each agent is told: an Enter, and as many others as its quota.
+const COMMANDS: u16 = MAX_QUOTA + 1;
+
+/// Who tells the commands of a run.
+#[derive(Clone, Copy, Debug, PartialEq, Eq)]
+pub enum Sharing {
+    /// One thread tells them to one match that is under no lock.
+    Alone,
+    /// So many threads share one match.
+    One { threads: u16 },
+    /// Each of so many threads has a match of its own.
+    Many { threads: u16 },
+}
+
+/// The runs, in the order in which they are printed.
+pub const RUNS: [Sharing; 6] = [
+    Sharing::Alone,
+    Sharing::One { threads: 1 },
+    Sharing::One { threads: 4 },
+    Sharing::One { threads: 16 },
+    Sharing::Many { threads: 4 },
+    Sharing::Many { threads: 16 },
+];
+
+/// What came of a run.
+#[derive(Clone, Copy, Debug, PartialEq, Eq)]
+pub struct Told {
+    /// The commands that were told.
+    pub commands: u64,
+    /// Those that were kept in the logs.
+    pub kept: u64,
+    /// How long telling them took.
+    pub time: Duration,
+}
+
+impl Told {
+    /// Before anything was told.
+    pub fn none() -> Told {
+        Told {
+            commands: 0,
+            kept: 0,
+            time: Duration::from_millis(0),
+        }
+    }
+
+    /// This and what came of one run more. A count that would need more than its bits stays at the most that they hold.
+    pub fn with(self, other: Told) -> Told {
+        Told {
+            commands: self.commands.saturating_add(other.commands),
+            kept: self.kept.saturating_add(other.kept),
+            time: self.time.saturating_add(other.time),
+        }
+    }
+}
+
+/// Some passes of one match, which one thread plays.
+#[derive(Debug, Drop)]
+struct Share {
+    cell: usize,
+    passes: Vec<Pass>,
+}
+
+/// Does a run once.
+pub fn run_once<R: Threads + Wait + Clock + Sync>(
+    rt: &R,
+    alloc: Global,
+    sharing: Sharing,
+) -> Result<Told, BenchFault> {
+    match sharing {
+        Sharing::Alone => told_alone(rt, alloc),
+        Sharing::One { threads } => told_by(rt, alloc, 1, threads),
+        Sharing::Many { threads } => told_by(rt, alloc, threads, 1),
+    }
+}
+
+/// A match of so many agents on the torus, where no node destroys.
+fn game(alloc: Global, agents: u16) -> Result<Match, BenchFault>
+    ensures { IfOk result (λ play. play.log ≡ []) }
+{
+    let setup = Setup {
+        home: 0,
+        holes: Holes::from(Vec::new(alloc)),
+        dark: DarkLinks::from(Vec::new(alloc)),
+        agents,
+        quota: MAX_QUOTA,
+        board: 1024,
+    };
+    Ok(Match::new(alloc, torus(alloc)?, setup)?)
+}
+
+/// The command of this place: an Enter, then in turn a Write, an Accuse of a port that no node has, and two Looks.
+fn command_of(alloc: Global, place: u16) -> Result<Command, Memory> {
+    if place == 0 {
+        return Ok(Command::Enter);
+    }
+    Ok(match place % 4 {
+        1 => Command::Write {
+            expect: Text::from(String::new(alloc)),
+            put: Text::from(String::from_str(alloc, "to the east")?),
+        },
+        2 => Command::Accuse { port: PORTS },
+        _ => Command::Look,
+    })
+}
+
+/// How many commands so many agents are told.
+fn commands_of(agents: u16) -> u64 {
+    u64::from(agents) * u64::from(COMMANDS)
+}
+
+fn told_alone<C: Clock>(clock: &C, alloc: Global) -> Result<Told, BenchFault> {
+    let (mut hall, mut passes) = Hall::new(alloc, 0, game(alloc, AGENTS)?)?;
+    let begin = Instant::now(clock).map_err(|_| BenchFault::Clock)?;
+    for place in 0..COMMANDS {
+        for pass in passes.iter_mut() {
+            hall.told(pass, command_of(alloc, place)?)?;
+        }
+    }
+    let time = begin.elapsed(clock).map_err(|_| BenchFault::Clock)?;
+    Ok(Told {
+        commands: commands_of(AGENTS),
+        kept: hall.state().log().len() as u64,
+        time,
+    })
+}
+
+/// Each of so many matches is shared by so many threads. The agents are dealt out evenly.
+fn told_by<R: Threads + Wait + Clock + Sync>(
+    rt: &R,
+    alloc: Global,
+    matches: u16,
+    threads: u16,
+) -> Result<Told, BenchFault> {
+    let agents = AGENTS / matches.max(1);
+    let cells = cells(alloc, matches, agents)?;
+    let shares = shares(rt, alloc, &cells, agents, agents / threads.max(1))?;
+    let begin = Instant::now(rt).map_err(|_| BenchFault::Clock)?;
+    let played = thread::map_vec(rt, shares, &|share| played(rt, alloc, &cells, share))?;
+    let time = begin.elapsed(rt).map_err(|_| BenchFault::Clock)?;
+    Ok(Told {
+        commands: commands_of(AGENTS),
+        kept: settled(rt, alloc, cells, played)?,
+        time,
+    })
+}
+
+fn cells(alloc: Global, matches: u16, agents: u16) -> Result<Vec<Cell>, BenchFault> {
+    let mut cells = Vec::new(alloc);
+    for number in 0..matches {
+        let play = game(alloc, agents)?;
+        let held = Held::new(alloc, play.net(), &[])?;
+        cells.push(Cell::new(alloc, u32::from(number), play, held)?)?;
+    }
+    Ok(cells)
+}
+
+/// The passes of all cells, in shares of so many.
+fn shares<R: Wait>(
+    rt: &R,
+    alloc: Global,
+    cells: &[Cell],
+    agents: u16,
+    size: u16,
+) -> Result<Vec<Share>, BenchFault> {
+    let mut shares = Vec::new(alloc);
+    for (cell, shared) in cells.iter().enumerate() {
+        let mut passes = Vec::new(alloc);
+        for agent in 0..agents {
+            if passes.len() >= usize::from(size) {
+                shares.push(Share { cell, passes })?;
+                passes = Vec::new(alloc);
+            }
+            if let Some(pass) = shared.claim(rt, agent) {
+                passes.push(pass)?;
+            }
+        }
+        shares.push(Share { cell, passes })?;
+    }
+    Ok(shares)
+}
+
+/// Tells the commands of a share.
+fn played<R: Wait>(
+    rt: &R,
+    alloc: Global,
+    cells: &[Cell],
+    mut share: Share,
+) -> Result<Share, Memory> {
+    let Some(cell) = cells.get(share.cell) else {
+        return Ok(share);
+    };
+    for place in 0..COMMANDS {
+        for pass in share.passes.iter_mut() {
+            cell.submit(rt, &Open, pass, command_of(alloc, place)?)?;
+        }
+    }
+    Ok(share)
+}
+
+/// Ends and settles the matches, and answers how many events were kept.
+fn settled<R: Wait>(
+    rt: &R,
+    alloc: Global,
+    cells: Vec<Cell>,
+    shares: Vec<Result<Share, Memory>>,
+) -> Result<u64, BenchFault> {
+    let mut handed: Vec<Vec<Pass>> = Vec::new(alloc);
+    for _ in 0..cells.len() {
+        handed.push(Vec::new(alloc))?;
+    }
+    for share in shares {
+        let Share { cell, passes } = share?;
+        let Some(all) = handed.get_mut(cell) else {
+            continue;
+        };
+        for pass in passes {
+            all.push(pass)?;
+        }
+    }
+    let mut kept: u64 = 0;
+    for (cell, passes) in cells.into_iter().zip(handed) {
+        cell.close(rt);
+        let sealed = settle(cell, passes).map_err(|_| BenchFault::Unsettled)?;
+        kept = kept.saturating_add(sealed.log().len() as u64);
+    }
+    Ok(kept)
+}
