@@ -139,29 +139,3 @@ impl Agent {
         self.standing = Standing::Ended;
     }
 }
-
-#[cfg(test)]
-mod tests {
-    use super::*;
-
-    #[test]
-    fn an_agent_travels(rt: HostRuntime) {
-        let mut agent = Agent::new();
-        assert_eq!(rt; agent.standing(), Standing::Outside);
-        agent.enter(0);
-        assert_eq!(rt; (agent.node(), agent.came()), (Some(0), None));
-        agent.count();
-        agent.depart(0, 1);
-        assert_eq!(rt; agent.bound(), Some((0, 1)));
-        assert_eq!(rt; (agent.node(), agent.came()), (None, None));
-        agent.lose();
-        assert_eq!(rt; agent.standing(), Standing::Away { node: 0, port: 1 });
-        assert!(rt; agent.lost());
-        agent.arrive(2, 1);
-        assert_eq!(rt; (agent.node(), agent.came()), (Some(2), Some(1)));
-        assert_eq!(rt; agent.bound(), None);
-        assert_eq!(rt; agent.used(), 1);
-        agent.end();
-        assert_eq!(rt; agent.standing(), Standing::Ended);
-    }
-}

@@ -56,21 +56,3 @@ impl Board {
         Swap::Took
     }
 }
-
-#[cfg(test)]
-mod tests {
-    use super::*;
-
-    #[test]
-    fn a_write_is_long_or_differs_or_takes(rt: HostRuntime) {
-        let mut board = Board::new(1);
-        assert_eq!(rt; board.last(), None);
-        assert_eq!(rt; board.swap("", "", "ab", 0), Swap::Long);
-        assert_eq!(rt; board.swap("", "x", "a", 0), Swap::Differs);
-        assert_eq!(rt; board.last(), None);
-        assert_eq!(rt; board.swap("", "", "a", 0), Swap::Took);
-        assert_eq!(rt; board.last(), Some(0));
-        assert_eq!(rt; board.swap("a", "a", "€", 1), Swap::Long);
-        assert_eq!(rt; board.last(), Some(0));
-    }
-}

@@ -1,5 +1,5 @@
 -- A draw and a close are no commands.
-use Rattle.std.proofs.Common.{◌≡◌, ℕ, Bool, true, false, Option, Some, None, List, refl, sym, ap, ◌∙◌, if◌then◌else◌}
+use Rattle.std.proofs.Common.{◌≡◌, ℕ, false, Option, Some, None, List, refl}
 use Rattle.std.proofs.lemmas.Bool.{cond_both}
 use Rattle.bhs_model.specs.declared.events.Event.{Event}
 use Rattle.bhs_model.specs.declared.events.Event.TheVariants.{Tell, Deliver, Close}

@@ -6,7 +6,7 @@ use Rattle.bhs_model.specs.declared.commands.Command.{Command}
 use Rattle.bhs_model.specs.declared.commands.Command.TheVariants.{Enter, Look, Write, Depart, Accuse, Leave, Bad}
 use Rattle.bhs_model.specs.declared.replies.Reply.TheVariants.{Written, Changed, Gone, Noted, No}
 use Rattle.bhs_model.specs.declared.replies.Why.TheVariants.{Long, Port}
-use Rattle.bhs_model.specs.Views.{Standing, Outside, Present, Away, Ended, standing, standing_after, Glance, Nothing, Saw, Seen}
+use Rattle.bhs_model.specs.Views.{Standing, Outside, Present, Away, Ended, standing_after, Glance, Nothing, Saw, Seen}
 use Rattle.bhs_model.specs.Replying.{text, accepts, answer, sight_answer}
 use Rattle.bhs_lock.specs.Tallies.{has_ended}
 use Rattle.bhs_lock.specs.Passes.{is_end}

@@ -1,6 +1,5 @@
 -- An event more: what it makes of each agent's past and count.
-use Rattle.std.proofs.Common.{◌≡◌, ℕ, ◌+◌, ◌<◌, ◌≤◌, Bool, true, false, not, ◌&&◌, Option, Some, None, List, [], ◌∷◌, ◌++◌, refl, sym, ap, ◌∙◌, subst, nat_lt, ◌==◌, if◌then◌else◌, arith, inl, inr}
-use Rattle.std.specs.Prelude.{count_by}
+use Rattle.std.proofs.Common.{◌≡◌, ℕ, ◌+◌, ◌<◌, ◌≤◌, Bool, true, false, not, Option, Some, List, [], ◌∷◌, ◌++◌, refl, sym, ap, ◌∙◌, nat_lt, if◌then◌else◌, arith, inl, inr}
 use Rattle.std.proofs.lemmas.Bool.{and_parts, cond-true, cond-false, cond_both, ltb-true, not-true}
 use Rattle.std.proofs.lemmas.Bool.Decides.{eqb_tells}
 use Rattle.std.proofs.lemmas.List.Sums.{sum_by_push}
@@ -10,16 +9,14 @@ use Rattle.bhs_model.specs.declared.events.Event.{Event}
 use Rattle.bhs_model.specs.declared.events.Event.TheVariants.{Tell, Deliver, Close}
 use Rattle.bhs_model.specs.declared.marks.Mark.{Mark}
 use Rattle.bhs_model.specs.declared.marks.Kept.{Kept}
-use Rattle.bhs_model.specs.declared.replies.Reply.{Reply}
 use Rattle.bhs_model.specs.Marks.{events_of}
-use Rattle.bhs_model.specs.Views.{View, Told, Arrived, Standing, Outside, Present, Away, Ended, standing, standing_after, used, ports, counts}
+use Rattle.bhs_model.specs.Views.{View, Told, Standing, Outside, Present, Away, Ended, standing, standing_after, used, ports, counts}
 use Rattle.bhs_model.specs.Replying.{accepts, hears, answer, rep}
-use Rattle.bhs_model.specs.Worlds.{World}
-use Rattle.bhs_model.specs.Runs.{Position, Before, At, Bound, After, State, run, next, told, heard, glance, delivered, arrives, is_bound, is_let_through, is_doomed, reply, initial}
-use Rattle.bhs_world.specs.Tables.{keeps_next, log_after}
+use Rattle.bhs_model.specs.Runs.{Position, Before, At, Bound, After, State, run, next, heard, glance, delivered, arrives, is_bound, reply, initial}
+use Rattle.bhs_world.specs.Tables.{keeps_next}
 use Rattle.bhs_model.specs.Standings.{standing_at}
 use Rattle.bhs_world.proofs.ListLemmas.{changed_same}
-use Rattle.bhs_model.proofs.LegalLemmas.{AllLegal, all_run}
+use Rattle.bhs_model.proofs.LegalLemmas.{all_run}
 use Rattle.bhs_world.proofs.GrowthLemmas.{run_from_more, events_more}
 use Rattle.bhs_match.specs.Matches.{Play, world_in, state_of}
 use Rattle.bhs_lock.specs.Tallies.{is_told_by, heard_count, has_ended}

@@ -1,5 +1,5 @@
 -- The least difference, found by going on.
-use Rattle.std.proofs.Common.{◌≡◌, ℕ, ◌+◌, ◌<◌, ◌≤◌, Bool, true, false, not, ◌⊎◌, inl, inr, Option, Some, None, List, [], ◌∷◌, ◌++◌, length, refl, sym, ap, ◌∙◌, subst, arith, nat_lt, ◌==◌, if◌then◌else◌}
+use Rattle.std.proofs.Common.{◌≡◌, ℕ, ◌<◌, ◌≤◌, true, false, ◌⊎◌, inl, inr, Option, Some, None, List, [], ◌∷◌, ◌++◌, refl, sym, ap, ◌∙◌, subst, arith, nat_lt, ◌==◌, if◌then◌else◌}
 use Rattle.std.specs.Prelude.{slice_get, MatchOption}
 use Rattle.std.specs.List.{AllByRecursion}
 use Rattle.std.proofs.lemmas.Bool.{cond-true, cond-false}
@@ -7,9 +7,9 @@ use Rattle.std.proofs.lemmas.Bool.Decides.{eqb_tells}
 use Rattle.bhs_world.proofs.ListLemmas.{lt_tells}
 use Rattle.bhs_world.proofs.GrowthLemmas.{all_append}
 use Rattle.bhs_lock.specs.Comparing.{IsFirstDifference}
-use Rattle.bhs_lock.specs.Settling.{Compared, Agree, IsBefore, DiffersAt, IsLeastDifference, IsLeast, precedes, lesser}
+use Rattle.bhs_lock.specs.Settling.{Compared, IsBefore, DiffersAt, IsLeast, precedes, lesser}
 
-all_map : {A : Type 0} (P Q : A → Type 0) (xs : List A) → ((x : A) → P x → Q x) → AllByRecursion P xs → AllByRecursion Q xs
+pub all_map : {A : Type 0} (P Q : A → Type 0) (xs : List A) → ((x : A) → P x → Q x) → AllByRecursion P xs → AllByRecursion Q xs
 all_map P Q [] f all = tt
 all_map P Q (x ∷ xs) f all = (f x all.0, all_map P Q xs f all.1)
 
@@ -22,13 +22,13 @@ differs_right agent index [] one is at = inl (is, at)
 differs_right agent index (first ∷ all) one is at = inr (differs_right agent index all one is at)
 
 -- what comes first, in words
-Precedes : (agent index : ℕ) → ℕ × ℕ → Type 0
+unfoldable pub Precedes : (agent index : ℕ) → ℕ × ℕ → Type 0
 Precedes agent index other = (agent < other.0) ⊎ ((agent ≡ other.0) × (index < other.1))
 
-Follows : (agent index : ℕ) → ℕ × ℕ → Type 0
+unfoldable pub Follows : (agent index : ℕ) → ℕ × ℕ → Type 0
 Follows agent index other = (other.0 < agent) ⊎ ((agent ≡ other.0) × (other.1 ≤ index))
 
-precedes_tells : (agent index : ℕ) (other : ℕ × ℕ) → ((precedes agent index other ≡ true) × Precedes agent index other) ⊎ ((precedes agent index other ≡ false) × Follows agent index other)
+pub precedes_tells : (agent index : ℕ) (other : ℕ × ℕ) → ((precedes agent index other ≡ true) × Precedes agent index other) ⊎ ((precedes agent index other ≡ false) × Follows agent index other)
 unfolding Precedes Follows
 precedes_tells agent index other = elim (lt_tells agent other.0) [
   | inl h ↦ inl (cond-true (nat_lt agent other.0) true (if agent == other.0 then nat_lt index other.1 else false) h.0, inl h.1)

@@ -13,3 +13,8 @@ pub mod TallyLemmas
 pub mod ToldLemmas
 pub mod CompareLemmas
 pub mod EndLemmas
+mod WorldLemmas
+mod PlaceLemmas
+mod KeptLemmas
+mod FoundLemmas
+mod OnePassLemmas

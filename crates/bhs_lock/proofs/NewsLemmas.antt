@@ -1,8 +1,8 @@
 -- What is told of an arrival is where the agent is.
-use Rattle.std.proofs.Common.{◌≡◌, ℕ, zero, suc, Bool, true, false, not, ◌&&◌, Option, Some, None, List, [], ◌∷◌, ◌++◌, refl, sym, ap, ◌∙◌, subst, if◌then◌else◌}
+use Rattle.std.proofs.Common.{◌≡◌, ℕ, zero, suc, Bool, true, false, not, Option, Some, None, List, [], ◌∷◌, ◌++◌, refl, sym, ap, ◌∙◌, subst}
 use Rattle.std.specs.Prelude.{slice_get, option_map, option_and_then, map}
 use Rattle.std.proofs.lemmas.Option.{slice_get-map}
-use Rattle.std.proofs.lemmas.Bool.{and_parts, cond_both}
+use Rattle.std.proofs.lemmas.Bool.{and_parts}
 use Rattle.bhs_model.specs.declared.events.Event.{Event}
 use Rattle.bhs_model.specs.declared.events.Event.TheVariants.{Tell, Deliver, Close}
 use Rattle.bhs_model.specs.declared.marks.Mark.{Mark}
@@ -20,7 +20,7 @@ use Rattle.bhs_match.specs.Matches.{Play, world_in}
 use Rattle.bhs_lock.specs.declared.model.Receipt.{Receipt}
 use Rattle.bhs_lock.specs.Passes.{Passed}
 use Rattle.bhs_lock.specs.Cells.{IsNews}
-use Rattle.bhs_lock.specs.Arrivals.{arrival_mark, arrival_at, receipt_at, is_here}
+use Rattle.bhs_lock.specs.Arrivals.{arrival_mark, receipt_at, is_here}
 
 -- an answer, if there is one, says where the agent is
 abbrev IsHereIf : Option Reply → Type 0

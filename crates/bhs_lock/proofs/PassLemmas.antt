@@ -1,9 +1,8 @@
 -- What a pass keeps: its places ascend, and its mark of an end is that of its receipts.
-use Rattle.std.proofs.Common.{◌≡◌, ℕ, suc, ◌+◌, ◌<◌, ◌≤◌, ◌-◌, Bool, true, false, ◌||◌, Option, Some, None, List, [], ◌∷◌, ◌++◌, length, refl, sym, ap, ◌∙◌, subst, arith, nat_lt, if◌then◌else◌, length-append}
+use Rattle.std.proofs.Common.{◌≡◌, ℕ, suc, ◌+◌, ◌<◌, ◌≤◌, ◌-◌, Bool, true, false, ◌||◌, Some, None, List, [], ◌∷◌, ◌++◌, length, refl, sym, ap, ◌∙◌, arith, if◌then◌else◌, length-append}
 use Rattle.std.specs.Prelude.{slice_get}
 use Rattle.std.specs.List.{list_any}
 use Rattle.std.proofs.lemmas.Bool.{ltb-true}
-use Rattle.std.proofs.lemmas.List.Folds.{list_any-append}
 use Rattle.bhs_model.specs.declared.commands.Command.{Command}
 use Rattle.bhs_model.specs.declared.marks.Mark.{Mark}
 use Rattle.bhs_model.specs.declared.marks.Mark.TheVariants as marks
@@ -11,6 +10,7 @@ use Rattle.bhs_model.specs.declared.replies.Reply.{Reply}
 use Rattle.bhs_lock.specs.declared.model.Receipt.{Receipt}
 use Rattle.bhs_lock.specs.Passes.{Passed, is_end, is_last, Ascend, AreBelow}
 use Rattle.bhs_lock.specs.Halls.{is_below, place_below, spoken}
+use Rattle.bhs_lock.proofs.PlaceLemmas.{any_push}
 
 -- where the places ascend and the last one is below a place, all are
 pub all_below : (least : ℕ) (receipts : List Receipt) (place : ℕ) → Ascend least receipts → is_below receipts place ≡ true → AreBelow place receipts
@@ -31,10 +31,6 @@ ascend_more least [] receipt order below least_below = (least_below, tt)
 ascend_more least (first ∷ receipts) receipt order below least_below =
     let above : first.place + 1 ≤ receipt.place = omega (arith, below.0) in
     (order.0, ascend_more (first.place + 1) receipts receipt order.1 below.1 above)
-
-or_false : (b : Bool) → (b || false) ≡ b
-or_false true = refl
-or_false false = refl
 
 -- whether a reply ends an agent does not depend on a text
 end_spoken : (mark : Mark) (text other : List ℕ) → is_end (spoken mark text) ≡ is_end (spoken mark other)
@@ -67,7 +63,7 @@ ordered_more given ended more_ended inside room receipts own space commands kept
     let grown : receipts ≡ inside ++ receipt ∷ [] = more ∙ ap (λ (room : List Receipt). room ++ receipt ∷ []) is_room in
     let last : is_last receipt ≡ more_ended = ap is_end spoke_again ∙ end_spoken mark other text ∙ sym (ap is_end spoke) ∙ sym is_more in
     let ends : list_any is_last receipts ≡ (ended || more_ended) =
-    ap (list_any is_last) grown ∙ list_any-append is_last inside (receipt ∷ []) ∙ ap (λ (b : Bool). list_any is_last inside || b) (or_false (is_last receipt) ∙ last) ∙ ap (λ (b : Bool). b || more_ended) (sym order.0) in
+    ap (list_any is_last) grown ∙ any_push is_last inside receipt ∙ ap (λ (b : Bool). list_any is_last inside || b) last ∙ ap (λ (b : Bool). b || more_ended) (sym order.0) in
     let count : length receipts ≡ length commands =
     ap length grown ∙ length-append inside (receipt ∷ []) ∙ ap (λ (n : ℕ). n + 1) (order.1 ∙ sym (ap length is_space)) ∙ sym (ap length longer ∙ length-append space (kept ∷ [])) in
     (sym ends, count, rw grown (ascend_more 0 inside receipt order.2 all (omega arith)))

@@ -1,11 +1,10 @@
 -- What a pass says of a command, whatever stands under the lock.
 use Rattle.std.proofs.Common.{◌≡◌, ℕ, ◌+◌, ◌-◌, ◌<◌, ◌≤◌, Bool, true, false, not, ◌&&◌, Option, Some, None, List, length, refl, sym, ap, ◌∙◌, subst, nat_lt, ◌==◌, if◌then◌else◌, arith, inl, inr, ◌⊎◌}
-use Rattle.std.specs.Prelude.{nat_le, bytes_eq, option_map, is_some}
-use Rattle.std.proofs.lemmas.Bool.{cond_both, cond-true, cond-false, ltb-true, eq-eqb}
+use Rattle.std.specs.Prelude.{nat_le, bytes_eq, option_map}
+use Rattle.std.proofs.lemmas.Bool.{cond_both, cond-true, cond-false, eq-eqb}
 use Rattle.std.proofs.lemmas.Bool.Decides.{eqb_tells, nat_tests}
 use Rattle.bhs_model.specs.declared.commands.Command.{Command}
 use Rattle.bhs_model.specs.declared.commands.Command.TheVariants.{Enter, Look, Write, Depart, Accuse, Leave, Bad}
-use Rattle.bhs_model.specs.declared.events.Event.TheVariants.{Tell}
 use Rattle.bhs_model.specs.declared.marks.Mark.{Mark}
 use Rattle.bhs_model.specs.declared.replies.Reply.{Reply}
 use Rattle.bhs_model.specs.declared.replies.Reply.TheVariants.{Written, Changed, Gone, Noted, Over, No}
@@ -13,15 +12,14 @@ use Rattle.bhs_model.specs.declared.replies.Why.{Why}
 use Rattle.bhs_model.specs.declared.replies.Why.TheVariants as whys
 use Rattle.bhs_model.specs.Views.{View, Standing, Outside, Present, Away, Ended, standing, used, ports, Glance, Nothing, Saw, Seen}
 use Rattle.bhs_model.specs.Replying.{text, accepts, hears, answer, sight_answer, refusal}
-use Rattle.bhs_model.specs.Runs.{State, heard, glance, reply}
+use Rattle.bhs_model.specs.Runs.{heard, glance, reply}
 use Rattle.bhs_match.specs.Matches.{Play, world_in, state_of}
-use Rattle.bhs_lock.specs.declared.model.Answer.{Answer}
 use Rattle.bhs_lock.specs.declared.model.Tally.{Tally}
-use Rattle.bhs_lock.specs.Tallies.{heard_count, has_ended, tally_of}
+use Rattle.bhs_lock.specs.Tallies.{has_ended, tally_of}
 use Rattle.bhs_lock.specs.Fitting.{Fits, AreFit}
 use Rattle.bhs_lock.specs.Passes.{Passed, Ascend, AreBelow, tally_in, gained}
 use Rattle.bhs_lock.specs.Halls.{Housed, agrees, IsTold}
-use Rattle.bhs_lock.specs.Recording.{is_unheard, spent_by, refusal_by, IsSubmitted}
+use Rattle.bhs_lock.specs.Recording.{is_unheard, refusal_by, IsSubmitted}
 use Rattle.bhs_lock.proofs.FitLemmas.{HeardCommand, heard_command, reply_heard}
 use Rattle.bhs_lock.proofs.PassLemmas.{all_below}
 use Rattle.bhs_lock.proofs.TallyLemmas.{HasAgreed, has_agreed}

@@ -1,25 +1,13 @@
 -- A pass over the arrivals of a pass.
-use Rattle.std.proofs.Common.{◌≡◌, ◌≢◌, ℕ, zero, suc, ◌+◌, ◌<◌, ◌≤◌, ◌⊎◌, inl, inr, Option, Some, None, List, [], ◌∷◌, length, take, map, refl, sym, ap, ◌∙◌, subst, arith, get_or}
+use Rattle.std.proofs.Common.{◌≡◌, ℕ, zero, suc, ◌+◌, ◌<◌, ◌≤◌, inl, inr, Option, Some, List, [], ◌∷◌, length, take, map, refl, sym, ap, ◌∙◌, subst, arith, get_or}
 use Rattle.std.specs.Prelude.{slice_get, option_map}
-use Rattle.std.proofs.lemmas.Option.{slice_get-map, slice_get_read}
+use Rattle.std.proofs.lemmas.Option.{slice_get-map, slice_get_read, slice_get_past}
 use Rattle.bhs_world.proofs.ListLemmas.{lt_tells}
 use Rattle.bhs_model.specs.declared.marks.Kept.{Kept}
 use Rattle.bhs_match.specs.Matches.{arrivals}
 use Rattle.bhs_lock.specs.Arrivals.{receipt_at}
 use Rattle.bhs_lock.specs.Comparing.{IsFirstDifference}
-
--- within the first ones
-get_take : {A : Type 0} (n : ℕ) (xs : List A) (k : ℕ) → k < n → slice_get (take n xs) k ≡ slice_get xs k
-get_take zero xs k below = absurd (omega (arith, below))
-get_take (suc n) [] k below = refl
-get_take (suc n) (x ∷ xs) zero below = refl
-get_take (suc n) (x ∷ xs) (suc k) below = get_take n xs k (omega (arith, below))
-
--- past a list nothing is found
-get_past : {A : Type 0} (xs : List A) (k : ℕ) → length xs ≤ k → slice_get xs k ≡ None
-get_past [] k past = refl
-get_past (x ∷ xs) zero past = absurd (omega (arith, past))
-get_past (x ∷ xs) (suc k) past = get_past xs k (omega (arith, past))
+use Rattle.bhs_lock.proofs.PlaceLemmas.{get_take, same_at_each}
 
 -- what is read at a place is found there
 said_at : {A : Type 0} (said : List A) (index : ℕ) (one : A) → index < length said → one ≡ get_or said index one → slice_get (map Some said) index ≡ Some (Some one)
@@ -43,17 +31,6 @@ strays logged said index one before inside is apart = record {
   before = λ k below. get_take (length said) logged k (omega (arith, below, inside)) ∙ before k below;
 }
 
--- lists that have the same at each place are the same
-same_at_each : {A : Type 0} (xs ys : List A) → ((k : ℕ) → slice_get xs k ≡ slice_get ys k) → xs ≡ ys
-same_at_each [] [] same = refl
-same_at_each [] (y ∷ ys) same = let first : None ≡ Some y = same 0 in absurd cc
-same_at_each (x ∷ xs) [] same = let first : Some x ≡ None = same 0 in absurd cc
-same_at_each (x ∷ xs) (y ∷ ys) same =
-    let first : Some x ≡ Some y = same 0 in
-    let one : x ≡ y = cc in
-    let rest : xs ≡ ys = same_at_each xs ys (λ k. same (suc k)) in
-    ap (λ (x : _). x ∷ xs) one ∙ ap (λ (xs : List _). y ∷ xs) rest
-
 length_map : {A B : Type 0} (f : A → B) (xs : List A) → length (map f xs) ≡ length xs
 length_map f [] = refl
 length_map f (x ∷ xs) = ap suc (length_map f xs)
@@ -68,7 +45,7 @@ all_there : {A : Type 0} (logged : List (Option A)) (said : List A) (index : ℕ
     length said ≤ index → take (length said) logged ≡ map Some said
 all_there logged said index before past = same_at_each (take (length said) logged) (map Some said) (λ k. elim (lt_tells k (length said)) [
   | inl h ↦ get_take (length said) logged k h.1 ∙ before k (omega (arith, h.1, past))
-  | inr h ↦ get_past (take (length said) logged) k (omega (arith, h.1, length_take_most (length said) logged)) ∙ sym (get_past (map Some said) k (omega (arith, h.1, length_map (λ (x : _). Some x) said)))
+  | inr h ↦ slice_get_past (take (length said) logged) k (omega (arith, h.1, length_take_most (length said) logged)) ∙ sym (slice_get_past (map Some said) k (omega (arith, h.1, length_map (λ (x : _). Some x) said)))
 ])
 
 -- the same in the words of the loop: the arrivals are read as items, and the log's by their places

@@ -1,27 +1,22 @@
 -- The two numbers of each agent are kept with the log.
-use Rattle.std.proofs.Common.{◌≡◌, ℕ, ◌+◌, ◌<◌, ◌≤◌, Bool, true, false, ◌&&◌, ◌||◌, not, Option, Some, None, List, [], ◌∷◌, ◌++◌, length, map, refl, sym, ap, ◌∙◌, subst, nat_lt, ◌==◌, if◌then◌else◌, arith, inl, inr, slice_set, length-set, length-append}
-use Rattle.std.specs.Prelude.{count_by, is_some}
+use Rattle.std.proofs.Common.{◌≡◌, ℕ, ◌+◌, ◌<◌, Bool, true, false, ◌||◌, Option, Some, None, List, [], ◌∷◌, ◌++◌, length, map, refl, sym, ap, ◌∙◌, subst, nat_lt, ◌==◌, if◌then◌else◌, arith, slice_set, length-set, length-append}
+use Rattle.std.specs.Prelude.{is_some}
 use Rattle.std.specs.List.{list_any}
 use Rattle.std.proofs.lemmas.Bool.{and_parts, cond-true, cond-false, eqb-true, ltb-true, eq-eqb}
-use Rattle.std.proofs.lemmas.Bool.Decides.{eqb_tells}
-use Rattle.std.proofs.lemmas.List.Folds.{list_any-append}
-use Rattle.std.proofs.lemmas.List.Sums.{sum_by_push}
 use Rattle.bhs_model.specs.declared.commands.Command.{Command}
 use Rattle.bhs_model.specs.declared.events.Event.{Event}
-use Rattle.bhs_model.specs.declared.events.Event.TheVariants.{Tell, Deliver, Close}
+use Rattle.bhs_model.specs.declared.events.Event.TheVariants.{Tell}
 use Rattle.bhs_model.specs.declared.marks.Mark.{Mark}
 use Rattle.bhs_model.specs.declared.marks.Kept.{Kept}
 use Rattle.bhs_model.specs.declared.replies.Reply.{Reply}
 use Rattle.bhs_model.specs.Kept.{kept}
-use Rattle.bhs_model.specs.Marks.{events_of, read, read_if}
-use Rattle.bhs_model.specs.Views.{View, Told, Standing, standing, standing_after, used, ports, counts}
-use Rattle.bhs_model.specs.Replying.{accepts, hears, answer, rep}
-use Rattle.bhs_model.specs.Worlds.{World}
-use Rattle.bhs_model.specs.Runs.{State, run, next, heard, glance, reply, reply_to_command, reply_in_play}
+use Rattle.bhs_model.specs.Marks.{events_of, read_if}
+use Rattle.bhs_model.specs.Views.{View, Told, standing, used, ports}
+use Rattle.bhs_model.specs.Replying.{answer}
+use Rattle.bhs_model.specs.Runs.{State, glance, reply}
 use Rattle.bhs_model.specs.InOrder.{replies}
 use Rattle.bhs_world.specs.Tables.{keeps_next, log_after}
-use Rattle.bhs_world.proofs.ListLemmas.{each_set, changed_same}
-use Rattle.bhs_world.proofs.GrowthLemmas.{run_from_more, events_more}
+use Rattle.bhs_world.proofs.ListLemmas.{each_set}
 use Rattle.bhs_match.specs.Matches.{Play, world_in, state_of}
 use Rattle.bhs_lock.specs.declared.model.Receipt.{Receipt}
 use Rattle.bhs_lock.specs.declared.model.Tally.{Tally}
@@ -29,15 +24,9 @@ use Rattle.bhs_lock.specs.Tallies.{is_told_by, heard_count, has_ended, tally_of,
 use Rattle.bhs_lock.specs.Fitting.{AreFit}
 use Rattle.bhs_lock.specs.Passes.{Passed, is_end, is_last, tally_in, gained}
 use Rattle.bhs_lock.specs.Halls.{Housed, agrees, same_bool, same_tally, is_below, IsTold}
+use Rattle.bhs_lock.proofs.PlaceLemmas.{any_push}
 use Rattle.bhs_lock.proofs.EndLemmas.{ends_standing}
 use Rattle.bhs_lock.proofs.FitLemmas.{HeardCommand, heard_command, reply_heard, past_heard, state_more, count_more, event_fit, fit_more}
-
-or_false : (b : Bool) → (b || false) ≡ b
-or_false true = refl
-or_false false = refl
-
-any_push : {A : Type 0} (p : A → Bool) (xs : List A) (y : A) → list_any p (xs ++ y ∷ []) ≡ (list_any p xs || p y)
-any_push p xs y = list_any-append p xs (y ∷ []) ∙ ap (λ (b : Bool). list_any p xs || b) (or_false (p y))
 
 -- one receipt more
 receipts_more : (receipts : List Receipt) (receipt : Receipt) → tally_in (receipts ++ receipt ∷ []) ≡ record { heard = length receipts + 1; ended = list_any is_last receipts || is_last receipt }

@@ -1,5 +1,5 @@
 -- What stands under the lock, and what a command makes of it and of a pass.
-use Rattle.std.specs.Prelude.{ℕ, ◌≡◌, Bool, true, false, ◌&&◌, not, Option, Some, None, List, ◌==◌, nat_lt, if◌then◌else◌, length, slice_get, ◌-◌}
+use Rattle.std.specs.Prelude.{ℕ, ◌≡◌, Bool, true, false, ◌&&◌, not, Option, Some, None, List, ◌==◌, nat_lt, if◌then◌else◌, length, slice_get, ◌-◌, replicate}
 use Rattle.bhs_model.specs.declared.commands.Command.{Command}
 use Rattle.bhs_model.specs.declared.events.Event.TheVariants.{Tell}
 use Rattle.bhs_model.specs.declared.marks.Mark.{Mark}
@@ -15,13 +15,18 @@ use Rattle.bhs_lock.specs.declared.model.Answer.{Answer}
 use Rattle.bhs_lock.specs.declared.model.Receipt.{Receipt}
 use Rattle.bhs_lock.specs.declared.model.Spare.{Spare}
 use Rattle.bhs_lock.specs.declared.model.Tally.{Tally}
-use Rattle.bhs_lock.specs.Tallies.{tally_of}
+use Rattle.bhs_lock.specs.Tallies.{tally_of, nothing}
 use Rattle.bhs_lock.specs.Passes.{Passed, tally_in, kept_command, gained}
 
--- the number of the match, and the match
+-- the number of the match, the match, and of each agent its two numbers
 pub record Housed : Type 0 where
   pub game : ℕ
   pub play : Play
+  pub tallies : List Tally
+
+-- what stands under the lock at first
+abbrev pub empty_hall : (game : ℕ) → Play → Housed
+empty_hall game play = record { game = game; play = play; tallies = replicate play.setup.agents nothing }
 
 -- whether two truth values are the same
 abbrev pub same_bool : (a b : Bool) → Bool

@@ -1,9 +1,7 @@
 -- How what several passes say is compared with what stands in a log.
-use Rattle.std.specs.Prelude.{ℕ, ◌<◌, ◌≡◌, ◌≢◌, ◌⊎◌, Bool, true, false, not, Option, Some, None, List, [], ◌∷◌, ◌++◌, ◌==◌, nat_lt, if◌then◌else◌, length, map, filter, take, slice_get, MatchOption}
+use Rattle.std.specs.Prelude.{ℕ, ◌<◌, ◌≡◌, ◌⊎◌, Bool, true, false, not, Option, Some, None, List, [], ◌∷◌, ◌++◌, ◌==◌, nat_lt, if◌then◌else◌, length, map, filter, take, slice_get}
 use Rattle.std.specs.List.{list_any, range_with_len, AllByRecursion}
-use Rattle.bhs_net.specs.Network.{Network}
-use Rattle.bhs_model.specs.declared.setups.Setup.{Setup}
-use Rattle.bhs_match.specs.Matches.{Play, state_of, arrivals}
+use Rattle.bhs_match.specs.Matches.{Play, arrivals}
 use Rattle.bhs_lock.specs.declared.model.Receipt.{Receipt}
 use Rattle.bhs_lock.specs.Passes.{Passed}
 use Rattle.bhs_lock.specs.Arrivals.{receipt_at}

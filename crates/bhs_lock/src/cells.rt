@@ -7,6 +7,7 @@ ghost use Rattle.bhs_lock.specs.Cells.{IsNews};
 use crate::gates::Gate;
 use crate::hall::Hall;
 use crate::model::Answer;
+use crate::parts::Parts;
 use crate::pass::Pass;
 use crate::unclaimed::Unclaimed;
 use bhs_deal::{Dealer, Drawn, Held};
@@ -29,16 +30,6 @@ pub struct Cell {
     held: Held,
     net: Net,
     setup: Setup,
-}
-
-/// What a cell is made of, once no thread shares it: what stood under its locks, and what it was given.
-#[derive(Debug, Drop)]
-pub struct Parts {
-    pub hall: Hall,
-    /// The passes that nobody claimed, by agent; None for one that was.
-    pub left: Vec<Option<Pass>>,
-    pub net: Net,
-    pub setup: Setup,
 }
 
 impl Model for Cell {

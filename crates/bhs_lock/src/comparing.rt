@@ -7,59 +7,8 @@ ghost use Rattle.bhs_lock.specs.Comparing.{command_by, entry_of, entry_in, heard
 use crate::model::Receipt;
 use bhs_model::{Command, Event, Kept, Mark, Reply, text_at};
 
-/// The least index at which the agent's heard commands in a log differ from these receipts and kept commands, or one
-/// list ends. One pass over the log.
-pub(crate) fn difference(
-    log: &[Kept],
-    agent: u16,
-    receipts: &[Receipt],
-    commands: &[Command],
-) -> Option<usize>
-    requires { length receipts.now ≡ length commands.now }
-    ensures { MatchOption result (heard_in agent log.now ≡ receipted receipts.now commands.now) (λ index. IsFirstDifference (heard_in agent log.now) (receipted receipts.now commands.now) index) }
-{
-    let mut index = 0;
-    for (place, one) in log.iter().enumerate() {
-        let Some(command) = told_by(agent, &one.event) else {
-            continue;
-        };
-        if index == receipts.len() {
-            return Some(index);
-        }
-        if !is_entry(
-            log,
-            place,
-            command,
-            &one.mark,
-            &receipts[index],
-            &commands[index],
-        ) {
-            return Some(index);
-        }
-        index += 1;
-    }
-    if index < receipts.len() {
-        Some(index)
-    } else {
-        None
-    }
-}
-
-/// The command of this agent, if the event is one.
-fn told_by(agent: u16, event: &Event) -> Option<&Command>
-    ensures { option_copied result ≡ command_by agent event.now }
-{
-    match event {
-        Event::Tell {
-            agent: other,
-            command,
-        } if agent == *other => Some(command),
-        _ => None,
-    }
-}
-
 /// Whether a command of the log is what a receipt and a kept command say.
-fn is_entry(
+pub(crate) fn is_entry(
     log: &[Kept],
     place: usize,
     command: &Command,

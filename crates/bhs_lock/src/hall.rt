@@ -1,5 +1,6 @@
-ghost use Rattle.std.specs.Prelude.{◌≡◌, [], IfOk, OnErr};
-ghost use Rattle.bhs_lock.specs.Halls.{agrees, same_tally, is_below, IsAnswered};
+ghost use Rattle.std.specs.Prelude.{◌≡◌, [], true, IfOk, OnErr};
+ghost use Rattle.bhs_lock.specs.Halls.{agrees, same_tally, is_below, empty_hall, IsAnswered};
+ghost use Rattle.bhs_lock.specs.Tallies.{IsLegalHistory};
 ghost use Rattle.bhs_lock.specs.Recording.{IsSubmitted};
 ghost use Rattle.bhs_lock.specs.Passes.{passes_of};
 ghost use Rattle.bhs_lock.specs.Cells.{IsNews};
@@ -14,7 +15,7 @@ ghost use Rattle.bhs_deal.specs.Drawing.{drawn, IsPlayedIf};
 use crate::model::{Answer, Tally};
 use crate::pass::Pass;
 use bhs_deal::{Drawn, Held, draw};
-use bhs_match::Match;
+use bhs_match::{Match, Sealed};
 use bhs_model::{Command, Event, Reply, Why};
 use bhs_net::Memory;
 use std::alloc::Global;
@@ -35,7 +36,7 @@ impl Model for Hall {
 
     ghost Value = { Housed };
 
-    ghost view = { λ hall. record { game = hall.game; play = hall.play } };
+    ghost view = { λ hall. record { game = hall.game; play = hall.play; tallies = hall.tallies.items } };
 
     ghost invariant = { λ hall. IsLegalHistory hall.play hall.tallies.items × AreFit hall.play };
 }
@@ -44,7 +45,7 @@ impl Hall {
     /// The hall of a match with an empty log, and one pass for each agent, in order, with room for all that it can be told.
     pub fn new(alloc: Global, game: u32, play: Match) -> Result<(Hall, Vec<Pass>), Memory>
         requires { play.log ≡ [] }
-        ensures hall { IfOk result (λ made. made.0 ≡ record { game = game; play = play }) }
+        ensures hall { IfOk result (λ made. made.0 ≡ empty_hall game play) }
         ensures passes { IfOk result (λ made. made.1.items ≡ passes_of game play.setup.quota play.setup.agents) }
     {
         let passes = empty_passes(alloc, game, play.setup().quota, play.setup().agents)?;
@@ -55,7 +56,7 @@ impl Hall {
     /// The hall of a match with an empty log.
     pub(crate) fn alone(alloc: Global, game: u32, play: Match) -> Result<Hall, Memory>
         requires { play.log ≡ [] }
-        ensures { IfOk result (λ hall. hall ≡ record { game = game; play = play }) }
+        ensures { IfOk result (λ hall. hall ≡ empty_hall game play) }
     {
         let nothing = Tally {
             heard: 0,
@@ -70,11 +71,28 @@ impl Hall {
         })
     }
 
-    /// The match.
+    /// The match. What stands in a hall is always a legal history.
     pub fn state(&self) -> &Match
-        ensures { result.now ≡ self.now.play }
+        ensures play { result.now ≡ self.now.play }
+        ensures legal { IsLegalHistory self.now.play self.now.tallies }
     {
         &self.play
+    }
+
+    /// The match for reading alone, where it has ended. Takes no memory.
+    pub(crate) fn into_sealed(self) -> Sealed
+        requires { (state_of self.play).closed ≡ true }
+        ensures { result ≡ self.play }
+    {
+        let Hall {
+            game: _,
+            play,
+            tallies: _,
+        } = self;
+        match play.sealed() {
+            Ok(sealed) => sealed,
+            Err(_) => unreachable!(),
+        }
     }
 
     /// Whether a pass is of this match, and agrees with what stands in its log.

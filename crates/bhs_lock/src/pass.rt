@@ -2,7 +2,7 @@ ghost use Rattle.std.specs.Prelude.{◌≡◌, [], true, IfOk, OnErr, length, op
 ghost use Rattle.bhs_match.specs.Matches.{world_in, state_of, shown_at};
 ghost use Rattle.bhs_lock.specs.Passes.{Passed, empty_pass, is_end, tally_in, kind_of, gained, Ascend};
 ghost use Rattle.std.specs.Prelude.{MatchOption};
-ghost use Rattle.bhs_lock.specs.Comparing.{Tells, heard_in, receipted, IsFirstDifference};
+ghost use Rattle.bhs_lock.specs.Comparing.{entry_of, receipted, IsFirstDifference};
 ghost use Rattle.bhs_lock.specs.Halls.{is_below, spoken, IsSpareFor, IsTold};
 ghost use Rattle.bhs_lock.specs.Cells.{IsNews};
 ghost use Rattle.bhs_lock.specs.Settling.{arrived_by};
@@ -10,7 +10,7 @@ ghost use Rattle.bhs_lock.specs.Arrivals.{arrival_at, receipt_at, IsGiven};
 ghost use Rattle.bhs_model.specs.Marks.{read};
 ghost use Rattle.bhs_lock.specs.declared.model.Receipt.{Receipt as ReceiptData};
 
-use crate::comparing::{difference, reads_as};
+use crate::comparing::{is_entry, reads_as};
 use crate::model::{Receipt, Spare, Step, Tally};
 use bhs_match::{Answer, Match};
 use bhs_model::{Command, Event, Kept, Mark, Reply, Text};
@@ -96,12 +96,28 @@ impl Pass {
         &self.arrivals
     }
 
-    /// The least index at which the receipts and kept commands differ from the agent's heard commands in a log, or one
-    /// of both ends.
-    pub(crate) fn difference(&self, log: &[Kept]) -> Option<usize>
-        ensures { MatchOption result (Tells log.now self.now) (λ index. IsFirstDifference (heard_in self.now.agent log.now) (receipted self.now.receipts self.now.commands) index) }
+    /// How many commands were heard.
+    pub(crate) fn told(&self) -> usize
+        ensures { result ≡ length (receipted self.now.receipts self.now.commands) }
     {
-        difference(log, self.agent, &self.receipts, &self.commands)
+        self.receipts.as_slice().len()
+    }
+
+    /// Whether this is what the pass says of a command of the log, at this index.
+    pub(crate) fn says(
+        &self,
+        index: usize,
+        log: &[Kept],
+        place: usize,
+        command: &Command,
+        mark: &Option<Mark>,
+    ) -> bool
+        ensures { IsTrue result ↔ (slice_get (receipted self.now.receipts self.now.commands) index ≡ Some (entry_of log.now place command.now mark.now)) }
+    {
+        match (self.receipts.get(index), self.commands.get(index)) {
+            (Some(receipt), Some(kept)) => is_entry(log, place, command, mark, receipt, kept),
+            _ => false,
+        }
     }
 
     /// How many commands were heard, and whether the agent has ended.

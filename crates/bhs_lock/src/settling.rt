@@ -1,13 +1,15 @@
 ghost use Rattle.std.specs.Prelude.{◌≡◌, ◌<◌, Some, None, IfSome, MatchOption, length, take, map};
 ghost use Rattle.bhs_match.specs.Matches.{state_of};
+ghost use Rattle.bhs_lock.specs.Comparing.{entry_of};
+ghost use Rattle.bhs_lock.specs.Looking.{IsSaid};
 ghost use Rattle.bhs_lock.specs.Settling.{lesser, has_pass, is_claimed, is_missing, NoneMissing, IsLeastMissing, IsLeast, commands_of, arrivals_of};
 
-use crate::comparing::difference;
 use crate::pass::Pass;
 use bhs_match::Match;
+use bhs_model::{Command, Event, Kept, MAX_AGENTS, Mark};
 
 /// An agent, and an index into its commands or arrivals.
-pub type Place = (u16, usize);
+pub(crate) type Place = (u16, usize);
 
 /// The lesser of what was found and of an index of an agent, if there are such.
 fn lesser(best: Option<Place>, agent: u16, index: Option<usize>) -> Option<Place>
@@ -43,8 +45,9 @@ fn is_missing(left: &[Option<Pass>], passes: &[Pass], agent: u16) -> bool
 
 /// The least agent, of the first `agents`, whose pass was claimed and is not among those handed in. `left` are the passes
 /// that nobody claimed, by agent. Takes no memory.
-pub fn missing(agents: u16, left: &[Option<Pass>], passes: &[Pass]) -> Option<u16>
-    ensures { MatchOption result (NoneMissing agents left.now passes.now) (IsLeastMissing left.now passes.now) }
+pub(crate) fn missing(agents: u16, left: &[Option<Pass>], passes: &[Pass]) -> Option<u16>
+    ensures least { MatchOption result (NoneMissing agents left.now passes.now) (IsLeastMissing left.now passes.now) }
+    ensures agent { IfSome result (λ agent. agent < agents) }
 {
     for agent in 0..agents {
         if is_missing(left, passes, agent) {
@@ -56,29 +59,65 @@ pub fn missing(agents: u16, left: &[Option<Pass>], passes: &[Pass]) -> Option<u1
 
 /// The least agent and index at which the receipts of a pass, or none for an agent without a pass, are not the agent's
 /// heard commands in the log of a match; None where each pass has the agent's heard commands, each once, in order, with
-/// places and replies, and an agent without a pass has none. Takes no memory; goes over the log once for each agent.
-pub fn first_difference(play: &Match, passes: &[Pass]) -> Option<Place>
+/// places and replies, and an agent without a pass has none. Takes no memory; goes over the log once.
+pub(crate) fn first_difference(play: &Match, passes: &[Pass]) -> Option<Place>
     ensures { IsLeast (commands_of play.now passes.now) result }
 {
+    let log = play.log();
+    let _few = play.setup();
+    let mut heard = [0; MAX_AGENTS as usize];
     let mut best = None;
-    for (_index, pass) in passes.iter().enumerate() {
-        best = lesser(best, pass.agent(), pass.difference(play.log()));
+    for (place, one) in log.iter().enumerate() {
+        let Event::Tell { agent, command } = &one.event else {
+            continue;
+        };
+        let index = heard[usize::from(*agent)];
+        if !is_said(passes, *agent, index, log, place, command, &one.mark) {
+            best = lesser(best, *agent, Some(index));
+        }
+        heard[usize::from(*agent)] = index + 1;
     }
-    for agent in 0..play.setup().agents {
-        if !has_pass(passes, agent) {
-            best = lesser(best, agent, difference(play.log(), agent, &[], &[]));
+    for pass in passes {
+        let index = heard.get(usize::from(pass.agent())).copied().unwrap_or(0);
+        if index < pass.told() {
+            best = lesser(best, pass.agent(), Some(index));
         }
     }
     best
 }
 
+/// Whether an agent has a pass, and each of its passes has a command of the log at this index.
+fn is_said(
+    passes: &[Pass],
+    agent: u16,
+    index: usize,
+    log: &[Kept],
+    place: usize,
+    command: &Command,
+    mark: &Option<Mark>,
+) -> bool
+    ensures { IsSaid result passes.now agent index (entry_of log.now place command.now mark.now) }
+{
+    let mut has_pass = false;
+    for pass in passes {
+        if pass.agent() != agent {
+            continue;
+        }
+        if !pass.says(index, log, place, command, mark) {
+            return false;
+        }
+        has_pass = true;
+    }
+    has_pass
+}
+
 /// The least agent and index at which an arrival of a pass is not the agent's arrival of that index in the log of a match;
 /// None where the arrivals of each pass are the agent's first ones, with places and replies. Takes no memory.
-pub fn first_stray(play: &Match, passes: &[Pass]) -> Option<Place>
+pub(crate) fn first_stray(play: &Match, passes: &[Pass]) -> Option<Place>
     ensures { IsLeast (arrivals_of play.now passes.now) result }
 {
     let mut best = None;
-    for (_index, pass) in passes.iter().enumerate() {
+    for pass in passes {
         best = lesser(best, pass.agent(), pass.stray(play));
     }
     best

@@ -8,6 +8,7 @@ mod files;
 mod limits;
 mod lines;
 mod matches;
+mod model;
 mod rehearsals;
 mod rows;
 mod sessions;

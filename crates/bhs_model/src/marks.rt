@@ -94,36 +94,3 @@ fn text_copied(alloc: Global, log: &[Kept], board: Option<u32>) -> Result<Text, 
     let text = String::from_str(alloc, text_at(log, board))?;
     Ok(Text::from(text))
 }
-
-#[cfg(test)]
-mod tests {
-    use super::*;
-    use std::test::Fail;
-
-    #[test]
-    fn a_place_names_the_text_of_its_write(rt: HostRuntime) -> Result<(), Fail> {
-        let mut log = Vec::new(rt.alloc());
-        log.push(Kept {
-            event: Event::Tell {
-                agent: 0,
-                command: Command::Write {
-                    expect: Text::from(String::from_str(rt.alloc(), "a")?),
-                    put: Text::from(String::from_str(rt.alloc(), "b")?),
-                },
-            },
-            mark: Some(Mark::Written),
-        })?;
-        log.push(Kept {
-            event: Event::Close,
-            mark: None,
-        })?;
-        assert_eq!(rt; text_at(&log, Some(0)), "b");
-        assert_eq!(rt; text_at(&log, Some(1)), "");
-        assert_eq!(rt; text_at(&log, Some(2)), "");
-        assert_eq!(rt; text_at(&log, None), "");
-        let mark = Mark::Changed { board: Some(0) };
-        let board = Text::from(String::from_str(rt.alloc(), "b")?);
-        assert_eq!(rt; read(rt.alloc(), &log, &mark)?, Reply::Changed { board });
-        Ok(())
-    }
-}

@@ -67,19 +67,3 @@ impl PartialEq for Text {
 impl Eq for Text {
     ghost laws = { nat_list_eq_equiv };
 }
-
-#[cfg(test)]
-mod tests {
-    use super::*;
-    use std::test::Fail;
-
-    #[test]
-    fn texts_are_their_strings(rt: HostRuntime) -> Result<(), Fail> {
-        let text = Text::from(String::from_str(rt.alloc(), "€")?);
-        assert_eq!(rt; text.as_str(), "€");
-        assert_eq!(rt; text.clone()?, text);
-        assert_ne!(rt; Text::from(String::new(rt.alloc())), text);
-        assert_eq!(rt; text.into_string().as_str(), "€");
-        Ok(())
-    }
-}

@@ -1,4 +1,4 @@
-ghost use Rattle.std.specs.Prelude.{◌≡◌, map, IfOk, IfErr, OnOk, length};
+ghost use Rattle.std.specs.Prelude.{◌≡◌, ◌++◌, map, IfOk, IfErr, OnOk, length};
 ghost use Rattle.bhs_stream.specs.Sending.{PutsAll};
 ghost use Rattle.bhs_rehearsal.specs.Stages.{step, stands_after};
 ghost use Rattle.bhs_rehearsal.specs.Rehearsing.{game_of, seen_out};
@@ -25,9 +25,10 @@ pub fn play<W: Output>(
     ensures played { IfOk result (λ ready. map game_of ready.items ≡ (stands_after rehearsal.stage (map seen script.items)).games) }
     ensures stopped { IfErr result (StopsPlaying W.takes (transcript rehearsal.stage (map seen script.items)) writer.old writer.new) }
 {
+    let mut buffer = Vec::new(alloc);
     for instruction in script {
         let outs = obey(alloc, &mut rehearsal, instruction)?;
-        print(alloc, &outs, writer)?;
+        print(&outs, &mut buffer, writer)?;
     }
     Ok(rehearsal.into_ready())
 }
@@ -54,21 +55,22 @@ fn obey(
     }
 }
 
-fn print<W: Output>(alloc: Global, outs: &[Out], writer: &mut W) -> Result<(), Fault>
+// Prints what an instruction sends. The buffer holds nothing that is needed again.
+fn print<W: Output>(outs: &[Out], buffer: &mut Vec<u8>, writer: &mut W) -> Result<(), Fault>
     ensures ok { OnOk result (PutsAll W.takes writer.old (all_printed (map seen_out outs.now)) writer.new) }
     ensures err { IfErr result (StopsPlaying W.takes (all_printed (map seen_out outs.now)) writer.old writer.new) }
 {
-    let text = printed(alloc, outs)?;
-    send(writer, &text)?;
+    buffer.clear();
+    push_outs(buffer, outs)?;
+    send(writer, buffer)?;
     Ok(())
 }
 
-fn printed(alloc: Global, outs: &[Out]) -> Result<Vec<u8>, Memory>
-    ensures { IfOk result (λ text. text.items ≡ all_printed (map seen_out outs.now)) }
+fn push_outs(text: &mut Vec<u8>, outs: &[Out]) -> Result<(), Memory>
+    ensures { OnOk result (text.new.items ≡ text.old.items ++ all_printed (map seen_out outs.now)) }
 {
-    let mut text = Vec::new(alloc);
     for out in outs {
-        push_printed(alloc, &mut text, out.conn, &out.bytes)?;
+        push_printed(text, out.conn, &out.bytes)?;
     }
-    Ok(text)
+    Ok(())
 }

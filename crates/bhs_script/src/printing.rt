@@ -1,32 +1,38 @@
-ghost use Rattle.std.specs.Prelude.{◌≡◌, ◌++◌, true, OnOk};
+ghost use Rattle.std.specs.Prelude.{◌≡◌, ◌++◌, ◌∷◌, [], true, OnOk};
 ghost use Rattle.bhs_script.specs.Transcript.{begun_with, printed};
 
 use bhs_net::Memory;
-use std::alloc::Global;
+use bhs_wire::split_line;
+use itoa::Buffer;
 
 /// Adds what a connection is sent, each line behind the connection's number and a space.
-pub fn push_printed(
-    alloc: Global,
-    text: &mut Vec<u8>,
-    conn: u16,
-    bytes: &[u8],
-) -> Result<(), Memory>
+pub fn push_printed(text: &mut Vec<u8>, conn: u16, bytes: &[u8]) -> Result<(), Memory>
     ensures { OnOk result (text.new.items ≡ text.old.items ++ printed conn bytes.now) }
 {
-    let beginning = format!(in alloc; "{conn} ")?;
-    push_lines(text, beginning.as_bytes(), bytes)
+    let mut digits = Buffer::new();
+    push_lines(text, digits.format(conn).as_bytes(), bytes)
 }
 
-fn push_lines(text: &mut Vec<u8>, beginning: &[u8], bytes: &[u8]) -> Result<(), Memory>
-    ensures { OnOk result (text.new.items ≡ text.old.items ++ begun_with beginning.now true bytes.now) }
+// Adds a text, each line behind these bytes and a space.
+fn push_lines(text: &mut Vec<u8>, number: &[u8], bytes: &[u8]) -> Result<(), Memory>
+    ensures { OnOk result (text.new.items ≡ text.old.items ++ begun_with (number.now ++ 32 ∷ []) true bytes.now) }
 {
-    let mut is_start = true;
-    for byte in bytes {
-        if is_start {
-            text.extend_from_slice(beginning)?;
-        }
-        text.push(*byte)?;
-        is_start = *byte == b'\n';
+    let mut after = bytes;
+    while let Some((line, more)) = split_line(after) {
+        push_begun(text, number, line)?;
+        text.push(b'\n')?;
+        after = more;
+    }
+    if !after.is_empty() {
+        push_begun(text, number, after)?;
     }
     Ok(())
+}
+
+fn push_begun(text: &mut Vec<u8>, number: &[u8], line: &[u8]) -> Result<(), Memory>
+    ensures { OnOk result (text.new.items ≡ (text.old.items ++ (number.now ++ 32 ∷ [])) ++ line.now) }
+{
+    text.extend_from_slice(number)?;
+    text.push(b' ')?;
+    text.extend_from_slice(line)
 }

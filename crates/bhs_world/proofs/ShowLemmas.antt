@@ -1,5 +1,5 @@
 -- Which answers speak of a whiteboard.
-use Rattle.std.proofs.Common.{◌≡◌, ℕ, ◌<◌, Bool, true, false, not, ◌&&◌, Option, Some, None, List, length, refl, sym, ap, ◌∙◌, nat_lt, if◌then◌else◌}
+use Rattle.std.proofs.Common.{◌≡◌, ℕ, ◌<◌, Bool, true, false, not, ◌&&◌, Option, List, length, refl, sym, ap, ◌∙◌, nat_lt, if◌then◌else◌}
 use Rattle.std.specs.Prelude.{nat_le, bytes_eq}
 use Rattle.bhs_model.specs.declared.commands.Command.{Command}
 use Rattle.bhs_model.specs.declared.commands.Command.TheVariants.{Enter, Look, Write, Depart, Accuse, Leave, Bad}
@@ -13,7 +13,6 @@ use Rattle.bhs_model.specs.Marks.{events_of, read}
 use Rattle.bhs_model.specs.Replying.{refusal}
 use Rattle.bhs_model.specs.Worlds.{World}
 use Rattle.bhs_model.specs.Runs.{Position, Before, At, Bound, After, run, reply}
-use Rattle.bhs_net.specs.Network.{nodes_of}
 use Rattle.bhs_board.specs.declared.swaps.Swap.TheVariants.{Long, Differs, Took}
 use Rattle.bhs_board.specs.Boards.{Whiteboard}
 use Rattle.bhs_model.specs.Marks.{text_at}

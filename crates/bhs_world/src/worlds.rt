@@ -274,6 +274,3 @@ impl World {
         }
     }
 }
-
-#[cfg(test)]
-mod tests;

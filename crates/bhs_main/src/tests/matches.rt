@@ -191,7 +191,15 @@ fn refusals_are_not_kept(rt: HostRuntime) -> Result<(), Fail> {
         (tell(0, Command::Leave), Some(1), Some(Mark::Bye)),
         (tell(0, Command::Look), None, no(Why::Ended)),
         (tell(0, Command::Enter), None, no(Why::Twice)),
-        (Event::Close, Some(2), None),
+        (tell(1, Command::Enter), Some(2), here(None, None)),
+        (tell(1, Command::Accuse { port: 2 }), Some(3), no(Why::Port)),
+        (
+            tell(1, Command::Accuse { port: 0 }),
+            Some(4),
+            Some(Mark::Noted)
+        ),
+        (tell(1, Command::Leave), None, no(Why::Ended)),
+        (Event::Close, Some(5), None),
         (tell(0, Command::Look), None, Some(Mark::Over)),
         (tell(2, Command::Look), None, no(Why::Agent)),
         (Event::Close, None, None),
@@ -199,7 +207,7 @@ fn refusals_are_not_kept(rt: HostRuntime) -> Result<(), Fail> {
         let answer = game.apply(event);
         assert_eq!(rt; (answer.place, answer.mark), (place, mark));
     }
-    assert_eq!(rt; game.log().len(), 3);
+    assert_eq!(rt; game.log().len(), 6);
     Ok(())
 }
 

@@ -2,9 +2,9 @@ use Rattle.bhs_lock.specs.Settling.{arrived_by}
 use Rattle.bhs_lock.proofs.SettleLemmas.{mapped_more, mapped_all}
 use Rattle.bhs_lock.proofs.settling.first_stray.Goals as goal
 
-pub loop-index-preserved : goal.loop-index-preserved
-loop-index-preserved c =
-    mapped_more (arrived_by c.args.play.now) _ _ _ _ _ _ _ c.loop-index.invariant c.loop-index-test.true c.index-passes-index.is c.agent.ensures c.stray.ensures c.lesser-best.ensures
+pub loop-pass-preserved : goal.loop-pass-preserved
+loop-pass-preserved c =
+    mapped_more (arrived_by c.args.play.now) _ _ _ _ _ _ _ c.loop-pass.invariant c.loop-pass-test.true c.pass-item.is c.agent.ensures c.stray.ensures c.lesser-best.ensures
 
 pub returns : goal.returns
-returns c = mapped_all (arrived_by c.args.play.now) _ _ _ c.loop-index.invariant c.loop-index-test.false
+returns c = mapped_all (arrived_by c.args.play.now) _ _ _ c.loop-pass.invariant c.loop-pass-test.false

@@ -1,4 +1,4 @@
-use Rattle.std.proofs.Common.{sym, ap, ◌∙◌}
+use Rattle.std.proofs.Common.{sym, ◌∙◌}
 use Rattle.bhs_lock.proofs.NewsLemmas.{news_found, gains_news, arrivals_more}
 use Rattle.bhs_lock.proofs.pass.Pass.hear_news.Goals as goal
 

@@ -1,4 +1,4 @@
-use Rattle.std.proofs.Common.{◌≡◌, ℕ, ◌<◌, ◌≤◌, length, Some, map}
+use Rattle.std.proofs.Common.{◌≡◌, ℕ, ◌<◌, Some, map}
 use Rattle.std.specs.Prelude.{slice_get}
 use Rattle.bhs_lock.specs.Arrivals.{receipt_at}
 use Rattle.bhs_lock.proofs.pass.Pass.stray.Given as goal

@@ -1,0 +1,13 @@
+pub mod EventLine
+pub mod EventTokens
+pub mod Head
+pub mod HeadTokens
+pub mod HeadReading
+pub mod HeadSeen
+pub mod Opening
+pub mod Replay
+pub mod Spelling
+pub mod Stages
+pub mod Writing
+pub mod Reading
+pub mod Readers

@@ -1,0 +1,34 @@
+//! Laws of the definitions alone.
+
+ghost use Rattle.std.specs.Prelude.{◌≡◌, true, ℕ, List, Option, Some};
+ghost use Rattle.std.specs.Str.{IsUtf8};
+ghost use Rattle.bhs_net.specs.Network.{Network};
+ghost use Rattle.bhs_replay.specs.Head.{CanSay};
+ghost use Rattle.bhs_replay.specs.EventLine.{event_line};
+ghost use Rattle.bhs_replay.specs.Replay.{replay};
+ghost use Rattle.bhs_replay.specs.Stages.{Ends, Comes};
+ghost use Rattle.bhs_replay.specs.Spelling.{spelled, may_stand, EventFits, ReplyFits};
+
+use crate::heads::Version;
+use bhs_model::{Event, Reply, Setup};
+
+/// A line spells an event and a reply exactly where it is their line, so no line is that of two.
+pub fn one_spelling()
+    ensures reads { (event : Event) (reply : Option Reply) → EventFits event → ReplyFits reply
+        → may_stand event reply ≡ true → IsUtf8 (event_line event reply)
+        → spelled (event_line event reply) ≡ Some (event, reply) }
+    ensures writes { (text : List ℕ) (event : Event) (reply : Option Reply)
+        → spelled text ≡ Some (event, reply)
+        → (text ≡ event_line event reply) × (may_stand event reply ≡ true) }
+    ensures fits { (text : List ℕ) (event : Event) (reply : Option Reply)
+        → spelled text ≡ Some (event, reply) → EventFits event × ReplyFits reply }
+    ensures utf8 { (text : List ℕ) (event : Event) (reply : Option Reply)
+        → spelled text ≡ Some (event, reply) → IsUtf8 text }
+{}
+
+/// What is read as a match is the replay of that match, in one of the versions: every other text has a fault.
+pub fn only_replays_are_read()
+    ensures { (text : List ℕ) (net : Network) (setup : Setup) (events : List Event)
+        → Comes text (Ends net setup events)
+        → (version : Version) × CanSay version setup × (text ≡ replay version net setup events) }
+{}

@@ -1,0 +1,88 @@
+//! The match that the first line of a replay opens.
+
+ghost use Rattle.std.specs.Prelude.{◌≢◌, ◌↔◌, IfOk, OnOk, IsTrue};
+ghost use Rattle.bhs_replay.specs.Head.{CanSay};
+ghost use Rattle.bhs_replay.specs.HeadSeen.{seen};
+ghost use Rattle.bhs_replay.specs.Opening.{OpensAs, Starts};
+
+use crate::head_parts::{Says, head_says};
+use crate::heads::{Version, head_line};
+use bhs_match::Match;
+use bhs_model::Setup;
+use bhs_net::{Memory, Net, NetFault};
+use bhs_world::SetupFault;
+use std::alloc::Global;
+
+/// The match that a line opens, with an empty log; None where the line is no head.
+pub(crate) fn opened(alloc: Global, line: &[u8]) -> Result<Option<Match>, Memory>
+    ensures { IfOk result (OpensAs line.now) }
+{
+    let Some(says) = head_says(alloc, line)? else {
+        return Ok(None);
+    };
+    let version = says.version;
+    let Some(game) = started(alloc, says)? else {
+        return Ok(None);
+    };
+    if !can_say(version, game.setup()) {
+        return Ok(None);
+    }
+    let text = head_line(alloc, version, game.net(), game.setup())?;
+    if line == text.as_bytes() {
+        return Ok(Some(game));
+    }
+    Ok(None)
+}
+
+fn started(alloc: Global, says: Says) -> Result<Option<Match>, Memory>
+    ensures { IfOk result (Starts (seen says)) }
+{
+    let Says {
+        nodes,
+        links,
+        setup,
+        ..
+    } = says;
+    let net = match Net::try_new(alloc, nodes, &links) {
+        Ok(net) => net,
+        Err(fault) => {
+            unless_memory_for_net(fault)?;
+            return Ok(None);
+        }
+    };
+    match Match::new(alloc, net, setup) {
+        Ok(game) => Ok(Some(game)),
+        Err(fault) => {
+            unless_memory(fault)?;
+            Ok(None)
+        }
+    }
+}
+
+fn unless_memory_for_net(fault: NetFault) -> Result<(), Memory>
+    ensures { OnOk result (fault ≢ NetFault.Memory) }
+{
+    match fault {
+        NetFault::Memory => Err(Memory),
+        _ => Ok(()),
+    }
+}
+
+fn unless_memory(fault: SetupFault) -> Result<(), Memory>
+    ensures { OnOk result (fault ≢ SetupFault.Memory) }
+{
+    match fault {
+        SetupFault::Memory => Err(Memory),
+        _ => Ok(()),
+    }
+}
+
+// Version 1 has one black hole or none, and no dark link.
+fn can_say(version: Version, setup: &Setup) -> bool
+    ensures { IsTrue result ↔ CanSay version setup.now }
+{
+    match version {
+        Version::One => setup.holes.nodes().len() <= 1 && setup.dark.ends().is_empty(),
+        Version::Two => true,
+    }
+}

@@ -1,0 +1,135 @@
+//! A replay that is read piece by piece.
+
+ghost use Rattle.std.specs.Prelude.{◌≡◌, ◌⊎◌, ℕ, List, ◌++◌, [], false, IfOk, IfErr, OnOk};
+ghost use Rattle.std.specs.List.{list_any};
+ghost use Rattle.bhs_wire.specs.Lines.{is_line_feed};
+ghost use Rattle.bhs_replay.specs.declared.faults.ReplayFault.TheVariants.{Memory};
+ghost use Rattle.bhs_replay.specs.Stages.{Wrong, Comes, Follows};
+ghost use Rattle.bhs_replay.specs.Readers.{Stands, stage_by, stage_in, stage_at, finished, Holds, IsPast};
+
+use crate::faults::ReplayFault;
+use crate::opening::opened;
+use crate::steps::play_line;
+use bhs_match::{Match, Sealed};
+use bhs_wire::split_line;
+use std::alloc::Global;
+
+// The match that the lines so far are of.
+#[derive(Debug, Drop)]
+pub(crate) struct Playing {
+    game: Match,
+    // Whether the end line came.
+    is_over: bool,
+}
+
+// A text that was read so far: the match, once its first line has ended, and the unfinished line.
+#[derive(Debug, Drop)]
+pub(crate) struct Reader {
+    alloc: Global,
+    playing: Option<Playing>,
+    line: Vec<u8>,
+}
+
+impl Reader {
+    pub fn new(alloc: Global) -> Reader
+        ensures { Stands [] result }
+    {
+        Reader {
+            alloc,
+            playing: None,
+            line: Vec::new(alloc),
+        }
+    }
+
+    // Takes the next piece of the text, and judges the lines that end in it.
+    pub fn feed(&mut self, piece: &[u8]) -> Result<(), ReplayFault>
+        ensures ok { (text : List ℕ) → Stands text self.old → OnOk result (Stands (text ++ piece.now) self.new) }
+        ensures err { (text : List ℕ) → Stands text self.old
+            → IfErr result (λ fault. (fault ≡ Memory) ⊎ Comes (text ++ piece.now) (Wrong fault)) }
+    {
+        let mut after = piece;
+        while let Some((end, more)) = split_line(after) {
+            self.take_line(end)?;
+            after = more;
+        }
+        self.hold(after)
+    }
+
+    // Takes the end of a line, up to its line feed.
+    fn take_line(&mut self, end: &[u8]) -> Result<(), ReplayFault>
+        ensures ok { OnOk result (Follows (stage_in self.old) (self.old.line.items ++ end.now) (stage_in self.new)) }
+        ensures clear { OnOk result (self.new.line.items ≡ []) }
+        ensures err { IfErr result (λ fault. (fault ≡ Memory)
+            ⊎ Follows (stage_in self.old) (self.old.line.items ++ end.now) (Wrong fault)) }
+    {
+        self.line.extend_from_slice(end)?;
+        play(self.alloc, &mut self.playing, &self.line)?;
+        self.line.clear();
+        Ok(())
+    }
+
+    // Holds bytes of an unfinished line. None may stand behind the end line.
+    fn hold(&mut self, bytes: &[u8]) -> Result<(), ReplayFault>
+        ensures ok { OnOk result (Holds self.old bytes.now self.new) }
+        ensures err { IfErr result (λ fault. (fault ≡ Memory)
+            ⊎ ((fault ≡ ReplayFault.End) × IsPast self.old bytes.now)) }
+    {
+        if let Some(Playing { is_over: true, .. }) = &self.playing {
+            if !bytes.is_empty() {
+                return Err(ReplayFault::End);
+            }
+        }
+        self.line.extend_from_slice(bytes)?;
+        Ok(())
+    }
+
+    // The text has ended: the match, or what is wrong.
+    pub fn finish(self) -> Result<Sealed, ReplayFault>
+        ensures { result ≡ finished self }
+    {
+        let Reader { playing, .. } = self;
+        let Some(playing) = playing else {
+            return Err(ReplayFault::Head);
+        };
+        let Playing { game, is_over } = playing;
+        if !is_over {
+            return Err(ReplayFault::End);
+        }
+        match game.sealed() {
+            Ok(sealed) => Ok(sealed),
+            Err(_) => Err(ReplayFault::End),
+        }
+    }
+}
+
+// Judges a line.
+fn play(alloc: Global, playing: &mut Option<Playing>, line: &[u8]) -> Result<(), ReplayFault>
+    ensures ok { OnOk result (Follows (stage_by playing.old) line.now (stage_by playing.new)) }
+    ensures err { IfErr result (λ fault. (fault ≡ Memory) ⊎ Follows (stage_by playing.old) line.now (Wrong fault)) }
+{
+    if let Some(playing) = playing {
+        return play_on(alloc, playing, line);
+    }
+    match opened(alloc, line)? {
+        Some(game) => {
+            *playing = Some(Playing {
+                game,
+                is_over: false,
+            });
+            Ok(())
+        }
+        None => Err(ReplayFault::Head),
+    }
+}
+
+// Judges a line behind the head.
+fn play_on(alloc: Global, playing: &mut Playing, line: &[u8]) -> Result<(), ReplayFault>
+    ensures ok { OnOk result (Follows (stage_at playing.old) line.now (stage_at playing.new)) }
+    ensures err { IfErr result (λ fault. (fault ≡ Memory) ⊎ Follows (stage_at playing.old) line.now (Wrong fault)) }
+{
+    if playing.is_over {
+        return Err(ReplayFault::End);
+    }
+    playing.is_over = play_line(alloc, &mut playing.game, line)?;
+    Ok(())
+}

@@ -1,0 +1,118 @@
+//! The lines behind the head of a replay.
+
+ghost use Rattle.std.specs.Prelude.{◌≡◌, ◌<◌, ◌⊎◌, ◌+◌, true, false, bytes_eq, length, IfOk, IfErr, OnOk};
+ghost use Rattle.std.specs.List.{list_all};
+ghost use Rattle.bhs_model.specs.Marks.{events_of};
+ghost use Rattle.bhs_replay.specs.declared.faults.ReplayFault.TheVariants.{Memory as NoMemory};
+ghost use Rattle.bhs_replay.specs.Stages.{Wrong, after_line, after_event, after_other, is_plain, starts_plain, is_digit, is_end_line};
+ghost use Rattle.bhs_replay.specs.Reading.{stage_of};
+
+use crate::faults::ReplayFault;
+use crate::lines::line_of;
+use crate::reading::read_event;
+use crate::writing::end_line;
+use bhs_match::Match;
+use bhs_model::Event;
+use std::alloc::Global;
+
+/// Plays a line, and tells whether it is the end line.
+pub(crate) fn play_line(alloc: Global, game: &mut Match, line: &[u8]) -> Result<bool, ReplayFault>
+    ensures ok { IfOk result (λ is_end. stage_of game.new is_end
+        ≡ after_line game.old.net game.old.setup (events_of game.old.log) line.now) }
+    ensures err { IfErr result (λ fault. (fault ≡ NoMemory)
+        ⊎ (Wrong fault ≡ after_line game.old.net game.old.setup (events_of game.old.log) line.now)) }
+{
+    match read_event(alloc, line)? {
+        Some((event, _)) => {
+            play_event(alloc, game, line, event)?;
+            Ok(false)
+        }
+        None => {
+            check_end(alloc, game, line)?;
+            Ok(true)
+        }
+    }
+}
+
+// Plays the event that a line spells, and compares the line with the one that the match writes.
+fn play_event(alloc: Global, game: &mut Match, line: &[u8], event: Event) -> Result<(), ReplayFault>
+    ensures ok { OnOk result (stage_of game.new false
+        ≡ after_event game.old.net game.old.setup (events_of game.old.log) line.now event) }
+    ensures err { IfErr result (λ fault. (fault ≡ NoMemory)
+        ⊎ (Wrong fault ≡ after_event game.old.net game.old.setup (events_of game.old.log) line.now event)) }
+{
+    let before = game.log().len();
+    if game.closed() {
+        return Err(ReplayFault::Line { line: before + 2 });
+    }
+    let answer = game.apply(event);
+    if answer.place.is_none() {
+        return Err(ReplayFault::Event { line: before + 2 });
+    }
+    let reply = match &answer.mark {
+        Some(mark) => Some(game.reply(mark)?),
+        None => None,
+    };
+    let text = line_of(alloc, &game.log()[before].event, &reply)?;
+    if line == text.as_bytes() {
+        return Ok(());
+    }
+    Err(ReplayFault::Differs { line: before + 2 })
+}
+
+// Judges a line that spells no event: it must be the end line, behind a close.
+fn check_end(alloc: Global, game: &Match, line: &[u8]) -> Result<(), ReplayFault>
+    ensures ok { OnOk result (stage_of game.now true
+        ≡ after_other game.now.net game.now.setup (events_of game.now.log) line.now) }
+    ensures err { IfErr result (λ fault. (fault ≡ NoMemory)
+        ⊎ (Wrong fault ≡ after_other game.now.net game.now.setup (events_of game.now.log) line.now)) }
+{
+    let count = game.log().len();
+    let text = end_line(alloc, count)?;
+    if game.closed() && line == text.as_bytes() {
+        return Ok(());
+    }
+    if is_end_line(line) {
+        return Err(ReplayFault::End);
+    }
+    Err(ReplayFault::Line { line: count + 2 })
+}
+
+// Whether a line is the end line of some number, however large.
+fn is_end_line(line: &[u8]) -> bool
+    ensures { result ≡ is_end_line line.now }
+{
+    let size = line.len();
+    size >= 9
+        && line[..7] == b"{\"end\":"[..]
+        && line[size - 1] == b'}'
+        && is_plain(&line[7..size - 1])
+}
+
+// A number in plain decimal.
+fn is_plain(digits: &[u8]) -> bool
+    requires { 0 < length digits.now }
+    ensures { result ≡ is_plain digits.now }
+{
+    are_digits(digits) && starts_plain(digits)
+}
+
+fn are_digits(bytes: &[u8]) -> bool
+    ensures { result ≡ list_all is_digit bytes.now }
+{
+    bytes.iter().all(|byte| is_digit(*byte))
+}
+
+// No zero stands before other digits.
+fn starts_plain(digits: &[u8]) -> bool
+    requires { 0 < length digits.now }
+    ensures { result ≡ starts_plain digits.now }
+{
+    digits.len() == 1 || digits[0] != b'0'
+}
+
+fn is_digit(byte: u8) -> bool
+    ensures { result ≡ is_digit byte }
+{
+    byte >= b'0' && byte <= b'9'
+}

@@ -1,0 +1,66 @@
+//! Writing a replay.
+
+ghost use Rattle.std.specs.Prelude.{ℕ, List, ◌≡◌, ◌∷◌, ◌++◌, [], string_bytes, IfOk, IfErr, OnOk};
+ghost use Rattle.bhs_stream.specs.Sending.{PutsAll};
+ghost use Rattle.bhs_replay.specs.Replay.{end_line, replay_of};
+ghost use Rattle.bhs_replay.specs.Writing.{Breaks};
+
+use crate::faults::WritingFault;
+use crate::heads::{Version, head_line};
+use crate::lines::line_in;
+use bhs_match::Sealed;
+use bhs_net::Memory;
+use bhs_stream::{Output, WriteFault, send};
+use json::Writer;
+use std::alloc::Global;
+
+/// Writes the replay of a match, line by line. It takes the memory of one line.
+pub fn write_replay<W: Output>(
+    alloc: Global,
+    sealed: &Sealed,
+    writer: &mut W,
+) -> Result<(), WritingFault>
+    ensures ok { OnOk result (PutsAll W.takes writer.old (replay_of sealed.now) writer.new) }
+    ensures err { IfErr result (λ fault. Breaks W.takes writer.old (replay_of sealed.now) fault writer.new) }
+{
+    let log = sealed.log();
+    send_line(
+        head_line(alloc, Version::Two, sealed.net(), sealed.setup()),
+        writer,
+    )?;
+    for one in log {
+        send_line(line_in(alloc, sealed, one), writer)?;
+    }
+    send_line(end_line(alloc, log.len()), writer)
+}
+
+// The end line, without its line feed.
+pub(crate) fn end_line(alloc: Global, count: usize) -> Result<String, Memory>
+    ensures { IfOk result (λ text. string_bytes text ≡ end_line count) }
+{
+    let mut out = Writer::new(Vec::new(alloc));
+    out.begin_object()?;
+    out.key("end")?;
+    out.u64(count as u64)?;
+    out.end_object()?;
+    Ok(String::from_utf8(out.into_inner()).unwrap())
+}
+
+// Sends a line, with its line feed, if there was memory to make it.
+fn send_line<W: Output>(made: Result<String, Memory>, writer: &mut W) -> Result<(), WritingFault>
+    ensures ok { (line : List ℕ) → IfOk made (λ text. string_bytes text ≡ line)
+        → OnOk result (PutsAll W.takes writer.old (line ++ 10 ∷ []) writer.new) }
+    ensures err { (line : List ℕ) → IfOk made (λ text. string_bytes text ≡ line)
+        → IfErr result (λ fault. Breaks W.takes writer.old (line ++ 10 ∷ []) fault writer.new) }
+{
+    let Ok(mut text) = made else {
+        return Err(WritingFault::Memory);
+    };
+    if text.push('\n').is_err() {
+        return Err(WritingFault::Memory);
+    }
+    match send(writer, text.as_bytes()) {
+        Ok(()) => Ok(()),
+        Err(WriteFault) => Err(WritingFault::Write),
+    }
+}
