@@ -1,16 +1,16 @@
 -- What is kept of a match is kept too where a closed set of it is played by itself.
-use Rattle.std.proofs.Common.{ℕ, suc, ◌≡◌, Bool, true, false, not, ◌&&◌, ◌||◌, Option, Some, None, List, [], ◌∷◌, ◌==◌, if◌then◌else◌, nat_lt, refl, sym, ap, ap₂, ◌∙◌, subst}
+use Rattle.std.proofs.Common.{ℕ, ◌≡◌, Bool, true, false, not, ◌&&◌, ◌||◌, Some, List, [], ◌∷◌, ◌==◌, if◌then◌else◌, nat_lt, refl, sym, ap, ap₂, ◌∙◌}
 use Rattle.std.specs.List.{list_any}
-use Rattle.std.proofs.lemmas.Bool.{cond-true, cond-false, and_parts, and_from, or_parts, not-true, true≢false, cond_both}
+use Rattle.std.proofs.lemmas.Bool.{cond-true, and_parts, or_parts, not-true, true≢false}
 use Rattle.bhs_model.specs.declared.events.Event.{Event}
 use Rattle.bhs_model.specs.declared.events.Event.TheVariants.{Tell, Deliver, Close}
 use Rattle.bhs_model.specs.Views.{View}
 use Rattle.bhs_model.specs.Replying.{hears}
 use Rattle.bhs_model.specs.Worlds.{World}
 use Rattle.bhs_model.specs.Runs.{Position, State, initial, changed, is_let_through, is_doomed, next}
-use Rattle.bhs_model.specs.Kept.{destroys, keeps, kept, kept_first, kept_from, lost_after, nobody}
+use Rattle.bhs_model.specs.Kept.{destroys, keeps, kept, kept_from, lost_after, nobody}
 use Rattle.bhs_model.specs.Cuts.{at_places, Footprint, footprint, footprints, footprints_from, meet, needs, is_closed}
-use Rattle.bhs_model.proofs.StepLemmas.{by_cases, changed_other}
+use Rattle.bhs_model.proofs.StepLemmas.{changed_other}
 use Rattle.bhs_model.proofs.CutLemmas.{Agree, AgreeOnAll, changed_alike, apart, all_after_chosen, all_after_left_out, agree_at_first}
 use Rattle.bhs_view.proofs.ForwardLemmas.{first_kept}
 

@@ -1,10 +1,10 @@
 -- The walk back: what is needed is what the chosen places need.
-use Rattle.std.proofs.Common.{ℕ, zero, suc, ◌+◌, ◌<◌, ◌≤◌, ◌≡◌, Bool, true, false, ◌&&◌, ◌||◌, Option, Some, None, List, [], ◌∷◌, ◌++◌, length, map, drop, get_or, refl, sym, ap, ◌∙◌, subst, arith, inl, inr, if◌then◌else◌, ◌==◌, get_or-set_same, get_or-set_other, cond}
-use Rattle.std.specs.Prelude.{slice_set, slice_index_or, IfSome, reverse, replicate}
+use Rattle.std.proofs.Common.{ℕ, zero, suc, ◌<◌, ◌≡◌, Bool, true, false, ◌&&◌, ◌||◌, Option, Some, None, List, [], ◌∷◌, ◌++◌, length, drop, get_or, refl, sym, ap, ◌∙◌, subst, arith, inl, inr, get_or-set_same, get_or-set_other}
+use Rattle.std.specs.Prelude.{slice_index_or, IfSome, reverse, replicate}
 use Rattle.std.specs.List.{list_any, AllByRecursion}
 use Rattle.std.proofs.lemmas.Bool.{cond-true, cond-false}
 use Rattle.std.proofs.lemmas.Bool.Decides.{eqb_tells, leb_tells}
-use Rattle.std.proofs.lemmas.List.{length-set, length-map, length-replicate, get_or-replicate, get_or-map, get_or_default, drop_all}
+use Rattle.std.proofs.lemmas.List.{length-set, length-replicate, get_or-replicate, get_or_default, drop_all}
 use Rattle.std.proofs.Math.ListN.{get_or-eq_default}
 use Rattle.std.proofs.lemmas.Grind.{reverse_onto}
 use Rattle.bhs_model.specs.declared.events.Event.{Event}
@@ -13,7 +13,7 @@ use Rattle.bhs_model.specs.declared.commands.Command.TheVariants.{Write}
 use Rattle.bhs_model.specs.declared.marks.Kept.{Kept}
 use Rattle.bhs_model.specs.Cuts.{at_places, Footprint, meet, needs, cut}
 use Rattle.bhs_view.specs.Places.{places_from}
-use Rattle.bhs_view.specs.Walks.{seen_by, footprint_by, footprint_at, footprints_at, written_by, Needed, nothing_needed, marked, marks_with, is_needed, needed_after, IsInRange, AreInRange, AreNeeded}
+use Rattle.bhs_view.specs.Walks.{footprint_by, footprint_at, footprints_at, written_by, Needed, marked, marks_with, is_needed, needed_after, IsInRange, AreInRange, AreNeeded}
 
 -- tests on lists
 

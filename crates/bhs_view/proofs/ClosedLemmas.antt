@@ -1,19 +1,19 @@
 -- The walk back over a set of places: the least place that is lacking.
-use Rattle.std.proofs.Common.{ℕ, suc, ◌+◌, ◌<◌, ◌≤◌, ◌≡◌, Bool, true, false, not, ◌&&◌, ◌||◌, Option, Some, None, List, [], ◌∷◌, length, drop, get_or, refl, sym, ap, ap₂, ◌∙◌, subst, arith}
-use Rattle.std.specs.Prelude.{slice_index_or, replicate}
+use Rattle.std.proofs.Common.{ℕ, suc, ◌<◌, ◌≡◌, Bool, true, false, not, ◌&&◌, ◌||◌, Option, Some, None, List, [], ◌∷◌, length, drop, get_or, refl, sym, ap, ap₂, ◌∙◌, arith}
+use Rattle.std.specs.Prelude.{slice_index_or}
 use Rattle.std.specs.List.{list_any}
 use Rattle.std.proofs.Math.Seq.{drop-cons}
 use Rattle.std.proofs.lemmas.Bool.{cond-true, cond-false, and_from}
 use Rattle.std.proofs.lemmas.List.{drop_all}
 use Rattle.bhs_model.specs.declared.marks.Kept.{Kept}
-use Rattle.bhs_model.specs.Cuts.{at_places, Footprint, meet, needs, is_closed}
+use Rattle.bhs_model.specs.Cuts.{at_places, Footprint, needs, is_closed}
 use Rattle.bhs_model.proofs.StepLemmas.{by_cases}
 use Rattle.bhs_match.specs.Matches.{Play}
 use Rattle.bhs_view.specs.Places.{misplaced}
 use Rattle.bhs_view.specs.Restrictions.{unclosed_from, fault_of, first_fault}
 use Rattle.bhs_view.proofs.CutLemmas.{IsKnown}
 use Rattle.bhs_view.proofs.SetLemmas.{IsSetOf, set_same}
-use Rattle.bhs_view.specs.Walks.{footprint_by, seen_by, footprint_at, footprints_at, Needed, nothing_needed, is_needed, needed_after, IsInRange, AreNeeded}
+use Rattle.bhs_view.specs.Walks.{seen_by, footprint_at, footprints_at, Needed, nothing_needed, is_needed, needed_after, IsInRange, AreNeeded}
 use Rattle.bhs_view.proofs.BackLemmas.{needed_same, needed_more, unmarked, length_footprints_at, IsThere}
 
 -- how the walk back stands that has come down to a place, with these footprints and this part of the set from there on

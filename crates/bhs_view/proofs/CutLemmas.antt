@@ -1,7 +1,7 @@
 -- What the footprints of a log are, and the cut of a stranger.
-use Rattle.std.proofs.Common.{ℕ, zero, suc, ◌+◌, ◌<◌, ◌≤◌, ◌≡◌, Bool, true, false, not, ◌&&◌, ◌||◌, Option, Some, None, List, [], ◌∷◌, ◌++◌, length, map, refl, sym, ap, ◌∙◌, subst, arith, inl, inr, if◌then◌else◌, ◌==◌}
+use Rattle.std.proofs.Common.{ℕ, suc, ◌<◌, ◌≤◌, ◌≡◌, Bool, true, false, not, ◌||◌, Option, Some, None, List, [], ◌∷◌, ◌++◌, length, map, refl, sym, ap, ◌∙◌, subst, arith, inl, inr, if◌then◌else◌}
 use Rattle.std.specs.Prelude.{IfSome, replicate}
-use Rattle.std.specs.List.{AllByRecursion, list_any}
+use Rattle.std.specs.List.{list_any}
 use Rattle.std.proofs.lemmas.Bool.{cond-true, cond-false, cond_both, and_parts, or_cases}
 use Rattle.std.proofs.lemmas.Bool.Decides.{eqb_tells}
 use Rattle.bhs_net.specs.Network.{Network, IsNetwork, nodes_of}
@@ -16,7 +16,6 @@ use Rattle.bhs_model.specs.Setups.{world_of}
 use Rattle.bhs_model.specs.Runs.{Position, Before, At, Bound, After, State, initial, heard, arrives, next, run, reply}
 use Rattle.bhs_model.specs.InOrder.{replies, replies_from}
 use Rattle.bhs_model.specs.declared.marks.Mark.{Mark}
-use Rattle.bhs_model.specs.declared.replies.Reply.{Reply}
 use Rattle.bhs_model.specs.Kept.{destroys, keeps, kept, kept_from, lost_after, nobody}
 use Rattle.bhs_model.specs.Laws.{Fits, StaysInRange}
 use Rattle.bhs_model.specs.Cuts.{at_places, Footprint, footprint, footprints, footprints_from, node_seen, node_written, node_reached, meet, needs, cut}
@@ -25,7 +24,7 @@ use Rattle.bhs_world.proofs.GrowthLemmas.{run_from_more}
 use Rattle.bhs_match.proofs.FairLemmas.{IsFair, heard_means, bound_within, arrival_means, fair_next, fair_initial}
 use Rattle.bhs_view.specs.Places.{places_from, places_of}
 use Rattle.bhs_view.specs.Sites.{node_said, site, sites, sites_from}
-use Rattle.bhs_view.specs.Walks.{seen_by, footprint_by, footprint_at, footprints_at, written_by, IsInRange, AreInRange}
+use Rattle.bhs_view.specs.Walks.{seen_by, footprint_by, footprints_at, written_by, IsInRange, AreInRange}
 use Rattle.bhs_model.specs.declared.marks.Kept.{Kept}
 use Rattle.bhs_model.specs.Marks.{events_of, read_if}
 use Rattle.bhs_world.specs.Faults.{IsWithinLimits}

@@ -1,5 +1,5 @@
 -- A setup in normal form has no fault.
-use Rattle.std.proofs.Common.{ℕ, zero, suc, ◌+◌, ◌<◌, ◌≤◌, ◌≡◌, ◌≢◌, ◌⊎◌, inl, inr, Bool, true, false, not, ◌&&◌, ◌||◌, None, List, [], ◌∷◌, ◌++◌, ◌==◌, nat_lt, append_assoc, append-nil, refl, sym, ap, ap₂, ◌∙◌, subst, arith}
+use Rattle.std.proofs.Common.{ℕ, zero, suc, ◌+◌, ◌<◌, ◌≤◌, ◌≡◌, ◌⊎◌, inl, inr, Bool, true, false, not, ◌&&◌, ◌||◌, None, List, [], ◌∷◌, ◌++◌, ◌==◌, nat_lt, append_assoc, append-nil, refl, sym, ap, ap₂, ◌∙◌, subst, arith}
 use Rattle.std.specs.Prelude.{filter, map, nat_le}
 use Rattle.std.specs.List.{range_with_len, flat_map, AllByRecursion}
 use Rattle.std.proofs.lemmas.Bool.{cond-true, cond-false, and_parts, and_from, eqb-true, lt-ltb, le-leb, ltb-true, true≢false}
@@ -8,9 +8,9 @@ use Rattle.bhs_net.specs.Network.{Network, nodes_of, degree_of, far_of, IsPortLa
 use Rattle.bhs_model.specs.declared.limits.TheConstants.{MAX_AGENTS, MAX_QUOTA, MAX_BOARD}
 use Rattle.bhs_model.specs.declared.setups.Setup.{Setup}
 use Rattle.bhs_model.specs.Worlds.{is_hole, names, is_dark}
-use Rattle.bhs_model.specs.Setups.{normal, IsNormal, nodes_where, is_lesser_end, links_at, links_where}
+use Rattle.bhs_model.specs.Setups.{IsNormal, nodes_where, is_lesser_end, links_at, links_where}
 use Rattle.bhs_model.proofs.StepLemmas.{by_cases}
-use Rattle.bhs_world.specs.Faults.{is_within, is_hole_fit, are_holes_fit, is_port_of, are_links_fit, first_fault, IsWithinLimits}
+use Rattle.bhs_world.specs.Faults.{is_within, are_holes_fit, are_links_fit, first_fault, IsWithinLimits}
 
 false_of : (b : Bool) → (b ≡ true → ⊥) → b ≡ false
 false_of true never = absurd (never refl)

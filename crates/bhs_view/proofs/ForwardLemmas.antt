@@ -1,12 +1,11 @@
 -- The walk forward: the spots are those of the definitions.
-use Rattle.std.proofs.Common.{ℕ, zero, suc, ◌+◌, ◌<◌, ◌≤◌, ◌≡◌, Bool, true, false, not, ◌&&◌, ◌||◌, Option, Some, None, List, [], ◌∷◌, ◌++◌, length, map, drop, take, get_or, refl, sym, ap, ap₂, ◌∙◌, subst, arith, inl, inr, if◌then◌else◌, ◌==◌, nat_lt, get_or-set_same, get_or-set_other}
-use Rattle.std.specs.Prelude.{slice_set, slice_index_or, IfSome, replicate, is_some}
-use Rattle.std.specs.List.{AllByRecursion}
-use Rattle.std.proofs.lemmas.Bool.{cond-true, cond-false, and_parts, or_parts, or_cases, not-true, ltb-true, false≢true, cond_both}
+use Rattle.std.proofs.Common.{ℕ, zero, suc, ◌+◌, ◌<◌, ◌≤◌, ◌≡◌, Bool, true, false, not, Option, Some, None, List, [], ◌∷◌, ◌++◌, length, map, drop, take, get_or, refl, sym, ap, ap₂, ◌∙◌, subst, arith, inl, inr, if◌then◌else◌, nat_lt, get_or-set_same, get_or-set_other}
+use Rattle.std.specs.Prelude.{slice_set, slice_index_or, replicate, is_some}
+use Rattle.std.proofs.lemmas.Bool.{cond-true, cond-false, and_parts, or_cases, false≢true, cond_both}
 use Rattle.std.proofs.lemmas.Bool.Decides.{eqb_tells, leb_tells}
 use Rattle.std.proofs.lemmas.List.{length-set, set-get_or, length-map, take_more, take_all, drop_all, append-nil, length-replicate, get_or-replicate, get_or-map}
 use Rattle.std.proofs.Math.ListN.{get_or-eq_default}
-use Rattle.bhs_net.specs.Network.{Network, nodes_of, degree_of, IsNetwork}
+use Rattle.bhs_net.specs.Network.{Network, IsNetwork}
 use Rattle.bhs_model.specs.declared.setups.Setup.{Setup}
 use Rattle.bhs_model.specs.declared.commands.Command.{Command}
 use Rattle.bhs_model.specs.declared.commands.Command.TheVariants.{Enter, Look, Write, Depart, Accuse, Leave, Bad}
@@ -20,19 +19,19 @@ use Rattle.bhs_model.specs.Replying.{rep}
 use Rattle.bhs_model.specs.Views.{View, Arrived}
 use Rattle.bhs_model.specs.Worlds.{World, doomed}
 use Rattle.bhs_model.specs.Setups.{world_of}
-use Rattle.bhs_model.specs.Runs.{Position, Before, At, Bound, After, State, initial, changed, heard, arrives, arrived, delivered, told, next, reply, run, run_from, position_after, is_doomed, sight_at}
+use Rattle.bhs_model.specs.Runs.{Position, Before, At, Bound, After, State, initial, changed, heard, arrives, delivered, told, next, reply, run, run_from, position_after, is_doomed, sight_at}
 use Rattle.bhs_model.specs.InOrder.{replies, replies_from}
-use Rattle.bhs_model.specs.Kept.{destroys, keeps, kept, kept_from, kept_first, lost, lost_from, lost_after, nobody}
+use Rattle.bhs_model.specs.Kept.{destroys, keeps, kept, kept_from, lost, lost_from, lost_after, nobody}
 use Rattle.bhs_model.specs.Laws.{Fits, StaysInRange}
-use Rattle.bhs_model.specs.Cuts.{Footprint, footprint, footprints, footprints_from, node_seen, node_written, node_reached}
+use Rattle.bhs_model.specs.Cuts.{footprints_from, node_reached}
 use Rattle.bhs_model.proofs.StepLemmas.{by_cases, changed_same, next_heard, next_arrived, next_no_arrival, arrival_by_past, no_arrival_no_reply}
 use Rattle.bhs_model.proofs.FitLemmas.{pasts_fit_positions_lemma}
-use Rattle.bhs_match.proofs.FairLemmas.{IsFair, heard_means, bound_within, IsArriving, arrival_means, fair_run}
+use Rattle.bhs_match.proofs.FairLemmas.{IsFair, heard_means, bound_within, arrival_means, fair_run}
 use Rattle.bhs_world.specs.Faults.{IsWithinLimits}
 use Rattle.bhs_world.proofs.GrowthLemmas.{run_from_more}
 use Rattle.bhs_world.proofs.SoundLemmas.{far_placed}
 use Rattle.bhs_view.specs.declared.spots.Spot.{Spot}
-use Rattle.bhs_view.specs.declared.spots.Spot.TheVariants.{Off, Stays, Rides}
+use Rattle.bhs_view.specs.declared.spots.Spot.TheVariants.{Off, Rides}
 use Rattle.bhs_view.specs.Sites.{node_said, site, sites, sites_from}
 use Rattle.bhs_view.specs.Walks.{spot_of, told_site, told_spot, delivered_site, landed, spot_at, site_by, spots_after, IsOn, IsReady}
 

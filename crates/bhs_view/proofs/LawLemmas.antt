@@ -1,9 +1,7 @@
 -- The laws of matches that have ended follow from those of the model.
-use Rattle.std.proofs.Common.{ℕ, ◌≡◌, Bool, Option, List, take, sym, ap, ap₂, ◌∙◌}
-use Rattle.bhs_model.specs.declared.events.Event.{Event}
+use Rattle.std.proofs.Common.{ℕ, Option, List, take, sym, ap, ap₂, ◌∙◌}
 use Rattle.bhs_model.specs.declared.replies.Reply.{Reply}
 use Rattle.bhs_model.specs.Views.{View}
-use Rattle.bhs_model.specs.Worlds.{World}
 use Rattle.bhs_model.specs.InOrder.{replies_to}
 use Rattle.bhs_model.specs.Replying.{reps}
 use Rattle.bhs_model.specs.Marks.{events_of}

@@ -13,4 +13,5 @@ pub mod TwinPlayLemmas
 pub mod PassLemmas
 pub mod TwinReadLemmas
 pub mod LawLemmas
+pub mod AccusationLemmas
 pub mod GuessLemmas

@@ -1,16 +1,13 @@
 -- What the passes over a log and its sites find is what the definitions say.
-use Rattle.std.proofs.Common.{ℕ, zero, suc, ◌+◌, ◌<◌, ◌≤◌, ◌≡◌, Bool, true, false, not, ◌&&◌, ◌||◌, Option, Some, None, List, [], ◌∷◌, ◌++◌, if◌then◌else◌, length, map, drop, get_or, refl, sym, ap, ap₂, ◌∙◌, subst, arith, append-nil, append_assoc}
-use Rattle.std.specs.Prelude.{slice_index_or}
+use Rattle.std.proofs.Common.{ℕ, suc, ◌≡◌, Bool, true, false, not, ◌&&◌, Option, Some, None, List, [], ◌∷◌, if◌then◌else◌, map, refl, sym, ap, ap₂, ◌∙◌}
 use Rattle.std.specs.Option.{option_or}
 use Rattle.std.proofs.lemmas.Bool.{cond-true, cond-false, false≢true}
-use Rattle.bhs_model.specs.declared.commands.Command.{Command}
 use Rattle.bhs_model.specs.declared.commands.Command.TheVariants.{Enter, Look, Write, Depart, Accuse, Leave, Bad}
 use Rattle.bhs_model.specs.declared.events.Event.{Event}
 use Rattle.bhs_model.specs.declared.events.Event.TheVariants.{Tell, Deliver, Close}
 use Rattle.bhs_model.specs.declared.marks.Mark.{Mark}
 use Rattle.bhs_model.specs.declared.marks.Mark.TheVariants.{Here, Written, Changed, Gone, Noted, Bye, Over, No}
 use Rattle.bhs_model.specs.declared.marks.Kept.{Kept}
-use Rattle.bhs_model.specs.declared.replies.Reply.{Reply}
 use Rattle.bhs_model.specs.Worlds.{World}
 use Rattle.bhs_model.specs.Runs.{Position, Before, At, Bound, After, State, initial, heard, arrives, next, reply}
 use Rattle.bhs_model.specs.InOrder.{replies, replies_from}
@@ -19,8 +16,8 @@ use Rattle.bhs_model.specs.Marks.{events_of, read_if}
 use Rattle.bhs_model.specs.Cuts.{meet, node_reached}
 use Rattle.bhs_model.proofs.StepLemmas.{by_cases}
 use Rattle.bhs_view.specs.Sites.{node_said, site, sites, sites_from}
-use Rattle.bhs_view.specs.Twins.{hole_beyond, hole_from, hole_accused, is_noted, first_accused_from, left, left_from, heads_for, arrives_at, first_arrival, first_arrival_from}
-use Rattle.bhs_view.specs.TwinWalks.{hole_by, hole_at, first_hole, is_bound_for, left_at, is_arrival_by, is_arrival_at, first_arrival_at}
+use Rattle.bhs_view.specs.Twins.{hole_from, hole_accused, is_noted, first_accused_from, left_from, heads_for, arrives_at, first_arrival, first_arrival_from}
+use Rattle.bhs_view.specs.TwinWalks.{hole_by, first_hole, is_bound_for, left_at, is_arrival_by, first_arrival_at}
 use Rattle.bhs_view.proofs.ForwardLemmas.{first_kept, arrival_marked, no_arrival_unmarked}
 
 -- an accusation, by its mark

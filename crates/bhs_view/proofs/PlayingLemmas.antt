@@ -1,7 +1,7 @@
 -- Playing the chosen events of a log in a match where nothing happened.
-use Rattle.std.proofs.Common.{ℕ, zero, suc, ◌+◌, ◌<◌, ◌≤◌, ◌≡◌, Bool, true, false, List, [], ◌∷◌, ◌++◌, Option, Some, None, Ok, Err, length, map, take, get_or, if◌then◌else◌, append-nil, refl, sym, ap, ap₂, ◌∙◌, subst, arith}
-use Rattle.std.specs.Prelude.{slice_index_or, Result}
-use Rattle.std.proofs.lemmas.Bool.{cond-true, cond-false}
+use Rattle.std.proofs.Common.{ℕ, zero, suc, ◌+◌, ◌<◌, ◌≤◌, ◌≡◌, Bool, true, false, List, [], ◌∷◌, ◌++◌, Option, Ok, Err, length, take, get_or, if◌then◌else◌, append-nil, refl, sym, ap, ap₂, ◌∙◌, subst, arith}
+use Rattle.std.specs.Prelude.{Result}
+use Rattle.std.proofs.lemmas.Bool.{cond-true}
 use Rattle.std.proofs.lemmas.List.{take_all, length-map, get_or-map, get_or_default}
 use Rattle.bhs_model.specs.declared.events.Event.{Event}
 use Rattle.bhs_model.specs.declared.events.Event.TheVariants.{Close}
@@ -9,9 +9,9 @@ use Rattle.bhs_model.specs.declared.marks.Mark.{Mark}
 use Rattle.bhs_model.specs.declared.marks.Kept.{Kept}
 use Rattle.bhs_model.specs.Worlds.{World}
 use Rattle.bhs_model.specs.Setups.{world_of}
-use Rattle.bhs_model.specs.Runs.{State, initial, run, run_from}
+use Rattle.bhs_model.specs.Runs.{State, initial, run}
 use Rattle.bhs_model.specs.Cuts.{at_places}
-use Rattle.bhs_model.specs.Kept.{kept, nobody}
+use Rattle.bhs_model.specs.Kept.{nobody}
 use Rattle.bhs_model.specs.Marks.{events_of}
 use Rattle.bhs_model.proofs.KeptLemmas.{run-kept}
 use Rattle.bhs_world.specs.Tables.{log_after}

@@ -1,14 +1,14 @@
 -- The log of a match in which the events of a closed set were played, and a Close.
-use Rattle.std.proofs.Common.{ℕ, zero, suc, ◌≡◌, Bool, true, false, not, ◌&&◌, ◌||◌, Option, Some, None, List, [], ◌∷◌, ◌++◌, length, map, filter, ◌==◌, if◌then◌else◌, nat_lt, refl, sym, ap, ap₂, ◌∙◌, subst, inl, inr, append-nil}
-use Rattle.std.proofs.lemmas.Bool.{cond-true, cond-false, and_parts, or_cases, true≢false, cond_both}
+use Rattle.std.proofs.Common.{ℕ, suc, ◌≡◌, Bool, true, false, not, ◌&&◌, Option, Some, None, List, [], ◌∷◌, ◌++◌, length, map, filter, nat_lt, refl, sym, ap, ap₂, ◌∙◌, append-nil}
+use Rattle.std.proofs.lemmas.Bool.{cond-true, true≢false, cond_both}
 use Rattle.bhs_model.specs.declared.events.Event.{Event}
 use Rattle.bhs_model.specs.declared.events.Event.TheVariants.{Tell, Deliver, Close}
 use Rattle.bhs_model.specs.declared.replies.Reply.{Reply}
 use Rattle.bhs_model.specs.declared.marks.Kept.{Kept}
 use Rattle.bhs_model.specs.Worlds.{World}
-use Rattle.bhs_model.specs.Runs.{Position, Before, At, Bound, After, State, initial, told, heard, arrives, is_let_through, delivered, next, run, run_from, reply}
+use Rattle.bhs_model.specs.Runs.{Position, Before, At, Bound, After, State, initial, told, heard, arrives, delivered, next, run, run_from, reply}
 use Rattle.bhs_model.specs.InOrder.{replies, replies_from}
-use Rattle.bhs_model.specs.Kept.{destroys, keeps, kept, kept_first, kept_from, lost, lost_from, lost_after, nobody}
+use Rattle.bhs_model.specs.Kept.{keeps, kept, kept_first, kept_from, lost, lost_after, nobody}
 use Rattle.bhs_model.specs.Marks.{events_of, read_if}
 use Rattle.bhs_model.specs.Cuts.{at_places, footprints, is_closed}
 use Rattle.bhs_model.proofs.StepLemmas.{by_cases}

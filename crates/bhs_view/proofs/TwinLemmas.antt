@@ -1,12 +1,11 @@
 -- A match and its twin: what is left of the one happens in the other, with the same replies.
-use Rattle.std.proofs.Common.{ℕ, suc, ◌≡◌, ◌<◌, Bool, true, false, not, ◌&&◌, ◌||◌, ◌==◌, Option, Some, None, List, [], ◌∷◌, ◌++◌, if◌then◌else◌, inl, inr, refl, sym, ap, ap₂, ◌∙◌, subst}
-use Rattle.std.proofs.lemmas.Bool.{cond-true, cond-false, and_parts, and_from, and_right, or_parts, or_cases, or_left, or_right, not-true, eqb-true, eq-eqb, true≢false, false≢true}
-use Rattle.bhs_model.specs.declared.commands.Command.{Command}
+use Rattle.std.proofs.Common.{ℕ, suc, ◌≡◌, Bool, true, false, not, ◌&&◌, ◌||◌, ◌==◌, Option, Some, None, List, [], ◌∷◌, if◌then◌else◌, inl, inr, refl, sym, ap, ap₂, ◌∙◌, subst}
+use Rattle.std.proofs.lemmas.Bool.{cond-true, cond-false, and_parts, and_from, and_right, or_cases, or_left, or_right, not-true, eqb-true, eq-eqb, true≢false, false≢true}
 use Rattle.bhs_model.specs.declared.events.Event.{Event}
 use Rattle.bhs_model.specs.declared.events.Event.TheVariants.{Tell, Deliver, Close}
 use Rattle.bhs_model.specs.declared.replies.Reply.{Reply}
 use Rattle.bhs_model.specs.Worlds.{World, is_hole, is_dark, doomed}
-use Rattle.bhs_model.specs.Runs.{Position, Before, At, Bound, After, State, initial, changed, arrives, is_let_through, is_doomed, next, reply}
+use Rattle.bhs_model.specs.Runs.{Position, Before, At, Bound, After, State, changed, arrives, is_doomed, next, reply}
 use Rattle.bhs_model.specs.InOrder.{replies_from}
 use Rattle.bhs_model.specs.Kept.{destroys, keeps, kept_first, kept_from, lost_after}
 use Rattle.bhs_model.specs.Cuts.{at_places, meet, node_reached}

@@ -1,8 +1,8 @@
 -- The log of a twin.
-use Rattle.std.proofs.Common.{ℕ, ◌≡◌, ◌<◌, Bool, true, false, not, Option, Some, None, List, [], ◌∷◌, ◌++◌, if◌then◌else◌, ◌==◌, nat_lt, length, map, append-nil, refl, sym, ap, ap₂, ◌∙◌, subst}
+use Rattle.std.proofs.Common.{ℕ, ◌≡◌, ◌<◌, Bool, true, false, not, Option, Some, None, List, [], ◌∷◌, ◌++◌, if◌then◌else◌, ◌==◌, nat_lt, map, append-nil, refl, sym, ap, ap₂, ◌∙◌, subst}
 use Rattle.std.specs.Prelude.{option_map}
 use Rattle.std.proofs.lemmas.Bool.{ltb-true}
-use Rattle.bhs_net.specs.Network.{Network, nodes_of, IsPortLabelled}
+use Rattle.bhs_net.specs.Network.{Network, nodes_of}
 use Rattle.bhs_model.specs.declared.events.Event.{Event}
 use Rattle.bhs_model.specs.declared.events.Event.TheVariants.{Close}
 use Rattle.bhs_model.specs.declared.replies.Reply.{Reply}
@@ -19,15 +19,13 @@ use Rattle.bhs_model.specs.Setups.{world_of, normal}
 use Rattle.bhs_model.specs.Twins.{Twins}
 use Rattle.bhs_model.proofs.AddLemmas.{kept-append}
 use Rattle.bhs_model.proofs.TwinLemmas.{twins_look_alike_lemma}
-use Rattle.bhs_world.specs.Faults.{IsWithinLimits}
-use Rattle.bhs_match.specs.Matches.{Play, world_in, state_of}
+use Rattle.bhs_match.specs.Matches.{Play, world_in}
 use Rattle.bhs_view.specs.Entries.{Entry, entries}
 use Rattle.bhs_view.specs.Laws.{IsEnded}
-use Rattle.bhs_view.specs.declared.twins.TwinFault.{TwinFault}
 use Rattle.bhs_view.specs.declared.twins.TwinFault.TheVariants.{Node, Home, Same, Reached}
 use Rattle.bhs_view.specs.Twins.{replaced, moved, left, first_arrival, twin_fault, IsTwin}
 use Rattle.bhs_view.proofs.RestrictLemmas.{paired, entries_paired, chosen_paired}
-use Rattle.bhs_view.proofs.TwinLemmas.{with_these, HasMoved, IsLeft, left_same}
+use Rattle.bhs_view.proofs.TwinLemmas.{with_these, HasMoved, left_same}
 use Rattle.bhs_view.proofs.TwinSetupLemmas.{has_moved}
 
 -- what a twin is, in the definitions

@@ -1,5 +1,5 @@
 -- What the passes find in a match whose twin is sought.
-use Rattle.std.proofs.Common.{ℕ, suc, ◌+◌, ◌<◌, ◌≡◌, Bool, true, false, not, ◌&&◌, ◌||◌, ◌==◌, Option, Some, None, List, [], ◌∷◌, length, inl, inr, refl, sym, ap, ap₂, ◌∙◌, arith, nat_lt}
+use Rattle.std.proofs.Common.{ℕ, ◌<◌, ◌≡◌, Bool, false, not, ◌&&◌, ◌||◌, ◌==◌, Option, Some, None, List, [], ◌∷◌, length, inl, inr, refl, sym, ap, ap₂, ◌∙◌, arith, nat_lt}
 use Rattle.std.specs.Prelude.{find, option_map}
 use Rattle.std.specs.List.{range_with_len}
 use Rattle.std.specs.Option.{option_or}
@@ -7,7 +7,6 @@ use Rattle.std.proofs.lemmas.Bool.{cond-false, lt-ltb}
 use Rattle.std.proofs.lemmas.Bool.Decides.{eqb_tells}
 use Rattle.std.proofs.lemmas.List.{length-map}
 use Rattle.bhs_net.specs.Network.{Network, nodes_of, IsPortLabelled}
-use Rattle.bhs_model.specs.declared.events.Event.{Event}
 use Rattle.bhs_model.specs.declared.marks.Kept.{Kept}
 use Rattle.bhs_model.specs.declared.setups.Setup.{Setup}
 use Rattle.bhs_model.specs.Worlds.{World, is_hole}
@@ -17,8 +16,7 @@ use Rattle.bhs_model.specs.Marks.{events_of}
 use Rattle.bhs_model.specs.Setups.{world_of, nodes_where, IsNormal}
 use Rattle.bhs_world.specs.Faults.{first_fault, IsWithinLimits}
 use Rattle.bhs_match.specs.Matches.{Play, world_in}
-use Rattle.bhs_view.specs.declared.twins.TwinFault.{TwinFault}
-use Rattle.bhs_view.specs.declared.twins.TwinFault.TheVariants.{Node, Home, Same, Reached}
+use Rattle.bhs_view.specs.declared.twins.TwinFault.TheVariants.{Reached}
 use Rattle.bhs_view.specs.Sites.{sites}
 use Rattle.bhs_view.specs.Twins.{replaced, is_moved, moved, left, first_arrival, twin_fault}
 use Rattle.bhs_view.specs.TwinWalks.{first_hole, left_at, first_arrival_at}

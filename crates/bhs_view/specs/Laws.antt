@@ -1,10 +1,7 @@
 -- The laws of matches that have ended.
 use Rattle.std.specs.Prelude.{ℕ, ◌≡◌, Bool, true, None, List, map, take}
 use Rattle.bhs_net.specs.Network.{IsNetwork}
-use Rattle.bhs_model.specs.declared.events.Event.{Event}
-use Rattle.bhs_model.specs.declared.marks.Kept.{Kept}
-use Rattle.bhs_model.specs.Worlds.{World}
-use Rattle.bhs_model.specs.Runs.{run, past}
+use Rattle.bhs_model.specs.Runs.{past}
 use Rattle.bhs_model.specs.InOrder.{replies, replies_to}
 use Rattle.bhs_model.specs.Kept.{kept}
 use Rattle.bhs_model.specs.Marks.{events_of, read_if}

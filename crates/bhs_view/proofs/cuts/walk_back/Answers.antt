@@ -1,4 +1,4 @@
-use Rattle.std.proofs.Common.{◌≡◌, ◌<◌, ◌-◌, length, sym, ap, ◌∙◌, subst, arith, refl}
+use Rattle.std.proofs.Common.{◌-◌, length, sym, ap, ◌∙◌, arith, refl}
 use Rattle.bhs_view.specs.Walks.{Needed}
 use Rattle.bhs_view.proofs.BackLemmas.{length_marks, there, step_chosen, step_omitted, back_at_first}
 use Rattle.bhs_view.proofs.cuts.walk_back.Goals as goal

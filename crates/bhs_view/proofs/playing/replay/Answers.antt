@@ -1,10 +1,10 @@
-use Rattle.std.proofs.Common.{◌≡◌, ◌++◌, ◌∷◌, [], List, take, ◌+◌, sym, ap, ◌∙◌, subst, arith}
+use Rattle.std.proofs.Common.{take, ◌+◌, sym, ap, ◌∙◌, subst}
 use Rattle.bhs_model.specs.Cuts.{at_places}
 use Rattle.bhs_model.specs.Marks.{events_of}
 use Rattle.bhs_model.specs.declared.events.Event.TheVariants.{Close}
 use Rattle.bhs_model.specs.declared.marks.Kept.{Kept}
 use Rattle.bhs_match.specs.Matches.{Play}
-use Rattle.bhs_view.proofs.PlayingLemmas.{HasPlayed, plays_none, plays_chosen, plays_omitted, plays_all, plays_on, ends, is_open_none, is_sealed}
+use Rattle.bhs_view.proofs.PlayingLemmas.{HasPlayed, plays_chosen, plays_omitted, plays_all, plays_on, ends, is_open_none, is_sealed}
 use Rattle.bhs_view.proofs.playing.replay.Goals.{then-set-place+in_ok-try_clone, else-set-place}
 use Rattle.bhs_view.proofs.playing.replay.Goals as goal
 

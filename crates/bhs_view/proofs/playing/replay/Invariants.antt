@@ -1,4 +1,4 @@
-use Rattle.std.proofs.Common.{◌≡◌, take}
+use Rattle.std.proofs.Common.{take}
 use Rattle.bhs_model.specs.Cuts.{at_places}
 use Rattle.bhs_model.specs.Marks.{events_of}
 use Rattle.bhs_view.proofs.PlayingLemmas.{HasPlayed}

@@ -1,8 +1,8 @@
-use Rattle.std.proofs.Common.{◌≡◌, None, Some, inr, List, ℕ, length, sym, ap, ◌∙◌, subst, refl}
+use Rattle.std.proofs.Common.{None, inr, List, length, sym, ap, ◌∙◌}
 use Rattle.bhs_net.specs.Network.{nodes_of}
 use Rattle.bhs_model.specs.declared.marks.Kept.{Kept}
 use Rattle.bhs_model.specs.declared.setups.Setup.{Setup}
-use Rattle.bhs_view.specs.Restrictions.{first_fault, fault_of}
+use Rattle.bhs_view.specs.Restrictions.{fault_of}
 use Rattle.bhs_view.specs.Walks.{Needed, footprints_at}
 use Rattle.bhs_view.proofs.CutLemmas.{IsRead, known, length_none, range_there}
 use Rattle.bhs_view.proofs.ClosedLemmas.{judged_fault}

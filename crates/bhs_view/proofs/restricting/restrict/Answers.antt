@@ -1,7 +1,4 @@
-use Rattle.std.proofs.Common.{◌≡◌, [], None, List, length, sym, ap, ap₂, ◌∙◌, refl}
-use Rattle.std.proofs.lemmas.Bool.{true≢false}
-use Rattle.bhs_net.specs.Network.{Network}
-use Rattle.bhs_model.specs.declared.setups.Setup.{Setup}
+use Rattle.std.proofs.Common.{length, sym, ap, ap₂, ◌∙◌}
 use Rattle.bhs_world.specs.Faults as faults
 use Rattle.bhs_view.proofs.SetLemmas.{length_set}
 use Rattle.bhs_view.proofs.FaultLemmas.{normal_fits}

@@ -1,4 +1,4 @@
-use Rattle.std.proofs.Common.{◌≡◌, ◌-◌, length, sym, ap, ◌∙◌, refl, arith}
+use Rattle.std.proofs.Common.{◌-◌, length, sym, ap, ◌∙◌, refl, arith}
 use Rattle.bhs_view.specs.Walks.{Needed}
 use Rattle.bhs_view.proofs.BackLemmas.{length_marks, there}
 use Rattle.bhs_view.proofs.ClosedLemmas.{judged_at_first, step_chosen, step_lacking, step_spared}

@@ -1,9 +1,7 @@
-use Rattle.std.proofs.Common.{◌≡◌, ℕ, Option, None, Some, inr, List, length, sym, ap, ap₂, ◌∙◌, subst, refl}
-use Rattle.std.specs.Prelude.{option_map}
+use Rattle.std.proofs.Common.{ℕ, Option, inr, length, sym, ap, ◌∙◌}
 use Rattle.bhs_net.specs.Network.{nodes_of}
 use Rattle.bhs_model.specs.Setups.{world_of}
 use Rattle.bhs_model.specs.declared.setups.Setup.{Setup}
-use Rattle.bhs_view.specs.declared.twins.TwinFault.TheVariants.{Reached}
 use Rattle.bhs_view.specs.Twins.{moved}
 use Rattle.bhs_view.specs.Laws.{IsEnded}
 use Rattle.bhs_view.proofs.CutLemmas.{IsRead}
