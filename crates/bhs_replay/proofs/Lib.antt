@@ -19,3 +19,5 @@ pub mod StageLemmas
 pub mod ReadLemmas
 pub mod PlayLemmas
 pub mod SoundTexts
+pub mod Flat
+pub mod WholeTexts

@@ -102,7 +102,7 @@ all_true false holes agents quota board dark none = absurd (cc)
 within_parts : (least most n : ℕ) → is_within least most n ≡ true → (least ≤ n) × (n ≤ most)
 within_parts least most n is = let parts = and_parts (nat_le least n) (nat_le n most) is in (leb-true least n parts.0, leb-true n most parts.1)
 
-fit_within : (net : Network) (setup : Setup) → IsPortLabelled net → first_fault net setup ≡ None → IsWithinLimits net setup
+pub fit_within : (net : Network) (setup : Setup) → IsPortLabelled net → first_fault net setup ≡ None → IsWithinLimits net setup
 fit_within net setup labelled none =
     let all = all_true _ _ _ _ _ _ none in
     let agents = within_parts 1 MAX_AGENTS setup.agents all.1.1.0 in

@@ -11,3 +11,4 @@ pub mod Stages
 pub mod Writing
 pub mod Reading
 pub mod Readers
+pub mod Played

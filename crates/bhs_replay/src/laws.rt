@@ -1,9 +1,14 @@
 //! Laws of the definitions alone.
 
-ghost use Rattle.std.specs.Prelude.{◌≡◌, true, ℕ, List, Option, Some};
+ghost use Rattle.std.specs.Prelude.{◌≡◌, ◌<◌, ◌^◌, true, ℕ, List, length, Option, Some};
 ghost use Rattle.std.specs.Str.{IsUtf8};
 ghost use Rattle.bhs_net.specs.Network.{Network};
-ghost use Rattle.bhs_replay.specs.Head.{CanSay};
+ghost use Rattle.bhs_model.specs.Kept.{kept};
+ghost use Rattle.bhs_model.specs.Runs.{run, replies};
+ghost use Rattle.bhs_model.specs.Setups.{world_of};
+ghost use Rattle.bhs_replay.specs.Head.{CanSay, head_line};
+ghost use Rattle.bhs_replay.specs.Opening.{IsHead};
+ghost use Rattle.bhs_replay.specs.Played.{AreSpelled};
 ghost use Rattle.bhs_replay.specs.EventLine.{event_line};
 ghost use Rattle.bhs_replay.specs.Replay.{replay};
 ghost use Rattle.bhs_replay.specs.Stages.{Ends, Comes};
@@ -31,4 +36,13 @@ pub fn only_replays_are_read()
     ensures { (text : List ℕ) (net : Network) (setup : Setup) (events : List Event)
         → Comes text (Ends net setup events)
         → (version : Version) × CanSay version setup × (text ≡ replay version net setup events) }
+{}
+
+/// The replay of a match, in a version that can say how it was set up, is read as that match.
+pub fn every_replay_is_read()
+    ensures { (version : Version) (net : Network) (setup : Setup) (events : List Event)
+        → IsHead (head_line version net setup) net setup
+        → kept (world_of net setup) events ≡ events → (run (world_of net setup) events).closed ≡ true
+        → AreSpelled events (replies (world_of net setup) events) → length events < 2 ^ 64
+        → Comes (replay version net setup events) (Ends net setup events) }
 {}
