@@ -21,3 +21,4 @@ pub mod PlayLemmas
 pub mod SoundTexts
 pub mod Flat
 pub mod WholeTexts
+pub mod Rows
