@@ -6,7 +6,7 @@ use Rattle.std.proofs.lemmas.List.{length-map}
 use Rattle.bhs_model.specs.declared.events.Event.{Event}
 use Rattle.bhs_model.specs.declared.marks.Kept.{Kept}
 use Rattle.bhs_model.specs.declared.replies.Reply.{Reply}
-use Rattle.bhs_model.specs.Runs.{replies}
+use Rattle.bhs_model.specs.InOrder.{replies}
 use Rattle.bhs_model.specs.Marks.{events_of, read_if}
 use Rattle.bhs_match.specs.Matches.{Play, world_in}
 use Rattle.bhs_replay.specs.declared.heads.Version.TheVariants.{Two}

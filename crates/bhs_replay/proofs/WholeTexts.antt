@@ -15,7 +15,8 @@ use Rattle.bhs_model.specs.declared.replies.Reply.{Reply}
 use Rattle.bhs_model.specs.declared.replies.Reply.TheVariants.{Here, Written, Changed, Gone, Noted, Bye, Over, No}
 use Rattle.bhs_model.specs.Setups.{world_of}
 use Rattle.bhs_model.specs.Worlds.{World}
-use Rattle.bhs_model.specs.Runs.{State, initial, next, run, reply, replies, replies_from, heard, arrives}
+use Rattle.bhs_model.specs.Runs.{State, initial, next, run, reply, heard, arrives}
+use Rattle.bhs_model.specs.InOrder.{replies, replies_from}
 use Rattle.bhs_model.specs.Kept.{keeps, kept, kept_first, kept_from, lost, lost_after, destroys, nobody}
 use Rattle.bhs_model.proofs.AddLemmas.{events_add_lemma}
 use Rattle.bhs_wire.specs.Lines.{rest_after, rest}

@@ -4,7 +4,8 @@ ghost use Rattle.std.specs.Prelude.{◌≡◌, ◌<◌, ◌^◌, true, ℕ, List
 ghost use Rattle.std.specs.Str.{IsUtf8};
 ghost use Rattle.bhs_net.specs.Network.{Network};
 ghost use Rattle.bhs_model.specs.Kept.{kept};
-ghost use Rattle.bhs_model.specs.Runs.{run, replies};
+ghost use Rattle.bhs_model.specs.InOrder.{replies};
+ghost use Rattle.bhs_model.specs.Runs.{run};
 ghost use Rattle.bhs_model.specs.Setups.{world_of};
 ghost use Rattle.bhs_replay.specs.Head.{CanSay, head_line};
 ghost use Rattle.bhs_replay.specs.Opening.{IsHead};

@@ -3,7 +3,7 @@ use Rattle.std.proofs.lemmas.Result.{IfOk-weaker}
 use Rattle.bhs_net.specs.Network.{Network}
 use Rattle.bhs_model.specs.declared.setups.Setup.{Setup}
 use Rattle.bhs_model.specs.Marks.{events_of, read_if}
-use Rattle.bhs_model.specs.Runs.{replies}
+use Rattle.bhs_model.specs.InOrder.{replies}
 use Rattle.bhs_match.specs.Matches.{Play, world_in}
 use Rattle.bhs_stream.specs.Streams.{Taken}
 use Rattle.bhs_model.specs.declared.marks.Kept.{Kept}
