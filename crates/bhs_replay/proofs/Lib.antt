@@ -10,6 +10,9 @@ pub mod HeadLists
 pub mod HeadReads
 pub mod HeadTexts
 pub mod LinkLists
+pub mod ListLemmas
+pub mod ListedLinks
+pub mod NoFault
 pub mod OpeningLemmas
 pub mod ReplayTexts
 pub mod TextLines
@@ -21,4 +24,5 @@ pub mod PlayLemmas
 pub mod SoundTexts
 pub mod Flat
 pub mod WholeTexts
+pub mod ReadBack
 pub mod Rows

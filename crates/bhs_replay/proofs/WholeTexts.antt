@@ -153,7 +153,7 @@ events_flat (event ∷ events) (answer ∷ others) count small all = (event_flat
 
 -- ---- kept events
 
-kept_parts : (b : Bool) (event : Event) (events more : List Event) → length more ≤ length events → kept_first b event more ≡ event ∷ events → (b ≡ true) × (more ≡ events)
+pub kept_parts : (b : Bool) (event : Event) (events more : List Event) → length more ≤ length events → kept_first b event more ≡ event ∷ events → (b ≡ true) × (more ≡ events)
 kept_parts true event events more few same = let others : more ≡ events = cc in (refl, others)
 kept_parts false event events more few same = let long : length more ≡ suc (length events) = ap length same in absurd (omega arith)
 
@@ -161,13 +161,13 @@ first_short : (b : Bool) (event : Event) (more events : List Event) → length m
 first_short true event more events few = omega arith
 first_short false event more events few = omega arith
 
-kept_short : (world : World) (state : State) (gone : ℕ → Bool) (events : List Event) → length (kept_from world state gone events) ≤ length events
+pub kept_short : (world : World) (state : State) (gone : ℕ → Bool) (events : List Event) → length (kept_from world state gone events) ≤ length events
 kept_short world state gone [] = omega arith
 kept_short world state gone (event ∷ events) =
     first_short (keeps world state gone event) event (kept_from world (next world state event) (lost_after world state gone event) events) events
     (kept_short world (next world state event) (lost_after world state gone event) events)
 
-not_true : (b : Bool) → not b ≡ true → b ≡ false
+pub not_true : (b : Bool) → not b ≡ true → b ≡ false
 not_true true is = absurd (cc)
 not_true false is = refl
 
