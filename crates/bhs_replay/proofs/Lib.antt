@@ -9,6 +9,7 @@ pub mod FitLemmas
 pub mod HeadLists
 pub mod HeadReads
 pub mod HeadTexts
+pub mod HeadUtf8
 pub mod LinkLists
 pub mod ListLemmas
 pub mod ListedLinks

@@ -1,5 +1,5 @@
 -- What was written of a match is read as that match.
-use Rattle.std.proofs.Common.{◌≡◌, ℕ, suc, ◌+◌, ◌<◌, ◌≤◌, ◌^◌, ◌==◌, inl, inr, Bool, true, not, ◌&&◌, nat_lt, IsUtf8, List, [], ◌∷◌, length, get_or, Option, Result, Ok, Err, IfOk, IsOk, OnOk, refl, sym, subst, ap, ◌∙◌, arith}
+use Rattle.std.proofs.Common.{◌≡◌, ℕ, suc, ◌+◌, ◌<◌, ◌≤◌, ◌^◌, ◌==◌, inl, inr, Bool, true, not, ◌&&◌, nat_lt, List, [], ◌∷◌, length, get_or, Option, Result, Ok, Err, IfOk, IsOk, OnOk, refl, sym, subst, ap, ◌∙◌, arith}
 use Rattle.std.specs.Prelude.{map, ⊤}
 use Rattle.std.proofs.lemmas.Bool.{and_parts, eq-eqb, cases_lt}
 use Rattle.std.proofs.lemmas.List.{length-map, get_or_default}
@@ -96,24 +96,23 @@ on_ok (Err error) fact holds = tt
 -- ---- the match
 
 module _ (play : Play) (network : IsNetwork play.net) (within : IsWithinLimits play.net play.setup) (in_order : IsNormal play.net play.setup) where
-  is_head : IsUtf8 (head_line Two play.net play.setup) → IsHead (head_line Two play.net play.setup) play.net play.setup
-  is_head valid = record {
+  is_head : IsHead (head_line Two play.net play.setup) play.net play.setup
+  is_head = record {
     version = Two;
     can_say = tt;
-    text = valid;
     spelled = refl;
     made = links_make play.net network;
     fits = normal_fits play.net play.setup network.labelled within in_order;
     normal = in_order;
   }
 
-  pub read_as : IsUtf8 (head_line Two play.net play.setup) → (state_of play).closed ≡ true → kept (world_in play) (events_of play.log) ≡ events_of play.log
+  pub read_as : (state_of play).closed ≡ true → kept (world_in play) (events_of play.log) ≡ events_of play.log
       → map (λ one. read_if play.log one.mark) play.log ≡ replies (world_in play) (events_of play.log) → length play.log ≤ most_kept play.setup.agents play.setup.quota
       → AreReadUpTo play.log (length play.log) → Comes (replay_of play) (Ends play.net play.setup (events_of play.log))
-  read_as valid closed kept_all answered bound all =
+  read_as closed kept_all answered bound all =
       let events = events_of play.log in
       let stand = subst (AllStand events) (sym answered) (all_stand (world_in play) initial nobody events kept_all) in
       let read = along play.log play.log (by_places (IsReadBack play.log) play.log (λ k other less. all k other less less)) stand in
       let few = most_is_small play.net play.setup within in
       let long = length-map play.log (λ (one : Kept). one.event) in
-      complete Two play.net play.setup events (is_head valid) kept_all closed (subst (AreSpelled events) answered read) (omega arith)
+      complete Two play.net play.setup events is_head kept_all closed (subst (AreSpelled events) answered read) (omega arith)

@@ -1,6 +1,5 @@
-use Rattle.std.proofs.Common.{◌≡◌, ◌<◌, ◌≤◌, ◌+◌, ℕ, List, [], ◌∷◌, ◌++◌, length, drop, get_or, map, IsUtf8, subst, ap₂, ◌∙◌}
+use Rattle.std.proofs.Common.{◌≡◌, ◌<◌, ◌≤◌, ◌+◌, ℕ, List, [], ◌∷◌, ◌++◌, length, drop, get_or, map, subst, ap₂, ◌∙◌}
 use Rattle.std.proofs.lemmas.Result.{IfOk-weaker}
-use Rattle.std.proofs.lemmas.Str.{IsUtf8-string_bytes}
 use Rattle.bhs_net.specs.Network.{Network, IsNetwork}
 use Rattle.bhs_model.specs.declared.setups.Setup.{Setup}
 use Rattle.bhs_model.specs.Marks.{events_of, read_if}
@@ -96,10 +95,8 @@ returns-clause-read g c =
     let play : Play = c.args.sealed.now in
     let log : List Kept = c.log-log.result.now in
     let network : IsNetwork play.net = subst IsNetwork c.net.ensures (was_made c.head_line.result _ c.in_ok-send_line.ensures.made c.head_line.ensures.network) in
-    let line = IfOk-weaker c.head_line.result _ _ (λ text is. is ∙ ap₂ (λ (n : Network) (s : Setup). head_line Two n s) c.net.ensures c.setup.ensures.setup) c.head_line.ensures.line in
-    let valid = was_made c.head_line.result _ c.in_ok-send_line.ensures.made (IfOk-weaker c.head_line.result _ _ (λ text is. subst IsUtf8 is (IsUtf8-string_bytes text)) line) in
     let all : AreReadUpTo play.log (length play.log) =
     rw c.log-log.ensures.log at (all_read log c.loop-one.one-index c.loop-one-test.false c.loop-one.invariant.1)
     in
     on_ok c.send_line-2.result _
-    (read_as play network c.setup.ensures.within c.setup.ensures.normal valid c.log-log.ensures.closed c.log-log.ensures.kept c.log-log.ensures.replies c.log-log.ensures.bound all)
+    (read_as play network c.setup.ensures.within c.setup.ensures.normal c.log-log.ensures.closed c.log-log.ensures.kept c.log-log.ensures.replies c.log-log.ensures.bound all)
