@@ -91,9 +91,31 @@ module _ (net : Network) (setup : Setup) (fits : HeadFits net setup) where
       (member (codes "links") (listed (map link_data (links_of net)))
       (member (codes "nodes") (whole (nodes_of net))
       (member (codes "quota") (whole setup.quota)
-      (member (codes "replay") (whole 1) no_members))))))))
-      (refl, (whole_valid setup.agents fits.agents, (refl, (whole_valid setup.board fits.board, (refl, (hole_valid setup.holes fits.holes, (refl, (whole_valid setup.home fits.home,
-      (refl, (links_valid, (refl, (whole_valid (nodes_of net) fits.nodes, (refl, (whole_valid setup.quota fits.quota, (refl, (whole_valid 1 (omega arith), tt)))))))))))))))))
+      (member (codes "replay") (whole 1) no_members)))))))) (
+        refl,
+        (
+          whole_valid setup.agents fits.agents,
+          (
+            refl,
+            (
+              whole_valid setup.board fits.board,
+              (
+                refl,
+                (
+                  hole_valid setup.holes fits.holes,
+                  (
+                    refl,
+                    (
+                      whole_valid setup.home fits.home,
+                      (refl, (links_valid, (refl, (whole_valid (nodes_of net) fits.nodes, (refl, (whole_valid setup.quota fits.quota, (refl, (whole_valid 1 (omega arith), tt)))))))),
+                    ),
+                  ),
+                ),
+              ),
+            ),
+          ),
+        ),
+      ))
   head_utf8 Two =
       then_more 123 _ refl (members_valid false
       (member (codes "agents") (whole setup.agents)
@@ -104,6 +126,34 @@ module _ (net : Network) (setup : Setup) (fits : HeadFits net setup) where
       (member (codes "links") (listed (map link_data (links_of net)))
       (member (codes "nodes") (whole (nodes_of net))
       (member (codes "quota") (whole setup.quota)
-      (member (codes "replay") (whole 2) no_members)))))))))
-      (refl, (whole_valid setup.agents fits.agents, (refl, (whole_valid setup.board fits.board, (refl, (dark_valid, (refl, (holes_valid, (refl, (whole_valid setup.home fits.home,
-      (refl, (links_valid, (refl, (whole_valid (nodes_of net) fits.nodes, (refl, (whole_valid setup.quota fits.quota, (refl, (whole_valid 2 (omega arith), tt)))))))))))))))))))
+      (member (codes "replay") (whole 2) no_members))))))))) (
+        refl,
+        (
+          whole_valid setup.agents fits.agents,
+          (
+            refl,
+            (
+              whole_valid setup.board fits.board,
+              (
+                refl,
+                (
+                  dark_valid,
+                  (
+                    refl,
+                    (
+                      holes_valid,
+                      (
+                        refl,
+                        (
+                          whole_valid setup.home fits.home,
+                          (refl, (links_valid, (refl, (whole_valid (nodes_of net) fits.nodes, (refl, (whole_valid setup.quota fits.quota, (refl, (whole_valid 2 (omega arith), tt)))))))),
+                        ),
+                      ),
+                    ),
+                  ),
+                ),
+              ),
+            ),
+          ),
+        ),
+      ))

@@ -44,8 +44,7 @@ loop-one-init g c =
     let play : Play = c.args.sealed.now in
     let made =
     IfOk-weaker c.head_line.result _ _ (λ text is. is ∙ ap₂ (λ (n : Network) (s : Setup). head_line Two n s) c.net.ensures c.setup.ensures.setup) c.head_line.ensures.line
-    in
-    (
+    in (
       rw c.log-log.ensures.log
           (sent_more g.W.Output.takes _ _ _ (replay_of play) (head_line Two play.net play.setup ++ 10 ∷ []) (left_of play.log play.log)
           (begun g.W.Output.takes c.args.writer.now play c.log-log.ensures.replies) (c.in_ok-send_line.ensures.ok (head_line Two play.net play.setup) made)),
