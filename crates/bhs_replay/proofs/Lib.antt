@@ -26,4 +26,5 @@ pub mod SoundTexts
 pub mod Flat
 pub mod WholeTexts
 pub mod ReadBack
+pub mod OneReading
 pub mod Rows

@@ -1,13 +1,13 @@
 -- The links that a network lists: no end stands there twice, and they make the network.
-use Rattle.std.proofs.Common.{◌≡◌, ◌≢◌, ◌⊎◌, inl, inr, ℕ, zero, suc, ◌+◌, ◌<◌, ◌≤◌, Bool, true, ◌&&◌, ◌||◌, nat_lt, length, List, [], ◌∷◌, ◌++◌, refl, sym, subst, ap, ap₂, ◌∙◌, arith}
-use Rattle.std.specs.Prelude.{map, filter, slice_index_or}
-use Rattle.std.specs.List.{range_with_len, flat_map, list_any}
+use Rattle.std.proofs.Common.{◌≡◌, ◌≢◌, ◌⊎◌, inl, inr, ℕ, zero, suc, ◌+◌, ◌<◌, ◌≤◌, Bool, length, List, refl, sym, subst, ap, ◌∙◌, arith}
+use Rattle.std.specs.Prelude.{map}
+use Rattle.std.specs.List.{range_with_len, flat_map}
 use Rattle.std.proofs.lemmas.Bool.{and_parts, and_from, ltb-true, lt-ltb}
 use Rattle.std.proofs.lemmas.List.{get_or-map, length-map}
 use Rattle.std.proofs.lemmas.List.Folds.{Any-from_list_any}
 use Rattle.bhs_net.specs.declared.links.Link.{Link}
-use Rattle.bhs_net.specs.Links.{End, near_end, far_end, link_at, Joins, AreJoined, SharesEnd}
-use Rattle.bhs_net.specs.Network.{Network, nodes_of, degree_of, far_of, HasPort, IsPortLabelled, IsNetwork, HasLinks, Makes}
+use Rattle.bhs_net.specs.Links.{near_end, far_end, link_at, Joins, AreJoined, SharesEnd}
+use Rattle.bhs_net.specs.Network.{Network, nodes_of, degree_of, far_of, HasPort, IsPortLabelled, IsNetwork, Makes}
 use Rattle.bhs_model.specs.Worlds.{names}
 use Rattle.bhs_model.specs.Setups.{is_lesser_end, links_at, links_where}
 use Rattle.bhs_model.proofs.SameDoomLemmas.{listed_in, named, is_named}

@@ -1,5 +1,5 @@
 -- Which lines open a match.
-use Rattle.std.proofs.Common.{◌≡◌, ◌≢◌, ◌⊎◌, inl, inr, ℕ, Bool, true, false, cond, not, if◌then◌else◌, ◌<◌, ◌≤◌, nat_le, List, [], bytes_eq, Option, Some, None, option_and_then, unwrap_or, refl, sym, subst, ap, ap₂, ◌∙◌}
+use Rattle.std.proofs.Common.{◌≡◌, ◌≢◌, ◌⊎◌, inl, inr, ℕ, Bool, true, false, cond, not, if◌then◌else◌, ◌≤◌, nat_le, List, [], bytes_eq, Option, Some, None, option_and_then, unwrap_or, refl, sym, subst, ap, ◌∙◌}
 use Rattle.std.specs.Str.{IsUtf8, is_utf8}
 use Rattle.std.proofs.lemmas.Str.{is_utf8-from_IsUtf8, IsUtf8-from_is_utf8}
 use Rattle.std.proofs.lemmas.Slice.Eq.{bytes_eq-Decides}
@@ -42,12 +42,12 @@ pub says-unread : (line : List ℕ) → (IsUtf8 line → read line ≡ None) →
 says-unread line none = sym (unread (is_utf8 line) (read line) (λ h. none (IsUtf8-from_is_utf8 line h)))
 
 -- a head line says what it was made of
-says-head : (line : List ℕ) (version : Version) (net : Network) (setup : Setup) → HeadFits net setup → CanSay version setup → line ≡ head_line version net setup
+pub says-head : (line : List ℕ) (version : Version) (net : Network) (setup : Setup) → HeadFits net setup → CanSay version setup → line ≡ head_line version net setup
     → head_says line ≡ Some (said version net setup)
 says-head line version net setup fits can is =
     sym (says-read line (head_data version net setup) (subst IsUtf8 (sym is) (head_utf8 net setup fits version)) (ap read is ∙ read-head_line net setup fits version)) ∙ says_in-head version net setup fits can
 
-same_says : (says other : Says) → Some says ≡ Some other → says ≡ other
+pub same_says : (says other : Says) → Some says ≡ Some other → says ≡ other
 same_says says other is = ap (λ o. unwrap_or o says) is
 
 -- ---- the match that was started

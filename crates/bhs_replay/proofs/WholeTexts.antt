@@ -1,5 +1,5 @@
 -- The replay of a match comes to the end of that match.
-use Rattle.std.proofs.Common.{◌≡◌, ℕ, suc, ◌<◌, ◌≤◌, ◌^◌, List, [], ◌∷◌, ◌++◌, Bool, true, false, not, ◌&&◌, ◌||◌, bytes_eq, if◌then◌else◌, length, get_or, codes, decimal, nat_lt, Option, Some, None, inl, inr, refl, sym, subst, ap, ap₂, ◌∙◌, arith, append_assoc, append-nil}
+use Rattle.std.proofs.Common.{◌≡◌, ℕ, suc, ◌<◌, ◌≤◌, ◌^◌, List, [], ◌∷◌, ◌++◌, Bool, true, false, not, bytes_eq, length, get_or, codes, decimal, nat_lt, Option, Some, None, inl, inr, refl, sym, subst, ap, ap₂, ◌∙◌, arith, append_assoc, append-nil}
 use Rattle.std.specs.Prelude.{map, ⊤}
 use Rattle.std.proofs.lemmas.Bool.{and_parts, or_cases}
 use Rattle.std.proofs.lemmas.Slice.Eq.{bytes_eq-Decides}
@@ -15,20 +15,20 @@ use Rattle.bhs_model.specs.declared.replies.Reply.{Reply}
 use Rattle.bhs_model.specs.declared.replies.Reply.TheVariants.{Here, Written, Changed, Gone, Noted, Bye, Over, No}
 use Rattle.bhs_model.specs.Setups.{world_of}
 use Rattle.bhs_model.specs.Worlds.{World}
-use Rattle.bhs_model.specs.Runs.{State, initial, next, run, reply, heard, arrives}
+use Rattle.bhs_model.specs.Runs.{State, initial, next, run, reply, arrives}
 use Rattle.bhs_model.specs.InOrder.{replies, replies_from}
 use Rattle.bhs_model.specs.Kept.{keeps, kept, kept_first, kept_from, lost, lost_after, destroys, nobody}
 use Rattle.bhs_model.proofs.AddLemmas.{events_add_lemma}
 use Rattle.bhs_wire.specs.Lines.{rest_after, rest}
 use Rattle.bhs_replay.specs.declared.heads.Version.{Version}
 use Rattle.bhs_replay.specs.declared.heads.Version.TheVariants.{One, Two}
-use Rattle.bhs_replay.specs.Head.{head_line, head_data, hole_data, whole, listed, end_data, link_data, links_of}
+use Rattle.bhs_replay.specs.Head.{head_line, head_data, hole_data, whole, end_data, link_data, links_of}
 use Rattle.bhs_replay.specs.EventLine.{event_line}
 use Rattle.bhs_replay.specs.Spelling.{spelled, EventFits, ReplyFits}
 use Rattle.bhs_replay.specs.Replay.{end_line, event_lines, body_lines, with_feeds, replay}
 use Rattle.bhs_replay.specs.Opening.{IsHead}
 use Rattle.bhs_replay.specs.Played.{AreSpelled}
-use Rattle.bhs_replay.specs.Stages.{ended_after, ended, Stage, Opens, Goes, Ends, after_line, Follows, opens, goes, Leads, begins, follows, with_rest, Comes}
+use Rattle.bhs_replay.specs.Stages.{ended_after, ended, Opens, Goes, Ends, after_line, opens, goes, Leads, begins, follows, with_rest, Comes}
 use Rattle.bhs_replay.proofs.EventData.{answer_data, event_data}
 use Rattle.bhs_replay.proofs.EventTexts.{compact_text-event_data}
 use Rattle.bhs_replay.proofs.Spellings.{event_line-spelled}

@@ -12,7 +12,7 @@ ghost use Rattle.bhs_replay.specs.Opening.{IsHead};
 ghost use Rattle.bhs_replay.specs.Played.{AreSpelled};
 ghost use Rattle.bhs_replay.specs.EventLine.{event_line};
 ghost use Rattle.bhs_replay.specs.Replay.{replay};
-ghost use Rattle.bhs_replay.specs.Stages.{Ends, Comes};
+ghost use Rattle.bhs_replay.specs.Stages.{Stage, Ends, Comes};
 ghost use Rattle.bhs_replay.specs.Spelling.{spelled, may_stand, EventFits, ReplyFits};
 
 use crate::heads::Version;
@@ -46,4 +46,9 @@ pub fn every_replay_is_read()
         → kept (world_of net setup) events ≡ events → (run (world_of net setup) events).closed ≡ true
         → AreSpelled events (replies (world_of net setup) events) → length events < 2 ^ 64
         → Comes (replay version net setup events) (Ends net setup events) }
+{}
+
+/// A text comes to one stage, so none is read as two matches, or as a match and as a fault.
+pub fn one_reading()
+    ensures { (text : List ℕ) (one other : Stage) → Comes text one → Comes text other → one ≡ other }
 {}

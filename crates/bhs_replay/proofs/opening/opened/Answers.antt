@@ -1,10 +1,9 @@
-use Rattle.std.proofs.Common.{◌≡◌, Bool, true, false, bytes_eq, Some, None, sym, subst, ap, ap₂, ◌∙◌}
+use Rattle.std.proofs.Common.{bytes_eq, Some, sym, subst, ap, ap₂, ◌∙◌}
 use Rattle.std.proofs.lemmas.Bool.{false≢true}
 use Rattle.bhs_net.specs.Network.{Network}
 use Rattle.bhs_model.specs.declared.setups.Setup.{Setup}
 use Rattle.bhs_match.specs.Matches.{Play}
 use Rattle.bhs_replay.specs.Head.{head_line, CanSay}
-use Rattle.bhs_replay.specs.HeadReading.{Says, head_says}
 use Rattle.bhs_replay.specs.HeadSeen.{seen}
 use Rattle.bhs_replay.specs.Opening.{Starts}
 use Rattle.bhs_replay.proofs.OpeningLemmas.{no_says, not_started, cannot_say, spelled_otherwise, is_head}
