@@ -1,9 +1,8 @@
 -- The numbers of a head have 16 bits.
-use Rattle.std.proofs.Common.{zero, suc, ◌≡◌, ◌≢◌, ℕ, ◌<◌, ◌≤◌, ◌^◌, ◌==◌, ◌||◌, Bool, true, false, if◌then◌else◌, List, [], ◌∷◌, length, refl, sym, subst, ap, ◌∙◌, arith}
+use Rattle.std.proofs.Common.{zero, suc, ◌≡◌, ◌≢◌, ℕ, ◌<◌, ◌≤◌, ◌==◌, Bool, true, false, if◌then◌else◌, List, [], ◌∷◌, refl, sym, subst, ◌∙◌, arith}
 use Rattle.std.specs.Prelude.{map}
 use Rattle.std.specs.List.{list_any}
-use Rattle.std.proofs.lemmas.Bool.{and_from, or_left, or_right, eqb-true, eq-eqb, false≢true}
-use Rattle.bhs_net.specs.declared.links.Link.{Link}
+use Rattle.std.proofs.lemmas.Bool.{or_left, or_right, eqb-true, eq-eqb, false≢true}
 use Rattle.bhs_net.specs.Network.{Network, nodes_of, degree_of, far_of, IsNetwork, IsPortLabelled}
 use Rattle.bhs_model.specs.declared.setups.Setup.{Setup}
 use Rattle.bhs_model.specs.Worlds.{is_hole, names, is_dark}
@@ -11,7 +10,7 @@ use Rattle.bhs_model.specs.Setups.{links_where}
 use Rattle.bhs_model.proofs.PortMarkLemmas.{node_of_port}
 use Rattle.bhs_model.proofs.SameDoomLemmas.{listed_out, named, is_named}
 use Rattle.bhs_world.specs.Faults.{IsWithinLimits}
-use Rattle.bhs_replay.specs.Head.{link_from, links_of}
+use Rattle.bhs_replay.specs.Head.{link_from}
 use Rattle.bhs_replay.proofs.HeadReads.{AllOf, IsSmall, IsSmallEnd, IsSmallLink, HeadFits}
 
 -- ---- so many different numbers below a limit are at most so many

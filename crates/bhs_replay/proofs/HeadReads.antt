@@ -1,13 +1,12 @@
 -- A head line is read as what it says.
-use Rattle.std.proofs.Common.{◌≡◌, ℕ, suc, ◌<◌, ◌≤◌, ◌^◌, max, nat_lt, true, List, [], ◌∷◌, length, Option, Some, None, option_map, option_and_then, refl, sym, subst, ap, ap₂, ◌∙◌, arith}
+use Rattle.std.proofs.Common.{◌≡◌, ℕ, suc, ◌<◌, ◌≤◌, ◌^◌, nat_lt, true, List, [], ◌∷◌, length, Option, Some, option_map, refl, sym, subst, ap, ap₂, ◌∙◌, arith}
 use Rattle.std.specs.Prelude.{map, ⊤}
 use Rattle.std.proofs.lemmas.Bool.{lt-ltb}
-use Rattle.json.specs.Json as json
-use Rattle.json.specs.Tree.{json_tokens, depth, HasNumbers, ItemsHaveNumbers}
-use Rattle.serde_json.specs.Data.{Data, Items, null}
+use Rattle.json.specs.Tree.{depth, HasNumbers, ItemsHaveNumbers}
+use Rattle.serde_json.specs.Data.{Data}
 use Rattle.serde_json.specs.View.{items_of}
-use Rattle.serde_json.specs.Read.{number_of, of_json, of_items, read, max_depth}
-use Rattle.serde_json.specs.Written.{outline, items_outline, compact_text}
+use Rattle.serde_json.specs.Read.{of_json, of_items, read, max_depth}
+use Rattle.serde_json.specs.Written.{outline, items_outline}
 use Rattle.bhs_net.specs.declared.links.Link.{Link}
 use Rattle.bhs_net.specs.Network.{Network, nodes_of}
 use Rattle.bhs_model.specs.declared.setups.Setup.{Setup}

@@ -6,7 +6,7 @@ use Rattle.bhs_net.specs.Network.{Network, nodes_of}
 use Rattle.bhs_model.specs.declared.setups.Setup.{Setup}
 use Rattle.bhs_replay.specs.declared.heads.Version.{Version}
 use Rattle.bhs_replay.specs.declared.heads.Version.TheVariants.{One, Two}
-use Rattle.bhs_replay.specs.Head.{links_of, listed, link_data, whole, end_data, hole_data, head_data}
+use Rattle.bhs_replay.specs.Head.{links_of, listed, link_data, whole, end_data, head_data}
 use Rattle.bhs_replay.specs.HeadTokens.{data_tokens, doom_tokens, version_number}
 
 -- two parts, one after the other

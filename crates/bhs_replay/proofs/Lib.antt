@@ -9,7 +9,11 @@ pub mod FitLemmas
 pub mod HeadLists
 pub mod HeadReads
 pub mod HeadTexts
+pub mod HeadUtf8
 pub mod LinkLists
+pub mod ListLemmas
+pub mod ListedLinks
+pub mod NoFault
 pub mod OpeningLemmas
 pub mod ReplayTexts
 pub mod TextLines
@@ -21,4 +25,6 @@ pub mod PlayLemmas
 pub mod SoundTexts
 pub mod Flat
 pub mod WholeTexts
+pub mod ReadBack
+pub mod OneReading
 pub mod Rows

@@ -1,5 +1,5 @@
 -- Which lines open a match.
-use Rattle.std.proofs.Common.{◌≡◌, ◌≢◌, ◌⊎◌, inl, inr, ℕ, Bool, true, false, cond, not, if◌then◌else◌, ◌<◌, ◌≤◌, nat_le, List, [], bytes_eq, Option, Some, None, option_and_then, unwrap_or, refl, sym, subst, ap, ap₂, ◌∙◌}
+use Rattle.std.proofs.Common.{◌≡◌, ◌≢◌, ◌⊎◌, inl, inr, ℕ, Bool, true, false, cond, not, if◌then◌else◌, ◌≤◌, nat_le, List, [], bytes_eq, Option, Some, None, option_and_then, unwrap_or, refl, sym, subst, ap, ◌∙◌}
 use Rattle.std.specs.Str.{IsUtf8, is_utf8}
 use Rattle.std.proofs.lemmas.Str.{is_utf8-from_IsUtf8, IsUtf8-from_is_utf8}
 use Rattle.std.proofs.lemmas.Slice.Eq.{bytes_eq-Decides}
@@ -26,6 +26,7 @@ use Rattle.bhs_replay.specs.HeadReading.{Says, says_in, head_says}
 use Rattle.bhs_replay.specs.Opening.{IsHead, Starts}
 use Rattle.bhs_replay.proofs.HeadReads.{HeadFits, read-head_line, said, says_in-head}
 use Rattle.bhs_replay.proofs.FitLemmas.{head_fits}
+use Rattle.bhs_replay.proofs.HeadUtf8.{head_utf8}
 
 -- ---- what a line says
 
@@ -40,20 +41,13 @@ unread false r none = refl
 pub says-unread : (line : List ℕ) → (IsUtf8 line → read line ≡ None) → None ≡ head_says line
 says-unread line none = sym (unread (is_utf8 line) (read line) (λ h. none (IsUtf8-from_is_utf8 line h)))
 
-valid_by : (b : Bool) (r : Option Data) (says : Says) → Some says ≡ option_and_then says_in (cond b r None) → b ≡ true
-valid_by true r says is = refl
-valid_by false r says is = absurd (cc)
-
-pub says-utf8 : (line : List ℕ) (says : Says) → Some says ≡ head_says line → IsUtf8 line
-says-utf8 line says is = IsUtf8-from_is_utf8 line (valid_by (is_utf8 line) (read line) says is)
-
 -- a head line says what it was made of
-says-head : (line : List ℕ) (version : Version) (net : Network) (setup : Setup) → HeadFits net setup → CanSay version setup → IsUtf8 line → line ≡ head_line version net setup
+pub says-head : (line : List ℕ) (version : Version) (net : Network) (setup : Setup) → HeadFits net setup → CanSay version setup → line ≡ head_line version net setup
     → head_says line ≡ Some (said version net setup)
-says-head line version net setup fits can valid is =
-    sym (says-read line (head_data version net setup) valid (ap read is ∙ read-head_line net setup fits version)) ∙ says_in-head version net setup fits can
+says-head line version net setup fits can is =
+    sym (says-read line (head_data version net setup) (subst IsUtf8 (sym is) (head_utf8 net setup fits version)) (ap read is ∙ read-head_line net setup fits version)) ∙ says_in-head version net setup fits can
 
-same_says : (says other : Says) → Some says ≡ Some other → says ≡ other
+pub same_says : (says other : Says) → Some says ≡ Some other → says ≡ other
 same_says says other is = ap (λ o. unwrap_or o says) is
 
 -- ---- the match that was started
@@ -114,7 +108,7 @@ fit_within net setup labelled none =
 pub no_says : (line : List ℕ) → None ≡ head_says line → (net : Network) (setup : Setup) → ¬ IsHead line net setup
 no_says line none net setup head =
     let fits = head_fits net head.made.network setup (fit_within net setup head.made.network.labelled head.fits) in
-    let both : None ≡ Some (said head.version net setup) = none ∙ says-head line head.version net setup fits head.can_say head.text head.spelled in
+    let both : None ≡ Some (said head.version net setup) = none ∙ says-head line head.version net setup fits head.can_say head.spelled in
     absurd (cc)
 
 module _ (line : List ℕ) (says : Says) (is : Some says ≡ head_says line) where
@@ -122,7 +116,7 @@ module _ (line : List ℕ) (says : Says) (is : Some says ≡ head_says line) whe
   says_of : (net : Network) (setup : Setup) (head : IsHead line net setup) → says ≡ said head.version net setup
   says_of net setup head =
       same_says says (said head.version net setup)
-      (is ∙ says-head line head.version net setup (head_fits net head.made.network setup (fit_within net setup head.made.network.labelled head.fits)) head.can_say head.text head.spelled)
+      (is ∙ says-head line head.version net setup (head_fits net head.made.network setup (fit_within net setup head.made.network.labelled head.fits)) head.can_say head.spelled)
 
   pub not_started : Starts says None → (net : Network) (setup : Setup) → ¬ IsHead line net setup
   not_started starts net setup head =
@@ -156,9 +150,8 @@ module _ (line : List ℕ) (says : Says) (is : Some says ≡ head_says line) whe
       → bytes_eq line (head_line says.version play.net play.setup) ≡ true → IsHead line play.net play.setup
   is_head play starts within normal_too can same =
       let spelled : line ≡ head_line says.version play.net play.setup = (bytes_eq-Decides line (head_line says.version play.net play.setup)).0 same in
-      let valid : IsUtf8 line = says-utf8 line says is in
       let all : says ≡ said says.version play.net play.setup =
-      same_says says (said says.version play.net play.setup) (is ∙ says-head line says.version play.net play.setup (head_fits play.net starts.0.network play.setup within) can valid spelled)
+      same_says says (said says.version play.net play.setup) (is ∙ says-head line says.version play.net play.setup (head_fits play.net starts.0.network play.setup within) can spelled)
       in
       let starts_so : Starts (said says.version play.net play.setup) (Some play) = subst (λ s. Starts s (Some play)) all starts in
-      record { version = says.version; can_say = can; text = valid; spelled = spelled; made = starts_so.0; fits = starts_so.1; normal = normal_too }
+      record { version = says.version; can_say = can; spelled = spelled; made = starts_so.0; fits = starts_so.1; normal = normal_too }

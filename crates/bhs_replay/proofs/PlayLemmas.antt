@@ -1,5 +1,5 @@
 -- What the next line leads to, from where a reader stands.
-use Rattle.std.proofs.Common.{◌≡◌, ◌⊎◌, inl, inr, ℕ, List, [], Bool, true, false, Option, Some, None, sym, subst, ap}
+use Rattle.std.proofs.Common.{◌≡◌, ◌⊎◌, inl, inr, ℕ, List, Bool, true, false, Option, Some, None, sym, subst}
 use Rattle.bhs_model.specs.declared.marks.Kept.{Kept}
 use Rattle.bhs_model.specs.Marks.{events_of}
 use Rattle.bhs_match.specs.Matches.{Play}

@@ -1,5 +1,5 @@
 -- The reads of a replay, one by one.
-use Rattle.std.proofs.Common.{◌≡◌, ◌⊎◌, inl, inr, ℕ, ◌+◌, ◌<◌, ◌≤◌, List, [], ◌∷◌, ◌++◌, Bool, true, false, ◌&&◌, if◌then◌else◌, length, Option, Some, None, Result, Ok, Err, IfOk, IfErr, unwrap_or, refl, sym, subst, ap, ◌∙◌, arith}
+use Rattle.std.proofs.Common.{◌≡◌, ◌⊎◌, inl, inr, ℕ, ◌+◌, ◌<◌, List, [], ◌∷◌, ◌++◌, Bool, true, false, ◌&&◌, if◌then◌else◌, length, Option, Some, None, Result, Ok, Err, IfOk, IfErr, refl, sym, subst, ap, ◌∙◌, arith}
 use Rattle.bhs_model.specs.Marks.{events_of}
 use Rattle.bhs_match.specs.Matches.{Play, state_of}
 use Rattle.bhs_wire.specs.Lines.{rest}
@@ -9,9 +9,9 @@ use Rattle.bhs_replay.specs.declared.faults.ReplayFault.{ReplayFault}
 use Rattle.bhs_replay.specs.declared.faults.ReplayFault.TheVariants as fault
 use Rattle.bhs_replay.specs.declared.reader.Playing.{Playing}
 use Rattle.bhs_replay.specs.declared.reader.Reader.{Reader}
-use Rattle.bhs_replay.specs.Stages.{Stage, Opens, Goes, Ends, Wrong, with_rest, Comes, ended}
-use Rattle.bhs_replay.specs.Reading.{stage_of, IsSound, fault_at_end, ReadsWhole, ReadsSound, StopsSound, EndsShort, MeetsFault, StopsBy}
-use Rattle.bhs_replay.specs.Readers.{stage_at, stage_by, stage_in, IsOver, Stands, finished_by, finished}
+use Rattle.bhs_replay.specs.Stages.{Ends, Wrong, with_rest, Comes, ended}
+use Rattle.bhs_replay.specs.Reading.{stage_of, IsSound, fault_at_end, ReadsWhole, EndsShort, MeetsFault, StopsBy}
+use Rattle.bhs_replay.specs.Readers.{stage_by, stage_in, IsOver, Stands, finished_by, finished}
 use Rattle.bhs_replay.proofs.StageLemmas.{IsOfText, IsProper, leads_proper, comes_proper}
 
 -- ---- where a reader stands, nothing is wrong

@@ -1,21 +1,14 @@
 -- Where a reader stands after the next bytes.
-use Rattle.std.proofs.Common.{◌≡◌, ℕ, List, [], ◌∷◌, ◌++◌, Bool, true, false, ◌&&◌, bytes_eq, if◌then◌else◌, length, Option, Some, None, Result, Ok, Err, refl, sym, subst, ap, ap₂, ◌∙◌, append_assoc, append-nil}
+use Rattle.std.proofs.Common.{◌≡◌, ℕ, List, [], ◌∷◌, ◌++◌, false, Option, Some, None, refl, sym, subst, ap, ap₂, ◌∙◌, append_assoc, append-nil}
 use Rattle.std.specs.List.{list_any}
-use Rattle.bhs_net.specs.Network.{Network}
-use Rattle.bhs_model.specs.declared.setups.Setup.{Setup}
-use Rattle.bhs_model.specs.declared.events.Event.{Event}
-use Rattle.bhs_model.specs.declared.replies.Reply.{Reply}
-use Rattle.bhs_model.specs.Setups.{world_of}
-use Rattle.bhs_model.specs.Runs.{run}
-use Rattle.bhs_model.specs.Marks.{events_of}
 use Rattle.bhs_wire.specs.Lines.{is_line_feed, rest}
 use Rattle.bhs_replay.specs.declared.faults.ReplayFault.{ReplayFault}
 use Rattle.bhs_replay.specs.declared.faults.ReplayFault.TheVariants as fault
 use Rattle.bhs_replay.specs.declared.reader.Playing.{Playing}
 use Rattle.bhs_replay.specs.declared.reader.Reader.{Reader}
-use Rattle.bhs_replay.specs.Stages.{Stage, Opens, Goes, Ends, Wrong, Follows, opens, no_head, goes, goes_past, stays, Leads, begins, follows, with_rest, Comes, ended}
+use Rattle.bhs_replay.specs.Stages.{Stage, Wrong, Follows, stays, Leads, follows, with_rest, Comes, ended}
 use Rattle.bhs_replay.specs.Reading.{stage_of}
-use Rattle.bhs_replay.specs.Readers.{stage_at, stage_by, stage_in, IsOver, Stands, Holds, IsPast}
+use Rattle.bhs_replay.specs.Readers.{stage_by, stage_in, IsOver, Stands, Holds, IsPast}
 use Rattle.bhs_replay.proofs.TextLines.{rest-append, ended-append, rest-flat, ended-flat, rest-line, ended-line}
 
 -- ---- a fault stays

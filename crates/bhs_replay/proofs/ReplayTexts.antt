@@ -1,12 +1,10 @@
 -- The text of a match, line by line along its log.
-use Rattle.std.proofs.Common.{◌≡◌, ℕ, ◌+◌, ◌<◌, ◌≤◌, List, [], ◌∷◌, ◌++◌, length, get_or, drop, Option, refl, sym, ap, ap₂, ◌∙◌, arith, append_assoc, append-nil, add-one, drop-cons, length-drop}
+use Rattle.std.proofs.Common.{◌≡◌, ℕ, ◌+◌, ◌<◌, ◌≤◌, List, [], ◌∷◌, ◌++◌, length, get_or, drop, refl, sym, ap, ap₂, ◌∙◌, arith, append_assoc, append-nil, add-one, drop-cons, length-drop}
 use Rattle.std.proofs.lemmas.List.{nil_from_length}
 use Rattle.std.specs.Prelude.{map}
 use Rattle.std.proofs.lemmas.List.{length-map}
-use Rattle.bhs_model.specs.declared.events.Event.{Event}
 use Rattle.bhs_model.specs.declared.marks.Kept.{Kept}
-use Rattle.bhs_model.specs.declared.replies.Reply.{Reply}
-use Rattle.bhs_model.specs.Runs.{replies}
+use Rattle.bhs_model.specs.InOrder.{replies}
 use Rattle.bhs_model.specs.Marks.{events_of, read_if}
 use Rattle.bhs_match.specs.Matches.{Play, world_in}
 use Rattle.bhs_replay.specs.declared.heads.Version.TheVariants.{Two}

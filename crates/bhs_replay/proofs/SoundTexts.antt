@@ -8,10 +8,10 @@ use Rattle.bhs_model.specs.declared.events.Event.{Event}
 use Rattle.bhs_model.specs.declared.replies.Reply.{Reply}
 use Rattle.bhs_model.specs.Setups.{world_of}
 use Rattle.bhs_model.specs.Worlds.{World}
-use Rattle.bhs_model.specs.Runs.{State, initial, next, run, reply, replies, replies_from}
-use Rattle.bhs_model.specs.Kept.{keeps, lost}
+use Rattle.bhs_model.specs.Runs.{State, initial, next, run, reply}
+use Rattle.bhs_model.specs.InOrder.{replies, replies_from}
 use Rattle.bhs_model.proofs.AddLemmas.{events_add_lemma}
-use Rattle.bhs_wire.specs.Lines.{is_line_feed, grown, rest_after, rest}
+use Rattle.bhs_wire.specs.Lines.{is_line_feed, rest_after, rest}
 use Rattle.bhs_replay.specs.declared.faults.ReplayFault.{ReplayFault}
 use Rattle.bhs_replay.specs.declared.faults.ReplayFault.TheVariants as fault
 use Rattle.bhs_replay.specs.declared.heads.Version.{Version}

@@ -1,19 +1,16 @@
 -- What a stage says of the match, and which faults are those of a text.
-use Rattle.std.proofs.Common.{◌≡◌, ℕ, List, [], ◌∷◌, ◌++◌, Bool, true, false, not, ◌&&◌, bytes_eq, if◌then◌else◌, length, Option, Some, None, refl, sym, subst}
+use Rattle.std.proofs.Common.{◌≡◌, ℕ, List, [], ◌∷◌, ◌++◌, Bool, true, false, not, ◌&&◌, if◌then◌else◌, Option, Some, None, refl, sym, subst}
 use Rattle.bhs_net.specs.Network.{Network}
 use Rattle.bhs_model.specs.declared.setups.Setup.{Setup}
 use Rattle.bhs_model.specs.declared.events.Event.{Event}
 use Rattle.bhs_model.specs.declared.replies.Reply.{Reply}
 use Rattle.bhs_model.specs.Setups.{world_of}
-use Rattle.bhs_model.specs.Runs.{run, reply}
-use Rattle.bhs_model.specs.Kept.{keeps, lost}
+use Rattle.bhs_model.specs.Runs.{run}
 use Rattle.bhs_wire.specs.Lines.{rest}
 use Rattle.bhs_replay.specs.declared.faults.ReplayFault.{ReplayFault}
 use Rattle.bhs_replay.specs.declared.faults.ReplayFault.TheVariants as fault
-use Rattle.bhs_replay.specs.EventLine.{event_line}
 use Rattle.bhs_replay.specs.Spelling.{spelled}
-use Rattle.bhs_replay.specs.Replay.{end_line}
-use Rattle.bhs_replay.specs.Stages.{Stage, Opens, Goes, Ends, Wrong, next_number, is_end_line, after_event, after_other, after_spelled, Follows, opens, no_head, goes, goes_past, stays, Leads, begins, follows, with_rest, Comes, ended}
+use Rattle.bhs_replay.specs.Stages.{Stage, Opens, Goes, Ends, Wrong, next_number, is_end_line, after_spelled, Follows, opens, no_head, goes, goes_past, stays, Leads, begins, follows, with_rest, Comes, ended}
 
 -- a fault of a text, whatever its reads
 abbrev pub IsOfText : ReplayFault → Type 0

@@ -1,5 +1,5 @@
 -- The replay of a match comes to the end of that match.
-use Rattle.std.proofs.Common.{◌≡◌, ℕ, suc, ◌<◌, ◌≤◌, ◌^◌, List, [], ◌∷◌, ◌++◌, Bool, true, false, not, ◌&&◌, ◌||◌, bytes_eq, if◌then◌else◌, length, get_or, codes, decimal, nat_lt, Option, Some, None, inl, inr, refl, sym, subst, ap, ap₂, ◌∙◌, arith, append_assoc, append-nil}
+use Rattle.std.proofs.Common.{◌≡◌, ℕ, suc, ◌<◌, ◌≤◌, ◌^◌, List, [], ◌∷◌, ◌++◌, Bool, true, false, not, bytes_eq, length, get_or, codes, decimal, nat_lt, Option, Some, None, inl, inr, refl, sym, subst, ap, ap₂, ◌∙◌, arith, append_assoc, append-nil}
 use Rattle.std.specs.Prelude.{map, ⊤}
 use Rattle.std.proofs.lemmas.Bool.{and_parts, or_cases}
 use Rattle.std.proofs.lemmas.Slice.Eq.{bytes_eq-Decides}
@@ -15,19 +15,20 @@ use Rattle.bhs_model.specs.declared.replies.Reply.{Reply}
 use Rattle.bhs_model.specs.declared.replies.Reply.TheVariants.{Here, Written, Changed, Gone, Noted, Bye, Over, No}
 use Rattle.bhs_model.specs.Setups.{world_of}
 use Rattle.bhs_model.specs.Worlds.{World}
-use Rattle.bhs_model.specs.Runs.{State, initial, next, run, reply, replies, replies_from, heard, arrives}
+use Rattle.bhs_model.specs.Runs.{State, initial, next, run, reply, arrives}
+use Rattle.bhs_model.specs.InOrder.{replies, replies_from}
 use Rattle.bhs_model.specs.Kept.{keeps, kept, kept_first, kept_from, lost, lost_after, destroys, nobody}
 use Rattle.bhs_model.proofs.AddLemmas.{events_add_lemma}
 use Rattle.bhs_wire.specs.Lines.{rest_after, rest}
 use Rattle.bhs_replay.specs.declared.heads.Version.{Version}
 use Rattle.bhs_replay.specs.declared.heads.Version.TheVariants.{One, Two}
-use Rattle.bhs_replay.specs.Head.{head_line, head_data, hole_data, whole, listed, end_data, link_data, links_of}
+use Rattle.bhs_replay.specs.Head.{head_line, head_data, hole_data, whole, end_data, link_data, links_of}
 use Rattle.bhs_replay.specs.EventLine.{event_line}
 use Rattle.bhs_replay.specs.Spelling.{spelled, EventFits, ReplyFits}
 use Rattle.bhs_replay.specs.Replay.{end_line, event_lines, body_lines, with_feeds, replay}
 use Rattle.bhs_replay.specs.Opening.{IsHead}
 use Rattle.bhs_replay.specs.Played.{AreSpelled}
-use Rattle.bhs_replay.specs.Stages.{ended_after, ended, Stage, Opens, Goes, Ends, after_line, Follows, opens, goes, Leads, begins, follows, with_rest, Comes}
+use Rattle.bhs_replay.specs.Stages.{ended_after, ended, Opens, Goes, Ends, after_line, opens, goes, Leads, begins, follows, with_rest, Comes}
 use Rattle.bhs_replay.proofs.EventData.{answer_data, event_data}
 use Rattle.bhs_replay.proofs.EventTexts.{compact_text-event_data}
 use Rattle.bhs_replay.proofs.Spellings.{event_line-spelled}
@@ -152,7 +153,7 @@ events_flat (event ∷ events) (answer ∷ others) count small all = (event_flat
 
 -- ---- kept events
 
-kept_parts : (b : Bool) (event : Event) (events more : List Event) → length more ≤ length events → kept_first b event more ≡ event ∷ events → (b ≡ true) × (more ≡ events)
+pub kept_parts : (b : Bool) (event : Event) (events more : List Event) → length more ≤ length events → kept_first b event more ≡ event ∷ events → (b ≡ true) × (more ≡ events)
 kept_parts true event events more few same = let others : more ≡ events = cc in (refl, others)
 kept_parts false event events more few same = let long : length more ≡ suc (length events) = ap length same in absurd (omega arith)
 
@@ -160,13 +161,13 @@ first_short : (b : Bool) (event : Event) (more events : List Event) → length m
 first_short true event more events few = omega arith
 first_short false event more events few = omega arith
 
-kept_short : (world : World) (state : State) (gone : ℕ → Bool) (events : List Event) → length (kept_from world state gone events) ≤ length events
+pub kept_short : (world : World) (state : State) (gone : ℕ → Bool) (events : List Event) → length (kept_from world state gone events) ≤ length events
 kept_short world state gone [] = omega arith
 kept_short world state gone (event ∷ events) =
     first_short (keeps world state gone event) event (kept_from world (next world state event) (lost_after world state gone event) events) events
     (kept_short world (next world state event) (lost_after world state gone event) events)
 
-not_true : (b : Bool) → not b ≡ true → b ≡ false
+pub not_true : (b : Bool) → not b ≡ true → b ≡ false
 not_true true is = absurd (cc)
 not_true false is = refl
 

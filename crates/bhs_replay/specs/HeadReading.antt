@@ -1,5 +1,5 @@
 -- What a head line says, if it is spelled as it would be written.
-use Rattle.std.specs.Prelude.{ℕ, Bool, ◌==◌, ◌^◌, List, [], ◌∷◌, codes, nat_lt, if◌then◌else◌, Option, Some, None, option_map, option_and_then, option_to_list}
+use Rattle.std.specs.Prelude.{ℕ, ◌==◌, List, [], ◌∷◌, codes, if◌then◌else◌, Option, Some, None, option_map, option_and_then, option_to_list}
 use Rattle.std.specs.Str.{is_utf8}
 use Rattle.serde_json.specs.Data.{Data, Items, no_items, item}
 use Rattle.serde_json.specs.Find.{get, at, as_array, as_number, as_u64}

@@ -1,6 +1,5 @@
 -- What it takes for a line to be the head of a match.
 use Rattle.std.specs.Prelude.{ℕ, ◌≡◌, ◌≢◌, List, [], Option, Some, None}
-use Rattle.std.specs.Str.{IsUtf8}
 use Rattle.bhs_net.specs.Network.{Network, nodes_of, Makes}
 use Rattle.bhs_model.specs.declared.setups.Setup.{Setup}
 use Rattle.bhs_model.specs.Setups.{normal, IsNormal}
@@ -15,7 +14,6 @@ use Rattle.bhs_replay.specs.HeadReading.{Says}
 pub record IsHead (line : List ℕ) (net : Network) (setup : Setup) : Type 0 where
   pub version : Version
   pub can_say : CanSay version setup
-  pub text : IsUtf8 line
   pub spelled : line ≡ head_line version net setup
   pub made : Makes (nodes_of net) (links_of net) net
   pub fits : first_fault net setup ≡ None

@@ -1,5 +1,5 @@
 -- What it takes for the lines of events to be read back.
-use Rattle.std.specs.Prelude.{◌≡◌, ⊤, List, [], ◌∷◌, Option, Some}
+use Rattle.std.specs.Prelude.{◌≡◌, ⊤, List, ◌∷◌, Option, Some}
 use Rattle.bhs_model.specs.declared.events.Event.{Event}
 use Rattle.bhs_model.specs.declared.replies.Reply.{Reply}
 use Rattle.bhs_replay.specs.EventLine.{event_line}

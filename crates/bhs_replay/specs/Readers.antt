@@ -1,5 +1,5 @@
 -- Where a reader stands.
-use Rattle.std.specs.Prelude.{ℕ, ◌≡◌, Bool, true, ◌&&◌, if◌then◌else◌, List, [], ◌∷◌, ◌++◌, Option, Some, None, Result, Ok, Err}
+use Rattle.std.specs.Prelude.{ℕ, ◌≡◌, true, ◌&&◌, if◌then◌else◌, List, [], ◌∷◌, ◌++◌, Option, Some, None, Result, Ok, Err}
 use Rattle.bhs_match.specs.Matches.{Play, state_of}
 use Rattle.bhs_wire.specs.Lines.{rest}
 use Rattle.bhs_replay.specs.declared.faults.ReplayFault.{ReplayFault}

@@ -1,13 +1,12 @@
 -- Where a reader stands in a text, and how it stops.
-use Rattle.std.specs.Prelude.{ℕ, ◌+◌, ◌≤◌, ◌≡◌, ◌⊎◌, Bool, true, false, if◌then◌else◌, List, [], ◌++◌, length, Option, Some, None}
+use Rattle.std.specs.Prelude.{ℕ, ◌≤◌, ◌≡◌, ◌⊎◌, Bool, if◌then◌else◌, List, ◌++◌, length, Option, Some, None}
 use Rattle.bhs_model.specs.Marks.{events_of}
 use Rattle.bhs_match.specs.Matches.{Play}
-use Rattle.bhs_wire.specs.Lines.{rest}
 use Rattle.bhs_stream.specs.Streams.{Chunk, Bytes, End, Fails}
 use Rattle.bhs_stream.specs.Reading.{Gathers, Closes}
 use Rattle.bhs_replay.specs.declared.faults.ReplayFault.{ReplayFault}
 use Rattle.bhs_replay.specs.declared.faults.ReplayFault.TheVariants as fault
-use Rattle.bhs_replay.specs.Stages.{Stage, Opens, Goes, Ends, Wrong, Leads, ended, Comes}
+use Rattle.bhs_replay.specs.Stages.{Stage, Opens, Goes, Ends, Wrong, Comes}
 
 -- the stage of a match, before or behind the end line
 abbrev pub stage_of : Play → (is_over : Bool) → Stage

@@ -5,7 +5,7 @@ use Rattle.bhs_model.specs.declared.setups.Setup.{Setup}
 use Rattle.bhs_model.specs.declared.events.Event.{Event}
 use Rattle.bhs_model.specs.declared.replies.Reply.{Reply}
 use Rattle.bhs_model.specs.Setups.{world_of}
-use Rattle.bhs_model.specs.Runs.{replies}
+use Rattle.bhs_model.specs.InOrder.{replies}
 use Rattle.bhs_model.specs.Marks.{events_of}
 use Rattle.bhs_match.specs.Matches.{Play}
 use Rattle.bhs_replay.specs.declared.heads.Version.{Version}

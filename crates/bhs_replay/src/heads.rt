@@ -2,7 +2,7 @@
 
 ghost use Rattle.std.specs.Prelude.{◌≡◌, ◌++◌, ◌∷◌, [], List, codes, decimal, string_bytes, map, IfOk, OnOk};
 ghost use Rattle.json.specs.Token.{key, number};
-ghost use Rattle.bhs_net.specs.Network.{nodes_of};
+ghost use Rattle.bhs_net.specs.Network.{nodes_of, IsNetwork};
 ghost use Rattle.bhs_replay.specs.Head.{head_line, links_of, whole, listed, end_data, link_data, hole_data};
 ghost use Rattle.bhs_replay.specs.HeadTokens.{data_tokens, doom_tokens, version_number};
 
@@ -29,7 +29,8 @@ pub(crate) fn head_line(
     net: &Net,
     setup: &Setup,
 ) -> Result<String, Memory>
-    ensures { IfOk result (λ text. string_bytes text ≡ head_line version net.now setup.now) }
+    ensures line { IfOk result (λ text. string_bytes text ≡ head_line version net.now setup.now) }
+    ensures network { OnOk result (IsNetwork net.now) }
 {
     let links = links_of(alloc, net)?;
     let mut out = Writer::new(Vec::new(alloc));

@@ -4,14 +4,15 @@ ghost use Rattle.std.specs.Prelude.{◌≡◌, ◌<◌, ◌^◌, true, ℕ, List
 ghost use Rattle.std.specs.Str.{IsUtf8};
 ghost use Rattle.bhs_net.specs.Network.{Network};
 ghost use Rattle.bhs_model.specs.Kept.{kept};
-ghost use Rattle.bhs_model.specs.Runs.{run, replies};
+ghost use Rattle.bhs_model.specs.InOrder.{replies};
+ghost use Rattle.bhs_model.specs.Runs.{run};
 ghost use Rattle.bhs_model.specs.Setups.{world_of};
 ghost use Rattle.bhs_replay.specs.Head.{CanSay, head_line};
 ghost use Rattle.bhs_replay.specs.Opening.{IsHead};
 ghost use Rattle.bhs_replay.specs.Played.{AreSpelled};
 ghost use Rattle.bhs_replay.specs.EventLine.{event_line};
 ghost use Rattle.bhs_replay.specs.Replay.{replay};
-ghost use Rattle.bhs_replay.specs.Stages.{Ends, Comes};
+ghost use Rattle.bhs_replay.specs.Stages.{Stage, Ends, Comes};
 ghost use Rattle.bhs_replay.specs.Spelling.{spelled, may_stand, EventFits, ReplyFits};
 
 use crate::heads::Version;
@@ -45,4 +46,9 @@ pub fn every_replay_is_read()
         → kept (world_of net setup) events ≡ events → (run (world_of net setup) events).closed ≡ true
         → AreSpelled events (replies (world_of net setup) events) → length events < 2 ^ 64
         → Comes (replay version net setup events) (Ends net setup events) }
+{}
+
+/// A text comes to one stage, so none is read as two matches, or as a match and as a fault.
+pub fn one_reading()
+    ensures { (text : List ℕ) (one other : Stage) → Comes text one → Comes text other → one ≡ other }
 {}

@@ -17,7 +17,7 @@ mod writing;
 
 pub use faults::{ReplayFault, WritingFault};
 pub use heads::Version;
-pub use laws::{every_replay_is_read, one_spelling, only_replays_are_read};
+pub use laws::{every_replay_is_read, one_reading, one_spelling, only_replays_are_read};
 pub use lines::event_line;
 pub use read::read_replay;
 pub use writing::write_replay;

@@ -1,8 +1,9 @@
-ghost use Rattle.std.specs.Prelude.{◌≡◌, ◌<◌, ◌++◌, ◌∷◌, [], length, slice_get, codes, IfSome, IfOk, OnOk, string_bytes, decimal};
+ghost use Rattle.std.specs.Prelude.{◌≡◌, ◌<◌, ◌++◌, ◌∷◌, [], length, slice_get, codes, Some, IfSome, IfOk, OnOk, string_bytes, decimal};
 ghost use Rattle.json.specs.Token.{key};
 ghost use Rattle.bhs_model.specs.Marks.{read_if};
 ghost use Rattle.bhs_replay.specs.EventLine.{event_line};
 ghost use Rattle.bhs_replay.specs.EventTokens.{happening_tokens, command_tokens, reply_tokens, label_token, answer_tokens, word_tokens};
+ghost use Rattle.bhs_replay.specs.Spelling.{CommandFits, EventFits, LabelFits, ReplyFits, ReadsBack};
 
 use crate::tokens::{write_number, write_text};
 use bhs_match::Sealed;
@@ -23,19 +24,28 @@ pub fn event_line(alloc: Global, sealed: &Sealed, place: u32) -> Result<String, 
 
 // The line of an event of the log, without its line feed.
 pub(crate) fn line_in(alloc: Global, sealed: &Sealed, one: &Kept) -> Result<String, Memory>
-    ensures { IfOk result (λ text. string_bytes text
+    ensures line { IfOk result (λ text. string_bytes text
         ≡ event_line one.now.event (read_if sealed.now.log one.now.mark)) }
+    ensures reads { IfOk result (λ text. ReadsBack one.now.event (read_if sealed.now.log one.now.mark)) }
 {
     let reply = match &one.mark {
         Some(mark) => Some(sealed.reply(mark)?),
         None => None,
     };
-    line_of(alloc, &one.event, &reply)
+    readable_line(alloc, &one.event, &reply)
 }
 
 // The line of an event and its reply, without its line feed.
 pub(crate) fn line_of(alloc: Global, event: &Event, reply: &Option<Reply>) -> Result<String, Memory>
     ensures { IfOk result (λ text. string_bytes text ≡ event_line event.now reply.now) }
+{
+    readable_line(alloc, event, reply)
+}
+
+// The same line: its numbers have 16 bits, so it is read back as that event and that reply.
+fn readable_line(alloc: Global, event: &Event, reply: &Option<Reply>) -> Result<String, Memory>
+    ensures line { IfOk result (λ text. string_bytes text ≡ event_line event.now reply.now) }
+    ensures reads { IfOk result (λ text. ReadsBack event.now reply.now) }
 {
     let mut out = Writer::new(Vec::new(alloc));
     out.begin_object()?;
@@ -49,6 +59,7 @@ pub(crate) fn line_of(alloc: Global, event: &Event, reply: &Option<Reply>) -> Re
 fn write_event(out: &mut Writer, event: &Event) -> Result<(), Memory>
     ensures ok { OnOk result (out.new.tokens ≡ out.old.tokens ++ happening_tokens event.now) }
     ensures before { out.new.before ≡ out.old.before }
+    ensures fits { OnOk result (EventFits event.now) }
 {
     match event {
         Event::Tell { agent, command } => {
@@ -66,6 +77,7 @@ fn write_event(out: &mut Writer, event: &Event) -> Result<(), Memory>
 fn write_command(out: &mut Writer, command: &Command) -> Result<(), Memory>
     ensures ok { OnOk result (out.new.tokens ≡ out.old.tokens ++ command_tokens command.now) }
     ensures before { out.new.before ≡ out.old.before }
+    ensures fits { OnOk result (CommandFits command.now) }
 {
     match command {
         Command::Enter => write_text(out, "do", "enter"),
@@ -91,6 +103,7 @@ fn write_command(out: &mut Writer, command: &Command) -> Result<(), Memory>
 fn write_answer(out: &mut Writer, reply: &Option<Reply>) -> Result<(), Memory>
     ensures ok { OnOk result (out.new.tokens ≡ out.old.tokens ++ answer_tokens reply.now) }
     ensures before { out.new.before ≡ out.old.before }
+    ensures fits { ReplyFits reply.now }
 {
     match reply {
         Some(reply) => write_reply(out, reply),
@@ -101,6 +114,7 @@ fn write_answer(out: &mut Writer, reply: &Option<Reply>) -> Result<(), Memory>
 fn write_reply(out: &mut Writer, reply: &Reply) -> Result<(), Memory>
     ensures ok { OnOk result (out.new.tokens ≡ out.old.tokens ++ reply_tokens reply.now) }
     ensures before { out.new.before ≡ out.old.before }
+    ensures fits { ReplyFits (Some reply.now) }
 {
     match reply {
         Reply::Here { ports, came, board } => write_here(out, *ports, *came, board),
@@ -117,6 +131,7 @@ fn write_reply(out: &mut Writer, reply: &Reply) -> Result<(), Memory>
 fn write_here(out: &mut Writer, ports: u16, came: Option<u16>, board: &Text) -> Result<(), Memory>
     ensures ok { OnOk result (out.new.tokens ≡ out.old.tokens ++ reply_tokens (Reply.Here ports came board.now)) }
     ensures before { out.new.before ≡ out.old.before }
+    ensures fits { ReplyFits (Some (Reply.Here ports came board.now)) }
 {
     out.begin_object()?;
     write_text(out, "board", board.as_str())?;
@@ -139,6 +154,7 @@ fn write_changed(out: &mut Writer, board: &Text) -> Result<(), Memory>
 fn write_label(out: &mut Writer, came: Option<u16>) -> Result<(), Memory>
     ensures ok { OnOk result (out.new.tokens ≡ out.old.tokens ++ key (codes "from") ∷ label_token came ∷ []) }
     ensures before { out.new.before ≡ out.old.before }
+    ensures fits { LabelFits came }
 {
     match came {
         Some(port) => write_number(out, "from", port),

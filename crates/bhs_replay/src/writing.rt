@@ -1,8 +1,10 @@
 //! Writing a replay.
 
-ghost use Rattle.std.specs.Prelude.{ℕ, List, ◌≡◌, ◌∷◌, ◌++◌, [], string_bytes, IfOk, IfErr, OnOk};
+ghost use Rattle.std.specs.Prelude.{ℕ, List, ◌≡◌, ◌∷◌, ◌++◌, [], string_bytes, IfOk, IfErr, IsOk, OnOk};
 ghost use Rattle.bhs_stream.specs.Sending.{PutsAll};
+ghost use Rattle.bhs_model.specs.Marks.{events_of};
 ghost use Rattle.bhs_replay.specs.Replay.{end_line, replay_of};
+ghost use Rattle.bhs_replay.specs.Stages.{Ends, Comes};
 ghost use Rattle.bhs_replay.specs.Writing.{Breaks};
 
 use crate::faults::WritingFault;
@@ -22,6 +24,9 @@ pub fn write_replay<W: Output>(
 ) -> Result<(), WritingFault>
     ensures ok { OnOk result (PutsAll W.takes writer.old (replay_of sealed.now) writer.new) }
     ensures err { IfErr result (λ fault. Breaks W.takes writer.old (replay_of sealed.now) fault writer.new) }
+
+    // What was written is read as this match.
+    ensures read { OnOk result (Comes (replay_of sealed.now) (Ends sealed.now.net sealed.now.setup (events_of sealed.now.log))) }
 {
     let log = sealed.log();
     send_line(
@@ -52,6 +57,7 @@ fn send_line<W: Output>(made: Result<String, Memory>, writer: &mut W) -> Result<
         → OnOk result (PutsAll W.takes writer.old (line ++ 10 ∷ []) writer.new) }
     ensures err { (line : List ℕ) → IfOk made (λ text. string_bytes text ≡ line)
         → IfErr result (λ fault. Breaks W.takes writer.old (line ++ 10 ∷ []) fault writer.new) }
+    ensures made { OnOk result (IsOk made) }
 {
     let Ok(mut text) = made else {
         return Err(WritingFault::Memory);

@@ -5,8 +5,8 @@ use Rattle.bhs_replay.specs.Head.{head_data}
 use Rattle.bhs_replay.proofs.HeadTexts.{gathered}
 use Rattle.bhs_replay.proofs.heads.head_line.Goals as goal
 
-pub returns : goal.returns
-returns c =
+pub returns-clause-line : goal.returns-clause-line
+returns-clause-line c =
     let version = c.args.version in
     let net = c.args.net.now in
     let setup = c.args.setup.now in

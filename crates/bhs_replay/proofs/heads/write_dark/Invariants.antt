@@ -1,7 +1,7 @@
-use Rattle.std.proofs.Common.{◌≡◌, ◌++◌, drop}
+use Rattle.std.proofs.Common.{drop}
 use Rattle.std.specs.Prelude.{map}
 use Rattle.bhs_replay.specs.Head.{end_data}
-use Rattle.bhs_replay.proofs.HeadLists.{rest_tokens, IsWritingOn}
+use Rattle.bhs_replay.proofs.HeadLists.{IsWritingOn}
 use Rattle.bhs_replay.proofs.heads.write_dark.Given as goal
 
 abbrev pub invariant-loop-end : goal.invariant-loop-end

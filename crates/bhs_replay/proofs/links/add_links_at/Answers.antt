@@ -1,7 +1,6 @@
-use Rattle.std.proofs.Common.{◌≡◌, ◌<◌, ◌≤◌, ℕ, [], ◌∷◌, ◌++◌, true, false, nat_lt, sym, subst, ap, ◌∙◌, arith}
+use Rattle.std.proofs.Common.{◌≡◌, ◌≤◌, ℕ, [], ◌∷◌, ◌++◌, true, false, nat_lt, subst, ap, ◌∙◌, arith}
 use Rattle.std.proofs.lemmas.Bool.{lt-ltb}
 use Rattle.bhs_net.specs.declared.links.Link.{Link}
-use Rattle.bhs_net.specs.Network.{far_of}
 use Rattle.bhs_replay.proofs.LinkLists.{one_link_more, no_link_more}
 use Rattle.bhs_replay.proofs.links.add_links_at.Goals.{then-node-w+in_ok-push, else-node-w}
 use Rattle.bhs_replay.proofs.links.add_links_at.Goals as goal

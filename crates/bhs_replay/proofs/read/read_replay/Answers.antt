@@ -1,12 +1,9 @@
-use Rattle.std.proofs.Common.{ℕ, ◌≤◌, ◌<◌, ◌-◌, ◌++◌, ◌≡◌, ◌⊎◌, List, length, take, arith, rules, refl, sym, subst, length-take-le}
+use Rattle.std.proofs.Common.{ℕ, ◌≤◌, ◌<◌, ◌≡◌, List, length, take, arith, rules, refl, subst, length-take-le}
 use Rattle.bhs_stream.specs.Streams.{Chunk, Bytes, End, chunk_by}
 use Rattle.bhs_stream.specs.Reading.{IsPiece}
 use Rattle.bhs_stream.specs.declared.reading.TheConstants.{BUFFER}
 use Rattle.bhs_stream.proofs.ChunkLemmas.{chunk_by-take}
 use Rattle.bhs_replay.specs.declared.faults.ReplayFault.{ReplayFault}
-use Rattle.bhs_replay.specs.declared.faults.ReplayFault.TheVariants.{Memory}
-use Rattle.bhs_replay.specs.Stages.{Wrong, Comes}
-use Rattle.bhs_replay.specs.Readers.{Stands}
 use Rattle.bhs_replay.proofs.FeedLemmas.{fault_is}
 use Rattle.bhs_replay.proofs.ReadLemmas.{at_start, one_read_more, read_fails, turns_end, ends_whole, ends_short, stops_at_fault}
 use Rattle.bhs_replay.proofs.read.read_replay.Goals as goal

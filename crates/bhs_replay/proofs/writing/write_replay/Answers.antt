@@ -1,9 +1,9 @@
 use Rattle.std.proofs.Common.{◌≡◌, ◌<◌, ◌≤◌, ◌+◌, ℕ, List, [], ◌∷◌, ◌++◌, length, drop, get_or, map, subst, ap₂, ◌∙◌}
 use Rattle.std.proofs.lemmas.Result.{IfOk-weaker}
-use Rattle.bhs_net.specs.Network.{Network}
+use Rattle.bhs_net.specs.Network.{Network, IsNetwork}
 use Rattle.bhs_model.specs.declared.setups.Setup.{Setup}
 use Rattle.bhs_model.specs.Marks.{events_of, read_if}
-use Rattle.bhs_model.specs.Runs.{replies}
+use Rattle.bhs_model.specs.InOrder.{replies}
 use Rattle.bhs_match.specs.Matches.{Play, world_in}
 use Rattle.bhs_stream.specs.Streams.{Taken}
 use Rattle.bhs_model.specs.declared.marks.Kept.{Kept}
@@ -12,6 +12,7 @@ use Rattle.bhs_replay.specs.declared.heads.Version.TheVariants.{Two}
 use Rattle.bhs_replay.specs.Head.{head_line}
 use Rattle.bhs_replay.specs.Replay.{end_line, replay_of}
 use Rattle.bhs_replay.proofs.ReplayTexts.{kept_line, left_of, replay-along, left-next, drop-next, left-last}
+use Rattle.bhs_replay.proofs.ReadBack.{AreReadUpTo, none_read, one_more, all_read, was_made, on_ok, read_as}
 use Rattle.bhs_replay.proofs.WritingLemmas.{fault_is, breaks_at, first_line, ends_whole, ends_broken}
 use Rattle.bhs_replay.proofs.writing.write_replay.Goals as goal
 
@@ -32,7 +33,7 @@ pub returns-in_err-send_line-clause-err : goal.returns-in_err-send_line-clause-e
 returns-in_err-send_line-clause-err g c =
     let play : Play = c.args.sealed.now in
     let made =
-    IfOk-weaker c.head_line.result _ _ (λ text is. is ∙ ap₂ (λ (n : Network) (s : Setup). head_line Two n s) c.net.ensures c.setup.ensures.setup) c.head_line.ensures
+    IfOk-weaker c.head_line.result _ _ (λ text is. is ∙ ap₂ (λ (n : Network) (s : Setup). head_line Two n s) c.net.ensures c.setup.ensures.setup) c.head_line.ensures.line
     in
     fault_is c.from_residual.result c.in_err-send_line.field-0.0 _ c.from_residual.ensures.1
     (breaks_at g.W.Output.takes _ _ _ (replay_of play) (head_line Two play.net play.setup ++ 10 ∷ []) (left_of play.log play.log) _
@@ -42,11 +43,13 @@ pub loop-one-init : goal.loop-one-init
 loop-one-init g c =
     let play : Play = c.args.sealed.now in
     let made =
-    IfOk-weaker c.head_line.result _ _ (λ text is. is ∙ ap₂ (λ (n : Network) (s : Setup). head_line Two n s) c.net.ensures c.setup.ensures.setup) c.head_line.ensures
-    in
-    rw c.log-log.ensures.log
-    (sent_more g.W.Output.takes _ _ _ (replay_of play) (head_line Two play.net play.setup ++ 10 ∷ []) (left_of play.log play.log)
-    (begun g.W.Output.takes c.args.writer.now play c.log-log.ensures.replies) (c.in_ok-send_line.ensures.ok (head_line Two play.net play.setup) made))
+    IfOk-weaker c.head_line.result _ _ (λ text is. is ∙ ap₂ (λ (n : Network) (s : Setup). head_line Two n s) c.net.ensures c.setup.ensures.setup) c.head_line.ensures.line
+    in (
+      rw c.log-log.ensures.log
+          (sent_more g.W.Output.takes _ _ _ (replay_of play) (head_line Two play.net play.setup ++ 10 ∷ []) (left_of play.log play.log)
+          (begun g.W.Output.takes c.args.writer.now play c.log-log.ensures.replies) (c.in_ok-send_line.ensures.ok (head_line Two play.net play.setup) made)),
+      none_read c.log-log.result.now,
+    )
 
 pub returns-in_err-send_line-2-clause-err : goal.returns-in_err-send_line-2-clause-err
 returns-in_err-send_line-2-clause-err g c =
@@ -54,8 +57,8 @@ returns-in_err-send_line-2-clause-err g c =
     let same = c.log-log.ensures.log in
     let log : List Kept = c.log-log.result.now in
     let one : Kept = c.one-item.result in
-    let made = rw (← same) at c.line_in.ensures in
-    let here = at_event g.W.Output.takes c.args.writer.now _ (replay_of play) log c.loop-one.one-index one c.loop-one-test.true c.one-item.is c.loop-one.invariant in
+    let made = rw (← same) at c.line_in.ensures.line in
+    let here = at_event g.W.Output.takes c.args.writer.now _ (replay_of play) log c.loop-one.one-index one c.loop-one-test.true c.one-item.is c.loop-one.invariant.0 in
     fault_is c.from_residual-in_err-send_line-2.result c.in_err-send_line-2.field-0.0 _ c.from_residual-in_err-send_line-2.ensures.1
     (breaks_at g.W.Output.takes _ _ _ (replay_of play) (kept_line log one ++ 10 ∷ []) (left_of log (drop (c.loop-one.one-index + 1) log)) _ here (c.in_err-send_line-2.ensures.err (kept_line log one) made))
 
@@ -65,20 +68,34 @@ loop-one-preserved g c =
     let same = c.log-log.ensures.log in
     let log : List Kept = c.log-log.result.now in
     let one : Kept = c.one-item.result in
-    let made = rw (← same) at c.line_in.ensures in
-    let here = at_event g.W.Output.takes c.args.writer.now _ (replay_of play) log c.loop-one.one-index one c.loop-one-test.true c.one-item.is c.loop-one.invariant in
-    sent_more g.W.Output.takes _ _ _ (replay_of play) (kept_line log one ++ 10 ∷ []) (left_of log (drop (c.loop-one.one-index + 1) log)) here (c.in_ok-send_line-2.ensures.ok (kept_line log one) made)
+    let made = rw (← same) at c.line_in.ensures.line in
+    let here = at_event g.W.Output.takes c.args.writer.now _ (replay_of play) log c.loop-one.one-index one c.loop-one-test.true c.one-item.is c.loop-one.invariant.0 in
+    let reads = was_made c.line_in.result _ c.in_ok-send_line-2.ensures.made (rw (← same) at c.line_in.ensures.reads) in (
+      sent_more g.W.Output.takes _ _ _ (replay_of play) (kept_line log one ++ 10 ∷ []) (left_of log (drop (c.loop-one.one-index + 1) log)) here (c.in_ok-send_line-2.ensures.ok (kept_line log one) made),
+      one_more log c.loop-one.one-index one c.loop-one-test.true c.one-item.is c.loop-one.invariant.1 reads,
+    )
 
 pub returns-clause-ok : goal.returns-clause-ok
 returns-clause-ok g c =
     let play : Play = c.args.sealed.now in
     let log : List Kept = c.log-log.result.now in
     ends_whole g.W.Output.takes c.send_line-2.result _ _ _ (replay_of play) (end_line (length log) ++ 10 ∷ [])
-    (at_end g.W.Output.takes _ _ (replay_of play) log c.loop-one.one-index c.loop-one-test.false c.loop-one.invariant) (c.send_line-2.ensures.ok (end_line (length log)) c.end_line.ensures)
+    (at_end g.W.Output.takes _ _ (replay_of play) log c.loop-one.one-index c.loop-one-test.false c.loop-one.invariant.0) (c.send_line-2.ensures.ok (end_line (length log)) c.end_line.ensures)
 
 pub returns-clause-err : goal.returns-clause-err
 returns-clause-err g c =
     let play : Play = c.args.sealed.now in
     let log : List Kept = c.log-log.result.now in
     ends_broken g.W.Output.takes c.send_line-2.result _ _ _ (replay_of play) (end_line (length log) ++ 10 ∷ [])
-    (at_end g.W.Output.takes _ _ (replay_of play) log c.loop-one.one-index c.loop-one-test.false c.loop-one.invariant) (c.send_line-2.ensures.err (end_line (length log)) c.end_line.ensures)
+    (at_end g.W.Output.takes _ _ (replay_of play) log c.loop-one.one-index c.loop-one-test.false c.loop-one.invariant.0) (c.send_line-2.ensures.err (end_line (length log)) c.end_line.ensures)
+
+pub returns-clause-read : goal.returns-clause-read
+returns-clause-read g c =
+    let play : Play = c.args.sealed.now in
+    let log : List Kept = c.log-log.result.now in
+    let network : IsNetwork play.net = subst IsNetwork c.net.ensures (was_made c.head_line.result _ c.in_ok-send_line.ensures.made c.head_line.ensures.network) in
+    let all : AreReadUpTo play.log (length play.log) =
+    rw c.log-log.ensures.log at (all_read log c.loop-one.one-index c.loop-one-test.false c.loop-one.invariant.1)
+    in
+    on_ok c.send_line-2.result _
+    (read_as play network c.setup.ensures.within c.setup.ensures.normal c.log-log.ensures.closed c.log-log.ensures.kept c.log-log.ensures.replies c.log-log.ensures.bound all)
