@@ -4,13 +4,14 @@
 pub const USAGE: &str = "usage: bhs_bench step N [time]
        bhs_bench submit N [time]
 
-step plays N events on a match of 16 agents with a quota of 1000 each, on a torus of 16 by 16 nodes. The events are picked by
-the words of a fixed seed, so the counts that are printed are the same each time. A match that has ended is followed by a
-new one.
+step plays N events on a match of 16 agents with a quota of 1000 each, on a torus of 16 by 16 nodes. The events
+are picked by the words of a fixed seed, so the counts that are printed are the same each time. A match that has
+ended is followed by a new one.
 
-submit tells 1001 commands for each of 64 agents, N times over: by one thread, to a match under no lock; by 1, 4 and 16
-threads that share one match; and by 4 and 16 threads of which each has a match of its own. The matches are then settled.
-Of the commands of an agent the first lets it enter. Of four others one writes, one is refused, and two look.
+submit tells 1001 commands for each of 64 agents, N times over: first by one thread to a match under no lock; then
+by 1, 4 and 16 threads that share one match under its lock; then by 4 and 16 threads of which each has a match of its
+own. The matches under locks are then settled. The first command of an agent lets it enter. Of each four that follow
+one writes, one is refused, and two look.
 
   time   also prints the seconds that this took, and the events or commands in a second
 ";

@@ -1,7 +1,7 @@
 //! What is printed.
 
 use crate::faults::BenchFault;
-use crate::submitting::{Sharing, Told};
+use crate::submitting::{Measured, Sharing};
 use crate::workload::Counts;
 use bhs_stream::send;
 use std::alloc::Global;
@@ -46,26 +46,26 @@ fn rate(number: u64, time: Duration) -> u128 {
     u128::from(number) * 1_000_000 / micros
 }
 
-/// Prints what came of a run, in one line.
-pub fn print_told<W: Write>(
+/// Prints what was measured in a run, in one line.
+pub fn print_run<W: Write>(
     alloc: Global,
     writer: &mut W,
     sharing: Sharing,
-    told: Told,
+    measured: Measured,
     is_timed: bool,
 ) -> Result<(), BenchFault> {
-    let (threads, matches) = match sharing {
-        Sharing::Alone => (0, 1),
-        Sharing::One { threads } => (threads, 1),
-        Sharing::Many { threads } => (threads, threads),
+    let (lock, threads, matches) = match sharing {
+        Sharing::Unlocked => ("no", 1, 1),
+        Sharing::One { threads } => ("yes", threads, 1),
+        Sharing::Many { threads } => ("yes", threads, threads),
     };
-    let Told {
+    let Measured {
         commands,
         kept,
         time,
-    } = told;
+    } = measured;
     let text = format!(in alloc;
-        "threads {threads} matches {matches} commands {commands} kept {kept}"
+        "lock {lock} threads {threads} matches {matches} commands {commands} kept {kept}"
     )?;
     send(writer, text.as_bytes())?;
     if is_timed {

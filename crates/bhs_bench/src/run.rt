@@ -1,7 +1,7 @@
 use crate::faults::BenchFault;
 use crate::orders::{Order, USAGE, order_of};
-use crate::report::{print_counts, print_time, print_told};
-use crate::submitting::{RUNS, Told, run_once};
+use crate::report::{print_counts, print_run, print_time};
+use crate::submitting::{Measured, RUNS, run_once};
 use crate::workload::Workload;
 use bhs_stream::{finish, send};
 use std::alloc::Global;
@@ -84,11 +84,11 @@ fn submit<R: Threads + Wait + Clock + Sync, W: Write>(
     is_timed: bool,
 ) -> Result<(), BenchFault> {
     for sharing in RUNS {
-        let mut all = Told::none();
+        let mut all = Measured::none();
         for _ in 0..rounds {
             all = all.with(run_once(rt, alloc, sharing)?);
         }
-        print_told(alloc, writer, sharing, all, is_timed)?;
+        print_run(alloc, writer, sharing, all, is_timed)?;
     }
     finish(writer)?;
     Ok(())

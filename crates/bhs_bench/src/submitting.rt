@@ -3,11 +3,11 @@
 ghost use Rattle.std.specs.Prelude.{◌≡◌, [], IfOk};
 
 use crate::faults::BenchFault;
-use crate::torus::{PORTS, torus};
+use crate::torus::{PORTS, setup, torus};
 use bhs_deal::Held;
 use bhs_lock::{Cell, Hall, Open, Pass, settle};
 use bhs_match::Match;
-use bhs_model::{Command, DarkLinks, Holes, MAX_QUOTA, Setup, Text};
+use bhs_model::{Command, MAX_QUOTA, Text};
 use bhs_net::Memory;
 use std::alloc::Global;
 use std::sync::Wait;
@@ -21,11 +21,16 @@ const AGENTS: u16 = 64;
 /// How many commands each agent is told: an Enter, and as many others as its quota.
 const COMMANDS: u16 = MAX_QUOTA + 1;
 
+/// How many commands are told in a run.
+fn commands() -> u64 {
+    u64::from(AGENTS) * u64::from(COMMANDS)
+}
+
 /// Who tells the commands of a run.
 #[derive(Clone, Copy, Debug, PartialEq, Eq)]
 pub enum Sharing {
     /// One thread tells them to one match that is under no lock.
-    Alone,
+    Unlocked,
     /// So many threads share one match.
     One { threads: u16 },
     /// Each of so many threads has a match of its own.
@@ -34,7 +39,7 @@ pub enum Sharing {
 
 /// The runs, in the order in which they are printed.
 pub const RUNS: [Sharing; 6] = [
-    Sharing::Alone,
+    Sharing::Unlocked,
     Sharing::One { threads: 1 },
     Sharing::One { threads: 4 },
     Sharing::One { threads: 16 },
@@ -42,9 +47,9 @@ pub const RUNS: [Sharing; 6] = [
     Sharing::Many { threads: 16 },
 ];
 
-/// What came of a run.
+/// What was measured in a run.
 #[derive(Clone, Copy, Debug, PartialEq, Eq)]
-pub struct Told {
+pub struct Measured {
     /// The commands that were told.
     pub commands: u64,
     /// Those that were kept in the logs.
@@ -53,19 +58,20 @@ pub struct Told {
     pub time: Duration,
 }
 
-impl Told {
-    /// Before anything was told.
-    pub fn none() -> Told {
-        Told {
+impl Measured {
+    /// Before any run.
+    pub fn none() -> Measured {
+        Measured {
             commands: 0,
             kept: 0,
             time: Duration::from_millis(0),
         }
     }
 
-    /// This and what came of one run more. A count that would need more than its bits stays at the most that they hold.
-    pub fn with(self, other: Told) -> Told {
-        Told {
+    /// This and what was measured in one run more. A count that would need more than its bits stays at the most that
+    /// they hold.
+    pub fn with(self, other: Measured) -> Measured {
+        Measured {
             commands: self.commands.saturating_add(other.commands),
             kept: self.kept.saturating_add(other.kept),
             time: self.time.saturating_add(other.time),
@@ -85,11 +91,11 @@ pub fn run_once<R: Threads + Wait + Clock + Sync>(
     rt: &R,
     alloc: Global,
     sharing: Sharing,
-) -> Result<Told, BenchFault> {
+) -> Result<Measured, BenchFault> {
     match sharing {
-        Sharing::Alone => told_alone(rt, alloc),
-        Sharing::One { threads } => told_by(rt, alloc, 1, threads),
-        Sharing::Many { threads } => told_by(rt, alloc, threads, 1),
+        Sharing::Unlocked => told_without_lock(rt, alloc),
+        Sharing::One { threads } => told_under_locks(rt, alloc, 1, threads),
+        Sharing::Many { threads } => told_under_locks(rt, alloc, threads, 1),
     }
 }
 
@@ -97,15 +103,7 @@ pub fn run_once<R: Threads + Wait + Clock + Sync>(
 fn game(alloc: Global, agents: u16) -> Result<Match, BenchFault>
     ensures { IfOk result (λ play. play.log ≡ []) }
 {
-    let setup = Setup {
-        home: 0,
-        holes: Holes::from(Vec::new(alloc)),
-        dark: DarkLinks::from(Vec::new(alloc)),
-        agents,
-        quota: MAX_QUOTA,
-        board: 1024,
-    };
-    Ok(Match::new(alloc, torus(alloc)?, setup)?)
+    Ok(Match::new(alloc, torus(alloc)?, setup(alloc, agents))?)
 }
 
 /// The command of this place: an Enter, then in turn a Write, an Accuse of a port that no node has, and two Looks.
@@ -123,12 +121,7 @@ fn command_of(alloc: Global, place: u16) -> Result<Command, Memory> {
     })
 }
 
-/// How many commands so many agents are told.
-fn commands_of(agents: u16) -> u64 {
-    u64::from(agents) * u64::from(COMMANDS)
-}
-
-fn told_alone<C: Clock>(clock: &C, alloc: Global) -> Result<Told, BenchFault> {
+fn told_without_lock<C: Clock>(clock: &C, alloc: Global) -> Result<Measured, BenchFault> {
     let (mut hall, mut passes) = Hall::new(alloc, 0, game(alloc, AGENTS)?)?;
     let begin = Instant::now(clock).map_err(|_| BenchFault::Clock)?;
     for place in 0..COMMANDS {
@@ -137,28 +130,28 @@ fn told_alone<C: Clock>(clock: &C, alloc: Global) -> Result<Told, BenchFault> {
         }
     }
     let time = begin.elapsed(clock).map_err(|_| BenchFault::Clock)?;
-    Ok(Told {
-        commands: commands_of(AGENTS),
+    Ok(Measured {
+        commands: commands(),
         kept: hall.state().log().len() as u64,
         time,
     })
 }
 
 /// Each of so many matches is shared by so many threads. The agents are dealt out evenly.
-fn told_by<R: Threads + Wait + Clock + Sync>(
+fn told_under_locks<R: Threads + Wait + Clock + Sync>(
     rt: &R,
     alloc: Global,
     matches: u16,
     threads: u16,
-) -> Result<Told, BenchFault> {
+) -> Result<Measured, BenchFault> {
     let agents = AGENTS / matches.max(1);
     let cells = cells(alloc, matches, agents)?;
     let shares = shares(rt, alloc, &cells, agents, agents / threads.max(1))?;
     let begin = Instant::now(rt).map_err(|_| BenchFault::Clock)?;
     let played = thread::map_vec(rt, shares, &|share| played(rt, alloc, &cells, share))?;
     let time = begin.elapsed(rt).map_err(|_| BenchFault::Clock)?;
-    Ok(Told {
-        commands: commands_of(AGENTS),
+    Ok(Measured {
+        commands: commands(),
         kept: settled(rt, alloc, cells, played)?,
         time,
     })

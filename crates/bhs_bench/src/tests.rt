@@ -103,12 +103,12 @@ fn the_time_is_told_on_request(rt: HostRuntime) -> Result<(), Fail> {
 fn runs_are_printed(rt: HostRuntime) -> Result<(), Fail> {
     let (status, written, _told) = output_of(&rt, rt.alloc(), &["submit", "0"])?;
     assert_eq!(rt; status, DONE);
-    let counted = "threads 0 matches 1 commands 0 kept 0
-threads 1 matches 1 commands 0 kept 0
-threads 4 matches 1 commands 0 kept 0
-threads 16 matches 1 commands 0 kept 0
-threads 4 matches 4 commands 0 kept 0
-threads 16 matches 16 commands 0 kept 0
+    let counted = "lock no threads 1 matches 1 commands 0 kept 0
+lock yes threads 1 matches 1 commands 0 kept 0
+lock yes threads 4 matches 1 commands 0 kept 0
+lock yes threads 16 matches 1 commands 0 kept 0
+lock yes threads 4 matches 4 commands 0 kept 0
+lock yes threads 16 matches 16 commands 0 kept 0
 ";
     assert_eq!(rt; written.as_str(), counted);
     Ok(())

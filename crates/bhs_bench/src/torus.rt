@@ -4,6 +4,7 @@
 ghost use Rattle.std.specs.Prelude.{◌<◌};
 
 use crate::faults::BenchFault;
+use bhs_model::{DarkLinks, Holes, MAX_QUOTA, Setup};
 use bhs_net::{Link, Net};
 use std::alloc::Global;
 
@@ -55,4 +56,18 @@ pub fn links(alloc: Global) -> Result<Vec<Link>, BenchFault> {
 /// The torus.
 pub fn torus(alloc: Global) -> Result<Net, BenchFault> {
     Ok(Net::try_new(alloc, NODES, links(alloc)?.as_slice())?)
+}
+
+/// A match of so many agents on the torus. No node destroys and no link is dark, so that each agent plays until its
+/// quota
+/// is spent.
+pub fn setup(alloc: Global, agents: u16) -> Setup {
+    Setup {
+        home: 0,
+        holes: Holes::from(Vec::new(alloc)),
+        dark: DarkLinks::from(Vec::new(alloc)),
+        agents,
+        quota: MAX_QUOTA,
+        board: 1024,
+    }
 }

@@ -2,10 +2,10 @@
 
 use crate::deeds::{Deed, deed_of};
 use crate::faults::BenchFault;
-use crate::torus::{NODES, PORTS, torus};
+use crate::torus::{NODES, PORTS, setup, torus};
 use bhs_deal::{Dealer, Held, draw};
 use bhs_match::Match;
-use bhs_model::{Command, DarkLinks, Event, Holes, MAX_QUOTA, Setup, Text};
+use bhs_model::{Command, Event, Text};
 use bhs_net::{Memory, Net};
 use std::alloc::Global;
 
@@ -15,18 +15,6 @@ const EVENTS_OF_A_MATCH: u16 = 28_000;
 
 /// How many agents play.
 const AGENTS: u16 = 16;
-
-/// No node destroys and no link is held, so that each agent plays until its quota is spent.
-fn setup(alloc: Global) -> Setup {
-    Setup {
-        home: 0,
-        holes: Holes::from(Vec::new(alloc)),
-        dark: DarkLinks::from(Vec::new(alloc)),
-        agents: AGENTS,
-        quota: MAX_QUOTA,
-        board: 1024,
-    }
-}
 
 /// The seed of the words.
 const SEED: [u8; 32] = [7; 32];
@@ -73,7 +61,7 @@ impl Workload {
     pub fn new(alloc: Global) -> Result<Workload, BenchFault> {
         let net = torus(alloc)?;
         let held = Held::new(alloc, &net, &[])?;
-        let game = Match::new(alloc, net.try_clone(alloc)?, setup(alloc))?;
+        let game = Match::new(alloc, net.try_clone(alloc)?, setup(alloc, AGENTS))?;
         Ok(Workload {
             net,
             held,
@@ -91,7 +79,7 @@ impl Workload {
     /// Plays one event, on a new match where the last one has ended.
     pub fn step(&mut self, alloc: Global) -> Result<(), BenchFault> {
         if self.events >= EVENTS_OF_A_MATCH {
-            let next = Match::new(alloc, self.net.try_clone(alloc)?, setup(alloc))?;
+            let next = Match::new(alloc, self.net.try_clone(alloc)?, setup(alloc, AGENTS))?;
             self.before = self.before.with(&self.game);
             self.game = next;
             self.events = 0;

@@ -10,7 +10,8 @@ pub record Whiteboard : Type 0 where
 
 -- what comes of a write on a whiteboard that shows this text
 abbrev pub swap_of : (limit : ℕ) → (shown expect put : List ℕ) → Swap
-swap_of limit shown expect put = if nat_le (length put) limit then (if bytes_eq shown expect then Took else Differs) else Long
+swap_of limit shown expect put = if nat_le (length put) limit
+    then (if bytes_eq shown expect then Took else Differs) else Long
 
 -- the place whose text the whiteboard shows then
 abbrev pub last_after : Swap → (last : Option ℕ) → (place : ℕ) → Option ℕ

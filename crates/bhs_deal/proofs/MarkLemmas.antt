@@ -1,5 +1,7 @@
 -- Marks tell the links that pairs name.
-use Rattle.std.proofs.Common.{◌⊎◌, ◌≡◌, ℕ, ◌+◌, ◌<◌, ◌≤◌, Bool, true, false, not, ◌||◌, Some, None, List, [], length, take, get_or, refl, sym, ap, ◌∙◌, subst, inl, inr, arith, ◌==◌, length-set, get_or-set_same, get_or-set_other, Vec, Global}
+use Rattle.std.proofs.Common.{◌⊎◌, ◌≡◌, ℕ, ◌+◌, ◌<◌, ◌≤◌, Bool, true, false, not, ◌||◌, Some, None, List, [], length}
+use Rattle.std.proofs.Common.{take, get_or, refl, sym, ap, ◌∙◌, subst, inl, inr, arith, ◌==◌, length-set}
+use Rattle.std.proofs.Common.{get_or-set_same, get_or-set_other, Vec, Global}
 use Rattle.std.proofs.Math.Bool.{cond, or-true, or-false}
 use Rattle.std.proofs.Math.ListN.{set, replicate, get_or-map, get_or-eq_default}
 use Rattle.std.specs.List.{position_or_len}
@@ -26,7 +28,8 @@ lt_or_ge : (a b : ℕ) → (a < b) ⊎ (b ≤ a)
 lt_or_ge a b = grind arith
 
 -- where no pair is strange, each is a port
-pub all_ports : (net : Network) (pairs : List (ℕ × ℕ)) (i : ℕ) (d : ℕ × ℕ) → first_strange net pairs ≡ None → i < length pairs → (get_or pairs i d).1 < degree_of net (get_or pairs i d).0
+pub all_ports : (net : Network) (pairs : List (ℕ × ℕ)) (i : ℕ) (d : ℕ × ℕ) → first_strange net pairs ≡ None
+    → i < length pairs → (get_or pairs i d).1 < degree_of net (get_or pairs i d).0
 all_ports net pairs i d none within =
     let test : (ℕ × ℕ) → Bool = λ (pair : ℕ × ℕ). not (is_port_of net pair) in
     let over : length pairs ≤ position_or_len test pairs = ltb-false _ _ (none_fails _ _ none) in
@@ -58,35 +61,50 @@ pub none_marked : (net : Network) → IsMarked net [] (unmarked net)
 none_marked net = record {
   rows = length-map net (λ (ends : List End). replicate (length ends) false);
   ports = λ node. ap length (row_unmarked net node) ∙ length-replicate (degree_of net node) false;
-  marked = λ node port. ap (λ (row : List Bool). get_or row port false) (row_unmarked net node) ∙ unset (degree_of net node) port;
+  marked = λ node port. ap (λ (row : List Bool). get_or row port false) (row_unmarked net node)
+      ∙ unset (degree_of net node) port;
 }
 
-row_same : (marks : List (List Bool)) (node port : ℕ) → node < length marks → row_at (marked_at marks node port) node ≡ set (row_at marks node) port true
+row_same : (marks : List (List Bool)) (node port : ℕ) → node < length marks
+    → row_at (marked_at marks node port) node ≡ set (row_at marks node) port true
 row_same marks node port within = get_or-set_same marks node (set (row_at marks node) port true) [] within
 
-mark_in_row : (row : List Bool) (port other : ℕ) → port < length row → get_or (set row port true) other false ≡ (get_or row other false || (port == other))
+mark_in_row : (row : List Bool) (port other : ℕ) → port < length row
+    → get_or (set row port true) other false ≡ (get_or row other false || (port == other))
 mark_in_row row port other within = elim (eqb_tells port other) [
-  | inl h ↦ rw h.0 (subst (λ (k : ℕ). get_or (set row port true) k false ≡ true) h.1 (get_or-set_same row port true false within) ∙ sym (or-true (get_or row other false)))
-  | inr h ↦ rw h.0 (get_or-set_other row port other true false (λ same. h.1 (sym same)) ∙ sym (or-false (get_or row other false)))
+  | inl h ↦ rw h.0 (subst (λ (k : ℕ). get_or (set row port true) k false ≡ true) h.1
+      (get_or-set_same row port true false within) ∙ sym (or-true (get_or row other false)))
+  | inr h ↦ rw h.0 (get_or-set_other row port other true false (λ same. h.1 (sym same))
+      ∙ sym (or-false (get_or row other false)))
 ]
 
-mark_after : (marks : List (List Bool)) (node port at by : ℕ) → node < length marks → port < length (row_at marks node) →
+mark_after : (marks : List (List Bool)) (node port at by : ℕ) → node < length marks
+    → port < length (row_at marks node) →
     mark_at (marked_at marks node port) at by ≡ (mark_at marks at by || names at by (node, port))
 mark_after marks node port at by within has = elim (eqb_tells node at) [
-  | inl h ↦ rw h.0 (subst (λ (k : ℕ). mark_at (marked_at marks node port) k by ≡ (mark_at marks k by || (port == by))) h.1
-      (ap (λ (row : List Bool). get_or row by false) (row_same marks node port within) ∙ mark_in_row (row_at marks node) port by has))
-  | inr h ↦ rw h.0 (ap (λ (row : List Bool). get_or row by false) (get_or-set_other marks node at (set (row_at marks node) port true) [] (λ same. h.1 (sym same))) ∙ sym (or-false (mark_at marks at by)))
+  | inl h ↦ rw h.0 (subst (λ (k : ℕ). mark_at (marked_at marks node port) k by ≡ (mark_at marks k by || (port == by)))
+      h.1
+      (ap (λ (row : List Bool). get_or row by false) (row_same marks node port within)
+      ∙ mark_in_row (row_at marks node) port by has))
+  | inr h ↦ rw h.0 (ap (λ (row : List Bool). get_or row by false)
+      (get_or-set_other marks node at (set (row_at marks node) port true) [] (λ same. h.1 (sym same)))
+      ∙ sym (or-false (mark_at marks at by)))
 ]
 
-length_after : (marks : List (List Bool)) (node port at : ℕ) → node < length marks → length (row_at (marked_at marks node port) at) ≡ length (row_at marks at)
+length_after : (marks : List (List Bool)) (node port at : ℕ) → node < length marks
+    → length (row_at (marked_at marks node port) at) ≡ length (row_at marks at)
 length_after marks node port at within = elim (eqb_tells node at) [
-  | inl h ↦ subst (λ (k : ℕ). length (row_at (marked_at marks node port) k) ≡ length (row_at marks k)) h.1 (ap length (row_same marks node port within) ∙ length-set (row_at marks node) port true)
+  | inl h ↦ subst (λ (k : ℕ). length (row_at (marked_at marks node port) k) ≡ length (row_at marks k)) h.1
+      (ap length (row_same marks node port within) ∙ length-set (row_at marks node) port true)
   | inr h ↦ ap length (get_or-set_other marks node at (set (row_at marks node) port true) [] (λ same. h.1 (sym same)))
 ]
 
 -- one more pair is marked
-pub one_marked : (net : Network) (pairs : List (ℕ × ℕ)) (i : ℕ) (marks : List (List Bool)) → first_strange net pairs ≡ None → i < length pairs → IsMarked net (take i pairs) marks →
-    ((get_or pairs i (0, 0)).0 < length net) × ((get_or pairs i (0, 0)).1 < length (row_at marks (get_or pairs i (0, 0)).0)) × IsMarked net (take (i + 1) pairs) (marked_at marks (get_or pairs i (0, 0)).0 (get_or pairs i (0, 0)).1)
+pub one_marked : (net : Network) (pairs : List (ℕ × ℕ)) (i : ℕ) (marks : List (List Bool))
+    → first_strange net pairs ≡ None → i < length pairs → IsMarked net (take i pairs) marks →
+    ((get_or pairs i (0, 0)).0 < length net) × ((get_or pairs i (0, 0)).1 < length
+    (row_at marks (get_or pairs i (0, 0)).0))
+    × IsMarked net (take (i + 1) pairs) (marked_at marks (get_or pairs i (0, 0)).0 (get_or pairs i (0, 0)).1)
 one_marked net pairs i marks none within marked =
     let pair : ℕ × ℕ = get_or pairs i (0, 0) in
     let is : pair.1 < degree_of net pair.0 = all_ports net pairs i (0, 0) none within in
@@ -105,8 +123,12 @@ one_marked net pairs i marks none within marked =
     )
 
 -- a mark that is set in a row in memory
-pub set_in_row : (rows : List (Vec Bool Global)) (node port : ℕ) (row new : Vec Bool Global) → node < length rows → row ≡ get_or rows node row → new.items ≡ set row.items port true →
+pub set_in_row : (rows : List (Vec Bool Global)) (node port : ℕ) (row new : Vec Bool Global) → node < length rows
+    → row ≡ get_or rows node row → new.items ≡ set row.items port true →
     marks_of (set rows node new) ≡ marked_at (marks_of rows) node port
 set_in_row rows node port row new within read is =
     map-set (λ (row : Vec Bool Global). row.items) rows node new
-    ∙ ap (λ (items : List Bool). set (marks_of rows) node items) (is ∙ ap (λ (items : List Bool). set items port true) (sym (lists.get_or-map (λ (row : Vec Bool Global). row.items) rows node row [] within ∙ ap (λ (row : Vec Bool Global). row.items) (sym read))))
+    ∙ ap (λ (items : List Bool). set (marks_of rows) node items)
+    (is ∙ ap (λ (items : List Bool). set items port true)
+    (sym (lists.get_or-map (λ (row : Vec Bool Global). row.items) rows node row [] within
+    ∙ ap (λ (row : Vec Bool Global). row.items) (sym read))))

@@ -7,7 +7,8 @@ use Rattle.bhs_deal.specs.Dealer.{words_of_a_stream, word_of, dealer_at, moved_o
 moved_on-dealer_at : (seed : List ℕ) (stream place : ℕ) →
     moved_on (dealer_at seed stream place) ≡ dealer_at seed stream (place + 1)
 moved_on-dealer_at seed stream place =
-    ap (λ (w : ℕ). record { key = (dealer_at seed stream 0).key; stream = stream; word_pos = w }) (mod-add-mod place words_of_a_stream 1)
+    ap (λ (w : ℕ). record { key = (dealer_at seed stream 0).key; stream = stream; word_pos = w })
+    (mod-add-mod place words_of_a_stream 1)
 
 -- by the number of calls: the first call gives the word at the place, and the others go on from the next place
 pub next_words-dealer_at : (seed : List ℕ) (stream place calls : ℕ) →

@@ -33,4 +33,5 @@ event_of (Delivered agent) = Some (Deliver agent)
 -- What is drawn is what the draw of the definitions makes happen: an agent is delivered exactly where that draw is
 -- the event that delivers it.
 abbrev pub DrawsAreThoseOfTheModel : Type 0
-DrawsAreThoseOfTheModel = (held : Held) (state : State) (word : ℕ) → draw held state word ≡ event_of (drawn held state word)
+DrawsAreThoseOfTheModel = (held : Held) (state : State) (word : ℕ) → draw held state word
+    ≡ event_of (drawn held state word)

@@ -1,5 +1,6 @@
 -- How held links are marked: a mark for each port of each node.
-use Rattle.std.specs.Prelude.{ℕ, ◌≡◌, Bool, true, false, List, [], map, length, replicate, slice_index_or, slice_set, Vec}
+use Rattle.std.specs.Prelude.{ℕ, ◌≡◌, Bool, true, false, List, [], map, length, replicate, slice_index_or, slice_set}
+use Rattle.std.specs.Prelude.{Vec}
 use Rattle.std.specs.declared.alloc.Global.{Global}
 use Rattle.bhs_net.specs.Network.{Network}
 use Rattle.bhs_deal.specs.Links.{held_in}

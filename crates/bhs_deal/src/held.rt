@@ -33,7 +33,8 @@ impl Held {
     pub fn new(alloc: Global, net: &Net, pairs: &[(u16, u16)]) -> Result<Held, HeldFault>
         ensures ok { IfOk result (λ held. held ≡ pairs.now) }
         ensures ports { OnOk result (first_strange net.now pairs.now ≡ None) }
-        ensures err { IfErr result (λ fault. (fault ≡ HeldFault.Memory) ⊎ ((index : ℕ) × (fault ≡ HeldFault.At index) × (first_strange net.now pairs.now ≡ Some index))) }
+        ensures err { IfErr result (λ fault. (fault ≡ HeldFault.Memory)
+            ⊎ ((index : ℕ) × (fault ≡ HeldFault.At index) × (first_strange net.now pairs.now ≡ Some index))) }
     {
         check(net, pairs)?;
         let marks = marks(alloc, net, pairs)?;

@@ -26,7 +26,8 @@ fn first_strange(net: &Net, pairs: &[(u16, u16)]) -> Option<usize>
 /// Refuses the first pair that is no port of a node, if there is one.
 pub(crate) fn check(net: &Net, pairs: &[(u16, u16)]) -> Result<(), HeldFault>
     ensures ok { OnOk result (first_strange net.now pairs.now ≡ None) }
-    ensures err { IfErr result (λ fault. (index : ℕ) × (fault ≡ HeldFault.At index) × (first_strange net.now pairs.now ≡ Some index)) }
+    ensures err { IfErr result (λ fault. (index : ℕ) × (fault ≡ HeldFault.At index)
+        × (first_strange net.now pairs.now ≡ Some index)) }
 {
     match first_strange(net, pairs) {
         Some(index) => Err(HeldFault::At { index }),

@@ -1,11 +1,13 @@
 -- Faults of parts.
 use Rattle.std.proofs.Common.{◌≡◌, Result, Err}
 use Rattle.bhs_files.specs.declared.faults.FileFault.{FileFault}
-use Rattle.bhs_files.specs.declared.faults.FileFault.TheVariants.{Toml, Version, Missing, Shape, Net, Setup, KeyTwice, Held, Memory}
+use Rattle.bhs_files.specs.declared.faults.FileFault.TheVariants.{Toml, Version, Missing, Shape, Net, Setup, KeyTwice}
+use Rattle.bhs_files.specs.declared.faults.FileFault.TheVariants.{Held, Memory}
 use Rattle.bhs_files.specs.Reading.{Fails}
 
 -- a fault of a part is one of the whole
-pub fails_with : {A B : Type 0} (fault : FileFault) (part : Result A FileFault) (whole : Result B FileFault) → (part ≡ Err fault → whole ≡ Err fault) → Fails fault part → Fails fault whole
+pub fails_with : {A B : Type 0} (fault : FileFault) (part : Result A FileFault) (whole : Result B FileFault)
+    → (part ≡ Err fault → whole ≡ Err fault) → Fails fault part → Fails fault whole
 fails_with Memory part whole f h = tt
 fails_with Toml part whole f h = f h
 fails_with Version part whole f h = f h

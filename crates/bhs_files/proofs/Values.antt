@@ -45,14 +45,18 @@ link-many (a ∷ b ∷ c ∷ d ∷ e ∷ vs) long = refl
 module _ (vs seen : List Value) (d : Data) (is : Some (items_view vs) ≡ as_array d) (same : seen ≡ vs) where
   -- fewer or more than two items are no pair
   pub no_pair-few : length seen < 2 → None ≡ pair d
-  no_pair-few short = sym (ap pair (is_array d (items_view vs) is) ∙ pair-few vs (subst (λ (xs : List Value). length xs < 2) same short))
+  no_pair-few short = sym (ap pair (is_array d (items_view vs) is)
+      ∙ pair-few vs (subst (λ (xs : List Value). length xs < 2) same short))
 
   pub no_pair-many : 3 ≤ length seen → None ≡ pair d
-  no_pair-many long = sym (ap pair (is_array d (items_view vs) is) ∙ pair-many vs (subst (λ (xs : List Value). 3 ≤ length xs) same long))
+  no_pair-many long = sym (ap pair (is_array d (items_view vs) is)
+      ∙ pair-many vs (subst (λ (xs : List Value). 3 ≤ length xs) same long))
 
   -- fewer or more than four items are no link
   pub no_link-few : length seen < 4 → None ≡ link d
-  no_link-few short = sym (ap link (is_array d (items_view vs) is) ∙ link-few vs (subst (λ (xs : List Value). length xs < 4) same short))
+  no_link-few short = sym (ap link (is_array d (items_view vs) is)
+      ∙ link-few vs (subst (λ (xs : List Value). length xs < 4) same short))
 
   pub no_link-many : 5 ≤ length seen → None ≡ link d
-  no_link-many long = sym (ap link (is_array d (items_view vs) is) ∙ link-many vs (subst (λ (xs : List Value). 5 ≤ length xs) same long))
+  no_link-many long = sym (ap link (is_array d (items_view vs) is)
+      ∙ link-many vs (subst (λ (xs : List Value). 5 ≤ length xs) same long))

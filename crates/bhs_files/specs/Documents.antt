@@ -1,5 +1,6 @@
 -- What both files begin with: a TOML document that says its version.
-use Rattle.std.specs.Prelude.{ℕ, Bool, ◌&&◌, nat_le, codes, if◌then◌else◌, Option, Some, None, option_and_then, Result, Ok, Err}
+use Rattle.std.specs.Prelude.{ℕ, Bool, ◌&&◌, nat_le, codes, if◌then◌else◌, Option, Some, None, option_and_then, Result}
+use Rattle.std.specs.Prelude.{Ok, Err}
 use Rattle.toml.specs.Data.{Members, get_member}
 use Rattle.bhs_files.specs.declared.faults.FileFault.{FileFault}
 use Rattle.bhs_files.specs.declared.faults.FileFault.TheVariants.{Toml, Version}
@@ -14,7 +15,8 @@ up_to latest version = if nat_le 1 version && nat_le version latest then Some ve
 
 -- the whole number at the key `version`, from 1 to the latest version
 abbrev pub version_in : (latest : ℕ) → Members → Option ℕ
-version_in latest members = option_and_then (up_to latest) (option_and_then number (get_member (codes "version") members))
+version_in latest members = option_and_then (up_to latest)
+    (option_and_then number (get_member (codes "version") members))
 
 abbrev pub versioned : Members → Option ℕ → Result Document FileFault
 versioned table None = Err Version

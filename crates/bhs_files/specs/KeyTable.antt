@@ -1,5 +1,6 @@
 -- The keys of a tournament, and the first that stands twice.
-use Rattle.std.specs.Prelude.{◌≡◌, ℕ, ◌+◌, if◌then◌else◌, List, [], ◌∷◌, ◌++◌, slice_get, Option, Some, option_and_then, Result, Ok, Err}
+use Rattle.std.specs.Prelude.{◌≡◌, ℕ, ◌+◌, if◌then◌else◌, List, [], ◌∷◌, ◌++◌, slice_get, Option, Some, option_and_then}
+use Rattle.std.specs.Prelude.{Result, Ok, Err}
 use Rattle.bhs_lineup.specs.KeyTable.{Seat, seat_at, has_key}
 use Rattle.bhs_files.specs.declared.faults.FileFault.{FileFault}
 use Rattle.bhs_files.specs.declared.faults.FileFault.TheVariants.{KeyTwice}
@@ -31,5 +32,6 @@ key_of matches game agent = option_and_then (λ keys. slice_get keys agent) (sli
 
 -- each agent's key lets in that agent, and no other key lets anyone in
 pub record LetsIn (matches : List (List (List ℕ))) (seats : List Seat) : Type 0 where
-  pub finds : (game agent : ℕ) (key : List ℕ) → key_of matches game agent ≡ Some key → seat_at key seats ≡ Some (game, agent)
+  pub finds : (game agent : ℕ) (key : List ℕ) → key_of matches game agent ≡ Some key → seat_at key seats
+      ≡ Some (game, agent)
   pub only : (key : List ℕ) (seat : ℕ × ℕ) → seat_at key seats ≡ Some seat → key_of matches seat.0 seat.1 ≡ Some key

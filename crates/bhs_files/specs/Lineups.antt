@@ -1,5 +1,6 @@
 -- What a tournament and its networks make: matches that can be played, and the keys; or the first fault.
-use Rattle.std.specs.Prelude.{ℕ, ◌+◌, List, [], ◌∷◌, map, length, slice_index_or, Option, Some, None, option_map, Result, Ok, Err}
+use Rattle.std.specs.Prelude.{ℕ, ◌+◌, List, [], ◌∷◌, map, length, slice_index_or, Option, Some, None, option_map}
+use Rattle.std.specs.Prelude.{Result, Ok, Err}
 use Rattle.std.specs.List.{position_or_len}
 use Rattle.std.specs.Option.{option_or}
 use Rattle.bhs_net.specs.Network.{Network}
@@ -31,7 +32,14 @@ network_named names networks name = slice_index_or networks (position_or_len (sa
 
 -- how a match is set up: an agent for each key
 abbrev pub setup_of : Planned → Setup
-setup_of planned = record { home = planned.home; holes = planned.holes; dark = planned.dark; agents = length planned.keys; quota = planned.quota; board = planned.board }
+setup_of planned = record {
+  home = planned.home;
+  holes = planned.holes;
+  dark = planned.dark;
+  agents = length planned.keys;
+  quota = planned.quota;
+  board = planned.board;
+}
 
 -- a match on a network, before anything happens
 abbrev pub begins : Network → Setup → Play
@@ -83,7 +91,9 @@ all_ready plan networks = map (λ planned. ready_of (network_for plan.matches ne
 -- are ports of nodes. Faults come in this order.
 abbrev pub contest_in : Plan → List Network → Result Contest FileFault
 contest_in plan networks =
-    unless (first_of (λ game planned. setup_fault (network_for plan.matches networks planned) game planned) 0 plan.matches)
+    unless (first_of (λ game planned. setup_fault (network_for plan.matches networks planned) game
+    planned) 0 plan.matches)
     (key_table (map (λ planned. planned.keys) plan.matches) >>= λ keys.
-    unless (first_of (λ game planned. held_fault (network_for plan.matches networks planned) game planned) 0 plan.matches)
+    unless (first_of (λ game planned. held_fault (network_for plan.matches networks planned) game
+    planned) 0 plan.matches)
     (Ok (record { seed = plan.seed; matches = all_ready plan networks; keys = keys })))

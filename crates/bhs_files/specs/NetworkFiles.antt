@@ -52,7 +52,8 @@ IsNetworkOf (Err first) net = ⊥
 
 -- the fault is the first of the file, or of the network that it lists
 abbrev pub IsFault : Result Listing FileFault → FileFault → Type 0
-IsFault (Ok listing) fault = (net_fault : NetFault) × (fault ≡ Net net_fault) × IsFirstFault listing.0 listing.1 net_fault
+IsFault (Ok listing) fault = (net_fault : NetFault) × (fault ≡ Net net_fault)
+    × IsFirstFault listing.0 listing.1 net_fault
 IsFault (Err first) fault = fault ≡ first
 
 -- why a network file is refused: memory ran out, or this is its fault

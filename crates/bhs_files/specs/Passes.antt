@@ -16,8 +16,10 @@ each_in make game (one ∷ others) = make game one >>= λ made. each_in make (ga
 
 -- the match before anything happens, or the fault of its setup
 abbrev pub begun : (Planned → Network) → (game : ℕ) → Planned → Result Play FileFault
-begun network game planned = unless (setup_fault (network planned) game planned) (Ok (start_of (network planned) planned))
+begun network game planned = unless (setup_fault (network planned) game planned)
+    (Ok (start_of (network planned) planned))
 
 -- the match with its held links, or the first of them that is no port of a node
 abbrev pub readied : (game : ℕ) → Fixture × Play → Result Ready FileFault
-readied game one = unless (held_fault one.1.net game (planned one.0)) (Ok (record { team = one.0.team; game = one.1; held = one.0.held.items }))
+readied game one = unless (held_fault one.1.net game (planned one.0))
+    (Ok (record { team = one.0.team; game = one.1; held = one.0.held.items }))

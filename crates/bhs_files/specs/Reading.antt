@@ -40,8 +40,10 @@ shaped game key (Some value) = Ok value
 
 -- the value of a key that the table must have
 abbrev pub required : {A : Type 0} → Option ℕ → FileKey → (Data → Option A) → Members → Result A FileFault
-required game key shape members = present game key (get_member (word key) members) >>= λ found. shaped game key (shape found)
+required game key shape members = present game key (get_member (word key) members) >>= λ found.
+    shaped game key (shape found)
 
 -- the value of a key that the table may lack
 abbrev pub optional : {A : Type 0} → Option ℕ → FileKey → (Data → Option A) → A → Members → Result A FileFault
-optional game key shape default members = option_map_or (λ found. shaped game key (shape found)) (get_member (word key) members) (Ok default)
+optional game key shape default members = option_map_or (λ found. shaped game key (shape found))
+    (get_member (word key) members) (Ok default)

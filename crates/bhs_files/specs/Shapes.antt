@@ -1,5 +1,6 @@
 -- What each key of the two files may hold: the value that the data stands for, or None where it has another shape.
-use Rattle.std.specs.Prelude.{ℕ, pos, Bool, ◌&&◌, ◌||◌, ◌==◌, ◌+◌, ◌∷◌, not, nat_eq, nat_le, if◌then◌else◌, List, [], length, codes, Option, Some, None, option_map, option_and_then}
+use Rattle.std.specs.Prelude.{ℕ, pos, Bool, ◌&&◌, ◌||◌, ◌==◌, ◌+◌, ◌∷◌, not, nat_eq, nat_le, if◌then◌else◌, List, []}
+use Rattle.std.specs.Prelude.{length, codes, Option, Some, None, option_map, option_and_then}
 use Rattle.std.specs.List.{list_all}
 use Rattle.std.specs.Cmp.Lexicographic.{pointwise}
 use Rattle.std.specs.Result.{result_ok}
@@ -56,7 +57,8 @@ hole found = option_map (λ node. Some node) (number found)
 
 -- a list of two numbers
 abbrev pub pair : Data → Option (ℕ × ℕ)
-pair (array (item a (item b no_items))) = option_and_then (λ node. option_map (λ port. (node, port)) (number b)) (number a)
+pair (array (item a (item b no_items))) = option_and_then
+    (λ node. option_map (λ port. (node, port)) (number b)) (number a)
 pair _ = None
 
 abbrev pub count : Items → ℕ
@@ -88,4 +90,5 @@ ends = list_where (each pair)
 
 -- the tables of 1 to `MAX_MATCHES` matches
 abbrev pub matches : Data → Option (List Members)
-matches = list_where (λ items. if nat_le 1 (count items) && nat_le (count items) MAX_MATCHES then each as_table items else None)
+matches = list_where (λ items. if nat_le 1 (count items) && nat_le (count items) MAX_MATCHES
+    then each as_table items else None)

@@ -1,9 +1,11 @@
 -- What a tournament file says: the seed and the matches, or its first fault.
-use Rattle.std.specs.Prelude.{ℕ, ◌+◌, ◌==◌, if◌then◌else◌, ◌∷◌, List, [], map, Option, Some, None, option_to_list, Result, Ok}
+use Rattle.std.specs.Prelude.{ℕ, ◌+◌, ◌==◌, if◌then◌else◌, ◌∷◌, List, [], map, Option, Some, None, option_to_list}
+use Rattle.std.specs.Prelude.{Result, Ok}
 use Rattle.toml.specs.Data.{Members}
 use Rattle.toml.specs.Parse.{parse_document}
 use Rattle.bhs_files.specs.declared.faults.FileFault.{FileFault}
-use Rattle.bhs_files.specs.declared.file_keys.FileKey.TheVariants.{Seed, Match, Team, Network, Home, Hole, Holes, Dark, Quota, Board, Keys, Held}
+use Rattle.bhs_files.specs.declared.file_keys.FileKey.TheVariants.{Seed, Match, Team, Network, Home, Hole, Holes, Dark}
+use Rattle.bhs_files.specs.declared.file_keys.FileKey.TheVariants.{Quota, Board, Keys, Held}
 use Rattle.bhs_files.specs.declared.fixtures.Fixture.{Fixture}
 use Rattle.bhs_files.specs.declared.tournaments.Tournament.{Tournament}
 use Rattle.bhs_files.specs.Reading.{◌>>=◌, required, optional}
@@ -29,7 +31,17 @@ pub record Plan : Type 0 where
   pub matches : List Planned
 
 abbrev pub planned : Fixture → Planned
-planned f = record { team = f.team; network = f.network; home = f.home; holes = f.holes; dark = f.dark; quota = f.quota; board = f.board; keys = f.keys.items; held = f.held.items }
+planned f = record {
+  team = f.team;
+  network = f.network;
+  home = f.home;
+  holes = f.holes;
+  dark = f.dark;
+  quota = f.quota;
+  board = f.board;
+  keys = f.keys.items;
+  held = f.held.items;
+}
 
 abbrev pub plan : Tournament → Plan
 plan t = record { seed = t.seed; matches = map planned t.matches.items }
@@ -43,7 +55,8 @@ Dangers = List ℕ × List (ℕ × ℕ)
 abbrev pub dangers_in : (version : ℕ) → Option ℕ → Members → Result Dangers FileFault
 dangers_in version game members =
     if version == 1 then (required game Hole hole members >>= λ hole. Ok (option_to_list hole, []))
-    else (required game Holes holes members >>= λ holes. optional game Dark ends [] members >>= λ dark. Ok (holes, dark))
+    else (required game Holes holes members >>= λ holes. optional game Dark ends [] members >>= λ dark.
+    Ok (holes, dark))
 
 -- the match of this number, in a file of this version
 unfoldable pub match_in : (version : ℕ) → ℕ → Members → Result Planned FileFault
@@ -56,7 +69,17 @@ match_in version game members = do
   board ← required (Some game) Board number members
   keys ← required (Some game) Keys keys members
   held ← optional (Some game) Held ends [] members
-  Ok (record { team = team; network = network; home = home; holes = dangers.0; dark = dangers.1; quota = quota; board = board; keys = keys; held = held })
+  Ok (record {
+    team = team;
+    network = network;
+    home = home;
+    holes = dangers.0;
+    dark = dangers.1;
+    quota = quota;
+    board = board;
+    keys = keys;
+    held = held;
+  })
 
 -- matches of rising number
 unfoldable pub matches_in : (version : ℕ) → ℕ → List Members → Result (List Planned) FileFault

@@ -1,6 +1,7 @@
 use Rattle.std.specs.Prelude.{ℕ, List, codes}
 use Rattle.bhs_files.specs.declared.file_keys.FileKey.{FileKey}
-use Rattle.bhs_files.specs.declared.file_keys.FileKey.TheVariants.{Nodes, Links, Seed, Match, Team, Network, Home, Hole, Holes, Dark, Quota, Board, Keys, Held}
+use Rattle.bhs_files.specs.declared.file_keys.FileKey.TheVariants.{Nodes, Links, Seed, Match, Team, Network, Home, Hole}
+use Rattle.bhs_files.specs.declared.file_keys.FileKey.TheVariants.{Holes, Dark, Quota, Board, Keys, Held}
 
 -- a key as the files spell it
 abbrev pub word : FileKey → List ℕ

@@ -10,7 +10,8 @@ ghost use Rattle.bhs_files.specs.Reading.{GivesUnlessMemory};
 ghost use Rattle.bhs_lineup.specs.Lineups.{contest};
 ghost use Rattle.bhs_files.specs.KeyTable.{LetsIn};
 ghost use Rattle.bhs_files.specs.Tournaments.{plan, planned, key_lists};
-ghost use Rattle.bhs_files.specs.Lineups.{network_named, setup_of, start_of, begins, of_setup, setup_fault, unless, contest_in, all_ready};
+ghost use Rattle.bhs_files.specs.Lineups.{network_named, setup_of, start_of, begins, of_setup, setup_fault, unless};
+ghost use Rattle.bhs_files.specs.Lineups.{contest_in, all_ready};
 ghost use Rattle.bhs_files.specs.Passes.{each_in, begun, readied};
 
 use crate::faults::FileFault;
@@ -56,9 +57,12 @@ pub fn assemble(
 }
 
 fn games(alloc: Global, tournament: &Tournament, networks: &[Net]) -> Result<Vec<Match>, FileFault>
-    requires { length networks.now ≡ length (first_seen (map (λ fixture. fixture.network) tournament.now.matches.items)) }
+    requires { length networks.now ≡ length (first_seen
+        (map (λ fixture. fixture.network) tournament.now.matches.items)) }
     ensures { GivesUnlessMemory (λ games. games.items) result
-        (each_in (begun (λ planned. network_named (first_seen (map (λ fixture. fixture.network) tournament.now.matches.items)) networks.now planned.network)) 0 (map planned tournament.now.matches.items)) }
+        (each_in (begun (λ planned. network_named
+        (first_seen (map (λ fixture. fixture.network) tournament.now.matches.items)) networks.now planned.network))
+        0 (map planned tournament.now.matches.items)) }
 {
     let names = tournament.networks(alloc)?;
     let mut games = Vec::new(alloc);

@@ -1,7 +1,8 @@
 ghost use Rattle.std.specs.Prelude.{◌≡◌, ◌≤◌, length, option_copied, option_map, IfOk, IfSome, map, vec_len};
 ghost use Rattle.toml.specs.Data.{as_table};
 ghost use Rattle.toml.specs.View.{view, items_view, table_view};
-ghost use Rattle.bhs_files.specs.Shapes.{number, is_sized, is_team, is_team_character, is_network_name, team, network_name, key, seed, hole, holes, pair, each, ends, keys, matches};
+ghost use Rattle.bhs_files.specs.Shapes.{number, is_sized, is_team, is_team_character, is_network_name, team};
+ghost use Rattle.bhs_files.specs.Shapes.{network_name, key, seed, hole, holes, pair, each, ends, keys, matches};
 
 use crate::limits::{MAX_KEY, MAX_KEYS, MAX_MATCHES, MAX_NETWORK_NAME, MAX_TEAM};
 use bhs_lineup::SEED_BYTES;

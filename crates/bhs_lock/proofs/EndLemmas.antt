@@ -14,8 +14,10 @@ use Rattle.bhs_lock.specs.Passes.{is_end}
 quiet : (limit : ℕ) (command : Command) (glance : Glance) → is_end (sight_answer limit command glance) ≡ false
 quiet limit (Write expect put) (Saw (Seen ports came last_write)) =
     let shown : List ℕ = text limit last_write in
-    cond_both (nat_le (length put) limit) (if bytes_eq shown expect then Written else Changed shown) (No Long) (λ reply. is_end reply ≡ false)
-    (λ fits. cond_both (bytes_eq shown expect) Written (Changed shown) (λ reply. is_end reply ≡ false) (λ e. refl) (λ e. refl)) (λ long. refl)
+    cond_both (nat_le (length put) limit) (if bytes_eq shown expect then Written else Changed shown) (No Long)
+    (λ reply. is_end reply ≡ false)
+    (λ fits. cond_both (bytes_eq shown expect) Written (Changed shown) (λ reply. is_end reply ≡ false) (λ e. refl)
+    (λ e. refl)) (λ long. refl)
 quiet limit (Write expect put) Nothing = refl
 quiet limit Enter (Saw (Seen ports came last_write)) = refl
 quiet limit Enter Nothing = refl
@@ -39,7 +41,8 @@ by_gone true = refl
 by_gone false = refl
 
 -- a command that may be said ends its agent exactly where it is answered Noted or Bye
-pub ends_standing : (limit : ℕ) (now : Standing) (room : Bool) (ports : ℕ) (command : Command) (glance : Glance) → accepts now room command ≡ true →
+pub ends_standing : (limit : ℕ) (now : Standing) (room : Bool) (ports : ℕ) (command : Command) (glance : Glance)
+    → accepts now room command ≡ true →
     (has_ended now || is_end (answer limit now ports command glance)) ≡ has_ended (standing_after now ports command)
 ends_standing limit Outside room ports Enter glance free = quiet limit Enter glance
 ends_standing limit Outside room ports Look glance free = cc

@@ -1,5 +1,6 @@
 -- A log that is what is kept of itself has commands of the match's agents alone.
-use Rattle.std.proofs.Common.{◌≡◌, ℕ, zero, suc, ◌+◌, ◌<◌, ◌≤◌, Bool, true, false, List, [], ◌∷◌, length, refl, ap, subst, arith, get_or, nat_lt}
+use Rattle.std.proofs.Common.{◌≡◌, ℕ, zero, suc, ◌+◌, ◌<◌, ◌≤◌, Bool, true, false, List, [], ◌∷◌, length, refl, ap}
+use Rattle.std.proofs.Common.{subst, arith, get_or, nat_lt}
 use Rattle.std.proofs.lemmas.Bool.{and_parts, ltb-true}
 use Rattle.bhs_model.specs.declared.commands.Command.{Command}
 use Rattle.bhs_model.specs.declared.events.Event.{Event}
@@ -9,46 +10,41 @@ use Rattle.bhs_model.specs.Kept.{nobody, kept, kept_from, kept_first, keeps, los
 use Rattle.bhs_model.specs.Marks.{events_of}
 use Rattle.bhs_model.specs.Runs.{State, initial, next}
 use Rattle.bhs_model.specs.Worlds.{World}
-
-first_short : (is_kept : Bool) (event : Event) (events : List Event) → length (kept_first is_kept event events) ≤ length events + 1
-first_short true event events = omega arith
-first_short false event events = omega arith
-
-kept_short : (world : World) (state : State) (lost : ℕ → Bool) (events : List Event) → length (kept_from world state lost events) ≤ length events
-kept_short world state lost [] = omega arith
-kept_short world state lost (event ∷ events) =
-    let rest = kept_from world (next world state event) (lost_after world state lost event) events in
-    omega (arith, first_short (keeps world state lost event) event rest, kept_short world (next world state event) (lost_after world state lost event) events)
-
-all_kept : (is_kept : Bool) (event : Event) (rest events : List Event) → length rest ≤ length events → kept_first is_kept event rest ≡ event ∷ events → (is_kept ≡ true) × (rest ≡ events)
-all_kept true event rest events short same = (refl, cc)
-all_kept false event rest events short same = absurd (omega (arith, ap length same))
+use Rattle.bhs_model.proofs.KeptLemmas.{first_kept}
 
 -- the agent of a command, if the event is one, is one of so many
 abbrev IsOfAgents : (agents : ℕ) → Event → Type 0
 IsOfAgents agents (Tell agent command) = agent < agents
 IsOfAgents agents event = Unit {0}
 
-of_agents : (world : World) (state : State) (lost : ℕ → Bool) (event : Event) → keeps world state lost event ≡ true → IsOfAgents world.agents event
-of_agents world state lost (Tell agent command) is = ltb-true agent world.agents (and_parts (nat_lt agent world.agents) _ is).0
+of_agents : (world : World) (state : State) (lost : ℕ → Bool) (event : Event) → keeps world state lost event ≡ true
+    → IsOfAgents world.agents event
+of_agents world state lost (Tell agent command) is =
+    ltb-true agent world.agents (and_parts (nat_lt agent world.agents) _ is).0
 of_agents world state lost (Deliver agent) is = tt
 of_agents world state lost Close is = tt
 
 kept_of_agents : (world : World) (state : State) (lost : ℕ → Bool) (log : List Kept) (place : ℕ) (one : Kept) →
-    kept_from world state lost (events_of log) ≡ events_of log → place < length log → one ≡ get_or log place one → IsOfAgents world.agents one.event
+    kept_from world state lost (events_of log) ≡ events_of log → place < length log → one ≡ get_or log place one
+    → IsOfAgents world.agents one.event
 kept_of_agents world state lost [] place one same inside is = absurd (omega (arith, inside))
 kept_of_agents world state lost (first ∷ log) place one same inside is =
     let after = next world state first.event in
     let marks = lost_after world state lost first.event in
-    let both = all_kept (keeps world state lost first.event) first.event (kept_from world after marks (events_of log)) (events_of log) (kept_short world after marks (events_of log)) same in
-    by_place place inside is both.0 (λ place inside is. kept_of_agents world after marks log place one both.1 inside is)
+    let all = first_kept world state lost first.event (events_of log) same in
+    by_place place inside is all.first
+    (λ place inside is. kept_of_agents world after marks log place one all.others inside is)
   where
-    by_place : (place : ℕ) → place < length (first ∷ log) → one ≡ get_or (first ∷ log) place one → keeps world state lost first.event ≡ true →
-        ((place : ℕ) → place < length log → one ≡ get_or log place one → IsOfAgents world.agents one.event) → IsOfAgents world.agents one.event
+    by_place : (place : ℕ) → place < length (first ∷ log) → one ≡ get_or (first ∷ log) place one
+        → keeps world state lost first.event ≡ true →
+        ((place : ℕ) → place < length log → one ≡ get_or log place one → IsOfAgents world.agents one.event)
+        → IsOfAgents world.agents one.event
     by_place zero inside is first_kept later = rw is (of_agents world state lost first.event first_kept)
     by_place (suc place) inside is first_kept later = later place (omega (arith, inside)) is
 
 -- the agent of a command of a log is below the number of agents
-pub agent_within : (world : World) (log : List Kept) (place : ℕ) (one : Kept) (agent : ℕ) (command : Command) → kept world (events_of log) ≡ events_of log → place < length log → one ≡ get_or log place one →
+pub agent_within : (world : World) (log : List Kept) (place : ℕ) (one : Kept) (agent : ℕ) (command : Command)
+    → kept world (events_of log) ≡ events_of log → place < length log → one ≡ get_or log place one →
     one.event ≡ Tell agent command → agent < world.agents
-agent_within world log place one agent command same inside is told = subst (IsOfAgents world.agents) told (kept_of_agents world initial nobody log place one same inside is)
+agent_within world log place one agent command same inside is told =
+    subst (IsOfAgents world.agents) told (kept_of_agents world initial nobody log place one same inside is)

@@ -17,4 +17,6 @@ mod WorldLemmas
 mod PlaceLemmas
 mod KeptLemmas
 mod FoundLemmas
+pub mod PastLogLemmas
+pub mod LoopLemmas
 mod OnePassLemmas

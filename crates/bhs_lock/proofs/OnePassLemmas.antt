@@ -1,32 +1,27 @@
 -- One pass over the log, with an index for each agent.
-use Rattle.std.proofs.Common.{◌≡◌, ◌≢◌, ℕ, zero, suc, ◌+◌, ◌<◌, ◌≤◌, Bool, true, false, not, ◌⊎◌, inl, inr, Option, Some, None, List, [], ◌∷◌, ◌++◌, length, take, drop, map, refl, sym, ap, ◌∙◌, subst, arith, get_or, append-nil, length-append, length-take, nat_lt, slice_set, length-set, replicate, ◌==◌, if◌then◌else◌}
-use Rattle.std.specs.Prelude.{slice_get, filter, IsTrue}
+use Rattle.std.proofs.Common.{◌≡◌, ℕ, zero, suc, ◌+◌, ◌<◌, ◌≤◌, Bool, true, false, not, ◌⊎◌, inl, inr, Option}
+use Rattle.std.proofs.Common.{Some, None, List, [], ◌∷◌, ◌++◌, length, take, drop, map, refl, sym, ap, ◌∙◌, subst}
+use Rattle.std.proofs.Common.{arith, get_or, append-nil, length-append, slice_set, length-set}
+use Rattle.std.proofs.Common.{replicate, ◌==◌, if◌then◌else◌}
+use Rattle.std.specs.Prelude.{slice_get, filter}
 use Rattle.std.specs.List.{AllByRecursion, range_with_len}
 use Rattle.std.proofs.lemmas.Bool.{cond-true, cond-false, eq-eqb}
 use Rattle.std.proofs.lemmas.Bool.Decides.{eqb_tells}
-use Rattle.std.proofs.lemmas.List.{get_or-set_other, take_all, take_more}
+use Rattle.std.proofs.lemmas.List.{get_or-set_other}
 use Rattle.std.proofs.lemmas.Grind.{get_or-set_at}
-use Rattle.std.proofs.lemmas.Option.{slice_get_past, slice_get_read}
 use Rattle.bhs_model.specs.declared.commands.Command.{Command}
-use Rattle.bhs_model.specs.declared.events.Event.{Event}
-use Rattle.bhs_model.specs.declared.events.Event.TheVariants.{Tell, Deliver, Close}
+use Rattle.bhs_model.specs.declared.events.Event.TheVariants.{Tell}
 use Rattle.bhs_model.specs.declared.marks.Kept.{Kept}
 use Rattle.bhs_world.proofs.ListLemmas.{lt_tells}
-use Rattle.bhs_world.proofs.GrowthLemmas.{map_more, all_append}
-use Rattle.bhs_match.specs.Matches.{Play, world_in}
-use Rattle.bhs_world.specs.Faults.{IsWithinLimits}
-use Rattle.bhs_model.specs.declared.marks.Mark.{Mark}
-use Rattle.bhs_model.specs.Kept.{kept}
-use Rattle.bhs_model.specs.Marks.{events_of}
-use Rattle.bhs_lock.proofs.KeptLemmas.{agent_within}
+use Rattle.bhs_match.specs.Matches.{Play}
 use Rattle.bhs_lock.specs.Passes.{Passed}
-use Rattle.bhs_lock.specs.declared.model.Receipt.{Receipt}
-use Rattle.bhs_lock.specs.Comparing.{entry_in, Heard, command_by, entry_of, entry_first, heard_from, heard_in, receipted}
-use Rattle.bhs_lock.specs.Looking.{AllSay, AnyOther, IsSaid}
-use Rattle.bhs_lock.specs.Settling.{Compared, IsLeast, lesser, has_pass, told_by, told_by_none, without_pass, commands_of}
-use Rattle.bhs_lock.proofs.CompareLemmas.{taken, whole_parted, receipted_at}
-use Rattle.bhs_lock.proofs.LeastLemmas.{all_map}
-use Rattle.bhs_lock.proofs.FoundLemmas.{AgreesAt, AnyDiffers, IsFound, still_agrees, same_agrees, found_agrees, found_more, least_found}
+use Rattle.bhs_lock.specs.Comparing.{Heard, command_by, entry_of, entry_first, heard_from, heard_in}
+use Rattle.bhs_lock.specs.Saying.{AllSay, AnyOther, IsSaid}
+use Rattle.bhs_lock.specs.Settling.{Compared, lesser, has_pass, told_by, told_by_none, without_pass}
+use Rattle.bhs_lock.specs.Settling.{commands_of}
+use Rattle.bhs_lock.proofs.CompareLemmas.{taken, whole_parted}
+use Rattle.bhs_lock.proofs.FoundLemmas.{AgreesAt, AnyDiffers, IsFound, still_agrees, same_agrees, found_agrees}
+use Rattle.bhs_lock.proofs.FoundLemmas.{found_more}
 
 -- of each agent so many commands stand in the first events of a log
 abbrev pub Counts : (log : List Kept) (heard : List ℕ) (place : ℕ) → Type 0
@@ -37,7 +32,8 @@ abbrev pub AgreeSoFar : (heard : List ℕ) → Option (ℕ × ℕ) → List (Com
 AgreeSoFar heard best all = AllByRecursion (λ one. (k : ℕ) → k < get_or heard one.agent 0 → AgreesAt best one k) all
 
 -- the log was looked through so far
-pub record IsSoFar (play : Play) (passes : List Passed) (log : List Kept) (heard : List ℕ) (place : ℕ) (best : Option (ℕ × ℕ)) : Type 0 where
+pub record IsSoFar (play : Play) (passes : List Passed) (log : List Kept) (heard : List ℕ) (place : ℕ)
+    (best : Option (ℕ × ℕ)) : Type 0 where
   pub room : length heard ≡ 64
   pub counts : Counts log heard place
   pub agree : AgreeSoFar heard best (commands_of play passes)
@@ -52,23 +48,27 @@ all_of : {A : Type 0} (P : A → Type 0) (xs : List A) → ((x : A) → P x) →
 all_of P [] f = tt
 all_of P (x ∷ xs) f = (f x, all_of P xs f)
 
-all_both : {A : Type 0} (P Q R : A → Type 0) (xs : List A) → ((x : A) → P x → Q x → R x) → AllByRecursion P xs → AllByRecursion Q xs → AllByRecursion R xs
+all_both : {A : Type 0} (P Q R : A → Type 0) (xs : List A) → ((x : A) → P x → Q x → R x) → AllByRecursion P xs
+    → AllByRecursion Q xs → AllByRecursion R xs
 all_both P Q R [] f one two = tt
 all_both P Q R (x ∷ xs) f one two = (f x one.0 two.0, all_both P Q R xs f one.1 two.1)
 
-all_joined : {A : Type 0} (P : A → Type 0) (xs ys : List A) → AllByRecursion P xs → AllByRecursion P ys → AllByRecursion P (xs ++ ys)
+pub all_joined : {A : Type 0} (P : A → Type 0) (xs ys : List A) → AllByRecursion P xs → AllByRecursion P ys
+    → AllByRecursion P (xs ++ ys)
 all_joined P [] ys one two = two
 all_joined P (x ∷ xs) ys one two = (one.0, all_joined P xs ys one.1 two)
 
-all_right : {A : Type 0} (P : A → Type 0) (xs ys : List A) → AllByRecursion P (xs ++ ys) → AllByRecursion P ys
+pub all_right : {A : Type 0} (P : A → Type 0) (xs ys : List A) → AllByRecursion P (xs ++ ys) → AllByRecursion P ys
 all_right P [] ys all = all
 all_right P (x ∷ xs) ys all = all_right P xs ys all.1
 
-all_mapped : {A B : Type 0} (P : B → Type 0) (f : A → B) (xs : List A) → ((x : A) → P (f x)) → AllByRecursion P (map f xs)
+all_mapped : {A B : Type 0} (P : B → Type 0) (f : A → B) (xs : List A) → ((x : A) → P (f x))
+    → AllByRecursion P (map f xs)
 all_mapped P f [] g = tt
 all_mapped P f (x ∷ xs) g = (g x, all_mapped P f xs g)
 
-pub begun_so_far : (play : Play) (passes : List Passed) (log : List Kept) → IsSoFar play passes log (replicate 64 0) 0 None
+pub begun_so_far : (play : Play) (passes : List Passed) (log : List Kept)
+    → IsSoFar play passes log (replicate 64 0) 0 None
 begun_so_far play passes log = record {
   room = refl;
   counts = λ agent. zeros 64 agent;
@@ -77,21 +77,28 @@ begun_so_far play passes log = record {
 }
 
 -- what is logged of all that is compared is read in the log
-logged_all : (play : Play) (passes : List Passed) → AllByRecursion (λ one. one.logged ≡ heard_in one.agent play.log) (commands_of play passes)
+logged_all : (play : Play) (passes : List Passed) → AllByRecursion (λ one. one.logged ≡ heard_in one.agent play.log)
+    (commands_of play passes)
 logged_all play passes =
-    all_joined (λ one. one.logged ≡ heard_in one.agent play.log) (map (told_by play) passes) (map (told_by_none play) (without_pass passes play.setup.agents))
+    all_joined (λ one. one.logged ≡ heard_in one.agent play.log) (map (told_by play) passes)
+    (map (told_by_none play) (without_pass passes play.setup.agents))
     (all_mapped (λ one. one.logged ≡ heard_in one.agent play.log) (told_by play) passes (λ pass. refl))
-    (all_mapped (λ one. one.logged ≡ heard_in one.agent play.log) (told_by_none play) (without_pass passes play.setup.agents) (λ agent. refl))
+    (all_mapped (λ one. one.logged ≡ heard_in one.agent play.log) (told_by_none play)
+    (without_pass passes play.setup.agents) (λ agent. refl))
 
 -- an event that is no command of this agent
-not_told : (log : List Kept) (agent place : ℕ) (one : Kept) → place < length log → one ≡ get_or log place one → command_by agent one.event ≡ None →
+not_told : (log : List Kept) (agent place : ℕ) (one : Kept) → place < length log → one ≡ get_or log place one
+    → command_by agent one.event ≡ None →
     length (heard_from log agent 0 (take (place + 1) log)) ≡ length (heard_from log agent 0 (take place log))
 not_told log agent place one inside is none =
     let told = heard_from log agent 0 (take place log) in
-    ap length (taken log agent place one inside is ∙ ap (λ (command : Option Command). told ++ entry_first log place command one.mark []) none ∙ append-nil told)
+    ap length (taken log agent place one inside is
+    ∙ ap (λ (command : Option Command). told ++ entry_first log place command one.mark []) none ∙ append-nil told)
 
-pub counts_skip : (play : Play) (passes : List Passed) (log : List Kept) (heard : List ℕ) (place : ℕ) (best : Option (ℕ × ℕ)) (one : Kept) → IsSoFar play passes log heard place best →
-    place < length log → one ≡ get_or log place one → ((agent : ℕ) → command_by agent one.event ≡ None) → IsSoFar play passes log heard (place + 1) best
+pub counts_skip : (play : Play) (passes : List Passed) (log : List Kept) (heard : List ℕ) (place : ℕ)
+    (best : Option (ℕ × ℕ)) (one : Kept) → IsSoFar play passes log heard place best →
+    place < length log → one ≡ get_or log place one → ((agent : ℕ) → command_by agent one.event ≡ None)
+    → IsSoFar play passes log heard (place + 1) best
 counts_skip play passes log heard place best one so_far inside is none = record {
   room = so_far.room;
   counts = λ agent. so_far.counts agent ∙ sym (not_told log agent place one inside is (none agent));
@@ -100,47 +107,66 @@ counts_skip play passes log heard place best one so_far inside is none = record 
 }
 
 -- a command of an agent
-counts_more : (log : List Kept) (heard : List ℕ) (place : ℕ) (one : Kept) (agent : ℕ) (command : Command) (index : ℕ) → Counts log heard place → place < length log → one ≡ get_or log place one →
-    one.event ≡ Tell agent command → agent < length heard → index ≡ get_or heard agent 0 → Counts log (slice_set heard agent (index + 1)) (place + 1)
-counts_more log heard place one agent command index counts inside is told within at other = elim (eqb_tells other agent) [
-  | inl e ↦
-      let its : command_by other one.event ≡ Some command = ap (command_by other) told ∙ cond-true (other == agent) _ _ e.0 in
-      let before = heard_from log other 0 (take place log) in
-      let more : length (heard_from log other 0 (take (place + 1) log)) ≡ length before + 1 =
-      ap length (taken log other place one inside is ∙ ap (λ (command : Option Command). before ++ entry_first log place command one.mark []) its) ∙ length-append before _ in
-      let same : index ≡ length before = at ∙ ap (λ (a : ℕ). get_or heard a 0) (sym e.1) ∙ counts other in
-      get_or-set_at heard agent other (index + 1) 0 e.1 within ∙ ap (λ (n : ℕ). n + 1) same ∙ sym more
-  | inr e ↦
-      let none : command_by other one.event ≡ None = ap (command_by other) told ∙ cond-false (other == agent) _ _ e.0 in
-      get_or-set_other heard agent other (index + 1) 0 e.1 ∙ counts other ∙ sym (not_told log other place one inside is none)
-]
+counts_more : (log : List Kept) (heard : List ℕ) (place : ℕ) (one : Kept) (agent : ℕ) (command : Command) (index : ℕ)
+    → Counts log heard place → place < length log → one ≡ get_or log place one →
+    one.event ≡ Tell agent command → agent < length heard → index ≡ get_or heard agent 0
+    → Counts log (slice_set heard agent (index + 1)) (place + 1)
+counts_more log heard place one agent command index counts inside is told within at other =
+    elim (eqb_tells other agent) [
+      | inl e ↦
+          let its : command_by other one.event ≡ Some command = ap (command_by other) told
+          ∙ cond-true (other == agent) _ _ e.0 in
+          let before = heard_from log other 0 (take place log) in
+          let more : length (heard_from log other 0 (take (place + 1) log)) ≡ length before + 1 =
+          ap length (taken log other place one inside is
+          ∙ ap (λ (command : Option Command). before ++ entry_first log place command one.mark []) its)
+          ∙ length-append before _ in
+          let same : index ≡ length before = at ∙ ap (λ (a : ℕ). get_or heard a 0) (sym e.1) ∙ counts other in
+          get_or-set_at heard agent other (index + 1) 0 e.1 within ∙ ap (λ (n : ℕ). n + 1) same ∙ sym more
+      | inr e ↦
+          let none : command_by other one.event ≡ None = ap (command_by other) told
+              ∙ cond-false (other == agent) _ _ e.0 in
+          get_or-set_other heard agent other (index + 1) 0 e.1 ∙ counts other
+          ∙ sym (not_told log other place one inside is none)
+    ]
 
 -- what agrees where one index goes on
-agree_more : (all : List (Compared Heard)) (heard : List ℕ) (agent index : ℕ) (best now : Option (ℕ × ℕ)) → agent < length heard → index ≡ get_or heard agent 0 →
-    ((one : Compared Heard) (k : ℕ) → AgreesAt best one k → AgreesAt now one k) → AllByRecursion (λ one. one.agent ≡ agent → AgreesAt now one index) all →
+agree_more : (all : List (Compared Heard)) (heard : List ℕ) (agent index : ℕ) (best now : Option (ℕ × ℕ))
+    → agent < length heard → index ≡ get_or heard agent 0 →
+    ((one : Compared Heard) (k : ℕ) → AgreesAt best one k → AgreesAt now one k)
+    → AllByRecursion (λ one. one.agent ≡ agent → AgreesAt now one index) all →
     AgreeSoFar heard best all → AgreeSoFar (slice_set heard agent (index + 1)) now all
 agree_more all heard agent index best now within at keeps here agree =
-    all_both (λ one. one.agent ≡ agent → AgreesAt now one index) (λ one. (k : ℕ) → k < get_or heard one.agent 0 → AgreesAt best one k)
+    all_both (λ one. one.agent ≡ agent → AgreesAt now one index)
+    (λ one. (k : ℕ) → k < get_or heard one.agent 0 → AgreesAt best one k)
     (λ one. (k : ℕ) → k < get_or (slice_set heard agent (index + 1)) one.agent 0 → AgreesAt now one k) all
     (λ one new old k below. elim (eqb_tells one.agent agent) [
       | inl e ↦
-          let top : get_or (slice_set heard agent (index + 1)) one.agent 0 ≡ index + 1 = get_or-set_at heard agent one.agent (index + 1) 0 e.1 within in
+          let top : get_or (slice_set heard agent (index + 1)) one.agent 0 ≡ index + 1 =
+          get_or-set_at heard agent one.agent (index + 1) 0 e.1 within in
           let its : get_or heard one.agent 0 ≡ index = ap (λ (a : ℕ). get_or heard a 0) e.1 ∙ sym at in
           elim (lt_tells k index) [
             | inl h ↦ keeps one k (old k (omega (arith, h.1, its)))
-            | inr h ↦ let last : k ≡ index = omega (arith, h.1, below, top) in subst (λ (k : ℕ). AgreesAt now one k) (sym last) (new e.1)
+            | inr h ↦ let last : k ≡ index = omega (arith, h.1, below, top) in
+                subst (λ (k : ℕ). AgreesAt now one k) (sym last) (new e.1)
           ]
-      | inr e ↦ keeps one k (old k (subst (λ (n : ℕ). k < n) (get_or-set_other heard agent one.agent (index + 1) 0 e.1) below))
+      | inr e ↦ keeps one k (old k (subst (λ (n : ℕ). k < n)
+          (get_or-set_other heard agent one.agent (index + 1) 0 e.1) below))
     ]) here agree
 
 -- the entry stands in the log at its agent's index
-entry_there : (log : List Kept) (place : ℕ) (one : Kept) (agent : ℕ) (command : Command) → place < length log → one ≡ get_or log place one → one.event ≡ Tell agent command →
-    slice_get (heard_in agent log) (length (heard_from log agent 0 (take place log))) ≡ Some (entry_of log place command one.mark)
+entry_there : (log : List Kept) (place : ℕ) (one : Kept) (agent : ℕ) (command : Command) → place < length log
+    → one ≡ get_or log place one → one.event ≡ Tell agent command →
+    slice_get (heard_in agent log) (length (heard_from log agent 0 (take place log))) ≡ Some
+    (entry_of log place command one.mark)
 entry_there log place one agent command inside is told =
-    let its : command_by agent one.event ≡ Some command = ap (command_by agent) told ∙ cond-true (agent == agent) _ _ (eq-eqb agent agent refl) in
+    let its : command_by agent one.event ≡ Some command = ap (command_by agent) told
+    ∙ cond-true (agent == agent) _ _ (eq-eqb agent agent refl) in
     let before = heard_from log agent 0 (take place log) in
     let rest = heard_from log agent (place + 1) (drop (suc place) log) in
-    ap (λ (all : List Heard). slice_get all (length before)) (whole_parted log agent place one inside is ∙ ap (λ (command : Option Command). before ++ entry_first log place command one.mark rest) its)
+    ap (λ (all : List Heard). slice_get all (length before))
+    (whole_parted log agent place one inside is
+    ∙ ap (λ (command : Option Command). before ++ entry_first log place command one.mark rest) its)
     ∙ at_end before rest (entry_of log place command one.mark)
   where
     at_end : (xs ys : List Heard) (y : Heard) → slice_get (xs ++ y ∷ ys) (length xs) ≡ Some y
@@ -148,10 +174,12 @@ entry_there log place one agent command inside is told =
     at_end (x ∷ xs) ys y = at_end xs ys y
 
 -- what the passes say, of all that is compared
-all_say : (play : Play) (passes : List Passed) (agent index : ℕ) (entry : Heard) → has_pass passes agent ≡ true → AllSay agent index entry passes →
+all_say : (play : Play) (passes : List Passed) (agent index : ℕ) (entry : Heard) → has_pass passes agent ≡ true
+    → AllSay agent index entry passes →
     AllByRecursion (λ one. one.agent ≡ agent → slice_get one.said index ≡ Some entry) (commands_of play passes)
 all_say play passes agent index entry has say =
-    all_joined Says (map (told_by play) passes) (map (told_by_none play) (without_pass passes play.setup.agents)) (by_pass passes say) (by_none (range_with_len 0 play.setup.agents))
+    all_joined Says (map (told_by play) passes) (map (told_by_none play) (without_pass passes play.setup.agents))
+    (by_pass passes say) (by_none (range_with_len 0 play.setup.agents))
   where
     Says : Compared Heard → Type 0
     Says one = one.agent ≡ agent → slice_get one.said index ≡ Some entry
@@ -160,27 +188,39 @@ all_say play passes agent index entry has say =
     by_pass [] all = tt
     by_pass (pass ∷ some) all = (all.0, by_pass some all.1)
 
-    first : (b : Bool) (other : ℕ) (others : List ℕ) → b ≡ not (has_pass passes other) → AllByRecursion Says (map (told_by_none play) others) → AllByRecursion Says (map (told_by_none play) (if b then other ∷ others else others))
-    first true other others is all = (λ same. absurd (cannot (is ∙ ap (λ (a : ℕ). not (has_pass passes a)) same ∙ ap not has)), all)
+    first : (b : Bool) (other : ℕ) (others : List ℕ) → b ≡ not (has_pass passes other)
+        → AllByRecursion Says (map (told_by_none play) others)
+        → AllByRecursion Says (map (told_by_none play) (if b then other ∷ others else others))
+    first true other others is all = (
+      λ same. absurd
+          (cannot (is ∙ ap (λ (a : ℕ). not (has_pass passes a)) same ∙ ap not has)),
+      all,
+    )
       where
         cannot : true ≡ false → ⊥
         cannot e = cc
     first false other others is all = all
 
-    by_none : (agents : List ℕ) → AllByRecursion Says (map (told_by_none play) (filter (λ agent. not (has_pass passes agent)) agents))
+    by_none : (agents : List ℕ) → AllByRecursion Says
+        (map (told_by_none play) (filter (λ agent. not (has_pass passes agent)) agents))
     by_none [] = tt
-    by_none (other ∷ others) = first (not (has_pass passes other)) other (filter (λ agent. not (has_pass passes agent)) others) refl (by_none others)
+    by_none (other ∷ others) = first (not (has_pass passes other)) other
+        (filter (λ agent. not (has_pass passes agent)) others) refl (by_none others)
 
-any_left : (agent index : ℕ) (xs ys : List (Compared Heard)) → AnyDiffers agent index xs → AnyDiffers agent index (xs ++ ys)
+pub any_left : (agent index : ℕ) (xs ys : List (Compared Heard)) → AnyDiffers agent index xs
+    → AnyDiffers agent index (xs ++ ys)
 any_left agent index [] ys any = absurd any
 any_left agent index (x ∷ xs) ys any = elim any [ inl h ↦ inl h | inr h ↦ inr (any_left agent index xs ys h) ]
 
-any_right : (agent index : ℕ) (xs ys : List (Compared Heard)) → AnyDiffers agent index ys → AnyDiffers agent index (xs ++ ys)
+any_right : (agent index : ℕ) (xs ys : List (Compared Heard)) → AnyDiffers agent index ys
+    → AnyDiffers agent index (xs ++ ys)
 any_right agent index [] ys any = any
 any_right agent index (x ∷ xs) ys any = inr (any_right agent index xs ys any)
 
 -- what a pass does not say differs
-any_other : (play : Play) (passes : List Passed) (agent index : ℕ) (entry : Heard) → slice_get (heard_in agent play.log) index ≡ Some entry → AnyOther agent index entry passes → AnyDiffers agent index (map (told_by play) passes)
+any_other : (play : Play) (passes : List Passed) (agent index : ℕ) (entry : Heard)
+    → slice_get (heard_in agent play.log) index ≡ Some entry → AnyOther agent index entry passes
+    → AnyDiffers agent index (map (told_by play) passes)
 any_other play [] agent index entry there other = absurd other
 any_other play (pass ∷ passes) agent index entry there other = elim other [
   | inl h ↦ inl (h.0, λ same. h.1 (sym same ∙ ap (λ (a : ℕ). slice_get (heard_in a play.log) index) h.0 ∙ there))
@@ -188,15 +228,21 @@ any_other play (pass ∷ passes) agent index entry there other = elim other [
 ]
 
 -- what nobody says differs
-any_none : (play : Play) (passes : List Passed) (agent index : ℕ) (entry : Heard) → slice_get (heard_in agent play.log) index ≡ Some entry → has_pass passes agent ≡ false → (start count : ℕ) → start ≤ agent → agent < start + count →
-    AnyDiffers agent index (map (told_by_none play) (filter (λ agent. not (has_pass passes agent)) (range_with_len start count)))
+any_none : (play : Play) (passes : List Passed) (agent index : ℕ) (entry : Heard)
+    → slice_get (heard_in agent play.log) index ≡ Some entry → has_pass passes agent ≡ false → (start count : ℕ)
+    → start ≤ agent → agent < start + count →
+    AnyDiffers agent index (map (told_by_none play)
+    (filter (λ agent. not (has_pass passes agent)) (range_with_len start count)))
 any_none play passes agent index entry there none start zero above below = absurd (omega (arith, above, below))
 any_none play passes agent index entry there none start (suc count) above below = elim (eqb_tells start agent) [
   | inl e ↦
       let without : not (has_pass passes start) ≡ true = ap (λ (a : ℕ). not (has_pass passes a)) e.1 ∙ ap not none in
-      subst (λ (agents : List ℕ). AnyDiffers agent index (map (told_by_none play) agents)) (sym (cond-true (not (has_pass passes start)) (start ∷ others) others without))
+      subst (λ (agents : List ℕ). AnyDiffers agent index (map (told_by_none play) agents))
+      (sym (cond-true (not (has_pass passes start)) (start ∷ others) others without))
       (inl (e.1, λ same. cannot (sym (ap (λ (a : ℕ). slice_get (heard_in a play.log) index) e.1 ∙ there) ∙ same)))
-  | inr e ↦ first (not (has_pass passes start)) (any_none play passes agent index entry there none (start + 1) count (omega (arith, above, e.1)) (omega (arith, below)))
+  | inr e ↦ first (not (has_pass passes start))
+      (any_none play passes agent index entry there none (start + 1) count (omega (arith, above, e.1))
+      (omega (arith, below)))
 ]
   where
     others : List ℕ
@@ -205,15 +251,22 @@ any_none play passes agent index entry there none start (suc count) above below 
     cannot : Some entry ≡ None → ⊥
     cannot e = cc
 
-    first : (b : Bool) → AnyDiffers agent index (map (told_by_none play) others) → AnyDiffers agent index (map (told_by_none play) (if b then start ∷ others else others))
+    first : (b : Bool) → AnyDiffers agent index (map (told_by_none play) others)
+        → AnyDiffers agent index (map (told_by_none play) (if b then start ∷ others else others))
     first true any = inr any
     first false any = any
 
 -- one command more: where the passes say it, nothing is found; else this place is
-pub counts_on : (play : Play) (passes : List Passed) (log : List Kept) (heard : List ℕ) (place : ℕ) (best now : Option (ℕ × ℕ)) (one : Kept) (agent index : ℕ) (command : Command) (said : Bool) → IsSoFar play passes log heard place best →
-    log ≡ play.log → place < length log → one ≡ get_or log place one → one.event ≡ Tell agent command → agent < 64 → agent < play.setup.agents → index ≡ get_or heard agent 0 →
-    IsSaid said passes agent index (entry_of log place command one.mark) → now ≡ (if said then best else lesser best agent (Some index)) → IsSoFar play passes log (slice_set heard agent (index + 1)) (place + 1) now
-counts_on play passes log heard place best now one agent index command said so_far same inside is told small within at says made = by_said said says made
+pub counts_on : (play : Play) (passes : List Passed) (log : List Kept) (heard : List ℕ) (place : ℕ)
+    (best now : Option (ℕ × ℕ)) (one : Kept) (agent index : ℕ) (command : Command) (said : Bool)
+    → IsSoFar play passes log heard place best →
+    log ≡ play.log → place < length log → one ≡ get_or log place one → one.event ≡ Tell agent command → agent < 64
+    → agent < play.setup.agents → index ≡ get_or heard agent 0 →
+    IsSaid said passes agent index (entry_of log place command one.mark)
+    → now ≡ (if said then best else lesser best agent (Some index))
+    → IsSoFar play passes log (slice_set heard agent (index + 1)) (place + 1) now
+counts_on play passes log heard place best now one agent index command said so_far same inside is told small within at
+    says made = by_said said says made
   where
     room : agent < length heard
     room = omega (arith, small, so_far.room)
@@ -227,7 +280,9 @@ counts_on play passes log heard place best now one agent index command said so_f
         ∙ ap (λ (n : ℕ). slice_get (heard_in agent log) n) (at ∙ so_far.counts agent)
         ∙ entry_there log place one agent command inside is told
 
-    so_on : (now : Option (ℕ × ℕ)) → AgreeSoFar (slice_set heard agent (index + 1)) now (commands_of play passes) → IsFound now (commands_of play passes) → IsSoFar play passes log (slice_set heard agent (index + 1)) (place + 1) now
+    so_on : (now : Option (ℕ × ℕ)) → AgreeSoFar (slice_set heard agent (index + 1)) now (commands_of play passes)
+        → IsFound now (commands_of play passes)
+        → IsSoFar play passes log (slice_set heard agent (index + 1)) (place + 1) now
     so_on now agree found = record {
       room = length-set heard agent (index + 1) ∙ so_far.room;
       counts = counts_more log heard place one agent command index so_far.counts inside is told room at;
@@ -235,205 +290,31 @@ counts_on play passes log heard place best now one agent index command said so_f
       found = found;
     }
 
-    differs : (has_pass passes agent ≡ false) ⊎ AnyOther agent index entry passes → AnyDiffers agent index (commands_of play passes)
+    differs : (has_pass passes agent ≡ false) ⊎ AnyOther agent index entry passes
+        → AnyDiffers agent index (commands_of play passes)
     differs why = elim why [
-      | inl h ↦ any_right agent index (map (told_by play) passes) _ (any_none play passes agent index entry there h 0 play.setup.agents (omega arith) (omega (arith, within)))
+      | inl h ↦ any_right agent index (map (told_by play) passes) _
+          (any_none play passes agent index entry there h 0 play.setup.agents (omega arith) (omega (arith, within)))
       | inr h ↦ any_left agent index (map (told_by play) passes) _ (any_other play passes agent index entry there h)
     ]
 
-    by_said : (said : Bool) → IsSaid said passes agent index entry → now ≡ (if said then best else lesser best agent (Some index)) → IsSoFar play passes log (slice_set heard agent (index + 1)) (place + 1) now
+    by_said : (said : Bool) → IsSaid said passes agent index entry
+        → now ≡ (if said then best else lesser best agent (Some index))
+        → IsSoFar play passes log (slice_set heard agent (index + 1)) (place + 1) now
     by_said true says made =
-        let here = all_both (λ one. one.logged ≡ heard_in one.agent play.log) (λ one. one.agent ≡ agent → slice_get one.said index ≡ Some entry) (λ one. one.agent ≡ agent → AgreesAt best one index) (commands_of play passes)
-        (λ one logged said its. same_agrees best one index (ap (λ (xs : List Heard). slice_get xs index) logged ∙ ap (λ (a : ℕ). slice_get (heard_in a play.log) index) its ∙ there ∙ sym (said its)))
+        let here = all_both (λ one. one.logged ≡ heard_in one.agent play.log)
+        (λ one. one.agent ≡ agent → slice_get one.said index ≡ Some entry)
+        (λ one. one.agent ≡ agent → AgreesAt best one index) (commands_of play passes)
+        (λ one logged said its. same_agrees best one index
+        (ap (λ (xs : List Heard). slice_get xs index) logged ∙ ap (λ (a : ℕ). slice_get (heard_in a play.log) index)
+        its ∙ there ∙ sym (said its)))
         (logged_all play passes) (all_say play passes agent index entry says.0 says.1) in
-        rw made (so_on best (agree_more (commands_of play passes) heard agent index best best room at (λ one k old. old) here so_far.agree) so_far.found)
+        rw made (so_on best (agree_more (commands_of play passes) heard agent index best best room at (λ one k old. old)
+        here so_far.agree) so_far.found)
     by_said false says made =
         let later : Option (ℕ × ℕ) = lesser best agent (Some index) in
-        let here = all_of (λ one. one.agent ≡ agent → AgreesAt later one index) (commands_of play passes) (λ one its. found_agrees best agent index one index its (omega arith)) in
-        rw made (so_on later (agree_more (commands_of play passes) heard agent index best later room at (λ one k old. still_agrees best agent (Some index) one k old) here so_far.agree) (found_more best agent index (commands_of play passes) so_far.found (differs says)))
-
--- the log was looked through, and so many passes
-pub record IsEnding (play : Play) (passes : List Passed) (heard : List ℕ) (count : ℕ) (best : Option (ℕ × ℕ)) : Type 0 where
-  pub ends : (agent : ℕ) → get_or heard agent 0 ≡ length (heard_in agent play.log)
-  pub agree : AgreeSoFar heard best (commands_of play passes)
-  pub found : IsFound best (commands_of play passes)
-  pub whole : AllByRecursion (λ one. (k : ℕ) → AgreesAt best one k) (map (told_by play) (take count passes))
-
-pub begun_ending : (play : Play) (passes : List Passed) (log : List Kept) (heard : List ℕ) (place : ℕ) (best : Option (ℕ × ℕ)) → IsSoFar play passes log heard place best → log ≡ play.log → length log ≤ place → IsEnding play passes heard 0 best
-begun_ending play passes log heard place best so_far same past = record {
-  ends = λ agent. so_far.counts agent ∙ ap (λ (some : List Kept). length (heard_from log agent 0 some)) (take_all place log past) ∙ ap (λ (log : List Kept). length (heard_in agent log)) same;
-  agree = so_far.agree;
-  found = so_far.found;
-  whole = tt;
-}
-
-all_at : (P : Compared Heard → Type 0) (play : Play) (passes : List Passed) (ys : List (Compared Heard)) (place : ℕ) (pass : Passed) → AllByRecursion P (map (told_by play) passes ++ ys) → place < length passes → pass ≡ get_or passes place pass → P (told_by play pass)
-all_at P play [] ys place pass all inside is = absurd (omega (arith, inside))
-all_at P play (first ∷ passes) ys zero pass all inside is = subst (λ (pass : Passed). P (told_by play pass)) (sym is) all.0
-all_at P play (first ∷ passes) ys (suc place) pass all inside is = all_at P play passes ys place pass all.1 (omega (arith, inside)) is
-
-any_at : (play : Play) (passes : List Passed) (index place : ℕ) (pass : Passed) → place < length passes → pass ≡ get_or passes place pass → slice_get (heard_in pass.agent play.log) index ≢ slice_get (receipted pass.receipts pass.commands) index →
-    AnyDiffers pass.agent index (map (told_by play) passes)
-any_at play [] index place pass inside is apart = absurd (omega (arith, inside))
-any_at play (first ∷ passes) index zero pass inside is apart = inl (ap (λ (p : Passed). p.agent) (sym is), subst (λ (p : Passed). slice_get (heard_in p.agent play.log) index ≢ slice_get (receipted p.receipts p.commands) index) is apart)
-any_at play (first ∷ passes) index (suc place) pass inside is apart = inr (any_at play passes index place pass (omega (arith, inside)) is apart)
-
--- one pass more, which may have receipts past the commands that were heard
-pub ending_more : (play : Play) (passes : List Passed) (heard : List ℕ) (place : ℕ) (best now : Option (ℕ × ℕ)) (pass : Passed) (agent count most : ℕ) → IsEnding play passes heard place best →
-    place < length passes → pass ≡ get_or passes place pass → agent ≡ pass.agent → count ≡ get_or heard pass.agent 0 → most ≡ length (receipted pass.receipts pass.commands) →
-    now ≡ (if nat_lt count most then lesser best agent (Some count) else best) → IsEnding play passes heard (place + 1) now
-ending_more play passes heard place best now pass agent count most so_far inside is its at long made = elim (lt_tells count most) [
-  | inl h ↦
-      let later : Option (ℕ × ℕ) = lesser best agent (Some count) in
-      let after : now ≡ later = made ∙ cond-true _ _ _ h.0 in
-      rw after (so_on later (λ one k old. still_agrees best agent (Some count) one k old)
-      (found_more best agent count (commands_of play passes) so_far.found (any_left agent count (map (told_by play) passes) _ (subst (λ (a : ℕ). AnyDiffers a count (map (told_by play) passes)) (sym its) (any_at play passes count place pass inside is (apart h.1)))))
-      (λ k above. found_agrees best agent count (told_by play pass) k (sym its) above))
-  | inr h ↦
-      let after : now ≡ best = made ∙ cond-false _ _ _ h.0 in
-      rw after (so_on best (λ one k old. old) so_far.found
-      (λ k above. same_agrees best (told_by play pass) k (slice_get_past (heard_in pass.agent play.log) k (omega (arith, ends, above)) ∙ sym (slice_get_past (receipted pass.receipts pass.commands) k (omega (arith, long, h.1, above))))))
-]
-  where
-    counted : get_or heard pass.agent 0 ≡ count
-    counted = sym at
-
-    ends : length (heard_in pass.agent play.log) ≡ count
-    ends = sym (so_far.ends pass.agent) ∙ counted
-
-    apart : count < most → slice_get (heard_in pass.agent play.log) count ≢ slice_get (receipted pass.receipts pass.commands) count
-    apart below same =
-        let none : slice_get (heard_in pass.agent play.log) count ≡ None = slice_get_past (heard_in pass.agent play.log) count (omega (arith, ends)) in
-        inside_is (receipted pass.receipts pass.commands) count (omega (arith, below, long)) (sym same ∙ none)
-      where
-        inside_is : (xs : List Heard) (k : ℕ) → k < length xs → slice_get xs k ≡ None → ⊥
-        inside_is [] k below none = omega (arith, below)
-        inside_is (x ∷ xs) zero below none = cc
-        inside_is (x ∷ xs) (suc k) below none = inside_is xs k (omega (arith, below)) none
-
-    so_on : (now : Option (ℕ × ℕ)) → ((one : Compared Heard) (k : ℕ) → AgreesAt best one k → AgreesAt now one k) → IsFound now (commands_of play passes) → ((k : ℕ) → count ≤ k → AgreesAt now (told_by play pass) k) → IsEnding play passes heard (place + 1) now
-    so_on now keeps found above =
-        let grown : map (told_by play) (take (place + 1) passes) ≡ map (told_by play) (take place passes) ++ told_by play pass ∷ [] =
-        ap (map (told_by play)) (take_more passes place pass inside ∙ ap (λ (one : Passed). take place passes ++ one ∷ []) (sym is)) ∙ map_more (told_by play) (take place passes) pass in
-        record {
-          ends = so_far.ends;
-          agree = all_map (λ one. (k : ℕ) → k < get_or heard one.agent 0 → AgreesAt best one k) (λ one. (k : ℕ) → k < get_or heard one.agent 0 → AgreesAt now one k) (commands_of play passes) (λ one old k below. keeps one k (old k below)) so_far.agree;
-          found = found;
-          whole = rw grown (all_append (λ one. (k : ℕ) → AgreesAt now one k) (map (told_by play) (take place passes)) (told_by play pass)
-              (all_map (λ one. (k : ℕ) → AgreesAt best one k) (λ one. (k : ℕ) → AgreesAt now one k) (map (told_by play) (take place passes)) (λ one old k. keeps one k (old k)) so_far.whole)
-              (λ k. elim (lt_tells k count) [
-                | inl h ↦ keeps (told_by play pass) k (all_at (λ one. (k : ℕ) → k < get_or heard one.agent 0 → AgreesAt best one k) play passes _ place pass so_far.agree inside is k (omega (arith, h.1, counted)))
-                | inr h ↦ above k h.1
-              ]));
-        }
-
--- all were looked through
-pub ended_all : (play : Play) (passes : List Passed) (heard : List ℕ) (place : ℕ) (best : Option (ℕ × ℕ)) → IsEnding play passes heard place best → length passes ≤ place → IsLeast (commands_of play passes) best
-ended_all play passes heard place best so_far past =
-    least_found (commands_of play passes) best
-    (all_joined (λ one. (k : ℕ) → AgreesAt best one k) (map (told_by play) passes) (map (told_by_none play) (without_pass passes play.setup.agents))
-    (subst (λ (some : List Passed). AllByRecursion (λ one. (k : ℕ) → AgreesAt best one k) (map (told_by play) some)) (take_all place passes past) so_far.whole)
-    (by_none (without_pass passes play.setup.agents) (all_right (λ one. (k : ℕ) → k < get_or heard one.agent 0 → AgreesAt best one k) (map (told_by play) passes) _ so_far.agree)))
-    so_far.found
-  where
-    by_none : (agents : List ℕ) → AllByRecursion (λ one. (k : ℕ) → k < get_or heard one.agent 0 → AgreesAt best one k) (map (told_by_none play) agents) → AllByRecursion (λ one. (k : ℕ) → AgreesAt best one k) (map (told_by_none play) agents)
-    by_none [] all = tt
-    by_none (agent ∷ agents) all = (
-      λ k. elim (lt_tells k (get_or heard agent 0)) [
-        | inl h ↦ all.0 k h.1
-        | inr h ↦ same_agrees best (told_by_none play agent) k (slice_get_past (heard_in agent play.log) k (omega (arith, h.1, so_far.ends agent)))
-      ],
-      by_none agents all.1,
-    )
-
--- the same in the words of the loop
-pub other_at : (passes : List Passed) (place : ℕ) (pass : Passed) (agent index : ℕ) (entry : Heard) → place < length passes → pass ≡ get_or passes place pass → pass.agent ≡ agent →
-    slice_get (receipted pass.receipts pass.commands) index ≢ Some entry → AnyOther agent index entry passes
-other_at [] place pass agent index entry inside is its apart = absurd (omega (arith, inside))
-other_at (first ∷ passes) zero pass agent index entry inside is its apart = inl (ap (λ (p : Passed). p.agent) (sym is) ∙ its, subst (λ (p : Passed). slice_get (receipted p.receipts p.commands) index ≢ Some entry) is apart)
-other_at (first ∷ passes) (suc place) pass agent index entry inside is its apart = inr (other_at passes place pass agent index entry (omega (arith, inside)) is its apart)
-
-first_some : (whole : List Kept) (place : ℕ) (command : Option Command) (mark : Option Mark) (others : List Heard) → length (entry_first whole place command mark others) ≤ length others + 1
-first_some whole place (Some command) mark others = omega arith
-first_some whole place None mark others = omega arith
-
-heard_short : (whole : List Kept) (agent place : ℕ) (log : List Kept) → length (heard_from whole agent place log) ≤ length log
-heard_short whole agent place [] = omega arith
-heard_short whole agent place (one ∷ others) =
-    omega (arith, first_some whole place (command_by agent one.event) one.mark (heard_from whole agent (place + 1) others), heard_short whole agent (place + 1) others)
-
-pub index_short : (play : Play) (passes : List Passed) (log : List Kept) (heard : List ℕ) (place agent : ℕ) (best : Option (ℕ × ℕ)) → IsSoFar play passes log heard place best → place < length log → get_or heard agent 0 < length log
-index_short play passes log heard place agent best so_far inside =
-    let most : length (take place log) ≡ place = simp length-take (omega (arith, inside)) in
-    omega (arith, so_far.counts agent, heard_short log agent 0 (take place log), most, inside)
-
-pub step_on : (play : Play) (passes : List Passed) (log : List Kept) (heard : List ℕ) (place : ℕ) (best now : Option (ℕ × ℕ)) (one : Kept) (agent from again : ℕ) (command : Command) (said answer : Bool) → IsSoFar play passes log heard place best →
-    log ≡ play.log → place < length log → one ≡ get_or log place one → one.event ≡ Tell agent command → (agent < 64) × (agent < play.setup.agents) → from ≡ agent → again ≡ agent →
-    said ≡ answer → IsSaid said passes agent (get_or heard from 0) (entry_of log place command one.mark) → now ≡ (if answer then best else lesser best agent (Some (get_or heard from 0))) →
-    IsSoFar play passes log (slice_set heard again (get_or heard from 0 + 1)) (place + 1) now
-step_on play passes log heard place best now one agent from again command said answer so_far same inside is told few from_is again_is was says made =
-    let index : ℕ = get_or heard from 0 in
-    subst (λ (a : ℕ). IsSoFar play passes log (slice_set heard a (index + 1)) (place + 1) now) (sym again_is)
-    (counts_on play passes log heard place best now one agent index command answer so_far same inside is told few.0 few.1 (ap (λ (a : ℕ). get_or heard a 0) from_is)
-    (subst (λ (b : Bool). IsSaid b passes agent index (entry_of log place command one.mark)) was says) made)
-
-pub few_agents : (play : Play) (log : List Kept) (place : ℕ) (one : Kept) (agent : ℕ) (command : Command) → kept (world_in play) (events_of play.log) ≡ events_of play.log → log ≡ play.log →
-    IsWithinLimits play.net play.setup → place < length log → one ≡ get_or log place one → one.event ≡ Tell agent command → (agent < 64) × (agent < play.setup.agents)
-few_agents play log place one agent command legal same limits inside is told =
-    let within : agent < play.setup.agents = agent_within (world_in play) log place one agent command (ap (λ (log : List Kept). kept (world_in play) (events_of log)) same ∙ legal ∙ ap events_of (sym same)) inside is told in
-    (omega (arith, within, limits.agents), within)
-
-lt_is : (a b : ℕ) → a < b → nat_lt a b ≡ true
-lt_is a b below = elim (lt_tells a b) [ inl h ↦ h.0 | inr h ↦ absurd (omega (arith, below, h.1)) ]
-
-lt_not : (a b : ℕ) → b ≤ a → nat_lt a b ≡ false
-lt_not a b above = elim (lt_tells a b) [ inl h ↦ absurd (omega (arith, above, h.1)) | inr h ↦ h.0 ]
-
-pub ending_past : (play : Play) (passes : List Passed) (heard : List ℕ) (place : ℕ) (best now : Option (ℕ × ℕ)) (pass : Passed) (agent count most : ℕ) → IsEnding play passes heard place best →
-    place < length passes → pass ≡ get_or passes place pass → agent ≡ pass.agent → count ≡ get_or heard pass.agent 0 → most ≡ length (receipted pass.receipts pass.commands) →
-    count < most → now ≡ lesser best agent (Some count) → IsEnding play passes heard (place + 1) now
-ending_past play passes heard place best now pass agent count most so_far inside is its at long below made =
-    ending_more play passes heard place best now pass agent count most so_far inside is its at long (made ∙ sym (cond-true (nat_lt count most) _ _ (lt_is count most below)))
-
-pub ending_within : (play : Play) (passes : List Passed) (heard : List ℕ) (place : ℕ) (best now : Option (ℕ × ℕ)) (pass : Passed) (agent count most : ℕ) → IsEnding play passes heard place best →
-    place < length passes → pass ≡ get_or passes place pass → agent ≡ pass.agent → count ≡ get_or heard pass.agent 0 → most ≡ length (receipted pass.receipts pass.commands) →
-    most ≤ count → now ≡ best → IsEnding play passes heard (place + 1) now
-ending_within play passes heard place best now pass agent count most so_far inside is its at long above made =
-    ending_more play passes heard place best now pass agent count most so_far inside is its at long (made ∙ sym (cond-false (nat_lt count most) _ _ (lt_not count most above)))
-
-pub untold : (event : Event) → ((agent : ℕ) (command : Command) → event ≡ Tell agent command → ⊥) → (agent : ℕ) → command_by agent event ≡ None
-untold (Tell other command) none agent = absurd (none other command refl)
-untold (Deliver other) none agent = refl
-untold Close none agent = refl
-
--- what a pass says at an index
-pub says_at : (given : Passed) (receipts : List Receipt) (commands : List Command) (index : ℕ) (receipt : Receipt) (kept : Command) (entry : Heard) (r : Bool) → receipts ≡ given.receipts → commands ≡ given.commands →
-    index < length receipts → receipt ≡ get_or receipts index receipt → index < length commands → kept ≡ get_or commands index kept → (IsTrue r → entry ≡ entry_in receipt kept) × (entry ≡ entry_in receipt kept → IsTrue r) →
-    (IsTrue r → slice_get (receipted given.receipts given.commands) index ≡ Some entry) × (slice_get (receipted given.receipts given.commands) index ≡ Some entry → IsTrue r)
-says_at given receipts commands index receipt kept entry r same_receipts same_commands in_receipts receipt_is in_commands kept_is is =
-    let there : slice_get (receipted given.receipts given.commands) index ≡ Some (entry_in receipt kept) =
-    receipted_at given.receipts given.commands index receipt kept
-    (ap (λ (xs : List Receipt). slice_get xs index) (sym same_receipts) ∙ slice_get_read receipts (length receipts) index receipt refl in_receipts receipt_is)
-    (ap (λ (xs : List Command). slice_get xs index) (sym same_commands) ∙ slice_get_read commands (length commands) index kept refl in_commands kept_is) in
-    (λ yes. there ∙ sym (ap (λ (e : Heard). Some e) (is.0 yes)), λ same. is.1 (some_same (sym same ∙ there)))
-  where
-    some_same : {x y : Heard} → Some x ≡ Some y → x ≡ y
-    some_same e = cc
-
-receipted_past : (receipts : List Receipt) (commands : List Command) (index : ℕ) → length receipts ≤ index → slice_get (receipted receipts commands) index ≡ None
-receipted_past [] commands index past = refl
-receipted_past (receipt ∷ receipts) [] index past = refl
-receipted_past (receipt ∷ receipts) (command ∷ commands) zero past = absurd (omega (arith, past))
-receipted_past (receipt ∷ receipts) (command ∷ commands) (suc index) past = receipted_past receipts commands index (omega (arith, past))
-
--- past its receipts it says nothing
-pub says_none : (given : Passed) (receipts : List Receipt) (index : ℕ) (entry : Heard) → receipts ≡ given.receipts → length receipts ≤ index →
-    (IsTrue false → slice_get (receipted given.receipts given.commands) index ≡ Some entry) × (slice_get (receipted given.receipts given.commands) index ≡ Some entry → IsTrue false)
-says_none given receipts index entry same past =
-    (λ no. absurd (not_both no), λ is. absurd (not_some (sym (receipted_past given.receipts given.commands index (subst (λ (xs : List Receipt). length xs ≤ index) same past)) ∙ is)))
-  where
-    not_both : IsTrue false → ⊥
-    not_both e = cc
-
-    not_some : None ≡ Some entry → ⊥
-    not_some e = cc
+        let here = all_of (λ one. one.agent ≡ agent → AgreesAt later one index) (commands_of play passes)
+        (λ one its. found_agrees best agent index one index its (omega arith)) in
+        rw made (so_on later (agree_more (commands_of play passes) heard agent index best later room at
+        (λ one k old. still_agrees best agent (Some index) one k old) here so_far.agree)
+        (found_more best agent index (commands_of play passes) so_far.found (differs says)))

@@ -1,5 +1,6 @@
 -- What a pass says of a command, whatever stands under the lock.
-use Rattle.std.proofs.Common.{◌≡◌, ℕ, ◌+◌, ◌-◌, ◌<◌, ◌≤◌, Bool, true, false, not, ◌&&◌, Option, Some, None, List, length, refl, sym, ap, ◌∙◌, subst, nat_lt, ◌==◌, if◌then◌else◌, arith, inl, inr, ◌⊎◌}
+use Rattle.std.proofs.Common.{◌≡◌, ℕ, ◌+◌, ◌-◌, ◌<◌, ◌≤◌, Bool, true, false, not, ◌&&◌, Option, Some, None, List}
+use Rattle.std.proofs.Common.{length, refl, sym, ap, ◌∙◌, subst, nat_lt, ◌==◌, if◌then◌else◌, arith, inl, inr, ◌⊎◌}
 use Rattle.std.specs.Prelude.{nat_le, bytes_eq, option_map}
 use Rattle.std.proofs.lemmas.Bool.{cond_both, cond-true, cond-false, eq-eqb}
 use Rattle.std.proofs.lemmas.Bool.Decides.{eqb_tells, nat_tests}
@@ -10,7 +11,8 @@ use Rattle.bhs_model.specs.declared.replies.Reply.{Reply}
 use Rattle.bhs_model.specs.declared.replies.Reply.TheVariants.{Written, Changed, Gone, Noted, Over, No}
 use Rattle.bhs_model.specs.declared.replies.Why.{Why}
 use Rattle.bhs_model.specs.declared.replies.Why.TheVariants as whys
-use Rattle.bhs_model.specs.Views.{View, Standing, Outside, Present, Away, Ended, standing, used, ports, Glance, Nothing, Saw, Seen}
+use Rattle.bhs_model.specs.Views.{View, Standing, Outside, Present, Away, Ended, standing, used, ports, Glance, Nothing}
+use Rattle.bhs_model.specs.Views.{Saw, Seen}
 use Rattle.bhs_model.specs.Replying.{text, accepts, hears, answer, sight_answer, refusal}
 use Rattle.bhs_model.specs.Runs.{heard, glance, reply}
 use Rattle.bhs_match.specs.Matches.{Play, world_in, state_of}
@@ -29,8 +31,10 @@ use Rattle.bhs_lock.proofs.TallyLemmas.{HasAgreed, has_agreed}
 sight_heard : (limit : ℕ) (command : Command) (glance : Glance) → is_unheard (sight_answer limit command glance) ≡ false
 sight_heard limit (Write expect put) (Saw (Seen ports came last_write)) =
     let shown : List ℕ = text limit last_write in
-    cond_both (nat_le (length put) limit) (if bytes_eq shown expect then Written else Changed shown) (No whys.Long) (λ reply. is_unheard reply ≡ false)
-    (λ fits. cond_both (bytes_eq shown expect) Written (Changed shown) (λ reply. is_unheard reply ≡ false) (λ e. refl) (λ e. refl)) (λ long. refl)
+    cond_both (nat_le (length put) limit) (if bytes_eq shown expect then Written else Changed shown) (No whys.Long)
+    (λ reply. is_unheard reply ≡ false)
+    (λ fits. cond_both (bytes_eq shown expect) Written (Changed shown) (λ reply. is_unheard reply ≡ false) (λ e. refl)
+    (λ e. refl)) (λ long. refl)
 sight_heard limit (Write expect put) Nothing = refl
 sight_heard limit Enter (Saw (Seen ports came last_write)) = refl
 sight_heard limit Enter Nothing = refl
@@ -45,11 +49,13 @@ sight_heard limit Leave Nothing = refl
 sight_heard limit Bad (Saw (Seen ports came last_write)) = refl
 sight_heard limit Bad Nothing = refl
 
-port_heard : (b : Bool) (reply : Reply) → is_unheard reply ≡ false → is_unheard (if b then reply else No whys.Port) ≡ false
+port_heard : (b : Bool) (reply : Reply) → is_unheard reply ≡ false
+    → is_unheard (if b then reply else No whys.Port) ≡ false
 port_heard true reply is = is
 port_heard false reply is = refl
 
-answer_heard : (limit : ℕ) (now : Standing) (ports : ℕ) (command : Command) (glance : Glance) → is_unheard (answer limit now ports command glance) ≡ false
+answer_heard : (limit : ℕ) (now : Standing) (ports : ℕ) (command : Command) (glance : Glance)
+    → is_unheard (answer limit now ports command glance) ≡ false
 answer_heard limit Outside ports Leave glance = refl
 answer_heard limit Present ports Leave glance = refl
 answer_heard limit Away ports Leave glance = refl
@@ -92,12 +98,16 @@ all_spent n used quota is within none =
     let full : quota ≤ used = grind (arith, nat_tests, none) in
     eq-eqb (n - 1) quota (omega arith)
 
-spent_means : (quota used n : ℕ) (ended : Bool) (b : Bool) (why : Option Why) → (n == 0) ≡ false → ended ≡ false → (n - 1 == quota) ≡ true →
-    (if n == 0 then Some whys.Outside else (if ended then Some whys.Ended else (if n - 1 == quota then Some whys.Spent else None))) ≡ Some whys.Spent
-spent_means quota used n ended b why some going full = cond-false _ _ _ some ∙ cond-false _ _ _ going ∙ cond-true _ _ _ full
+spent_means : (quota used n : ℕ) (ended : Bool) (b : Bool) (why : Option Why) → (n == 0) ≡ false → ended ≡ false
+    → (n - 1 == quota) ≡ true →
+    (if n == 0 then Some whys.Outside else (if ended then Some
+    whys.Ended else (if n - 1 == quota then Some whys.Spent else None))) ≡ Some whys.Spent
+spent_means quota used n ended b why some going full = cond-false _ _ _ some ∙ cond-false _ _ _ going
+    ∙ cond-true _ _ _ full
 
 -- the refusal of the definitions is that of the numbers
-pub refusal_same : (quota : ℕ) (now : Standing) (used : ℕ) (tally : Tally) (command : Command) → tally.ended ≡ has_ended now → Fits quota now used tally.heard → accepts now (nat_lt used quota) command ≡ false →
+pub refusal_same : (quota : ℕ) (now : Standing) (used : ℕ) (tally : Tally) (command : Command)
+    → tally.ended ≡ has_ended now → Fits quota now used tally.heard → accepts now (nat_lt used quota) command ≡ false →
     refusal_by quota tally command ≡ Some (refusal now command)
 refusal_same quota Outside used tally Enter ended fits none = absurd cc
 refusal_same quota Outside used tally Look ended fits none = cond-true _ _ _ (eq-eqb tally.heard 0 fits.0)
@@ -107,32 +117,61 @@ refusal_same quota Outside used tally (Accuse port) ended fits none = cond-true 
 refusal_same quota Outside used tally Leave ended fits none = cond-true _ _ _ (eq-eqb tally.heard 0 fits.0)
 refusal_same quota Outside used tally Bad ended fits none = cond-true _ _ _ (eq-eqb tally.heard 0 fits.0)
 refusal_same quota Present used tally Enter ended fits none = cond-false _ _ _ (not_none tally.heard used fits.0)
-refusal_same quota Present used tally Look ended fits none = spent_means quota used tally.heard tally.ended true None (not_none tally.heard used fits.0) ended (all_spent tally.heard used quota fits.0 fits.1 none)
-refusal_same quota Present used tally (Write expect put) ended fits none = spent_means quota used tally.heard tally.ended true None (not_none tally.heard used fits.0) ended (all_spent tally.heard used quota fits.0 fits.1 none)
-refusal_same quota Present used tally (Depart port) ended fits none = spent_means quota used tally.heard tally.ended true None (not_none tally.heard used fits.0) ended (all_spent tally.heard used quota fits.0 fits.1 none)
-refusal_same quota Present used tally (Accuse port) ended fits none = spent_means quota used tally.heard tally.ended true None (not_none tally.heard used fits.0) ended (all_spent tally.heard used quota fits.0 fits.1 none)
+refusal_same quota Present used tally Look ended fits none =
+    spent_means quota used tally.heard tally.ended true None (not_none tally.heard used fits.0) ended
+    (all_spent tally.heard used quota fits.0 fits.1 none)
+refusal_same quota Present used tally (Write expect put) ended fits none =
+    spent_means quota used tally.heard tally.ended true None (not_none tally.heard used fits.0) ended
+    (all_spent tally.heard used quota fits.0 fits.1 none)
+refusal_same quota Present used tally (Depart port) ended fits none =
+    spent_means quota used tally.heard tally.ended true None (not_none tally.heard used fits.0) ended
+    (all_spent tally.heard used quota fits.0 fits.1 none)
+refusal_same quota Present used tally (Accuse port) ended fits none =
+    spent_means quota used tally.heard tally.ended true None (not_none tally.heard used fits.0) ended
+    (all_spent tally.heard used quota fits.0 fits.1 none)
 refusal_same quota Present used tally Leave ended fits none = absurd cc
-refusal_same quota Present used tally Bad ended fits none = spent_means quota used tally.heard tally.ended true None (not_none tally.heard used fits.0) ended (all_spent tally.heard used quota fits.0 fits.1 none)
+refusal_same quota Present used tally Bad ended fits none =
+    spent_means quota used tally.heard tally.ended true None (not_none tally.heard used fits.0) ended
+    (all_spent tally.heard used quota fits.0 fits.1 none)
 refusal_same quota Away used tally Enter ended fits none = cond-false _ _ _ (not_none tally.heard used fits.0)
-refusal_same quota Away used tally Look ended fits none = spent_means quota used tally.heard tally.ended true None (not_none tally.heard used fits.0) ended (all_spent tally.heard used quota fits.0 fits.1 none)
-refusal_same quota Away used tally (Write expect put) ended fits none = spent_means quota used tally.heard tally.ended true None (not_none tally.heard used fits.0) ended (all_spent tally.heard used quota fits.0 fits.1 none)
-refusal_same quota Away used tally (Depart port) ended fits none = spent_means quota used tally.heard tally.ended true None (not_none tally.heard used fits.0) ended (all_spent tally.heard used quota fits.0 fits.1 none)
-refusal_same quota Away used tally (Accuse port) ended fits none = spent_means quota used tally.heard tally.ended true None (not_none tally.heard used fits.0) ended (all_spent tally.heard used quota fits.0 fits.1 none)
+refusal_same quota Away used tally Look ended fits none =
+    spent_means quota used tally.heard tally.ended true None (not_none tally.heard used fits.0) ended
+    (all_spent tally.heard used quota fits.0 fits.1 none)
+refusal_same quota Away used tally (Write expect put) ended fits none =
+    spent_means quota used tally.heard tally.ended true None (not_none tally.heard used fits.0) ended
+    (all_spent tally.heard used quota fits.0 fits.1 none)
+refusal_same quota Away used tally (Depart port) ended fits none =
+    spent_means quota used tally.heard tally.ended true None (not_none tally.heard used fits.0) ended
+    (all_spent tally.heard used quota fits.0 fits.1 none)
+refusal_same quota Away used tally (Accuse port) ended fits none =
+    spent_means quota used tally.heard tally.ended true None (not_none tally.heard used fits.0) ended
+    (all_spent tally.heard used quota fits.0 fits.1 none)
 refusal_same quota Away used tally Leave ended fits none = absurd cc
-refusal_same quota Away used tally Bad ended fits none = spent_means quota used tally.heard tally.ended true None (not_none tally.heard used fits.0) ended (all_spent tally.heard used quota fits.0 fits.1 none)
+refusal_same quota Away used tally Bad ended fits none =
+    spent_means quota used tally.heard tally.ended true None (not_none tally.heard used fits.0) ended
+    (all_spent tally.heard used quota fits.0 fits.1 none)
 refusal_same quota Ended used tally Enter ended fits none = cond-false _ _ _ (some_not_none tally.heard fits)
-refusal_same quota Ended used tally Look ended fits none = cond-false _ _ _ (some_not_none tally.heard fits) ∙ cond-true _ _ _ ended
-refusal_same quota Ended used tally (Write expect put) ended fits none = cond-false _ _ _ (some_not_none tally.heard fits) ∙ cond-true _ _ _ ended
-refusal_same quota Ended used tally (Depart port) ended fits none = cond-false _ _ _ (some_not_none tally.heard fits) ∙ cond-true _ _ _ ended
-refusal_same quota Ended used tally (Accuse port) ended fits none = cond-false _ _ _ (some_not_none tally.heard fits) ∙ cond-true _ _ _ ended
-refusal_same quota Ended used tally Leave ended fits none = cond-false _ _ _ (some_not_none tally.heard fits) ∙ cond-true _ _ _ ended
-refusal_same quota Ended used tally Bad ended fits none = cond-false _ _ _ (some_not_none tally.heard fits) ∙ cond-true _ _ _ ended
+refusal_same quota Ended used tally Look ended fits none = cond-false _ _ _ (some_not_none tally.heard fits)
+    ∙ cond-true _ _ _ ended
+refusal_same quota Ended used tally (Write expect put) ended fits none =
+    cond-false _ _ _ (some_not_none tally.heard fits) ∙ cond-true _ _ _ ended
+refusal_same quota Ended used tally (Depart port) ended fits none = cond-false _ _ _ (some_not_none tally.heard fits)
+    ∙ cond-true _ _ _ ended
+refusal_same quota Ended used tally (Accuse port) ended fits none = cond-false _ _ _ (some_not_none tally.heard fits)
+    ∙ cond-true _ _ _ ended
+refusal_same quota Ended used tally Leave ended fits none = cond-false _ _ _ (some_not_none tally.heard fits)
+    ∙ cond-true _ _ _ ended
+refusal_same quota Ended used tally Bad ended fits none = cond-false _ _ _ (some_not_none tally.heard fits)
+    ∙ cond-true _ _ _ ended
 
 -- ---- what is said of a command
 
-by_known : (known closed hears : Bool) (answer : Option Reply) (why : Why) → known ≡ true → (known && (not closed && hears)) ≡ false →
-    ((if known then (if closed then Some Over else (if hears then answer else Some (No why))) else Some (No whys.Agent)) ≡ Some Over)
-    ⊎ ((hears ≡ false) × ((if known then (if closed then Some Over else (if hears then answer else Some (No why))) else Some (No whys.Agent)) ≡ Some (No why)))
+by_known : (known closed hears : Bool) (answer : Option Reply) (why : Why) → known ≡ true
+    → (known && (not closed && hears)) ≡ false →
+    ((if known then (if closed then Some Over else (if hears then answer else Some (No why))) else Some
+    (No whys.Agent)) ≡ Some Over)
+    ⊎ ((hears ≡ false) × ((if known then (if closed then Some Over else (if hears then answer else Some (No why)))
+    else Some (No whys.Agent)) ≡ Some (No why)))
 by_known false closed hears answer why known none = absurd cc
 by_known true true hears answer why known none = inl refl
 by_known true false true answer why known none = absurd cc
@@ -173,9 +212,12 @@ refused_unheard Ended Leave = refl
 refused_unheard Ended Bad = refl
 
 -- a command of a pass that agrees
-submitted_agreed : (hall : Housed) (pass pass' : Passed) (command : Command) (place : Option ℕ) (mark : Mark) (said : Reply) (play' : Play) →
-    HasAgreed hall pass → AreFit hall.play → AreBelow (length hall.play.log) pass.receipts → IsTold hall.play pass command place mark said play' pass' →
-    (heard_now : Bool) → heard (world_in hall.play) (state_of hall.play) pass.agent command ≡ heard_now → IsSubmitted pass command place said pass'
+submitted_agreed : (hall : Housed) (pass pass' : Passed) (command : Command) (place : Option ℕ) (mark : Mark)
+    (said : Reply) (play' : Play) →
+    HasAgreed hall pass → AreFit hall.play → AreBelow (length hall.play.log) pass.receipts
+    → IsTold hall.play pass command place mark said play' pass' →
+    (heard_now : Bool) → heard (world_in hall.play) (state_of hall.play) pass.agent command ≡ heard_now
+    → IsSubmitted pass command place said pass'
 submitted_agreed hall pass pass' command place mark said play' has fit above is true is_heard =
     let here : place ≡ Some (length hall.play.log) = is.at ∙ cond-true _ _ _ is_heard in
     let how : HeardCommand hall.play pass.agent command = heard_command hall.play pass.agent command is_heard in
@@ -191,16 +233,20 @@ submitted_agreed hall pass pass' command place mark said play' has fit above is 
     let none : place ≡ None = is.at ∙ cond-false _ _ _ unheard in
     let same : pass' ≡ pass = is.kept ∙ ap (λ (place : Option ℕ). gained pass command place said) none in
     subst (λ (place : Option ℕ). IsSubmitted pass command place said pass') (sym none)
-    (elim (by_known (nat_lt pass.agent play.setup.agents) (state_of play).closed (hears play.setup.quota view command) _ (refusal (standing view) command) known unheard) [
+    (elim (by_known (nat_lt pass.agent play.setup.agents) (state_of play).closed (hears play.setup.quota view command) _
+    (refusal (standing view) command) known unheard) [
       | inl over ↦
           let reply_over : said ≡ Over = some_same said Over (is.replied ∙ over) in
           record { same = same; unheard = ap is_unheard reply_over; why = inr (inl reply_over) }
       | inr refused ↦
           let reply_no : said ≡ No (refusal (standing view) command) = some_same said _ (is.replied ∙ refused.1) in
-          let by : refusal_by play.setup.quota (tally_of pass.agent play) command ≡ Some (refusal (standing view) command) =
-          refusal_same play.setup.quota (standing view) (used view) (tally_of pass.agent play) command refl (fit pass.agent) refused.0 in
+          let by : refusal_by play.setup.quota (tally_of pass.agent play) command ≡ Some
+          (refusal (standing view) command) =
+          refusal_same play.setup.quota (standing view) (used view) (tally_of pass.agent play) command refl
+          (fit pass.agent) refused.0 in
           let own : refusal_by pass.quota (tally_in pass.receipts) command ≡ Some (refusal (standing view) command) =
-          ap (λ (quota : ℕ). refusal_by quota (tally_in pass.receipts) command) has.quota ∙ ap (λ (tally : Tally). refusal_by play.setup.quota tally command) (sym has.tally) ∙ by in
+          ap (λ (quota : ℕ). refusal_by quota (tally_in pass.receipts) command) has.quota
+          ∙ ap (λ (tally : Tally). refusal_by play.setup.quota tally command) (sym has.tally) ∙ by in
           record {
             same = same;
             unheard = ap is_unheard reply_no ∙ refused_unheard (standing view) command;
@@ -211,9 +257,13 @@ submitted_agreed hall pass pass' command place mark said play' has fit above is 
     known : nat_lt pass.agent hall.play.setup.agents ≡ true
     known = let within : pass.agent < hall.play.setup.agents = has.agent in grind (arith, nat_tests, within)
 
-pub submitted : (hall : Housed) (play play' : Play) (pass pass' : Passed) (command : Command) (place : Option ℕ) (mark : Mark) (said : Reply) →
-    play ≡ hall.play → agrees hall pass ≡ true → AreFit play → Ascend 0 pass.receipts → IsTold play pass command place mark said play' pass' → IsSubmitted pass command place said pass'
+pub submitted : (hall : Housed) (play play' : Play) (pass pass' : Passed) (command : Command) (place : Option ℕ)
+    (mark : Mark) (said : Reply) →
+    play ≡ hall.play → agrees hall pass ≡ true → AreFit play → Ascend 0 pass.receipts
+    → IsTold play pass command place mark said play' pass' → IsSubmitted pass command place said pass'
 submitted hall play play' pass pass' command place mark said same agreed fit order is =
     let has : HasAgreed hall pass = has_agreed hall pass agreed in
-    let P : Play → Type 0 = λ play. AreFit play → IsTold play pass command place mark said play' pass' → IsSubmitted pass command place said pass' in
-    subst P (sym same) (λ fit is. submitted_agreed hall pass pass' command place mark said play' has fit (all_below 0 pass.receipts (length hall.play.log) order has.below) is _ refl) fit is
+    let P : Play → Type 0 = λ play. AreFit play → IsTold play pass command place mark said play' pass'
+    → IsSubmitted pass command place said pass' in
+    subst P (sym same) (λ fit is. submitted_agreed hall pass pass' command place mark said play' has fit
+    (all_below 0 pass.receipts (length hall.play.log) order has.below) is _ refl) fit is

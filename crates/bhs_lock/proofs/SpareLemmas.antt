@@ -31,8 +31,10 @@ kept_kind Leave said silent = refl
 kept_kind Bad said silent = refl
 
 -- the reply will speak of a whiteboard
-pub speaking : (play : Play) (agent : ℕ) (command : Command) (spare : Spare) → true ≡ is_of_board_if (reply (world_in play) (state_of play) (Tell agent command)) →
-    spare.text ≡ shown_at (world_in play) (state_of play) ((state_of play).position agent) → spare.again ≡ shown_at (world_in play) (state_of play) ((state_of play).position agent) →
+pub speaking : (play : Play) (agent : ℕ) (command : Command) (spare : Spare)
+    → true ≡ is_of_board_if (reply (world_in play) (state_of play) (Tell agent command)) →
+    spare.text ≡ shown_at (world_in play) (state_of play) ((state_of play).position agent)
+    → spare.again ≡ shown_at (world_in play) (state_of play) ((state_of play).position agent) →
     spare.kept ≡ command → IsSpareFor play agent command spare
 speaking play agent command spare speaks one two kept = record {
   texts = λ _. (one, two);
@@ -40,7 +42,8 @@ speaking play agent command spare speaks one two kept = record {
 }
 
 -- it will not
-pub silent : (play : Play) (agent : ℕ) (command : Command) (spare : Spare) → false ≡ is_of_board_if (reply (world_in play) (state_of play) (Tell agent command)) →
+pub silent : (play : Play) (agent : ℕ) (command : Command) (spare : Spare)
+    → false ≡ is_of_board_if (reply (world_in play) (state_of play) (Tell agent command)) →
     spare.kept ≡ kind_of command → IsSpareFor play agent command spare
 silent play agent command spare quiet kept = record {
   texts = λ speaks. absurd (not_both (quiet ∙ speaks));

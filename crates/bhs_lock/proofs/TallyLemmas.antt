@@ -1,5 +1,7 @@
 -- The two numbers of each agent are kept with the log.
-use Rattle.std.proofs.Common.{◌≡◌, ℕ, ◌+◌, ◌<◌, Bool, true, false, ◌||◌, Option, Some, None, List, [], ◌∷◌, ◌++◌, length, map, refl, sym, ap, ◌∙◌, subst, nat_lt, ◌==◌, if◌then◌else◌, arith, slice_set, length-set, length-append}
+use Rattle.std.proofs.Common.{◌≡◌, ℕ, ◌+◌, ◌<◌, Bool, true, false, ◌||◌, Option, Some, None, List, [], ◌∷◌, ◌++◌}
+use Rattle.std.proofs.Common.{length, map, refl, sym, ap, ◌∙◌, subst, nat_lt, ◌==◌, if◌then◌else◌, arith, slice_set}
+use Rattle.std.proofs.Common.{length-set, length-append}
 use Rattle.std.specs.Prelude.{is_some}
 use Rattle.std.specs.List.{list_any}
 use Rattle.std.proofs.lemmas.Bool.{and_parts, cond-true, cond-false, eqb-true, ltb-true, eq-eqb}
@@ -26,13 +28,16 @@ use Rattle.bhs_lock.specs.Passes.{Passed, is_end, is_last, tally_in, gained}
 use Rattle.bhs_lock.specs.Halls.{Housed, agrees, same_bool, same_tally, is_below, IsTold}
 use Rattle.bhs_lock.proofs.PlaceLemmas.{any_push}
 use Rattle.bhs_lock.proofs.EndLemmas.{ends_standing}
-use Rattle.bhs_lock.proofs.FitLemmas.{HeardCommand, heard_command, reply_heard, past_heard, state_more, count_more, event_fit, fit_more}
+use Rattle.bhs_lock.proofs.FitLemmas.{HeardCommand, heard_command, reply_heard, past_heard, state_more, count_more}
+use Rattle.bhs_lock.proofs.FitLemmas.{event_fit, fit_more}
 
 -- one receipt more
-receipts_more : (receipts : List Receipt) (receipt : Receipt) → tally_in (receipts ++ receipt ∷ []) ≡ record { heard = length receipts + 1; ended = list_any is_last receipts || is_last receipt }
+receipts_more : (receipts : List Receipt) (receipt : Receipt) → tally_in (receipts ++ receipt ∷ []) ≡ record
+    { heard = length receipts + 1; ended = list_any is_last receipts || is_last receipt }
 receipts_more receipts receipt =
     let longer : length (receipts ++ receipt ∷ []) ≡ length receipts + 1 = length-append receipts _ in
-    let ended : list_any is_last (receipts ++ receipt ∷ []) ≡ (list_any is_last receipts || is_last receipt) = any_push is_last receipts receipt in
+    let ended : list_any is_last (receipts ++ receipt ∷ []) ≡ (list_any is_last receipts || is_last receipt) =
+    any_push is_last receipts receipt in
     rw (longer, ended) refl
 
 bool_same : (a b : Bool) → same_bool a b ≡ true → a ≡ b
@@ -46,7 +51,8 @@ tally_is one two e =
     let parts = and_parts (one.heard == two.heard) (same_bool one.ended two.ended) e in
     let heard : one.heard ≡ two.heard = eqb-true _ _ parts.0 in
     let ended : one.ended ≡ two.ended = bool_same _ _ parts.1 in
-    ap (λ (n : ℕ). let t : Tally = record { heard = n; ended = one.ended } in t) heard ∙ ap (λ (b : Bool). let t : Tally = record { heard = two.heard; ended = b } in t) ended
+    ap (λ (n : ℕ). let t : Tally = record { heard = n; ended = one.ended } in t) heard
+    ∙ ap (λ (b : Bool). let t : Tally = record { heard = two.heard; ended = b } in t) ended
 
 -- what it says that a pass agrees
 pub record HasAgreed (hall : Housed) (pass : Passed) : Type 0 where
@@ -65,7 +71,8 @@ has_agreed hall pass e =
 
 -- what `Match::log` says of the match after a command
 abbrev pub IsLegalLog : Play → Type 0
-IsLegalLog play = (kept (world_in play) (events_of play.log) ≡ events_of play.log) × (map (λ one. read_if play.log one.mark) play.log ≡ replies (world_in play) (events_of play.log))
+IsLegalLog play = (kept (world_in play) (events_of play.log) ≡ events_of play.log)
+    × (map (λ one. read_if play.log one.mark) play.log ≡ replies (world_in play) (events_of play.log))
 
 -- what stands under the lock beside the match
 abbrev pub IsHoused : Play → List Tally → Type 0
@@ -76,84 +83,118 @@ is_some_if true n place e = ap (λ (p : Option ℕ). is_some p) e
 is_some_if false n place e = ap (λ (p : Option ℕ). is_some p) e
 
 -- a command that is not heard leaves the match
-pub unheard_same : (play play' : Play) (pass pass' : Passed) (command : Command) (place : Option ℕ) (mark : Mark) (said : Reply) →
+pub unheard_same : (play play' : Play) (pass pass' : Passed) (command : Command) (place : Option ℕ) (mark : Mark)
+    (said : Reply) →
     IsTold play pass command place mark said play' pass' → is_some place ≡ false → play' ≡ play
 unheard_same play play' pass pass' command place mark said is none =
-    let unkept : keeps_next (world_in play) play.log (Tell pass.agent command) ≡ false = sym (is_some_if _ _ place is.at) ∙ none in
+    let unkept : keeps_next (world_in play) play.log (Tell pass.agent command) ≡ false =
+    sym (is_some_if _ _ place is.at) ∙ none in
     is.grown ∙ ap (λ (log : List Kept). let p : Play = record play { log = log } in p) (cond-false _ _ _ unkept)
 
 -- and the numbers
-pub legal_unheard : (play play' : Play) (pass pass' : Passed) (command : Command) (place : Option ℕ) (mark : Mark) (said : Reply) (tallies : List Tally) →
-    IsHoused play tallies → IsTold play pass command place mark said play' pass' → is_some place ≡ false → IsHoused play' tallies
-legal_unheard play play' pass pass' command place mark said tallies housed is none = rw (unheard_same play play' pass pass' command place mark said is none) housed
+pub legal_unheard : (play play' : Play) (pass pass' : Passed) (command : Command) (place : Option ℕ) (mark : Mark)
+    (said : Reply) (tallies : List Tally) →
+    IsHoused play tallies → IsTold play pass command place mark said play' pass' → is_some place ≡ false
+    → IsHoused play' tallies
+legal_unheard play play' pass pass' command place mark said tallies housed is none =
+    rw (unheard_same play play' pass pass' command place mark said is none) housed
 
 -- a command that is heard
-pub record IsHeard (play : Play) (pass : Passed) (command : Command) (place : Option ℕ) (mark : Mark) (play' : Play) : Type 0 where
+pub record IsHeard (play : Play) (pass : Passed) (command : Command) (place : Option ℕ) (mark : Mark)
+    (play' : Play) : Type 0 where
   pub kept : keeps_next (world_in play) play.log (Tell pass.agent command) ≡ true
   pub here : place ≡ Some (length play.log)
-  pub grown : play' ≡ record play { log = play.log ++ record { event = Tell pass.agent command; mark = Some mark } ∷ [] }
+  pub grown : play' ≡ record play {
+    log = play.log
+        ++ record { event = Tell pass.agent command; mark = Some mark } ∷ [];
+  }
 
-pub is_heard : (play play' : Play) (pass pass' : Passed) (command : Command) (place : Option ℕ) (mark : Mark) (said : Reply) →
-    IsTold play pass command place mark said play' pass' → is_some place ≡ true → IsHeard play pass command place mark play'
+pub is_heard : (play play' : Play) (pass pass' : Passed) (command : Command) (place : Option ℕ) (mark : Mark)
+    (said : Reply) →
+    IsTold play pass command place mark said play' pass' → is_some place ≡ true
+    → IsHeard play pass command place mark play'
 is_heard play play' pass pass' command place mark said is some =
-    let is_kept : keeps_next (world_in play) play.log (Tell pass.agent command) ≡ true = sym (is_some_if _ _ place is.at) ∙ some in
+    let is_kept : keeps_next (world_in play) play.log (Tell pass.agent command) ≡ true =
+    sym (is_some_if _ _ place is.at) ∙ some in
     record {
       kept = is_kept;
       here = is.at ∙ cond-true _ _ _ is_kept;
-      grown = is.grown ∙ ap (λ (log : List Kept). let p : Play = record play { log = log } in p) (cond-true _ _ _ is_kept);
+      grown = is.grown ∙ ap (λ (log : List Kept). let p : Play = record play { log = log } in p)
+          (cond-true _ _ _ is_kept);
     }
 
 -- the numbers of the agent that was heard
-tally_heard : (play : Play) (agent : ℕ) (command : Command) (mark : Option Mark) (said : Reply) (place : ℕ) (receipts : List Receipt) →
-    HeardCommand play agent command → Some said ≡ reply (world_in play) (state_of play) (Tell agent command) → tally_of agent play ≡ tally_in receipts →
-    tally_in (receipts ++ record { place = place; reply = said } ∷ []) ≡ tally_of agent (record play { log = play.log ++ record { event = Tell agent command; mark = mark } ∷ [] })
+tally_heard : (play : Play) (agent : ℕ) (command : Command) (mark : Option Mark) (said : Reply) (place : ℕ)
+    (receipts : List Receipt) →
+    HeardCommand play agent command → Some said ≡ reply (world_in play) (state_of play) (Tell agent command)
+    → tally_of agent play ≡ tally_in receipts →
+    tally_in (receipts ++ record { place = place; reply = said } ∷ []) ≡ tally_of agent
+    (record play { log = play.log ++ record { event = Tell agent command; mark = mark } ∷ [] })
 tally_heard play agent command mark said place receipts is replied agreed =
     let one : Kept = record { event = Tell agent command; mark = mark } in
     let after : Play = record play { log = play.log ++ one ∷ [] } in
     let state : State = state_of play in
     let view : View = state.past agent in
     let itself : is_told_by agent one.event ≡ true = eq-eqb agent agent refl in
-    let count : heard_count agent after.log ≡ heard_count agent play.log + 1 = count_more agent play.log one ∙ ap (λ (b : Bool). heard_count agent play.log + (if b then 1 else 0)) itself in
-    let past : (state_of after).past agent ≡ Told view command (glance (world_in play) state (state.position agent) command) = ap (λ (state : State). state.past agent) (state_more play one) ∙ past_heard play agent command is in
-    let answered : is_end (answer play.setup.board (standing view) (ports view) command (glance (world_in play) state (state.position agent) command)) ≡ is_end said = said_is (reply_heard play agent command is) replied in
+    let count : heard_count agent after.log ≡ heard_count agent play.log + 1 = count_more agent play.log one
+    ∙ ap (λ (b : Bool). heard_count agent play.log + (if b then 1 else 0)) itself in
+    let past : (state_of after).past agent ≡ Told view command
+    (glance (world_in play) state (state.position agent) command) =
+    ap (λ (state : State). state.past agent) (state_more play one) ∙ past_heard play agent command is in
+    let answered : is_end (answer play.setup.board (standing view) (ports view) command
+    (glance (world_in play) state (state.position agent) command)) ≡ is_end said = said_is
+    (reply_heard play agent command is) replied in
     let ended : has_ended (standing ((state_of after).past agent)) ≡ (has_ended (standing view) || is_end said) =
     ap (λ (view : View). has_ended (standing view)) past
-    ∙ sym (ends_standing play.setup.board (standing view) (nat_lt (used view) play.setup.quota) (ports view) command (glance (world_in play) state (state.position agent) command) is.free)
+    ∙ sym (ends_standing play.setup.board (standing view) (nat_lt (used view) play.setup.quota) (ports view) command
+    (glance (world_in play) state (state.position agent) command) is.free)
     ∙ ap (λ (b : Bool). has_ended (standing view) || b) answered in
     receipts_more receipts (record { place = place; reply = said })
-    ∙ ap (λ (tally : Tally). let t : Tally = record { heard = tally.heard + 1; ended = tally.ended || is_end said } in t) (sym agreed)
-    ∙ sym (ap (λ (n : ℕ). let t : Tally = record { heard = n; ended = has_ended (standing ((state_of after).past agent)) } in t) count
+    ∙ ap (λ (tally : Tally). let t : Tally = record { heard = tally.heard + 1; ended = tally.ended || is_end said } in
+    t) (sym agreed)
+    ∙ sym (ap (λ (n : ℕ). let t : Tally = record
+    { heard = n; ended = has_ended (standing ((state_of after).past agent)) } in t) count
     ∙ ap (λ (b : Bool). let t : Tally = record { heard = heard_count agent play.log + 1; ended = b } in t) ended)
   where
     said_is : {r : Option Reply} {a : Reply} → r ≡ Some a → Some said ≡ r → is_end a ≡ is_end said
-    said_is {r} {a} one two = let both : Some a ≡ Some said = sym one ∙ sym two in let same : a ≡ said = cc in ap is_end same
+    said_is {r} {a} one two = let both : Some a ≡ Some said = sym one ∙ sym two in
+        let same : a ≡ said = cc in ap is_end same
 
 -- the numbers of another agent
-tally_other : (play : Play) (event : Event) (mark : Option Mark) (other : ℕ) → keeps_next (world_in play) play.log event ≡ true → is_told_by other event ≡ false →
+tally_other : (play : Play) (event : Event) (mark : Option Mark) (other : ℕ)
+    → keeps_next (world_in play) play.log event ≡ true → is_told_by other event ≡ false →
     tally_of other (record play { log = play.log ++ record { event = event; mark = mark } ∷ [] }) ≡ tally_of other play
 tally_other play event mark other kept apart =
     let one : Kept = record { event = event; mark = mark } in
     let after : Play = record play { log = play.log ++ one ∷ [] } in
     let none : heard_count other play.log + 0 ≡ heard_count other play.log = omega arith in
-    let count : heard_count other after.log ≡ heard_count other play.log = count_more other play.log one ∙ ap (λ (b : Bool). heard_count other play.log + (if b then 1 else 0)) apart ∙ none in
+    let count : heard_count other after.log ≡ heard_count other play.log = count_more other play.log one
+    ∙ ap (λ (b : Bool). heard_count other play.log + (if b then 1 else 0)) apart ∙ none in
     let ended : has_ended (standing ((state_of after).past other)) ≡ has_ended (standing ((state_of play).past other)) =
-    ap (λ (state : State). has_ended (standing (state.past other))) (state_more play one) ∙ (event_fit play event other kept).ended apart in
-    ap (λ (n : ℕ). let t : Tally = record { heard = n; ended = has_ended (standing ((state_of after).past other)) } in t) count
+    ap (λ (state : State). has_ended (standing (state.past other))) (state_more play one)
+    ∙ (event_fit play event other kept).ended apart in
+    ap (λ (n : ℕ). let t : Tally = record { heard = n; ended = has_ended (standing ((state_of after).past other)) } in
+    t) count
     ∙ ap (λ (b : Bool). let t : Tally = record { heard = heard_count other play.log; ended = b } in t) ended
 
 -- a command that is heard gives its agent the numbers of the pass
-legal_heard : (play play' : Play) (pass pass' : Passed) (command : Command) (place : Option ℕ) (mark : Mark) (said : Reply) (tallies : List Tally) →
-    IsHoused play tallies → IsTold play pass command place mark said play' pass' → is_some place ≡ true → IsLegalLog play' →
-    pass.agent < play.setup.agents → tally_of pass.agent play ≡ tally_in pass.receipts → IsHoused play' (slice_set tallies pass.agent (tally_in pass'.receipts))
+legal_heard : (play play' : Play) (pass pass' : Passed) (command : Command) (place : Option ℕ) (mark : Mark)
+    (said : Reply) (tallies : List Tally) →
+    IsHoused play tallies → IsTold play pass command place mark said play' pass' → is_some place ≡ true
+    → IsLegalLog play' →
+    pass.agent < play.setup.agents → tally_of pass.agent play ≡ tally_in pass.receipts
+    → IsHoused play' (slice_set tallies pass.agent (tally_in pass'.receipts))
 legal_heard play play' pass pass' command place mark said tallies housed is some log within agreed =
-    let how : IsHeard play pass command place mark play' = is_heard play play' pass pass' command place mark said is some in
+    let how : IsHeard play pass command place mark play' =
+    is_heard play play' pass pass' command place mark said is some in
     let event : Event = Tell pass.agent command in
     let one : Kept = record { event = event; mark = Some mark } in
     let after : Play = record play { log = play.log ++ one ∷ [] } in
     let gain : pass'.receipts ≡ pass.receipts ++ record { place = length play.log; reply = said } ∷ [] =
     ap (λ (p : Passed). p.receipts) (is.kept ∙ ap (λ (place : Option ℕ). gained pass command place said) how.here) in
     let told : tally_in pass'.receipts ≡ tally_of pass.agent after =
-    ap tally_in gain ∙ tally_heard play pass.agent command (Some mark) said (length play.log) pass.receipts (heard_command play pass.agent command how.kept) is.replied agreed in
+    ap tally_in gain ∙ tally_heard play pass.agent command (Some mark) said (length play.log) pass.receipts
+    (heard_command play pass.agent command how.kept) is.replied agreed in
     let inside : pass.agent < length tallies = rw housed.0.agents within in
     let legal_log : IsLegalLog after = subst IsLegalLog how.grown log in
     subst (λ (after : Play). IsHoused after (slice_set tallies pass.agent (tally_in pass'.receipts))) (sym how.grown) (
@@ -161,7 +202,8 @@ legal_heard play play' pass pass' command place mark said tallies housed is some
         kept_alone = legal_log.0;
         replied = legal_log.1;
         agents = length-set tallies pass.agent _ ∙ housed.0.agents;
-        tallied = each_set (λ k tally. k < play.setup.agents → tally ≡ tally_of k after) tallies pass.agent (tally_in pass'.receipts) nothing inside
+        tallied = each_set (λ k tally. k < play.setup.agents → tally ≡ tally_of k after) tallies pass.agent
+            (tally_in pass'.receipts) nothing inside
             (λ below. told)
             (λ k apart below. housed.0.tallied k below ∙ sym (tally_other play event (Some mark) k how.kept apart));
       },
@@ -169,8 +211,10 @@ legal_heard play play' pass pass' command place mark said tallies housed is some
     )
 
 -- the same where the pass agrees with the hall, whose fields these are
-pub legal_agreed : (hall : Housed) (play play' : Play) (pass pass' : Passed) (command : Command) (place : Option ℕ) (mark : Mark) (said : Reply) (tallies : List Tally) →
-    play ≡ hall.play → agrees hall pass ≡ true → IsHoused play tallies → IsTold play pass command place mark said play' pass' → is_some place ≡ true → IsLegalLog play' →
+pub legal_agreed : (hall : Housed) (play play' : Play) (pass pass' : Passed) (command : Command) (place : Option ℕ)
+    (mark : Mark) (said : Reply) (tallies : List Tally) →
+    play ≡ hall.play → agrees hall pass ≡ true → IsHoused play tallies → IsTold play pass command place mark said play'
+    pass' → is_some place ≡ true → IsLegalLog play' →
     IsHoused play' (slice_set tallies pass.agent (tally_in pass'.receipts))
 legal_agreed hall play play' pass pass' command place mark said tallies same agreed housed is some log =
     let both = has_agreed hall pass agreed in
@@ -179,18 +223,23 @@ legal_agreed hall play play' pass pass' command place mark said tallies same agr
     (ap (tally_of pass.agent) same ∙ both.tally)
 
 -- an event that is no command leaves the numbers
-pub legal_untold : (play play' : Play) (event : Event) (mark : Option Mark) (tallies : List Tally) → IsHoused play tallies →
-    play' ≡ record play { log = log_after (world_in play) play.log event mark } → ((agent : ℕ) → is_told_by agent event ≡ false) → IsLegalLog play' → IsHoused play' tallies
-legal_untold play play' event mark tallies housed is untold log = by_keeping (keeps_next (world_in play) play.log event) refl
+pub legal_untold : (play play' : Play) (event : Event) (mark : Option Mark) (tallies : List Tally)
+    → IsHoused play tallies →
+    play' ≡ record play { log = log_after (world_in play) play.log event mark }
+    → ((agent : ℕ) → is_told_by agent event ≡ false) → IsLegalLog play' → IsHoused play' tallies
+legal_untold play play' event mark tallies housed is untold log =
+    by_keeping (keeps_next (world_in play) play.log event) refl
   where
     by_keeping : (b : Bool) → keeps_next (world_in play) play.log event ≡ b → IsHoused play' tallies
     by_keeping false unkept =
-        let same : play' ≡ play = is ∙ ap (λ (log : List Kept). let p : Play = record play { log = log } in p) (cond-false _ _ _ unkept) in
+        let same : play' ≡ play = is ∙ ap (λ (log : List Kept). let p : Play = record play { log = log } in p)
+        (cond-false _ _ _ unkept) in
         rw same housed
     by_keeping true is_kept =
         let one : Kept = record { event = event; mark = mark } in
         let after : Play = record play { log = play.log ++ one ∷ [] } in
-        let grown : play' ≡ after = is ∙ ap (λ (log : List Kept). let p : Play = record play { log = log } in p) (cond-true _ _ _ is_kept) in
+        let grown : play' ≡ after = is ∙ ap (λ (log : List Kept). let p : Play = record play { log = log } in p)
+        (cond-true _ _ _ is_kept) in
         let legal_log : IsLegalLog after = subst IsLegalLog grown log in
         subst (λ (after : Play). IsHoused after tallies) (sym grown) (
           record {

@@ -1,5 +1,6 @@
 -- An agent's arrivals, one after the other.
-use Rattle.std.specs.Prelude.{ℕ, ◌≡◌, Bool, true, false, Option, Some, None, List, [], ◌∷◌, ◌++◌, length, slice_get, option_and_then, option_map}
+use Rattle.std.specs.Prelude.{ℕ, ◌≡◌, Bool, true, false, Option, Some, None, List, [], ◌∷◌, ◌++◌, length, slice_get}
+use Rattle.std.specs.Prelude.{option_and_then, option_map}
 use Rattle.bhs_model.specs.declared.events.Event.{Event}
 use Rattle.bhs_model.specs.declared.events.Event.TheVariants.{Deliver}
 use Rattle.bhs_model.specs.declared.marks.Mark.{Mark}
@@ -36,7 +37,8 @@ is_here reply = false
 -- what news makes of a pass, where its agent has this next arrival, or none
 abbrev pub IsGivenIf : Option Receipt → Passed → Reply → Passed → Type 0
 IsGivenIf None pass said pass' = (said ≡ Over) × (pass' ≡ pass)
-IsGivenIf (Some receipt) pass said pass' = (said ≡ receipt.reply) × (pass' ≡ record pass { arrivals = pass.arrivals ++ receipt ∷ [] })
+IsGivenIf (Some receipt) pass said pass' = (said ≡ receipt.reply)
+    × (pass' ≡ record pass { arrivals = pass.arrivals ++ receipt ∷ [] })
 
 -- the pass gains the next arrival that it has not; where there is none, nothing changes
 abbrev pub IsGiven : Play → Passed → Reply → Passed → Type 0

@@ -9,7 +9,8 @@ use Rattle.bhs_lock.specs.declared.parts.Parts.{Parts}
 use Rattle.bhs_lock.specs.declared.parts.Unsettled.{Unsettled}
 use Rattle.bhs_lock.specs.Passes.{Passed}
 use Rattle.bhs_lock.specs.Cells.{Given}
-use Rattle.bhs_lock.specs.Settling.{IsOfWorld, NoneMissing, IsLeastMissing, Agree, IsLeastDifference, commands_of, arrivals_of}
+use Rattle.bhs_lock.specs.Settling.{IsOfWorld, NoneMissing, IsLeastMissing, Agree, IsLeastDifference, commands_of}
+use Rattle.bhs_lock.specs.Settling.{arrivals_of}
 
 -- what a settlement goes by: what the cell was given, the match that stood under its lock, the passes that nobody
 -- claimed, by agent, and those handed in
@@ -23,9 +24,9 @@ pub record Account : Type 0 where
 abbrev pub IsWhole : Account → Type 0
 IsWhole account = NoneMissing account.given.setup.agents account.left account.passes
 
--- the passes tell what stands in the log: each has the heard commands of its agent, each once, in order, with places and
--- replies, and its first arrivals, with places and replies; an agent without a pass has no heard command. The match is of
--- the world that was given, and has ended.
+-- the passes tell what stands in the log: each has the heard commands of its agent, each once, in order, with places
+-- and replies, and its first arrivals, with places and replies; an agent without a pass has no heard command. The match
+-- is of the world that was given, and has ended.
 pub record AreInAccord (given : Given) (play : Play) (passes : List Passed) : Type 0 where
   pub world : IsOfWorld given play
   pub commands : Agree (commands_of play passes)
@@ -78,7 +79,12 @@ IsDispute account NotClosed = IsOpen account
 
 -- what parts and passes are settled by
 abbrev pub account_of : Parts → List Passed → Account
-account_of parts passes = record { given = record { net = parts.net; setup = parts.setup }; play = parts.hall.play; left = parts.left.items; passes = passes }
+account_of parts passes = record {
+  given = record { net = parts.net; setup = parts.setup };
+  play = parts.hall.play;
+  left = parts.left.items;
+  passes = passes;
+}
 
 -- a refusal of these parts and passes, which come back
 pub record IsRefused (parts : Parts) (passes : Vec Passed Global) (unsettled : Unsettled) : Type 0 where
@@ -89,5 +95,10 @@ pub record IsRefused (parts : Parts) (passes : Vec Passed Global) (unsettled : U
 
 -- a refusal of a cell and passes: the dispute is about what comes back, and the passes are those handed in
 pub record HasRefused (given : Given) (passes : Vec Passed Global) (unsettled : Unsettled) : Type 0 where
-  pub dispute : IsDispute (record { given = given; play = unsettled.hall.play; left = unsettled.left.items; passes = passes.items }) unsettled.why
+  pub dispute : IsDispute (record {
+    given = given;
+    play = unsettled.hall.play;
+    left = unsettled.left.items;
+    passes = passes.items;
+  }) unsettled.why
   pub same_passes : unsettled.passes ≡ passes

@@ -15,4 +15,5 @@ Fits quota Ended used heard = 0 < heard
 -- each agent's count fits
 abbrev pub AreFit : Play → Type 0
 AreFit play = (agent : ℕ) →
-    Fits play.setup.quota (standing ((state_of play).past agent)) (used ((state_of play).past agent)) (heard_count agent play.log)
+    Fits play.setup.quota (standing ((state_of play).past agent)) (used ((state_of play).past agent))
+    (heard_count agent play.log)

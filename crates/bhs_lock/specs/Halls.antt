@@ -1,5 +1,6 @@
 -- What stands under the lock, and what a command makes of it and of a pass.
-use Rattle.std.specs.Prelude.{ℕ, ◌≡◌, Bool, true, false, ◌&&◌, not, Option, Some, None, List, ◌==◌, nat_lt, if◌then◌else◌, length, slice_get, ◌-◌, replicate}
+use Rattle.std.specs.Prelude.{ℕ, ◌≡◌, Bool, true, false, ◌&&◌, not, Option, Some, None, List, ◌==◌, nat_lt}
+use Rattle.std.specs.Prelude.{if◌then◌else◌, length, slice_get, ◌-◌, replicate}
 use Rattle.bhs_model.specs.declared.commands.Command.{Command}
 use Rattle.bhs_model.specs.declared.events.Event.TheVariants.{Tell}
 use Rattle.bhs_model.specs.declared.marks.Mark.{Mark}
@@ -49,7 +50,8 @@ is_below receipts most = place_below (slice_get receipts (length receipts - 1)) 
 abbrev pub agrees : Housed → Passed → Bool
 agrees hall pass =
     (pass.game == hall.game) && ((pass.quota == hall.play.setup.quota) && (nat_lt pass.agent hall.play.setup.agents
-    && (same_tally (tally_of pass.agent hall.play) (tally_in pass.receipts) && is_below pass.receipts (length hall.play.log))))
+    && (same_tally (tally_of pass.agent hall.play) (tally_in pass.receipts) && is_below pass.receipts
+    (length hall.play.log))))
 
 -- the reply of a mark whose whiteboard shows this text
 abbrev pub spoken : Mark → (text : List ℕ) → Reply
@@ -62,25 +64,29 @@ spoken marks.Bye text = replies.Bye
 spoken marks.Over text = replies.Over
 spoken (marks.No why) text = replies.No why
 
--- What is taken from memory before a command is told: where the reply will speak of a whiteboard, two copies of the text
--- that the agent sees; and what will be kept of the command, if it is heard.
+-- What is taken from memory before a command is told: where the reply will speak of a whiteboard, two copies of the
+-- text that the agent sees; and what will be kept of the command, if it is heard.
 pub record IsSpareFor (play : Play) (agent : ℕ) (command : Command) (spare : Spare) : Type 0 where
   pub texts : is_of_board_if (reply (world_in play) (state_of play) (Tell agent command)) ≡ true →
       (spare.text ≡ shown_at (world_in play) (state_of play) ((state_of play).position agent))
       × (spare.again ≡ shown_at (world_in play) (state_of play) ((state_of play).position agent))
-  pub kept : (said : Reply) → Some said ≡ reply (world_in play) (state_of play) (Tell agent command) → spare.kept ≡ kept_command command said
+  pub kept : (said : Reply) → Some said ≡ reply (world_in play) (state_of play) (Tell agent command) → spare.kept
+      ≡ kept_command command said
 
 -- What a command of its agent makes of a match and a pass. The reply is that of the definitions; the log grows by the
 -- event where they keep it, and the place is its index there; the pass gains its receipt.
-pub record IsTold (play : Play) (pass : Passed) (command : Command) (place : Option ℕ) (mark : Mark) (said : Reply) (play' : Play) (pass' : Passed) : Type 0 where
+pub record IsTold (play : Play) (pass : Passed) (command : Command) (place : Option ℕ) (mark : Mark) (said : Reply)
+    (play' : Play) (pass' : Passed) : Type 0 where
   pub replied : Some said ≡ reply (world_in play) (state_of play) (Tell pass.agent command)
   pub reads : read play'.log mark ≡ said
-  pub at : place ≡ (if keeps_next (world_in play) play.log (Tell pass.agent command) then Some (length play.log) else None)
+  pub at : place ≡ (if keeps_next (world_in play) play.log (Tell pass.agent command)
+      then Some (length play.log) else None)
   pub grown : play' ≡ record play { log = log_after (world_in play) play.log (Tell pass.agent command) (Some mark) }
   pub kept : pass' ≡ gained pass command place said
 
 -- the same under the lock: some mark that reads as the reply stands in the log
-pub record IsHeardBy (hall : Housed) (pass : Passed) (command : Command) (answer : Answer) (hall' : Housed) (pass' : Passed) : Type 0 where
+pub record IsHeardBy (hall : Housed) (pass : Passed) (command : Command) (answer : Answer) (hall' : Housed)
+    (pass' : Passed) : Type 0 where
   pub mark : Mark
   pub told : IsTold hall.play pass command answer.place mark answer.reply hall'.play pass'
   pub game : hall'.game ≡ hall.game

@@ -8,5 +8,5 @@ pub mod Arrivals
 pub mod Unclaimed
 pub mod Cells
 pub mod Settling
-pub mod Looking
+pub mod Saying
 pub mod Disputes

@@ -1,5 +1,6 @@
 -- What a pass holds.
-use Rattle.std.specs.Prelude.{ℕ, ◌+◌, ◌<◌, ◌≤◌, Bool, true, false, Option, Some, None, List, [], ◌∷◌, ◌++◌, length, map, if◌then◌else◌}
+use Rattle.std.specs.Prelude.{ℕ, ◌+◌, ◌<◌, ◌≤◌, Bool, true, false, Option, Some, None, List, [], ◌∷◌, ◌++◌, length, map}
+use Rattle.std.specs.Prelude.{if◌then◌else◌}
 use Rattle.std.specs.List.{list_any, range_with_len, AllByRecursion}
 use Rattle.bhs_model.specs.declared.commands.Command.{Command}
 use Rattle.bhs_model.specs.declared.commands.Command.TheVariants.{Write}
@@ -9,8 +10,8 @@ use Rattle.bhs_world.specs.Tables.{is_of_board}
 use Rattle.bhs_lock.specs.declared.model.Receipt.{Receipt}
 use Rattle.bhs_lock.specs.declared.model.Tally.{Tally}
 
--- the numbers of the match, the quota and the agent that it is of; the receipts of its heard commands, with the commands;
--- and the receipts of its arrivals
+-- the numbers of the match, the quota and the agent that it is of; the receipts of its heard commands, with the
+-- commands; and the receipts of its arrivals
 pub record Passed : Type 0 where
   pub game : ℕ
   pub quota : ℕ
@@ -21,7 +22,14 @@ pub record Passed : Type 0 where
 
 -- a pass of an agent that was told nothing
 abbrev pub empty_pass : (game quota agent : ℕ) → Passed
-empty_pass game quota agent = record { game = game; quota = quota; agent = agent; receipts = []; commands = []; arrivals = [] }
+empty_pass game quota agent = record {
+  game = game;
+  quota = quota;
+  agent = agent;
+  receipts = [];
+  commands = [];
+  arrivals = [];
+}
 
 -- one for each agent, in order
 abbrev pub passes_of : (game quota agents : ℕ) → List Passed

@@ -19,7 +19,8 @@ is_unheard (No Ended) = true
 is_unheard (No Spent) = true
 is_unheard reply = false
 
--- why a command of an agent that has entered and not ended is not heard: the quota is used up, and the command is no Leave
+-- why a command of an agent that has entered and not ended is not heard: the quota is used up, and the command is no
+-- Leave
 abbrev pub spent_by : (quota heard : ℕ) → Command → Option Why
 spent_by quota heard Leave = None
 spent_by quota heard command = if heard - 1 == quota then Some Spent else None
@@ -41,7 +42,8 @@ pub record IsRecorded (pass : Passed) (command : Command) (place : ℕ) (said : 
 pub record IsUnrecorded (pass : Passed) (command : Command) (said : Reply) (pass' : Passed) : Type 0 where
   pub same : pass' ≡ pass
   pub unheard : is_unheard said ≡ true
-  pub why : (said ≡ No Agent) ⊎ ((said ≡ Over) ⊎ (Some said ≡ option_map No (refusal_by pass.quota (tally_in pass.receipts) command)))
+  pub why : (said ≡ No Agent) ⊎ ((said ≡ Over)
+      ⊎ (Some said ≡ option_map No (refusal_by pass.quota (tally_in pass.receipts) command)))
 
 -- what a pass says of a command, by whether it has a place in the log
 abbrev pub IsSubmitted : Passed → Command → (place : Option ℕ) → Reply → Passed → Type 0

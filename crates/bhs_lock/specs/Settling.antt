@@ -1,5 +1,6 @@
 -- How what several passes say is compared with what stands in a log.
-use Rattle.std.specs.Prelude.{ℕ, ◌<◌, ◌≡◌, ◌⊎◌, Bool, true, false, not, Option, Some, None, List, [], ◌∷◌, ◌++◌, ◌==◌, nat_lt, if◌then◌else◌, length, map, filter, take, slice_get}
+use Rattle.std.specs.Prelude.{ℕ, ◌<◌, ◌≡◌, ◌⊎◌, Bool, true, false, not, Option, Some, None, List, [], ◌∷◌, ◌++◌, ◌==◌}
+use Rattle.std.specs.Prelude.{nat_lt, if◌then◌else◌, length, map, filter, take, slice_get}
 use Rattle.std.specs.List.{list_any, range_with_len, AllByRecursion}
 use Rattle.bhs_match.specs.Matches.{Play, arrivals}
 use Rattle.bhs_lock.specs.declared.model.Receipt.{Receipt}
@@ -26,7 +27,8 @@ pub record IsBefore {A : Type 0} (agent index : ℕ) (one : Compared A) : Type 0
 -- one of them is this agent's, and differs there first
 abbrev pub DiffersAt : {A : Type 0} → (agent index : ℕ) → List (Compared A) → Type 0
 DiffersAt agent index [] = ⊥
-DiffersAt agent index (one ∷ others) = ((one.agent ≡ agent) × IsFirstDifference one.logged one.said index) ⊎ DiffersAt agent index others
+DiffersAt agent index (one ∷ others) = ((one.agent ≡ agent) × IsFirstDifference one.logged one.said index)
+    ⊎ DiffersAt agent index others
 
 -- the least agent, and its least index, at which anything differs
 pub record IsLeastDifference {A : Type 0} (all : List (Compared A)) (agent index : ℕ) : Type 0 where
@@ -40,7 +42,8 @@ IsLeast all (Some found) = IsLeastDifference all found.0 found.1
 
 -- whether this pair of agent and index comes before the other
 abbrev pub precedes : (agent index : ℕ) → ℕ × ℕ → Bool
-precedes agent index other = if nat_lt agent other.0 then true else (if agent == other.0 then nat_lt index other.1 else false)
+precedes agent index other = if nat_lt agent other.0 then true
+    else (if agent == other.0 then nat_lt index other.1 else false)
 
 -- the lesser of what was found and of an index of an agent, if there are such
 abbrev pub lesser : Option (ℕ × ℕ) → (agent : ℕ) → Option ℕ → Option (ℕ × ℕ)
@@ -54,7 +57,11 @@ has_pass passes agent = list_any (λ pass. pass.agent == agent) passes
 
 -- the heard commands of a pass's agent, and its receipts with the kept commands
 abbrev pub told_by : Play → Passed → Compared Heard
-told_by play pass = record { agent = pass.agent; logged = heard_in pass.agent play.log; said = receipted pass.receipts pass.commands }
+told_by play pass = record {
+  agent = pass.agent;
+  logged = heard_in pass.agent play.log;
+  said = receipted pass.receipts pass.commands;
+}
 
 -- the heard commands of an agent of whom nothing is said
 abbrev pub told_by_none : Play → (agent : ℕ) → Compared Heard

@@ -18,8 +18,8 @@ use std::alloc::Global;
 use std::marker::Model;
 use std::sync::{Condvar, Mutex, Wait};
 
-/// A match that threads share. Whatever is done with it is done under its lock, and what stands under the lock is always
-/// a legal history.
+/// A match that threads share. Whatever is done with it is done under its lock, and what stands under the lock is
+/// always a legal history.
 #[derive(Drop)]
 pub struct Cell {
     game: u32,
@@ -70,7 +70,8 @@ impl Cell {
         })
     }
 
-    /// The pass of an agent, once; None for a number that is no agent's, and for an agent whose pass was claimed before.
+    /// The pass of an agent, once; None for a number that is no agent's, and for an agent whose pass was claimed
+    /// before.
     pub fn claim<R: Wait>(&self, rt: &R, agent: u16) -> Option<Pass>
         ensures { IfSome result (IsFresh agent) }
     {
@@ -78,8 +79,8 @@ impl Cell {
     }
 
     /// Tells a command for the agent of a pass, under the match's lock. The answer has a place in the log exactly where
-    /// the command was heard, and the pass gains its receipt then; else the pass is as it was. A pass that does not agree
-    /// with what stands under the lock is answered as no agent's.
+    /// the command was heard, and the pass gains its receipt then; else the pass is as it was. A pass that does not
+    /// agree with what stands under the lock is answered as no agent's.
     pub fn submit<R: Wait, G: Gate>(
         &self,
         rt: &R,
@@ -101,8 +102,8 @@ impl Cell {
         answer
     }
 
-    /// Waits until the agent of a pass has an arrival that the pass has not, which the pass then gains, or until the match
-    /// is over and it has none. A pass of another match is answered that the match is over.
+    /// Waits until the agent of a pass has an arrival that the pass has not, which the pass then gains, or until the
+    /// match is over and it has none. A pass of another match is answered that the match is over.
     pub fn news<R: Wait>(&self, rt: &R, pass: &mut Pass) -> Result<Reply, Memory>
         ensures news { IfOk result (λ said. IsNews pass.old said pass.new) }
         ensures failed { OnErr result (pass.new ≡ pass.old) }

@@ -1,5 +1,5 @@
-/// Is called before, under and after the lock of a match, for each command that is submitted. Tests make threads wait for
-/// each other by it.
+/// Is called before, under and after the lock of a match, for each command that is submitted. Tests make threads wait
+/// for each other by it.
 pub trait Gate {
     /// Before the lock of match `game` is asked for, for a command of `agent`.
     fn asked(&self, game: u32, agent: u16);

@@ -42,7 +42,8 @@ impl Model for Hall {
 }
 
 impl Hall {
-    /// The hall of a match with an empty log, and one pass for each agent, in order, with room for all that it can be told.
+    /// The hall of a match with an empty log, and one pass for each agent, in order, with room for all that it can be
+    /// told.
     pub fn new(alloc: Global, game: u32, play: Match) -> Result<(Hall, Vec<Pass>), Memory>
         requires { play.log ≡ [] }
         ensures hall { IfOk result (λ made. made.0 ≡ empty_hall game play) }
@@ -109,7 +110,8 @@ impl Hall {
 
     /// Tells a command for the agent of a pass.
     pub fn told(&mut self, pass: &mut Pass, command: Command) -> Result<Answer, Memory>
-        ensures done { IfOk result (λ answer. IsAnswered (agrees self.old pass.old) self.old pass.old command answer self.new pass.new) }
+        ensures done { IfOk result (λ answer. IsAnswered (agrees self.old pass.old) self.old pass.old command answer
+            self.new pass.new) }
 
         // What the pass itself says of it.
         ensures submitted { IfOk result (λ answer. IsSubmitted pass.old command answer.place answer.reply pass.new) }
@@ -139,7 +141,8 @@ impl Hall {
     /// Plays at most one delivery: that of the agent that the word picks out of the pool. Takes no memory.
     pub(crate) fn draw(&mut self, held: &Held, word: u32) -> Drawn
         ensures drawn { result ≡ drawn (held_in held.now) (state_of self.old.play) word }
-        ensures played { IsPlayedIf self.old.play (draw (held_in held.now) (state_of self.old.play) word) self.new.play }
+        ensures played { IsPlayedIf self.old.play
+            (draw (held_in held.now) (state_of self.old.play) word) self.new.play }
         ensures game { self.new.game ≡ self.old.game }
     {
         let drawn = draw(&mut self.play, held, word);

@@ -49,9 +49,9 @@ pub struct Unsettled {
 }
 
 /// The match of a cell that no thread shares any more, for reading alone, where the passes agree with it: each claimed
-/// pass is among them, and each has the heard commands of its agent and its first arrivals, with places and replies. Else
-/// the first dispute, in the order of `Dispute`, of the least agent and there of the least index; the parts come back.
-/// Takes no memory. Any pass may be handed in.
+/// pass is among them, and each has the heard commands of its agent and its first arrivals, with places and replies.
+/// Else the first dispute, in the order of `Dispute`, of the least agent and there of the least index; the parts come
+/// back. Takes no memory. Any pass may be handed in.
 pub fn settle(cell: Cell, passes: Vec<Pass>) -> Result<Sealed, Unsettled>
     ensures settled { IfOk result (λ sealed. AreInAccord cell sealed passes.items) }
     ensures refused { IfErr result (λ unsettled. HasRefused cell passes unsettled) }
@@ -86,7 +86,8 @@ impl Parts {
 
     /// The first dispute between the parts and the passes, if there is one.
     fn first_dispute(&self, passes: &[Pass]) -> Option<Dispute>
-        ensures { MatchOption result (IsSettled (account_of self.now passes.now)) (IsDispute (account_of self.now passes.now)) }
+        ensures { MatchOption result (IsSettled (account_of self.now passes.now))
+            (IsDispute (account_of self.now passes.now)) }
     {
         let play = self.hall.state();
         if let Some(agent) = missing(self.setup.agents, &self.left, passes) {

@@ -1,4 +1,5 @@
-ghost use Rattle.std.specs.Prelude.{◌≡◌, [], true, IfOk, OnErr, length, option_map, option_and_then, slice_get, map, Some, IsTrue, ◌↔◌};
+ghost use Rattle.std.specs.Prelude.{◌≡◌, [], true, IfOk, OnErr, length, option_map, option_and_then, slice_get, map};
+ghost use Rattle.std.specs.Prelude.{Some, IsTrue, ◌↔◌};
 ghost use Rattle.bhs_match.specs.Matches.{world_in, state_of, shown_at};
 ghost use Rattle.bhs_lock.specs.Passes.{Passed, empty_pass, is_end, tally_in, kind_of, gained, Ascend};
 ghost use Rattle.std.specs.Prelude.{MatchOption};
@@ -38,9 +39,17 @@ impl Model for Pass {
 
     ghost Value = { Passed };
 
-    ghost view = { λ p. record { game = p.game; quota = p.quota; agent = p.agent; receipts = p.receipts.items; commands = p.commands.items; arrivals = p.arrivals.items } };
+    ghost view = { λ p. record {
+      game = p.game;
+      quota = p.quota;
+      agent = p.agent;
+      receipts = p.receipts.items;
+      commands = p.commands.items;
+      arrivals = p.arrivals.items;
+    } };
 
-    ghost invariant = { λ p. (p.ended ≡ list_any is_last p.receipts.items) × (length p.receipts.items ≡ length p.commands.items) × Ascend 0 p.receipts.items };
+    ghost invariant = { λ p. (p.ended ≡ list_any is_last p.receipts.items)
+        × (length p.receipts.items ≡ length p.commands.items) × Ascend 0 p.receipts.items };
 }
 
 impl Pass {
@@ -97,7 +106,7 @@ impl Pass {
     }
 
     /// How many commands were heard.
-    pub(crate) fn told(&self) -> usize
+    pub(crate) fn commands_heard(&self) -> usize
         ensures { result ≡ length (receipted self.now.receipts self.now.commands) }
     {
         self.receipts.as_slice().len()
@@ -112,7 +121,8 @@ impl Pass {
         command: &Command,
         mark: &Option<Mark>,
     ) -> bool
-        ensures { IsTrue result ↔ (slice_get (receipted self.now.receipts self.now.commands) index ≡ Some (entry_of log.now place command.now mark.now)) }
+        ensures { IsTrue result ↔ (slice_get (receipted self.now.receipts self.now.commands) index
+            ≡ Some (entry_of log.now place command.now mark.now)) }
     {
         match (self.receipts.get(index), self.commands.get(index)) {
             (Some(receipt), Some(kept)) => is_entry(log, place, command, mark, receipt, kept),
@@ -134,7 +144,8 @@ impl Pass {
     /// will speak of a whiteboard.
     pub(crate) fn tell(&mut self, play: &mut Match, command: Command) -> Result<Step, Memory>
         requires { is_below self.old.receipts (length play.old.log) ≡ true }
-        ensures done { IfOk result (λ step. IsTold play.old self.old command step.place step.mark step.reply play.new self.new) }
+        ensures done { IfOk result (λ step. IsTold play.old self.old command step.place step.mark step.reply
+            play.new self.new) }
         ensures failed { OnErr result ((self.new ≡ self.old) × (play.new ≡ play.old)) }
     {
         self.receipts.reserve(1)?;
@@ -190,7 +201,8 @@ impl Pass {
 impl Pass {
     /// The least index at which the pass's arrivals are not those of its agent in the log of a match.
     pub(crate) fn stray(&self, play: &Match) -> Option<usize>
-        ensures { MatchOption result ((arrived_by play.now self.now).logged ≡ (arrived_by play.now self.now).said) (IsFirstDifference (arrived_by play.now self.now).logged (arrived_by play.now self.now).said) }
+        ensures { MatchOption result ((arrived_by play.now self.now).logged ≡ (arrived_by play.now self.now).said)
+            (IsFirstDifference (arrived_by play.now self.now).logged (arrived_by play.now self.now).said) }
     {
         let places = play.news(self.agent);
         let log = play.log();
@@ -215,7 +227,8 @@ fn is_arrival(places: &[u32], log: &[Kept], index: usize, receipt: &Receipt) -> 
 
 /// The place and the mark of the arrival of this index, of an agent whose arrivals stand at these places.
 fn arrival_of(places: &[u32], log: &[Kept], index: usize) -> Option<(u32, Mark)>
-    ensures { option_map (λ found. record { place = found.0; reply = read log.now found.1 }) result ≡ option_and_then (receipt_at log.now) (slice_get places.now index) }
+    ensures { option_map (λ found. record { place = found.0; reply = read log.now found.1 }) result
+        ≡ option_and_then (receipt_at log.now) (slice_get places.now index) }
 {
     let place = *places.get(index)?;
     let mark = arrival_at(log, place)?;
@@ -278,7 +291,8 @@ fn kind_of(alloc: Global, command: &Command) -> Command
 
 /// A copy of the text that the agent sees.
 fn seen(alloc: Global, play: &Match, agent: u16) -> Result<Text, Memory>
-    ensures { IfOk result (λ text. text ≡ shown_at (world_in play.now) (state_of play.now) ((state_of play.now).position agent)) }
+    ensures { IfOk result (λ text. text ≡ shown_at (world_in play.now) (state_of play.now)
+        ((state_of play.now).position agent)) }
 {
     let text = String::from_str(alloc, play.seen(agent))?;
     Ok(Text::from(text))

@@ -1,8 +1,9 @@
 ghost use Rattle.std.specs.Prelude.{◌≡◌, ◌<◌, Some, None, IfSome, MatchOption, length, take, map};
 ghost use Rattle.bhs_match.specs.Matches.{state_of};
 ghost use Rattle.bhs_lock.specs.Comparing.{entry_of};
-ghost use Rattle.bhs_lock.specs.Looking.{IsSaid};
-ghost use Rattle.bhs_lock.specs.Settling.{lesser, has_pass, is_claimed, is_missing, NoneMissing, IsLeastMissing, IsLeast, commands_of, arrivals_of};
+ghost use Rattle.bhs_lock.specs.Saying.{IsSaid};
+ghost use Rattle.bhs_lock.specs.Settling.{lesser, has_pass, is_claimed, is_missing, NoneMissing, IsLeastMissing};
+ghost use Rattle.bhs_lock.specs.Settling.{IsLeast, commands_of, arrivals_of};
 
 use crate::pass::Pass;
 use bhs_match::Match;
@@ -43,8 +44,8 @@ fn is_missing(left: &[Option<Pass>], passes: &[Pass], agent: u16) -> bool
     }
 }
 
-/// The least agent, of the first `agents`, whose pass was claimed and is not among those handed in. `left` are the passes
-/// that nobody claimed, by agent. Takes no memory.
+/// The least agent, of the first `agents`, whose pass was claimed and is not among those handed in. `left` are the
+/// passes that nobody claimed, by agent. Takes no memory.
 pub(crate) fn missing(agents: u16, left: &[Option<Pass>], passes: &[Pass]) -> Option<u16>
     ensures least { MatchOption result (NoneMissing agents left.now passes.now) (IsLeastMissing left.now passes.now) }
     ensures agent { IfSome result (λ agent. agent < agents) }
@@ -64,7 +65,8 @@ pub(crate) fn first_difference(play: &Match, passes: &[Pass]) -> Option<Place>
     ensures { IsLeast (commands_of play.now passes.now) result }
 {
     let log = play.log();
-    let _few = play.setup();
+    // Every match has a setup that is within the limits: no agent is past the places of `heard`.
+    let _setup = play.setup();
     let mut heard = [0; MAX_AGENTS as usize];
     let mut best = None;
     for (place, one) in log.iter().enumerate() {
@@ -79,7 +81,7 @@ pub(crate) fn first_difference(play: &Match, passes: &[Pass]) -> Option<Place>
     }
     for pass in passes {
         let index = heard.get(usize::from(pass.agent())).copied().unwrap_or(0);
-        if index < pass.told() {
+        if index < pass.commands_heard() {
             best = lesser(best, pass.agent(), Some(index));
         }
     }
@@ -111,8 +113,8 @@ fn is_said(
     has_pass
 }
 
-/// The least agent and index at which an arrival of a pass is not the agent's arrival of that index in the log of a match;
-/// None where the arrivals of each pass are the agent's first ones, with places and replies. Takes no memory.
+/// The least agent and index at which an arrival of a pass is not the agent's arrival of that index in the log of a
+/// match; None where the arrivals of each pass are the agent's first ones, with places and replies. Takes no memory.
 pub(crate) fn first_stray(play: &Match, passes: &[Pass]) -> Option<Place>
     ensures { IsLeast (arrivals_of play.now passes.now) result }
 {

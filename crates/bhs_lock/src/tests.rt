@@ -105,8 +105,8 @@ fn tell<R: Wait>(rt: &R, cell: &Cell, pass: &mut Pass, command: Command) -> &'st
     }
 }
 
-/// How many events the log has, why the match does not settle, and how many passes come back: those that were handed in,
-/// and those that are left, claimed or not.
+/// How many events the log has, why the match does not settle, and how many passes come back: those that were handed
+/// in, and those that are left, claimed or not.
 fn outcome(cell: Cell, passes: Vec<Pass>) -> (usize, Option<Dispute>, usize, usize) {
     match settle(cell, passes) {
         Ok(sealed) => (sealed.log().len(), None, 0, 0),

@@ -1,5 +1,6 @@
 -- Each agent stands at most once in the list of those that departed.
-use Rattle.std.proofs.Common.{◌≡◌, ℕ, ◌+◌, ◌<◌, ◌≤◌, Bool, true, false, not, ◌&&◌, ◌||◌, Option, List, [], ◌∷◌, ◌++◌, length, refl, sym, ap, ◌∙◌, subst, inl, inr, arith, ◌==◌, if◌then◌else◌}
+use Rattle.std.proofs.Common.{◌≡◌, ℕ, ◌+◌, ◌<◌, ◌≤◌, Bool, true, false, not, ◌&&◌, ◌||◌, Option, List, [], ◌∷◌, ◌++◌}
+use Rattle.std.proofs.Common.{length, refl, sym, ap, ◌∙◌, subst, inl, inr, arith, ◌==◌, if◌then◌else◌}
 use Rattle.std.specs.Prelude.{nat_eq}
 use Rattle.std.specs.List.{IsDistinct, list_any, filter, AllByRecursion}
 use Rattle.std.specs.Cmp.{nat_eq_equiv}
@@ -26,17 +27,24 @@ unfolding IsDistinct
 distinct_filter test [] distinct = tt
 distinct_filter test (x ∷ xs) distinct =
     cond_both (test x) (x ∷ filter test xs) (filter test xs) (λ (list : List ℕ). IsDistinct nat_eq list)
-    (λ passes. (all_filter _ test xs distinct.0, distinct_filter test xs distinct.1)) (λ fails. distinct_filter test xs distinct.1)
+    (λ passes. (all_filter _ test xs distinct.0, distinct_filter test xs distinct.1))
+    (λ fails. distinct_filter test xs distinct.1)
 
 -- what a filter keeps was there
-any_filter : (agent : ℕ) (test : ℕ → Bool) (xs : List ℕ) → list_any (nat_eq agent) (filter test xs) ≡ true → list_any (nat_eq agent) xs ≡ true
+any_filter : (agent : ℕ) (test : ℕ → Bool) (xs : List ℕ) → list_any (nat_eq agent) (filter test xs) ≡ true
+    → list_any (nat_eq agent) xs ≡ true
 any_filter agent test [] found = found
 any_filter agent test (x ∷ xs) found =
-    by_test (nat_eq agent x) (test x) (list_any (nat_eq agent) (filter test xs)) (list_any (nat_eq agent) xs) (any_filter agent test xs)
-    (cond_both (test x) (x ∷ filter test xs) (filter test xs) (λ (list : List ℕ). list_any (nat_eq agent) list ≡ true → (if test x then (nat_eq agent x || list_any (nat_eq agent) (filter test xs)) else list_any (nat_eq agent) (filter test xs)) ≡ true)
+    by_test (nat_eq agent x) (test x) (list_any (nat_eq agent) (filter test xs)) (list_any (nat_eq agent) xs)
+    (any_filter agent test xs)
+    (cond_both (test x) (x ∷ filter test xs) (filter test xs)
+    (λ (list : List ℕ). list_any (nat_eq agent) list ≡ true
+    → (if test x then (nat_eq agent x || list_any (nat_eq agent) (filter test xs)) else list_any (nat_eq agent)
+    (filter test xs)) ≡ true)
     (λ passes h. rw passes h) (λ fails h. rw fails h) found)
   where
-    by_test : (same passes kept found : Bool) → (kept ≡ true → found ≡ true) → (if passes then (same || kept) else kept) ≡ true → (same || found) ≡ true
+    by_test : (same passes kept found : Bool) → (kept ≡ true → found ≡ true)
+        → (if passes then (same || kept) else kept) ≡ true → (same || found) ≡ true
     by_test true passes kept found more h = refl
     by_test false true kept found more h = more h
     by_test false false kept found more h = more h
@@ -62,22 +70,28 @@ or_cases : (b c : Bool) (P : Type 0) → (b ≡ true → P) → (c ≡ true → 
 or_cases true c P left right h = left refl
 or_cases false c P left right h = right h
 
-once_last : (agents agent : ℕ) (xs : List ℕ) → agent < agents → AreOnce agents xs → AreOnce agents (filter (λ other. not (other == agent)) xs ++ agent ∷ [])
+once_last : (agents agent : ℕ) (xs : List ℕ) → agent < agents → AreOnce agents xs
+    → AreOnce agents (filter (λ other. not (other == agent)) xs ++ agent ∷ [])
 once_last agents agent xs within once =
-    let others : AreOnce agents (filter (λ other. not (other == agent)) xs) = once_filter agents (λ other. not (other == agent)) xs once in
+    let others : AreOnce agents (filter (λ other. not (other == agent)) xs) =
+    once_filter agents (λ other. not (other == agent)) xs once in
     record {
       distinct = IsDistinct-push nat_eq_equiv _ agent others.distinct (none_left agent xs);
       below = λ one found.
-          or_cases (list_any (nat_eq one) (filter (λ other. not (other == agent)) xs)) (list_any (nat_eq one) (agent ∷ [])) (one < agents)
+          or_cases (list_any (nat_eq one) (filter (λ other. not (other == agent)) xs))
+          (list_any (nat_eq one) (agent ∷ [])) (one < agents)
           (others.below one)
-          (λ last. or_cases (nat_eq one agent) false (one < agents) (λ same. let e : one ≡ agent = eqb-true one agent same in omega arith) (λ none. absurd (no_way none)) last)
+          (λ last. or_cases (nat_eq one agent) false (one < agents)
+          (λ same. let e : one ≡ agent = eqb-true one agent same in omega arith)
+          (λ none. absurd (no_way none)) last)
           (sym (list_any-append (nat_eq one) (filter (λ other. not (other == agent)) xs) (agent ∷ [])) ∙ found);
     }
   where
     no_way : false ≡ true → ⊥
     no_way h = cc
 
-pub once_after : (agents agent : ℕ) (xs : List ℕ) (old new : Position) → agent < agents → AreOnce agents xs → AreOnce agents (departed_after xs agent old new)
+pub once_after : (agents agent : ℕ) (xs : List ℕ) (old new : Position) → agent < agents → AreOnce agents xs
+    → AreOnce agents (departed_after xs agent old new)
 once_after agents agent xs Before new within once = once
 once_after agents agent xs (Bound node port) new within once = once
 once_after agents agent xs After new within once = once

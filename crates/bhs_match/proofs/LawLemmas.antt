@@ -1,5 +1,6 @@
 -- The laws of a match.
-use Rattle.std.proofs.Common.{append-nil, ◌≡◌, ℕ, Bool, true, false, Option, List, [], ◌∷◌, ◌++◌, length, map, refl, sym, ap, ◌∙◌, if◌then◌else◌}
+use Rattle.std.proofs.Common.{append-nil, ◌≡◌, ℕ, Bool, true, false, Option, List, [], ◌∷◌, ◌++◌, length, map, refl}
+use Rattle.std.proofs.Common.{sym, ap, ◌∙◌, if◌then◌else◌}
 use Rattle.std.proofs.lemmas.Bool.{cond_both}
 use Rattle.bhs_model.specs.declared.events.Event.{Event}
 use Rattle.bhs_model.specs.declared.marks.Mark.{Mark}
@@ -16,7 +17,8 @@ use Rattle.bhs_model.proofs.AddLemmas.{kept-append}
 use Rattle.bhs_world.specs.Tables.{keeps_next, log_after}
 use Rattle.bhs_world.proofs.GrowthLemmas.{events_more}
 use Rattle.bhs_match.specs.Matches.{bound_at, bounds}
-use Rattle.bhs_match.specs.Laws.{IsLogOf, TellsAll, LogsTellAll, GrowsWith, LogsGrow, LogsAreBounded, ArrivalsAreBounded, IsPooled, PoolsAreOfAgents}
+use Rattle.bhs_match.specs.Laws.{IsLogOf, TellsAll, LogsTellAll, GrowsWith, LogsGrow, LogsAreBounded}
+use Rattle.bhs_match.specs.Laws.{ArrivalsAreBounded, IsPooled, PoolsAreOfAgents}
 use Rattle.bhs_match.proofs.FairLemmas.{fair_run}
 use Rattle.bhs_match.proofs.CountLemmas.{kept_bound}
 use Rattle.bhs_match.proofs.PoolLemmas.{pool_bound}
@@ -24,7 +26,8 @@ use Rattle.bhs_match.proofs.NewsLemmas.{news_bound}
 
 pub logs_tell_all_lemma : LogsTellAll
 logs_tell_all_lemma world events log is =
-    let same : run world events ≡ run world (events_of log) = sym (run-kept world initial nobody events) ∙ ap (run world) is in
+    let same : run world events ≡ run world (events_of log) = sym (run-kept world initial nobody events)
+    ∙ ap (run world) is in
     record {
       state = same;
       pool = ap pool same;
@@ -33,12 +36,14 @@ logs_tell_all_lemma world events log is =
     }
 
 -- the replies in a log are those that the kept events were given among all that happened
-pub heard_in_log : (world : World) (log : List Kept) → map (λ one. read_if log one.mark) log ≡ replies world (events_of log) →
+pub heard_in_log : (world : World) (log : List Kept) → map (λ one. read_if log one.mark) log ≡ replies world
+    (events_of log) →
     (events : List Event) → IsLogOf world events log → map (λ one. read_if log one.mark) log ≡ kept_replies world events
 heard_in_log world log replied events is = replied ∙ sym (logs_tell_all_lemma world events log is).replies
 
 -- by whether the event is kept
-log_chosen : (log : List Kept) (one : Kept) (is_kept : Bool) → events_of log ++ kept_first is_kept one.event [] ≡ events_of (if is_kept then log ++ one ∷ [] else log)
+log_chosen : (log : List Kept) (one : Kept) (is_kept : Bool) → events_of log ++ kept_first is_kept one.event
+    [] ≡ events_of (if is_kept then log ++ one ∷ [] else log)
 log_chosen log one true = sym (events_more log one)
 log_chosen log one false = append-nil (events_of log)
 
@@ -48,9 +53,12 @@ logs_grow_lemma world events log event mark is =
     record {
       answer = ap (λ (state : State). reply world state event) (sym known.state);
       grown = kept-append world initial nobody events (event ∷ [])
-          ∙ ap (λ (before : List Event). before ++ kept_first (keeps world (run world events) (lost world events) event) event []) is
-          ∙ ap (λ (state : State). events_of log ++ kept_first (keeps world state (lost world events) event) event []) known.state
-          ∙ ap (λ (lost : ℕ → Bool). events_of log ++ kept_first (keeps world (run world (events_of log)) lost event) event []) known.lost
+          ∙ ap (λ (before : List Event). before
+          ++ kept_first (keeps world (run world events) (lost world events) event) event []) is
+          ∙ ap (λ (state : State). events_of log ++ kept_first (keeps world state (lost world events) event) event [])
+          known.state
+          ∙ ap (λ (lost : ℕ → Bool). events_of log ++ kept_first (keeps world (run world (events_of log)) lost event)
+          event []) known.lost
           ∙ log_chosen log (record { event = event; mark = mark }) (keeps_next world log event);
     }
 
@@ -60,7 +68,8 @@ logs_are_bounded_lemma world events = kept_bound world events
 pub arrivals_are_bounded_lemma : ArrivalsAreBounded
 arrivals_are_bounded_lemma world agent log replied = news_bound world agent log replied
 
-pooled_agents : (position : ℕ → Position) (agents : List ℕ) → map (λ bound. bound.agent) (map (λ agent. bound_at agent (position agent)) agents) ≡ agents
+pooled_agents : (position : ℕ → Position) (agents : List ℕ)
+    → map (λ bound. bound.agent) (map (λ agent. bound_at agent (position agent)) agents) ≡ agents
 pooled_agents position [] = refl
 pooled_agents position (agent ∷ agents) = ap (λ (others : List ℕ). agent ∷ others) (pooled_agents position agents)
 

@@ -52,18 +52,24 @@ few_flights (Bound node port) = omega arith
 few_flights After = omega arith
 
 -- from a node, by a command that counts
-from_node : (world : World) (is_lost : Bool) (node : ℕ) (came : Option ℕ) (new : Position) (before : ℕ) → Moves world is_lost (At node came) new before (before + 1)
+from_node : (world : World) (is_lost : Bool) (node : ℕ) (came : Option ℕ) (new : Position) (before : ℕ)
+    → Moves world is_lost (At node came) new before (before + 1)
 from_node world is_lost node came new before =
     let few = few_flights new in
     record { weight = omega arith; flight = omega arith; gone = λ none. absurd none; linked = tt }
 
 -- on a link, by a command that counts
-on_link : (world : World) (is_lost : Bool) (node port : ℕ) (before : ℕ) → Moves world is_lost (Bound node port) (Bound node port) before (before + 1)
-on_link world is_lost node port before = record { weight = omega arith; flight = omega arith; gone = λ gone. gone; linked = refl }
+on_link : (world : World) (is_lost : Bool) (node port : ℕ) (before : ℕ)
+    → Moves world is_lost (Bound node port) (Bound node port) before (before + 1)
+on_link world is_lost node port before = record
+    { weight = omega arith; flight = omega arith; gone = λ gone. gone; linked = refl }
 
-pub moves : (world : World) (is_lost room : Bool) (position : Position) (command : Command) (before : ℕ) → accepts (standing_at position) room command ≡ true →
-    Moves world is_lost position (position_after world position command) before (if counts command then before + 1 else before)
-moves world is_lost room Before Enter before heard = record { weight = omega arith; flight = omega arith; gone = λ none. absurd none; linked = tt }
+pub moves : (world : World) (is_lost room : Bool) (position : Position) (command : Command) (before : ℕ)
+    → accepts (standing_at position) room command ≡ true →
+    Moves world is_lost position (position_after world position command) before
+    (if counts command then before + 1 else before)
+moves world is_lost room Before Enter before heard =
+    record { weight = omega arith; flight = omega arith; gone = λ none. absurd none; linked = tt }
 moves world is_lost room Before Look before heard = cc
 moves world is_lost room Before (Write expect put) before heard = cc
 moves world is_lost room Before (Depart port) before heard = cc
@@ -75,7 +81,8 @@ moves world is_lost room (At node came) Look before heard = from_node world is_l
 moves world is_lost room (At node came) (Write expect put) before heard = from_node world is_lost node came _ before
 moves world is_lost room (At node came) (Depart port) before heard = from_node world is_lost node came _ before
 moves world is_lost room (At node came) (Accuse port) before heard = from_node world is_lost node came _ before
-moves world is_lost room (At node came) Leave before heard = record { weight = omega arith; flight = omega arith; gone = λ none. absurd none; linked = tt }
+moves world is_lost room (At node came) Leave before heard =
+    record { weight = omega arith; flight = omega arith; gone = λ none. absurd none; linked = tt }
 moves world is_lost room (At node came) Bad before heard = from_node world is_lost node came _ before
 moves world is_lost room (Bound node p) Enter before heard = cc
 moves world is_lost room (Bound node p) Look before heard = on_link world is_lost node p before
@@ -95,7 +102,8 @@ moves world is_lost room After Leave before heard = cc
 moves world is_lost room After Bad before heard = cc
 
 -- a command that counts is heard only where there is room for it
-room_left : (standing : Standing) (room : Bool) (command : Command) → accepts standing room command ≡ true → counts command ≡ true → room ≡ true
+room_left : (standing : Standing) (room : Bool) (command : Command) → accepts standing room command ≡ true
+    → counts command ≡ true → room ≡ true
 room_left Outside room Enter heard counted = cc
 room_left Outside room Look heard counted = cc
 room_left Outside room (Write expect put) heard counted = cc
@@ -119,10 +127,12 @@ room_left Away room Leave heard counted = cc
 room_left Away room Bad heard counted = heard
 room_left Ended room command heard counted = cc
 
-pub within_quota : (quota before : ℕ) (standing : Standing) (command : Command) → accepts standing (nat_lt before quota) command ≡ true → before ≤ quota →
+pub within_quota : (quota before : ℕ) (standing : Standing) (command : Command) → accepts standing (nat_lt before quota)
+    command ≡ true → before ≤ quota →
     (if counts command then before + 1 else before) ≤ quota
 within_quota quota before standing command heard few =
-    by_count (counts command) (λ counted. ltb-true before quota (room_left standing (nat_lt before quota) command heard counted))
+    by_count (counts command) (λ counted. ltb-true before quota
+    (room_left standing (nat_lt before quota) command heard counted))
   where
     by_count : (b : Bool) → (b ≡ true → before < quota) → (if b then before + 1 else before) ≤ quota
     by_count true less = let lt : before < quota = less refl in omega arith

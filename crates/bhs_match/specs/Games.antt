@@ -1,5 +1,6 @@
 -- Matches side by side.
-use Rattle.std.specs.Prelude.{ℕ, ◌<◌, ◌≡◌, Option, Some, None, List, [], ◌∷◌, ◌++◌, length, if◌then◌else◌, slice_index_or, slice_set, option_and_then}
+use Rattle.std.specs.Prelude.{ℕ, ◌<◌, ◌≡◌, Option, Some, None, List, [], ◌∷◌, ◌++◌, length, if◌then◌else◌}
+use Rattle.std.specs.Prelude.{slice_index_or, slice_set, option_and_then}
 use Rattle.bhs_model.specs.declared.events.Event.{Event}
 use Rattle.bhs_model.specs.declared.marks.Mark.{Mark}
 use Rattle.bhs_model.specs.Runs.{run, reply}
@@ -13,7 +14,18 @@ use Rattle.bhs_match.specs.Laws.{IsLogOf}
 
 -- no match
 abbrev nothing : Play
-nothing = record { net = []; setup = record { home = 0; holes = []; dark = []; agents = 0; quota = 0; board = 0 }; log = [] }
+nothing = record {
+  net = [];
+  setup = record {
+    home = 0;
+    holes = [];
+    dark = [];
+    agents = 0;
+    quota = 0;
+    board = 0;
+  };
+  log = [];
+}
 
 -- the match of a number
 abbrev pub play_at : List Play → (game : ℕ) → Play
@@ -23,7 +35,8 @@ play_at plays game = slice_index_or plays game nothing
 pub record IsPlayed (old : Play) (event : Event) (answer : Answer) (new : Play) : Type 0 where
   pub reply : read_if new.log answer.mark ≡ reply (world_in old) (state_of old) event
   pub log : new.log ≡ log_after (world_in old) old.log event answer.mark
-  pub shown : option_and_then board_of answer.mark ≡ named (world_in old) (state_of old) (written (world_in old) (model_events old.log)) event
+  pub shown : option_and_then board_of answer.mark
+      ≡ named (world_in old) (state_of old) (written (world_in old) (model_events old.log)) event
   pub place : answer.place ≡ (if keeps_next (world_in old) old.log event then Some (length old.log) else None)
   pub net : new.net ≡ old.net
   pub setup : new.setup ≡ old.setup
@@ -36,10 +49,13 @@ pub record IsPlayedIn (old : List Play) (game : ℕ) (event : Event) (answer : A
 
 -- the log of each match is what is kept of the events of this match
 abbrev pub AreLogsOf : List Play → List Happening → Type 0
-AreLogsOf plays happenings = (game : ℕ) → game < length plays → IsLogOf (world_in (play_at plays game)) (events_of game happenings) (play_at plays game).log
+AreLogsOf plays happenings = (game : ℕ) → game < length plays
+    → IsLogOf (world_in (play_at plays game)) (events_of game happenings) (play_at plays game).log
 
 -- What is answered in one match is what this match alone gives, after those of all happenings that are its own; and
 -- the logs go on to be what is kept of each match's own events.
-pub record GoesOn (old new : List Play) (happenings : List Happening) (game : ℕ) (event : Event) (mark : Option Mark) : Type 0 where
-  pub reply : read_if (play_at new game).log mark ≡ reply (world_in (play_at old game)) (run (world_in (play_at old game)) (events_of game happenings)) event
+pub record GoesOn (old new : List Play) (happenings : List Happening) (game : ℕ) (event : Event)
+    (mark : Option Mark) : Type 0 where
+  pub reply : read_if (play_at new game).log mark
+      ≡ reply (world_in (play_at old game)) (run (world_in (play_at old game)) (events_of game happenings)) event
   pub logs : AreLogsOf new (happenings ++ record { game = game; event = event } ∷ [])

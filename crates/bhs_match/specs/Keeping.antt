@@ -1,5 +1,6 @@
 -- What a match keeps beside its log, and how that follows from the log.
-use Rattle.std.specs.Prelude.{ℕ, ◌+◌, ◌<◌, ◌≤◌, ◌≡◌, Bool, not, Option, Some, None, List, [], ◌∷◌, ◌++◌, ◌==◌, nat_lt, if◌then◌else◌, filter, length, slice_index_or, slice_set}
+use Rattle.std.specs.Prelude.{ℕ, ◌+◌, ◌<◌, ◌≤◌, ◌≡◌, Bool, not, Option, Some, None, List, [], ◌∷◌, ◌++◌, ◌==◌, nat_lt}
+use Rattle.std.specs.Prelude.{if◌then◌else◌, filter, length, slice_index_or, slice_set}
 use Rattle.bhs_model.specs.declared.setups.Setup.{Setup}
 use Rattle.bhs_model.specs.declared.events.Event.{Event}
 use Rattle.bhs_model.specs.declared.events.Event.TheVariants.{Tell, Deliver, Close}
@@ -30,7 +31,8 @@ node_seen_at table (At node came) = Some node
 node_seen_at table position = None
 
 abbrev pub node_seen : Table → (agent : ℕ) → Option ℕ
-node_seen table agent = if nat_lt agent table.setup.agents then node_seen_at table (agent_at table.agents agent).position else Some table.setup.home
+node_seen table agent = if nat_lt agent table.setup.agents then node_seen_at table
+    (agent_at table.agents agent).position else Some table.setup.home
 
 -- the link that an agent is on
 abbrev pub link_at : Table → (agent : ℕ) → Option (ℕ × ℕ)
@@ -57,7 +59,10 @@ settled_by Close was now pool = pool
 -- the news with a place more
 abbrev pub noted_at : List Shelf → (agent place : ℕ) → List Shelf
 noted_at news agent place =
-    slice_set news agent (record { places = (news_at news agent).places ++ place ∷ []; room = (news_at news agent).room })
+    slice_set news agent (record {
+      places = (news_at news agent).places ++ place ∷ [];
+      room = (news_at news agent).room;
+    })
 
 -- the news after an event that was kept at a place
 abbrev pub noted : List Shelf → Event → Option Mark → (place : ℕ) → List Shelf

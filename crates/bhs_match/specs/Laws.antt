@@ -26,16 +26,19 @@ pub record TellsAll (world : World) (events : List Event) (log : List Kept) : Ty
   pub replies : kept_replies world events ≡ replies world (events_of log)
 
 abbrev pub LogsTellAll : Type 0
-LogsTellAll = (world : World) (events : List Event) (log : List Kept) → IsLogOf world events log → TellsAll world events log
+LogsTellAll = (world : World) (events : List Event) (log : List Kept) → IsLogOf world events log
+    → TellsAll world events log
 
 -- What is answered after the events of the log is what is answered after all that happened, and the log grows with
 -- what happens.
-pub record GrowsWith (world : World) (events : List Event) (log : List Kept) (event : Event) (mark : Option Mark) : Type 0 where
+pub record GrowsWith (world : World) (events : List Event) (log : List Kept) (event : Event)
+    (mark : Option Mark) : Type 0 where
   pub answer : reply world (run world (events_of log)) event ≡ reply world (run world events) event
   pub grown : IsLogOf world (events ++ event ∷ []) (log_after world log event mark)
 
 abbrev pub LogsGrow : Type 0
-LogsGrow = (world : World) (events : List Event) (log : List Kept) (event : Event) (mark : Option Mark) → IsLogOf world events log → GrowsWith world events log event mark
+LogsGrow = (world : World) (events : List Event) (log : List Kept) (event : Event) (mark : Option Mark)
+    → IsLogOf world events log → GrowsWith world events log event mark
 
 -- Whatever happens, not more is kept than a log holds.
 abbrev pub LogsAreBounded : Type 0

@@ -43,7 +43,8 @@ impl Arena {
     /// no memory.
     pub fn apply(&mut self, game: u32, event: Event) -> Result<Answer, ArenaFault>
         ensures played { IfOk result (λ answer. IsPlayedIn self.old game event answer self.new) }
-        ensures history { IfOk result (λ answer. (happenings : List Happening) → AreLogsOf self.old happenings → GoesOn self.old self.new happenings game event answer.mark) }
+        ensures history { IfOk result (λ answer. (happenings : List Happening) → AreLogsOf self.old happenings
+            → GoesOn self.old self.new happenings game event answer.mark) }
         ensures fault { OnErr result ((length self.old ≤ game) × (self.new ≡ self.old)) }
     {
         if game as usize >= self.games.len() {

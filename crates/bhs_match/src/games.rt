@@ -1,4 +1,5 @@
-ghost use Rattle.std.specs.Prelude.{◌≡◌, ◌<◌, ◌≤◌, ℕ, List, [], length, Some, None, Ok, Err, IfSome, IfOk, IfErr, OnOk, if◌then◌else◌, ◌⊎◌, map, option_and_then};
+ghost use Rattle.std.specs.Prelude.{◌≡◌, ◌<◌, ◌≤◌, ℕ, List, [], length, Some, None, Ok, Err, IfSome, IfOk, IfErr, OnOk};
+ghost use Rattle.std.specs.Prelude.{if◌then◌else◌, ◌⊎◌, map, option_and_then};
 ghost use Rattle.bhs_net.specs.Network.{nodes_of};
 ghost use Rattle.bhs_model.specs.declared.limits.TheConstants.{MAX_AGENTS, MAX_QUOTA};
 ghost use Rattle.bhs_model.specs.declared.events.Event.{Event as EventData};
@@ -47,7 +48,8 @@ impl Model for Match {
 
     ghost view = { λ game. record { net = game.world.net; setup = game.world.setup; log = game.log.items } };
 
-    ghost invariant = { λ game. IsInOrder game.world game.log.items game.pool.items game.news.items × HasRoom game.world.setup (vec_capacity game.log) (vec_capacity game.pool) };
+    ghost invariant = { λ game. IsInOrder game.world game.log.items game.pool.items game.news.items
+        × HasRoom game.world.setup (vec_capacity game.log) (vec_capacity game.pool) };
 }
 
 impl Match {
@@ -80,11 +82,13 @@ impl Match {
 
         // The log grows by the event where the definitions keep it, and the place is its index there.
         ensures log { self.new.log ≡ log_after (world_in self.old) self.old.log event result.mark }
-        ensures place { result.place ≡ (if keeps_next (world_in self.old) self.old.log event then Some (length self.old.log) else None) }
+        ensures place { result.place ≡ (if keeps_next (world_in self.old) self.old.log event
+            then Some (length self.old.log) else None) }
 
         // A mark that shows a whiteboard names the last Write there that was answered Written.
         ensures shown { option_and_then board_of result.mark
-            ≡ named (world_in self.old) (state_of self.old) (written (world_in self.old) (events_of self.old.log)) event }
+            ≡ named (world_in self.old) (state_of self.old) (written (world_in self.old) (events_of self.old.log))
+            event }
         ensures same { (self.new.net ≡ self.old.net) × (self.new.setup ≡ self.old.setup) }
     {
         let is_kept = self.world.keeps(&event);
@@ -110,14 +114,16 @@ impl Match {
 
         // It holds what the definitions keep, with what they reply.
         ensures kept { kept (world_in self.now) (events_of self.now.log) ≡ events_of self.now.log }
-        ensures replies { map (λ one. read_if self.now.log one.mark) self.now.log ≡ replies (world_in self.now) (events_of self.now.log) }
+        ensures replies { map (λ one. read_if self.now.log one.mark) self.now.log
+            ≡ replies (world_in self.now) (events_of self.now.log) }
 
         // These are the replies that the kept ones were given among all that happened.
         ensures heard { (events : List EventData) → IsLogOf (world_in self.now) events self.now.log
             → map (λ one. read_if self.now.log one.mark) self.now.log ≡ kept_replies (world_in self.now) events }
 
         // A mark that shows a whiteboard names the last Write there that was answered Written.
-        ensures shown { map (λ one. option_and_then board_of one.mark) self.now.log ≡ names (world_in self.now) (events_of self.now.log) }
+        ensures shown { map (λ one. option_and_then board_of one.mark) self.now.log
+            ≡ names (world_in self.now) (events_of self.now.log) }
         ensures bound { length self.now.log ≤ most_kept self.now.setup.agents self.now.setup.quota }
     {
         &self.log
@@ -150,10 +156,11 @@ impl Match {
         }
     }
 
-    /// Whether the reply to a command, if it were told now, would say what a whiteboard shows or that it was written. No
-    /// other reply needs a text.
+    /// Whether the reply to a command, if it were told now, would say what a whiteboard shows or that it was written.
+    /// No other reply needs a text.
     pub fn shows(&self, agent: u16, command: &Command) -> bool
-        ensures { result ≡ is_of_board_if (reply (world_in self.now) (state_of self.now) (Event.Tell agent command.now)) }
+        ensures { result ≡ is_of_board_if (reply (world_in self.now) (state_of self.now)
+            (Event.Tell agent command.now)) }
     {
         self.world.shows(agent, command)
     }

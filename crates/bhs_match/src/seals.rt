@@ -40,14 +40,16 @@ impl Sealed {
 
         // It holds what the definitions keep, with what they reply.
         ensures kept { kept (world_in self.now) (events_of self.now.log) ≡ events_of self.now.log }
-        ensures replies { map (λ one. read_if self.now.log one.mark) self.now.log ≡ replies (world_in self.now) (events_of self.now.log) }
+        ensures replies { map (λ one. read_if self.now.log one.mark) self.now.log
+            ≡ replies (world_in self.now) (events_of self.now.log) }
 
         // These are the replies that the kept ones were given among all that happened.
         ensures heard { (events : List EventData) → IsLogOf (world_in self.now) events self.now.log
             → map (λ one. read_if self.now.log one.mark) self.now.log ≡ kept_replies (world_in self.now) events }
 
         // A mark that shows a whiteboard names the last Write there that was answered Written.
-        ensures shown { map (λ one. option_and_then board_of one.mark) self.now.log ≡ names (world_in self.now) (events_of self.now.log) }
+        ensures shown { map (λ one. option_and_then board_of one.mark) self.now.log
+            ≡ names (world_in self.now) (events_of self.now.log) }
         ensures bound { length self.now.log ≤ most_kept self.now.setup.agents self.now.setup.quota }
     {
         self.game.log()

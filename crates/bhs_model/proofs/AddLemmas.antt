@@ -14,23 +14,29 @@ run-append world state [] more = refl
 run-append world state (event ∷ events) more = run-append world (next world state event) events more
 
 pub replies-append : (world : World) (state : State) (events more : List Event) →
-    replies_from world state (events ++ more) ≡ replies_from world state events ++ replies_from world (run_from world state events) more
+    replies_from world state (events ++ more) ≡ replies_from world state events ++ replies_from world
+    (run_from world state events) more
 replies-append world state [] more = refl
 replies-append world state (event ∷ events) more =
-    ap (λ (others : List (Option Reply)). reply world state event ∷ others) (replies-append world (next world state event) events more)
+    ap (λ (others : List (Option Reply)). reply world state event ∷ others)
+    (replies-append world (next world state event) events more)
 
 pub lost-append : (world : World) (state : State) (lost : ℕ → Bool) (events more : List Event) →
-    lost_from world state lost (events ++ more) ≡ lost_from world (run_from world state events) (lost_from world state lost events) more
+    lost_from world state lost (events ++ more) ≡ lost_from world (run_from world state events)
+    (lost_from world state lost events) more
 lost-append world state lost [] more = refl
-lost-append world state lost (event ∷ events) more = lost-append world (next world state event) (lost_after world state lost event) events more
+lost-append world state lost (event ∷ events) more =
+    lost-append world (next world state event) (lost_after world state lost event) events more
 
-kept_first-append : (is_kept : Bool) (event : Event) (events more : List Event) → kept_first is_kept event (events ++ more) ≡ kept_first is_kept event events ++ more
+kept_first-append : (is_kept : Bool) (event : Event) (events more : List Event)
+    → kept_first is_kept event (events ++ more) ≡ kept_first is_kept event events ++ more
 kept_first-append true event events more = refl
 kept_first-append false event events more = refl
 
 pub kept-append : (world : World) (state : State) (lost : ℕ → Bool) (events more : List Event) →
     kept_from world state lost (events ++ more)
-    ≡ kept_from world state lost events ++ kept_from world (run_from world state events) (lost_from world state lost events) more
+    ≡ kept_from world state lost events ++ kept_from world (run_from world state events)
+    (lost_from world state lost events) more
 kept-append world state lost [] more = refl
 kept-append world state lost (event ∷ events) more =
     let after = next world state event in

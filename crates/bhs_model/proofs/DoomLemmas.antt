@@ -1,5 +1,6 @@
 -- Marks tell what destroys.
-use Rattle.std.proofs.Common.{◌≡◌, ℕ, ◌<◌, Bool, false, ◌||◌, List, [], ◌∷◌, ◌++◌, length, sym, ap, ◌∙◌, arith, length-set}
+use Rattle.std.proofs.Common.{◌≡◌, ℕ, ◌<◌, Bool, false, ◌||◌, List, [], ◌∷◌, ◌++◌, length, sym, ap, ◌∙◌, arith}
+use Rattle.std.proofs.Common.{length-set}
 use Rattle.std.proofs.Math.ListN.{replicate}
 use Rattle.std.specs.List.{list_any}
 use Rattle.std.proofs.lemmas.List.{length-map, length-replicate}
@@ -20,17 +21,20 @@ no_signs_are net = record {
 }
 
 -- a test of some item, where an item more stands at the end
-pub any_more : {A : Type 0} (test : A → Bool) (items : List A) (item : A) → list_any test (items ++ item ∷ []) ≡ (list_any test items || test item)
+pub any_more : {A : Type 0} (test : A → Bool) (items : List A) (item : A)
+    → list_any test (items ++ item ∷ []) ≡ (list_any test items || test item)
 any_more test [] item = or_last (test item)
   where
     or_last : (b : Bool) → (b || false) ≡ b
     or_last b = grind arith
-any_more test (one ∷ items) item = ap (λ (rest : Bool). test one || rest) (any_more test items item) ∙ grouped (test one) (list_any test items) (test item)
+any_more test (one ∷ items) item = ap (λ (rest : Bool). test one || rest) (any_more test items item)
+    ∙ grouped (test one) (list_any test items) (test item)
   where
     grouped : (a b c : Bool) → (a || (b || c)) ≡ ((a || b) || c)
     grouped a b c = grind arith
 
-pub link_signed : (net : Network) (holes : List ℕ) (dark : List (ℕ × ℕ)) (signs : Signs) (node port : ℕ) → port < degree_of net node → HasPort net (far_of net node port) →
+pub link_signed : (net : Network) (holes : List ℕ) (dark : List (ℕ × ℕ)) (signs : Signs) (node port : ℕ)
+    → port < degree_of net node → HasPort net (far_of net node port) →
     AreSignsOf net holes dark signs → AreSignsOf net holes (dark ++ (node, port) ∷ []) (with_link net signs node port)
 link_signed net holes dark signs node port has has_far are =
     let far = far_of net node port in
@@ -38,8 +42,10 @@ link_signed net holes dark signs node port has has_far are =
     let at : node < length signs.ports = let s = are.rows in let p = node_of_port net node port has in omega arith in
     let by : port < length (row_at signs.ports node) = let s = are.ports node in omega arith in
     let rows : length once ≡ length signs.ports = length-set signs.ports node _ in
-    let row : length (row_at once far.0) ≡ length (row_at signs.ports far.0) = length_after signs.ports node port far.0 at in
-    let far_at : far.0 < length once = let s = are.rows in let p = node_of_port net far.0 far.1 has_far in omega arith in
+    let row : length (row_at once far.0) ≡ length (row_at signs.ports far.0) =
+    length_after signs.ports node port far.0 at in
+    let far_at : far.0 < length once = let s = are.rows in
+    let p = node_of_port net far.0 far.1 has_far in omega arith in
     let far_by : far.1 < length (row_at once far.0) = let s = are.ports far.0 in omega arith in
     record {
       nodes = are.nodes;
@@ -48,7 +54,9 @@ link_signed net holes dark signs node port has has_far are =
       marked_nodes = are.marked_nodes;
       marked_ports = λ k p.
           mark_after once far.0 far.1 k p far_at far_by
-          ∙ ap (λ (b : Bool). b || names k p far) (mark_after signs.ports node port k p at by ∙ ap (λ (b : Bool). b || names k p (node, port)) (are.marked_ports k p))
+          ∙ ap (λ (b : Bool). b || names k p far)
+          (mark_after signs.ports node port k p at by ∙ ap (λ (b : Bool). b || names k p (node, port))
+          (are.marked_ports k p))
           ∙ grouped (is_dark (far_of net) dark k p) (names k p (node, port)) (names k p far)
           ∙ sym (any_more (λ (end : ℕ × ℕ). names k p end || names k p (far_of net end.0 end.1)) dark (node, port));
     }
@@ -57,11 +65,16 @@ link_signed net holes dark signs node port has has_far are =
     grouped a b c = grind arith
 
 -- the same, for lists that are those marks
-pub no_signs_made : (net : Network) (nodes : List Bool) (ports : List (List Bool)) → nodes ≡ replicate (nodes_of net) false → ports ≡ unmarked net → AreSignsOf net [] [] (record { nodes = nodes; ports = ports })
+pub no_signs_made : (net : Network) (nodes : List Bool) (ports : List (List Bool))
+    → nodes ≡ replicate (nodes_of net) false → ports ≡ unmarked net
+    → AreSignsOf net [] [] (record { nodes = nodes; ports = ports })
 no_signs_made net nodes ports same_nodes same_ports = rw (same_nodes, same_ports) (no_signs_are net)
 
-pub link_made : (net : Network) (holes : List ℕ) (dark : List (ℕ × ℕ)) (signs : Signs) (nodes : List Bool) (ports : List (List Bool)) (node port : ℕ) (far : ℕ × ℕ) → port < degree_of net node → HasPort net (far_of net node port) → far ≡ far_of net node port →
-    AreSignsOf net holes dark signs → nodes ≡ signs.nodes → ports ≡ marked_at (marked_at signs.ports node port) far.0 far.1 →
+pub link_made : (net : Network) (holes : List ℕ) (dark : List (ℕ × ℕ)) (signs : Signs) (nodes : List Bool)
+    (ports : List (List Bool)) (node port : ℕ) (far : ℕ × ℕ) → port < degree_of net node
+    → HasPort net (far_of net node port) → far ≡ far_of net node port →
+    AreSignsOf net holes dark signs → nodes ≡ signs.nodes
+    → ports ≡ marked_at (marked_at signs.ports node port) far.0 far.1 →
     AreSignsOf net holes (dark ++ (node, port) ∷ []) (record { nodes = nodes; ports = ports })
 link_made net holes dark signs nodes ports node port far has has_far is_far are same_nodes same_ports =
     rw (same_nodes, same_ports, is_far) (link_signed net holes dark signs node port has has_far are)

@@ -7,7 +7,8 @@ use Rattle.bhs_model.specs.declared.events.Event.{Event}
 use Rattle.bhs_model.specs.declared.events.Event.TheVariants.{Tell, Deliver, Close}
 use Rattle.bhs_model.specs.Views.{View, Told, Standing, standing, standing_after, ports}
 use Rattle.bhs_model.specs.Worlds.{World}
-use Rattle.bhs_model.specs.Runs.{Position, Before, At, Bound, After, State, initial, glance, position_after, told, delivered, heard, arrives, next, run, run_from}
+use Rattle.bhs_model.specs.Runs.{Position, Before, At, Bound, After, State, initial, glance, position_after, told}
+use Rattle.bhs_model.specs.Runs.{delivered, heard, arrives, next, run, run_from}
 use Rattle.bhs_model.specs.Standings.{standing_at}
 use Rattle.bhs_model.proofs.StepLemmas.{by_cases}
 
@@ -21,7 +22,9 @@ pub record IsLegal (world : World) (view : View) (position : Position) : Type 0 
   pub ports : KnowsPorts world view position
 
 -- the standing after a command that is heard is that of the position after it
-pub standing_told : (world : World) (view : View) (position : Position) (command : Command) → KnowsPorts world view position → standing_after (standing_at position) (ports view) command ≡ standing_at (position_after world position command)
+pub standing_told : (world : World) (view : View) (position : Position) (command : Command)
+    → KnowsPorts world view position → standing_after (standing_at position) (ports view) command ≡ standing_at
+    (position_after world position command)
 standing_told world view Before Enter knows = refl
 standing_told world view Before Look knows = refl
 standing_told world view Before (Write expect put) knows = refl
@@ -32,8 +35,14 @@ standing_told world view Before Bad knows = refl
 standing_told world view (At node came) Enter knows = refl
 standing_told world view (At node came) Look knows = refl
 standing_told world view (At node came) (Write expect put) knows = refl
-standing_told world view (At node came) (Depart port) knows = rw knows (by_cases (nat_lt port (world.net.degree node)) _ (λ (h : nat_lt port (world.net.degree node) ≡ true). rw h refl) (λ (h : nat_lt port (world.net.degree node) ≡ false). rw h refl))
-standing_told world view (At node came) (Accuse port) knows = rw knows (by_cases (nat_lt port (world.net.degree node)) _ (λ (h : nat_lt port (world.net.degree node) ≡ true). rw h refl) (λ (h : nat_lt port (world.net.degree node) ≡ false). rw h refl))
+standing_told world view (At node came) (Depart port) knows =
+    rw knows (by_cases (nat_lt port (world.net.degree node)) _
+    (λ (h : nat_lt port (world.net.degree node) ≡ true). rw h refl)
+    (λ (h : nat_lt port (world.net.degree node) ≡ false). rw h refl))
+standing_told world view (At node came) (Accuse port) knows =
+    rw knows (by_cases (nat_lt port (world.net.degree node)) _
+    (λ (h : nat_lt port (world.net.degree node) ≡ true). rw h refl)
+    (λ (h : nat_lt port (world.net.degree node) ≡ false). rw h refl))
 standing_told world view (At node came) Leave knows = refl
 standing_told world view (At node came) Bad knows = refl
 standing_told world view (Bound node p) Enter knows = refl
@@ -52,7 +61,9 @@ standing_told world view After Leave knows = refl
 standing_told world view After Bad knows = refl
 
 -- what is known of the ports then
-pub ports_told : (world : World) (state : State) (view : View) (position : Position) (command : Command) → KnowsPorts world view position → KnowsPorts world (Told view command (glance world state position command)) (position_after world position command)
+pub ports_told : (world : World) (state : State) (view : View) (position : Position) (command : Command)
+    → KnowsPorts world view position → KnowsPorts world (Told view command (glance world state position command))
+    (position_after world position command)
 ports_told world state view Before Enter knows = refl
 ports_told world state view Before Look knows = tt
 ports_told world state view Before (Write expect put) knows = tt
@@ -63,8 +74,12 @@ ports_told world state view Before Bad knows = tt
 ports_told world state view (At node came) Enter knows = refl
 ports_told world state view (At node came) Look knows = refl
 ports_told world state view (At node came) (Write expect put) knows = refl
-ports_told world state view (At node came) (Depart port) knows = by_cases (nat_lt port (world.net.degree node)) _ (λ (h : nat_lt port (world.net.degree node) ≡ true). rw h tt) (λ (h : nat_lt port (world.net.degree node) ≡ false). rw h knows)
-ports_told world state view (At node came) (Accuse port) knows = by_cases (nat_lt port (world.net.degree node)) _ (λ (h : nat_lt port (world.net.degree node) ≡ true). rw h tt) (λ (h : nat_lt port (world.net.degree node) ≡ false). rw h knows)
+ports_told world state view (At node came) (Depart port) knows =
+    by_cases (nat_lt port (world.net.degree node)) _ (λ (h : nat_lt port (world.net.degree node) ≡ true). rw h tt)
+    (λ (h : nat_lt port (world.net.degree node) ≡ false). rw h knows)
+ports_told world state view (At node came) (Accuse port) knows =
+    by_cases (nat_lt port (world.net.degree node)) _ (λ (h : nat_lt port (world.net.degree node) ≡ true). rw h tt)
+    (λ (h : nat_lt port (world.net.degree node) ≡ false). rw h knows)
 ports_told world state view (At node came) Leave knows = tt
 ports_told world state view (At node came) Bad knows = knows
 ports_told world state view (Bound node p) Enter knows = refl
@@ -82,9 +97,12 @@ ports_told world state view After (Accuse port) knows = tt
 ports_told world state view After Leave knows = tt
 ports_told world state view After Bad knows = tt
 
-pub legal_told : (world : World) (state : State) (view : View) (position : Position) (command : Command) → IsLegal world view position → IsLegal world (Told view command (glance world state position command)) (position_after world position command)
+pub legal_told : (world : World) (state : State) (view : View) (position : Position) (command : Command)
+    → IsLegal world view position → IsLegal world (Told view command (glance world state position command))
+    (position_after world position command)
 legal_told world state view position command legal = record {
-  standing = ap (λ (s : Standing). standing_after s (ports view) command) legal.standing ∙ standing_told world view position command legal.ports;
+  standing = ap (λ (s : Standing). standing_after s (ports view) command) legal.standing
+      ∙ standing_told world view position command legal.ports;
   ports = ports_told world state view position command legal.ports;
 }
 
@@ -92,13 +110,15 @@ legal_told world state view position command legal = record {
 abbrev pub AllLegal : World → State → Type 0
 AllLegal world state = (agent : ℕ) → IsLegal world (state.past agent) (state.position agent)
 
-all_told : (world : World) (state : State) (agent : ℕ) (command : Command) → AllLegal world state → AllLegal world (told world state agent command)
+all_told : (world : World) (state : State) (agent : ℕ) (command : Command) → AllLegal world state
+    → AllLegal world (told world state agent command)
 all_told world state agent command legal other = elim (eqb_tells other agent) [
   | inl h ↦ rw h.0 (legal_told world state (state.past agent) (state.position agent) command (legal agent))
   | inr h ↦ rw h.0 (legal other)
 ]
 
-all_delivered : (world : World) (state : State) (agent : ℕ) (position : Position) → AllLegal world state → AllLegal world (delivered world state agent position)
+all_delivered : (world : World) (state : State) (agent : ℕ) (position : Position) → AllLegal world state
+    → AllLegal world (delivered world state agent position)
 all_delivered world state agent Before legal other = legal other
 all_delivered world state agent (At node came) legal other = legal other
 all_delivered world state agent (Bound node port) legal other = elim (eqb_tells other agent) [
@@ -112,14 +132,19 @@ pub either : {A : Type 0} (P : A → Type 0) (b : Bool) (x y : A) → P x → P 
 either P true x y p q = p
 either P false x y p q = q
 
-all_next : (world : World) (state : State) (event : Event) → AllLegal world state → AllLegal world (next world state event)
-all_next world state (Tell agent command) legal = either (AllLegal world) (heard world state agent command) _ _ (all_told world state agent command legal) legal
-all_next world state (Deliver agent) legal = either (AllLegal world) (arrives world state agent) _ _ (all_delivered world state agent (state.position agent) legal) legal
+all_next : (world : World) (state : State) (event : Event) → AllLegal world state
+    → AllLegal world (next world state event)
+all_next world state (Tell agent command) legal = either (AllLegal world) (heard world state agent command) _ _
+    (all_told world state agent command legal) legal
+all_next world state (Deliver agent) legal = either (AllLegal world) (arrives world state agent) _ _
+    (all_delivered world state agent (state.position agent) legal) legal
 all_next world state Close legal = legal
 
-all_run_from : (world : World) (state : State) (events : List Event) → AllLegal world state → AllLegal world (run_from world state events)
+all_run_from : (world : World) (state : State) (events : List Event) → AllLegal world state
+    → AllLegal world (run_from world state events)
 all_run_from world state [] legal = legal
-all_run_from world state (event ∷ events) legal = all_run_from world (next world state event) events (all_next world state event legal)
+all_run_from world state (event ∷ events) legal =
+    all_run_from world (next world state event) events (all_next world state event legal)
 
 -- whatever happens, each agent is legal
 pub all_run : (world : World) (events : List Event) → AllLegal world (run world events)

@@ -12,7 +12,8 @@ use Rattle.bhs_model.specs.Runs.{State, changed, heard, arrives, told, delivered
 pub changed_same : {A : Type 0} (f : ℕ → A) (place : ℕ) (value : A) → changed f place value place ≡ value
 changed_same f place value = cond-true (place == place) value (f place) (eq-eqb place place refl)
 
-pub changed_other : {A : Type 0} (f : ℕ → A) (place other : ℕ) (value : A) → (other == place) ≡ false → changed f place value other ≡ f other
+pub changed_other : {A : Type 0} (f : ℕ → A) (place other : ℕ) (value : A) → (other == place) ≡ false
+    → changed f place value other ≡ f other
 changed_other f place other value apart = cond-false (other == place) value (f other) apart
 
 -- a fact about each Bool, by its two cases
@@ -20,11 +21,13 @@ pub by_cases : (b : Bool) (P : Type 0) → (b ≡ true → P) → (b ≡ false �
 by_cases true P yes_case no_case = yes_case refl
 by_cases false P yes_case no_case = no_case refl
 
-pub next_heard : (world : World) (state : State) (agent : ℕ) (command : Command) → heard world state agent command ≡ true →
+pub next_heard : (world : World) (state : State) (agent : ℕ) (command : Command)
+    → heard world state agent command ≡ true →
     next world state (Tell agent command) ≡ told world state agent command
 next_heard world state agent command is_heard = cond-true _ _ _ is_heard
 
-pub next_unheard : (world : World) (state : State) (agent : ℕ) (command : Command) → heard world state agent command ≡ false →
+pub next_unheard : (world : World) (state : State) (agent : ℕ) (command : Command)
+    → heard world state agent command ≡ false →
     next world state (Tell agent command) ≡ state
 next_unheard world state agent command unheard = cond-false _ _ _ unheard
 
@@ -41,21 +44,25 @@ pub next_closed : (state : State) → state.closed ≡ true → record state { c
 next_closed state closed i = record state { closed = sym closed i }
 
 -- before the close an agent is heard by its past alone
-pub heard_by_past : (world : World) (state : State) (agent : ℕ) (command : Command) → agent < world.agents → state.closed ≡ false →
+pub heard_by_past : (world : World) (state : State) (agent : ℕ) (command : Command) → agent < world.agents
+    → state.closed ≡ false →
     heard world state agent command ≡ hears world.quota (state.past agent) command
 heard_by_past world state agent command in_range open_match =
-    ap (λ (below : Bool). below && (not state.closed && hears world.quota (state.past agent) command)) (lt-ltb agent world.agents in_range)
+    ap (λ (below : Bool). below && (not state.closed && hears world.quota (state.past agent) command))
+    (lt-ltb agent world.agents in_range)
     ∙ ap (λ (closed : Bool). not closed && hears world.quota (state.past agent) command) open_match
 
 -- who is not heard is refused by its past alone
-pub refused_by_past : (world : World) (state : State) (agent : ℕ) (command : Command) → agent < world.agents → state.closed ≡ false →
+pub refused_by_past : (world : World) (state : State) (agent : ℕ) (command : Command) → agent < world.agents
+    → state.closed ≡ false →
     hears world.quota (state.past agent) command ≡ false →
     reply world state (Tell agent command) ≡ Some (No (refusal (standing (state.past agent)) command))
 refused_by_past world state agent command in_range open_match unheard =
     cond-true _ _ _ (lt-ltb agent world.agents in_range) ∙ cond-false _ _ _ open_match ∙ cond-false _ _ _ unheard
 
 -- who is heard is answered by its past with that command
-pub answered_by_past : (world : World) (state : State) (agent : ℕ) (command : Command) → heard world state agent command ≡ true →
+pub answered_by_past : (world : World) (state : State) (agent : ℕ) (command : Command)
+    → heard world state agent command ≡ true →
     reply world state (Tell agent command) ≡ rep world.board ((told world state agent command).past agent)
 answered_by_past world state agent command is_heard =
     let parts = and_parts (nat_lt agent world.agents) _ is_heard in
@@ -65,9 +72,11 @@ answered_by_past world state agent command is_heard =
 
 -- who arrives is answered by its past with that arrival
 pub arrival_by_past : (world : World) (state : State) (agent : ℕ) → arrives world state agent ≡ true →
-    reply world state (Deliver agent) ≡ rep world.board ((delivered world state agent (state.position agent)).past agent)
+    reply world state (Deliver agent) ≡ rep world.board
+    ((delivered world state agent (state.position agent)).past agent)
 arrival_by_past world state agent arrival =
-    cond-true _ _ _ arrival ∙ ap (λ (after : State). rep world.board (after.past agent)) (next_arrived world state agent arrival)
+    cond-true _ _ _ arrival ∙ ap (λ (after : State). rep world.board (after.past agent))
+    (next_arrived world state agent arrival)
 
 -- who does not arrive is not answered
 pub no_arrival_no_reply : (world : World) (state : State) (agent : ℕ) → arrives world state agent ≡ false →

@@ -1,5 +1,6 @@
 -- No agent can tell two twins apart.
-use Rattle.std.proofs.Common.{ℕ, ◌≡◌, Bool, true, false, not, ◌&&◌, ◌||◌, Option, None, List, [], ◌∷◌, ◌++◌, inl, inr, if◌then◌else◌, option_to_list, refl, sym, ap, ap₂, ◌∙◌, subst}
+use Rattle.std.proofs.Common.{ℕ, ◌≡◌, Bool, true, false, not, ◌&&◌, ◌||◌, Option, None, List, [], ◌∷◌, ◌++◌, inl, inr}
+use Rattle.std.proofs.Common.{if◌then◌else◌, option_to_list, refl, sym, ap, ap₂, ◌∙◌, subst}
 use Rattle.std.proofs.lemmas.Bool.{cond_both, and_right, or_parts, or_cases, and_cases, true≢false}
 use Rattle.bhs_model.specs.declared.events.Event.{Event}
 use Rattle.bhs_model.specs.declared.events.Event.TheVariants.{Tell, Deliver, Close}
@@ -7,45 +8,52 @@ use Rattle.bhs_model.specs.declared.replies.Reply.{Reply}
 use Rattle.bhs_model.specs.Replying.{rep}
 use Rattle.bhs_model.specs.Worlds.{World}
 use Rattle.bhs_model.specs.Twins.{SameButDoom, is_struck, strike_from, strike, reveals, RevealsNothing}
-use Rattle.bhs_model.specs.Runs.{Position, Before, At, Bound, After, State, initial, run_from, run, is_bound, arrives, is_let_through, delivered, next, reply}
+use Rattle.bhs_model.specs.Runs.{Position, Before, At, Bound, After, State, initial, run_from, run, is_bound, arrives}
+use Rattle.bhs_model.specs.Runs.{is_let_through, delivered, next, reply}
 use Rattle.bhs_model.specs.InOrder.{is_of, replies_to_from}
 use Rattle.bhs_model.specs.Runs.{is_doomed}
 use Rattle.bhs_model.specs.Laws.{TwinsLookAlike}
 use Rattle.bhs_model.proofs.StepLemmas.{next_no_arrival, no_arrival_no_reply}
 
 -- over a link that destroys nobody arrives
-pub doomed_not_through : (world : World) (position : Position) → is_doomed world position ≡ true → is_let_through world position ≡ false
+pub doomed_not_through : (world : World) (position : Position) → is_doomed world position ≡ true
+    → is_let_through world position ≡ false
 doomed_not_through world position is_lost = and_right (is_bound position) _ (ap not is_lost)
 
 -- a struck event that gives nothing away makes nobody arrive
 pub struck_no_arrival : (world other : World) (state : State) (agent : ℕ) →
-    is_struck world other state (Deliver agent) ≡ true → reveals world other state (Deliver agent) ≡ false → arrives world state agent ≡ false
+    is_struck world other state (Deliver agent) ≡ true → reveals world other state (Deliver agent) ≡ false
+    → arrives world state agent ≡ false
 struck_no_arrival world other state agent struck reveals_nothing =
     elim (or_cases (is_doomed world (state.position agent)) (is_doomed other (state.position agent)) struck) [
       | inl here ↦ and_right (not state.closed) _ (doomed_not_through world (state.position agent) here)
-      | inr there ↦ elim (and_cases (arrives world state agent) (is_doomed other (state.position agent)) reveals_nothing) [
-        | inl no_arrival ↦ no_arrival
-        | inr harmless ↦ absurd (true≢false (sym there ∙ harmless))
-      ]
+      | inr there ↦ elim (and_cases (arrives world state agent) (is_doomed other (state.position agent))
+          reveals_nothing) [
+            | inl no_arrival ↦ no_arrival
+            | inr harmless ↦ absurd (true≢false (sym there ∙ harmless))
+          ]
     ]
 
 -- a struck event leaves the state itself, and nobody is answered
 pub struck_state : (world other : World) (state : State) (event : Event) →
     is_struck world other state event ≡ true → reveals world other state event ≡ false → next world state event ≡ state
 struck_state world other state (Tell agent command) struck reveals_nothing = absurd (true≢false (sym struck))
-struck_state world other state (Deliver agent) struck reveals_nothing = next_no_arrival world state agent (struck_no_arrival world other state agent struck reveals_nothing)
+struck_state world other state (Deliver agent) struck reveals_nothing =
+    next_no_arrival world state agent (struck_no_arrival world other state agent struck reveals_nothing)
 struck_state world other state Close struck reveals_nothing = absurd (true≢false (sym struck))
 
 pub struck_reply : (world other : World) (state : State) (event : Event) →
     is_struck world other state event ≡ true → reveals world other state event ≡ false → reply world state event ≡ None
 struck_reply world other state (Tell agent command) struck reveals_nothing = absurd (true≢false (sym struck))
-struck_reply world other state (Deliver agent) struck reveals_nothing = no_arrival_no_reply world state agent (struck_no_arrival world other state agent struck reveals_nothing)
+struck_reply world other state (Deliver agent) struck reveals_nothing =
+    no_arrival_no_reply world state agent (struck_no_arrival world other state agent struck reveals_nothing)
 struck_reply world other state Close struck reveals_nothing = absurd (true≢false (sym struck))
 
 -- no event of the list is struck
 abbrev pub NoneStruck : (world other : World) → State → List Event → Type 0
 NoneStruck world other state [] = Unit {0}
-NoneStruck world other state (event ∷ events) = (is_struck world other state event ≡ false) × NoneStruck world other (next world state event) events
+NoneStruck world other state (event ∷ events) = (is_struck world other state event ≡ false)
+    × NoneStruck world other (next world state event) events
 
 -- what holds of a list without its struck events, in one world: the same end, the same replies, and none is struck
 pub record IsStrike (world other : World) (state : State) (events chosen : List Event) : Type 0 where
@@ -60,19 +68,22 @@ strike_is world other state (event ∷ events) reveals_nothing =
     let after = next world state event in
     let rest = strike_from world other after events in
     let same = strike_is world other after events reveals_nothing.1 in
-    cond_both (is_struck world other state event) rest (event ∷ rest) (λ (chosen : List Event). IsStrike world other state (event ∷ events) chosen)
+    cond_both (is_struck world other state event) rest (event ∷ rest)
+    (λ (chosen : List Event). IsStrike world other state (event ∷ events) chosen)
     (λ struck.
     let stays : after ≡ state = struck_state world other state event struck reveals_nothing.0 in
     let silent : reply world state event ≡ None = struck_reply world other state event struck reveals_nothing.0 in
     record {
       ends = ap (λ (start : State). run_from world start rest) (sym stays) ∙ same.ends;
       replies = λ agent. ap (λ (start : State). replies_to_from world start agent rest) (sym stays) ∙ same.replies agent
-          ∙ sym (unread (is_of agent event) (reply world state event) (replies_to_from world after agent events) silent);
+          ∙ sym (unread (is_of agent event) (reply world state event)
+          (replies_to_from world after agent events) silent);
       none = subst (λ (start : State). NoneStruck world other start rest) stays same.none;
     })
     (λ unstruck. record {
       ends = same.ends;
-      replies = λ agent. ap (λ (read : List Reply). (if is_of agent event then option_to_list (reply world state event) else []) ++ read) (same.replies agent);
+      replies = λ agent. ap (λ (read : List Reply).
+          (if is_of agent event then option_to_list (reply world state event) else []) ++ read) (same.replies agent);
       none = (unstruck, same.none);
     })
   where
@@ -86,7 +97,15 @@ abbrev pub with_dooms : World → World → World
 with_dooms world other = record world { holes = other.holes; dark = other.dark }
 
 pub other_world : (world other : World) → SameButDoom world other → with_dooms world other ≡ other
-other_world world other same i = record { net = same.net i; home = same.home i; holes = other.holes; dark = other.dark; agents = same.agents i; quota = same.quota i; board = same.board i }
+other_world world other same i = record {
+  net = same.net i;
+  home = same.home i;
+  holes = other.holes;
+  dark = other.dark;
+  agents = same.agents i;
+  quota = same.quota i;
+  board = same.board i;
+}
 
 -- where neither world destroys, both let through
 pub same_through : (world : World) (dooms : World) (position : Position) →
@@ -110,7 +129,8 @@ pub next_alike : (world : World) (dooms : World) (state : State) (event : Event)
 next_alike world dooms state (Tell agent command) unstruck = refl
 next_alike world dooms state (Deliver agent) unstruck =
     ap₂ (λ (through : Bool) (there : State). if not state.closed && through then there else state)
-    (same_through world dooms (state.position agent) unstruck) (delivered_alike world dooms state agent (state.position agent))
+    (same_through world dooms (state.position agent) unstruck)
+    (delivered_alike world dooms state agent (state.position agent))
 next_alike world dooms state Close unstruck = refl
 
 pub reply_alike : (world : World) (dooms : World) (state : State) (event : Event) →
@@ -118,7 +138,8 @@ pub reply_alike : (world : World) (dooms : World) (state : State) (event : Event
     reply world state event ≡ reply (with_dooms world dooms) state event
 reply_alike world dooms state (Tell agent command) unstruck = refl
 reply_alike world dooms state (Deliver agent) unstruck =
-    ap₂ (λ (through : Bool) (there : State). if not state.closed && through then rep world.board (there.past agent) else None)
+    ap₂ (λ (through : Bool) (there : State). if not state.closed && through then rep world.board
+    (there.past agent) else None)
     (same_through world dooms (state.position agent) unstruck) (next_alike world dooms state (Deliver agent) unstruck)
 reply_alike world dooms state Close unstruck = refl
 
@@ -127,7 +148,8 @@ pub next_twin : (world other : World) (state : State) (event : Event) → SameBu
 next_twin world other state event same unstruck =
     let is_other = other_world world other same in
     subst (λ (there : World). next world state event ≡ next there state event) is_other
-    (next_alike world other state event (subst (λ (there : World). is_struck world there state event ≡ false) (sym is_other) unstruck))
+    (next_alike world other state event (subst (λ (there : World). is_struck world there state event ≡ false)
+    (sym is_other) unstruck))
 
 -- two runs of one list end alike, with the same replies
 pub record RunAlike (world other : World) (state : State) (events : List Event) : Type 0 where
@@ -143,9 +165,11 @@ run_alike_but_dooms world dooms state (event ∷ events) none =
     record {
       ends = same.ends ∙ ap (λ (start : State). run_from (with_dooms world dooms) start events) there;
       replies = λ agent.
-          ap₂ (λ (replied : Option Reply) (read : List Reply). (if is_of agent event then option_to_list replied else []) ++ read)
+          ap₂ (λ (replied : Option Reply) (read : List Reply).
+          (if is_of agent event then option_to_list replied else []) ++ read)
           (reply_alike world dooms state event none.0)
-          (same.replies agent ∙ ap (λ (start : State). replies_to_from (with_dooms world dooms) start agent events) there);
+          (same.replies agent ∙ ap (λ (start : State). replies_to_from (with_dooms world dooms) start agent events)
+          there);
     }
 
 pub run_alike : (world other : World) (state : State) (events : List Event) → SameButDoom world other →
@@ -153,7 +177,8 @@ pub run_alike : (world other : World) (state : State) (events : List Event) → 
 run_alike world other state events same none =
     let is_other = other_world world other same in
     subst (λ (there : World). RunAlike world there state events) is_other
-    (run_alike_but_dooms world other state events (subst (λ (there : World). NoneStruck world there state events) (sym is_other) none))
+    (run_alike_but_dooms world other state events
+    (subst (λ (there : World). NoneStruck world there state events) (sym is_other) none))
 
 pub twins_look_alike_lemma : TwinsLookAlike
 twins_look_alike_lemma world events other others twins =

@@ -1,11 +1,13 @@
 -- Worked examples of play on a triangle: what each shows is checked by computing the definitions.
-use Rattle.std.specs.Prelude.{ℕ, ◌≡◌, true, false, Option, Some, None, List, [], ◌∷◌, ◌++◌, codes, replicate, ◌==◌, ◌&&◌, ◌||◌}
+use Rattle.std.specs.Prelude.{ℕ, ◌≡◌, true, false, Option, Some, None, List, [], ◌∷◌, ◌++◌, codes, replicate, ◌==◌}
+use Rattle.std.specs.Prelude.{◌&&◌, ◌||◌}
 use Rattle.bhs_model.specs.declared.commands.Command.TheVariants.{Enter, Look, Write, Depart, Accuse, Leave, Bad}
 use Rattle.bhs_model.specs.declared.events.Event.{Event}
 use Rattle.bhs_model.specs.declared.events.Event.TheVariants.{Tell, Deliver, Close}
 use Rattle.bhs_model.specs.declared.replies.Reply.{Reply}
 use Rattle.bhs_model.specs.declared.replies.Reply.TheVariants.{Here, Written, Changed, Gone, Noted, Bye, Over, No}
-use Rattle.bhs_model.specs.declared.replies.Why.TheVariants.{Agent, Outside, Twice, Ended, Spent, Away, Line, Port, Long}
+use Rattle.bhs_model.specs.declared.replies.Why.TheVariants.{Agent, Outside, Twice, Ended, Spent, Away, Line, Port}
+use Rattle.bhs_model.specs.declared.replies.Why.TheVariants.{Long}
 use Rattle.bhs_model.specs.Views.{Start, Told, Saw, Seen, Unwritten, WrittenBy}
 use Rattle.bhs_model.specs.Worlds.{World}
 use Rattle.bhs_model.specs.Setups.{network_of}
@@ -104,7 +106,8 @@ round_to_the_dark_link =
 -- a dark link destroys in both directions
 abbrev pub ADarkLinkIsSilent : Type 0
 ADarkLinkIsSilent =
-    (answers dark_triangle (Says 0 Enter ∷ Says 0 (Depart 1) ∷ Draws 0 ∷ Closes ∷ []) ≡ entered ∷ Some Gone ∷ None ∷ None ∷ [])
+    (answers dark_triangle (Says 0 Enter ∷ Says 0 (Depart 1) ∷ Draws 0 ∷ Closes ∷ [])
+    ≡ entered ∷ Some Gone ∷ None ∷ None ∷ [])
     × (answers dark_triangle round_to_the_dark_link
     ≡ entered ∷ Some Gone ∷ come_by_0 ∷ Some Gone ∷ come_by_0 ∷ Some Gone ∷ None ∷ Some (No Away) ∷ [])
 

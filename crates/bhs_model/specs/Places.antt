@@ -26,7 +26,8 @@ writes_at world state event node = false
 
 -- the places of the last Writes by node, after an event that stands at this place
 abbrev pub written_after : World → State → (place : ℕ) → (ℕ → Option ℕ) → Event → ℕ → Option ℕ
-written_after world state place written event node = if writes_at world state event node then Some place else written node
+written_after world state place written event node =
+    if writes_at world state event node then Some place else written node
 
 abbrev pub written_from : World → State → (place : ℕ) → (ℕ → Option ℕ) → List Event → ℕ → Option ℕ
 written_from world state place written [] = written

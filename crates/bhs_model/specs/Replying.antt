@@ -1,12 +1,15 @@
 -- What an agent is answered: a function of its past, of its quota and of how much a whiteboard holds.
-use Rattle.std.specs.Prelude.{ℕ, Bool, true, false, Option, Some, None, List, [], ◌++◌, length, if◌then◌else◌, nat_lt, nat_le, bytes_eq, option_to_list}
+use Rattle.std.specs.Prelude.{ℕ, Bool, true, false, Option, Some, None, List, [], ◌++◌, length, if◌then◌else◌, nat_lt}
+use Rattle.std.specs.Prelude.{nat_le, bytes_eq, option_to_list}
 use Rattle.bhs_model.specs.declared.commands.Command.{Command}
 use Rattle.bhs_model.specs.declared.commands.Command.TheVariants.{Enter, Write, Depart, Accuse, Leave, Bad}
 use Rattle.bhs_model.specs.declared.replies.Reply.{Reply}
 use Rattle.bhs_model.specs.declared.replies.Reply.TheVariants.{Here, Written, Changed, Gone, Noted, Bye, No}
 use Rattle.bhs_model.specs.declared.replies.Why.{Why}
-use Rattle.bhs_model.specs.declared.replies.Why.TheVariants.{Outside as NotEntered, Twice, Ended as HasEnded, Spent, Away as OnLink, Line, Port, Long}
-use Rattle.bhs_model.specs.Views.{View, Start, Told, Arrived, Glance, Nothing, Saw, Sight, Seen, LastWrite, Unwritten, WrittenBy, Standing, Outside, Away, Ended, ports, standing, used}
+use Rattle.bhs_model.specs.declared.replies.Why.TheVariants.{Outside as NotEntered, Twice, Ended as HasEnded, Spent}
+use Rattle.bhs_model.specs.declared.replies.Why.TheVariants.{Away as OnLink, Line, Port, Long}
+use Rattle.bhs_model.specs.Views.{View, Start, Told, Arrived, Glance, Nothing, Saw, Sight, Seen, LastWrite, Unwritten}
+use Rattle.bhs_model.specs.Views.{WrittenBy, Standing, Outside, Away, Ended, ports, standing, used}
 
 -- what a whiteboard shows after a write: the new text, where it showed the expected one and the new one
 -- fits; else what it showed

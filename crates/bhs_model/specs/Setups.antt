@@ -31,7 +31,8 @@ is_lesser_end net test end = test end.0 end.1 && nat_lt end.0 (networks.far_of n
 
 -- of the links of a network at which a test holds, those whose lesser end is at a node, in the order of its ports
 abbrev pub links_at : networks.Network → (ℕ → ℕ → Bool) → (node : ℕ) → List (ℕ × ℕ)
-links_at net test node = filter (is_lesser_end net test) (map (λ port. (node, port)) (range_with_len 0 (networks.degree_of net node)))
+links_at net test node = filter (is_lesser_end net test)
+    (map (λ port. (node, port)) (range_with_len 0 (networks.degree_of net node)))
 
 -- the links of a network at which a test holds, each by its end at the lesser node, in the order of these nodes and
 -- their ports

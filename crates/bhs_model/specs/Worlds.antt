@@ -10,7 +10,8 @@ pub record Network : Type 0 where
   pub far : ℕ → ℕ → ℕ × ℕ
 
 -- a network with the home base, the black holes, the dark links (each named by the node and the port of one of its
--- ends), and the limits: how many agents there are, how many commands each may use, and how many bytes a whiteboard holds
+-- ends), and the limits: how many agents there are, how many commands each may use, and how many bytes a whiteboard
+-- holds
 pub record World : Type 0 where
   pub net : Network
   pub home : ℕ

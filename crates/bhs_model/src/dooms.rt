@@ -43,7 +43,8 @@ impl Dooms {
     /// Adds a black hole.
     pub fn add_hole(&mut self, node: u16)
         requires { node < length self.old.nodes }
-        ensures { (net : Network) (holes : List ℕ) (dark : List (ℕ × ℕ)) → AreSignsOf net holes dark self.old → AreSignsOf net (holes ++ node ∷ []) dark self.new }
+        ensures { (net : Network) (holes : List ℕ) (dark : List (ℕ × ℕ)) → AreSignsOf net holes dark self.old
+            → AreSignsOf net (holes ++ node ∷ []) dark self.new }
     {
         self.nodes[usize::from(node)] = true;
     }
@@ -52,7 +53,8 @@ impl Dooms {
     pub fn add_link(&mut self, net: &Net, node: u16, port: u16)
         requires port { port < degree_of net.now node }
         requires signs { (holes : List ℕ) × (dark : List (ℕ × ℕ)) × AreSignsOf net.now holes dark self.old }
-        ensures { (holes : List ℕ) (dark : List (ℕ × ℕ)) → AreSignsOf net.now holes dark self.old → AreSignsOf net.now holes (dark ++ (node, port) ∷ []) self.new }
+        ensures { (holes : List ℕ) (dark : List (ℕ × ℕ)) → AreSignsOf net.now holes dark self.old
+            → AreSignsOf net.now holes (dark ++ (node, port) ∷ []) self.new }
     {
         let (far, label) = net.far(node, port);
         mark_port(&mut self.ports, node, port);
@@ -77,7 +79,8 @@ impl Dooms {
     pub fn is_doomed(&self, net: &Net, node: u16, port: u16) -> bool
         requires { port < degree_of net.now node }
         ensures signed { result ≡ is_signed net.now self.now node port }
-        ensures doomed { (setup : SetupData) → AreSignsOf net.now setup.holes setup.dark self.now → result ≡ doomed (world_of net.now setup) node port }
+        ensures doomed { (setup : SetupData) → AreSignsOf net.now setup.holes setup.dark self.now → result
+            ≡ doomed (world_of net.now setup) node port }
     {
         self.is_hole(net.far(node, port).0) || self.is_dark(node, port)
     }

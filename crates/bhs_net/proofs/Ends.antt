@@ -28,8 +28,10 @@ end_cmp-same a = ap is_eq (tied_itself end_cmp_total a)
 -- two ends compare as equal, and are, or they do not
 pub end_cmp-cases : (a b : End) → ((is_eq (end_cmp a b) ≡ true) × (a ≡ b)) ⊎ (is_eq (end_cmp a b) ≡ false)
 end_cmp-cases a b =
-    let split : (o : Bool) → is_eq (end_cmp a b) ≡ o → ((is_eq (end_cmp a b) ≡ true) × (a ≡ b)) ⊎ (is_eq (end_cmp a b) ≡ false) =
-    λ o e. elim o as (λ o. is_eq (end_cmp a b) ≡ o → ((is_eq (end_cmp a b) ≡ true) × (a ≡ b)) ⊎ (is_eq (end_cmp a b) ≡ false)) [ true ↦ λ h. inl (h, end_cmp-exact a b h) | false ↦ λ h. inr h ] e in
+    let split : (o : Bool) → is_eq (end_cmp a b) ≡ o → ((is_eq (end_cmp a b) ≡ true) × (a ≡ b))
+    ⊎ (is_eq (end_cmp a b) ≡ false) =
+    λ o e. elim o as (λ o. is_eq (end_cmp a b) ≡ o → ((is_eq (end_cmp a b) ≡ true) × (a ≡ b))
+    ⊎ (is_eq (end_cmp a b) ≡ false)) [ true ↦ λ h. inl (h, end_cmp-exact a b h) | false ↦ λ h. inr h ] e in
     split (is_eq (end_cmp a b)) refl
 
 -- the nodes of a link, the lesser first

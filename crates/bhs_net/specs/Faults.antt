@@ -1,7 +1,8 @@
 use Rattle.std.specs.Prelude.{◌≡◌, ◌≢◌, ℕ, ◌<◌, ◌≤◌, ◌⊎◌, List, length}
 use Rattle.bhs_net.specs.declared.faults.TheConstants.{MIN_NODES, MAX_NODES}
 use Rattle.bhs_net.specs.declared.faults.NetFault.{NetFault}
-use Rattle.bhs_net.specs.declared.faults.NetFault.TheVariants.{Nodes, Node, Loop, Double, PortTwice, PortGap, Apart, CutNode, Memory}
+use Rattle.bhs_net.specs.declared.faults.NetFault.TheVariants.{Nodes, Node, Loop, Double, PortTwice, PortGap, Apart}
+use Rattle.bhs_net.specs.declared.faults.NetFault.TheVariants.{CutNode, Memory}
 use Rattle.bhs_net.specs.declared.links.Link.{Link}
 use Rattle.bhs_net.specs.Links.{link_at, SameNodes, SharesEnd, IsListed, AreLinked}
 use Rattle.bhs_net.specs.Paths.{IsPath, Without}
@@ -9,7 +10,8 @@ use Rattle.bhs_net.specs.Network.{Network, nodes_of, IsPortLabelled, HasLinks}
 
 -- an end of the link is no node
 abbrev pub IsStray : ℕ → List Link → ℕ → Type 0
-IsStray nodes links place = (place < length links) × ((nodes ≤ (link_at links place).v) ⊎ (nodes ≤ (link_at links place).w))
+IsStray nodes links place = (place < length links)
+    × ((nodes ≤ (link_at links place).v) ⊎ (nodes ≤ (link_at links place).w))
 
 -- the link joins a node to itself
 abbrev pub IsLoop : List Link → ℕ → Type 0
@@ -17,11 +19,13 @@ IsLoop links place = (place < length links) × ((link_at links place).v ≡ (lin
 
 -- an earlier link joins the same two nodes
 abbrev pub IsDouble : List Link → ℕ → Type 0
-IsDouble links place = (place < length links) × ((early : ℕ) × (early < place) × SameNodes (link_at links early) (link_at links place))
+IsDouble links place = (place < length links)
+    × ((early : ℕ) × (early < place) × SameNodes (link_at links early) (link_at links place))
 
 -- an earlier link has one of the link's ends
 abbrev pub IsPortTwice : List Link → ℕ → Type 0
-IsPortTwice links place = (place < length links) × ((early : ℕ) × (early < place) × SharesEnd (link_at links early) (link_at links place))
+IsPortTwice links place = (place < length links)
+    × ((early : ℕ) × (early < place) × SharesEnd (link_at links early) (link_at links place))
 
 -- a port of the node is listed, and a lower one is not
 abbrev pub IsGap : List Link → ℕ → Type 0
@@ -33,7 +37,8 @@ IsApart nodes links = (node other : ℕ) × (node < nodes) × (other < nodes) ×
 
 -- no path that keeps off the node joins some two others
 abbrev pub IsCut : ℕ → List Link → ℕ → Type 0
-IsCut nodes links cut = (cut < nodes) × ((node other : ℕ) × (node < nodes) × (other < nodes) × (node ≢ cut) × (other ≢ cut) × ¬ IsPath (Without cut (AreLinked links)) node other)
+IsCut nodes links cut = (cut < nodes) × ((node other : ℕ) × (node < nodes) × (other < nodes) × (node ≢ cut)
+    × (other ≢ cut) × ¬ IsPath (Without cut (AreLinked links)) node other)
 
 -- the list of links has the fault
 abbrev pub Holds : ℕ → List Link → NetFault → Type 0
@@ -73,7 +78,8 @@ place_of Memory = 0
 
 -- faults are told by number, and of one number by link or node
 abbrev pub IsBefore : NetFault → NetFault → Type 0
-IsBefore early late = (number_of early < number_of late) ⊎ ((number_of early ≡ number_of late) × (place_of early < place_of late))
+IsBefore early late = (number_of early < number_of late)
+    ⊎ ((number_of early ≡ number_of late) × (place_of early < place_of late))
 
 -- the list has this fault, and none that is told before it
 pub record IsFirstFault (nodes : ℕ) (links : List Link) (fault : NetFault) : Type 0 where

@@ -36,7 +36,8 @@ pub record AreRowsOf (far_ends : BTreeMap End End) (nodes : ℕ) (net : Network)
 
 -- each end that is listed is in its node's row
 abbrev pub HasAllPorts : List Link → Network → Type 0
-HasAllPorts links net = (place : ℕ) → place < length links → HasPort net (near_end (link_at links place)) × HasPort net (far_end (link_at links place))
+HasAllPorts links net = (place : ℕ) → place < length links → HasPort net (near_end (link_at links place))
+    × HasPort net (far_end (link_at links place))
 
 -- an end that is listed lies beyond its node's row
 abbrev pub IsBeyond : List Link → Network → ℕ → Type 0

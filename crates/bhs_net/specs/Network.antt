@@ -47,9 +47,11 @@ pub record IsPortLabelled (net : Network) : Type 0 where
   pub few : MIN_NODES ≤ nodes_of net
   pub many : nodes_of net ≤ MAX_NODES
   pub within : (node port : ℕ) → port < degree_of net node → HasPort net (far_of net node port)
-  pub back : (node port : ℕ) → port < degree_of net node → far_of net (far_of net node port).0 (far_of net node port).1 ≡ (node, port)
+  pub back : (node port : ℕ) → port < degree_of net node
+      → far_of net (far_of net node port).0 (far_of net node port).1 ≡ (node, port)
   pub no_loop : (node port : ℕ) → port < degree_of net node → (far_of net node port).0 ≢ node
-  pub simple : (node port other : ℕ) → port < degree_of net node → other < degree_of net node → (far_of net node port).0 ≡ (far_of net node other).0 → port ≡ other
+  pub simple : (node port other : ℕ) → port < degree_of net node → other < degree_of net node → (far_of net node port).0
+      ≡ (far_of net node other).0 → port ≡ other
 
 -- any two nodes are joined by a path
 abbrev pub IsConnected : Network → Type 0
@@ -57,7 +59,8 @@ IsConnected net = (node other : ℕ) → node < nodes_of net → other < nodes_o
 
 -- any two other nodes are joined by a path that keeps off this one
 abbrev pub AreJoinedWithout : Network → ℕ → Type 0
-AreJoinedWithout net cut = (node other : ℕ) → node < nodes_of net → other < nodes_of net → node ≢ cut → other ≢ cut → IsPath (Without cut (Leads net)) node other
+AreJoinedWithout net cut = (node other : ℕ) → node < nodes_of net → other < nodes_of net → node ≢ cut → other ≢ cut
+    → IsPath (Without cut (Leads net)) node other
 
 -- a network: a simple graph with port labels that is connected, and still so when any one node is removed
 pub record IsNetwork (net : Network) : Type 0 where
@@ -67,10 +70,13 @@ pub record IsNetwork (net : Network) : Type 0 where
 
 -- the list has the links of the network, each of them once
 pub record HasLinks (net : Network) (links : List Link) : Type 0 where
-  pub near : (place : ℕ) → place < length links → HasPort net (near_end (link_at links place)) × (far_of net (link_at links place).v (link_at links place).p ≡ far_end (link_at links place))
-  pub far : (place : ℕ) → place < length links → HasPort net (far_end (link_at links place)) × (far_of net (link_at links place).w (link_at links place).q ≡ near_end (link_at links place))
+  pub near : (place : ℕ) → place < length links → HasPort net (near_end (link_at links place))
+      × (far_of net (link_at links place).v (link_at links place).p ≡ far_end (link_at links place))
+  pub far : (place : ℕ) → place < length links → HasPort net (far_end (link_at links place))
+      × (far_of net (link_at links place).w (link_at links place).q ≡ near_end (link_at links place))
   pub all : (node port : ℕ) → port < degree_of net node → AreJoined links (node, port) (far_of net node port)
-  pub once : (early late : ℕ) → early < late → late < length links → ¬ SharesEnd (link_at links early) (link_at links late)
+  pub once : (early late : ℕ) → early < late → late < length links
+      → ¬ SharesEnd (link_at links early) (link_at links late)
 
 -- the links make this network: it has so many nodes and just these links
 pub record Makes (nodes : ℕ) (links : List Link) (net : Network) : Type 0 where

@@ -14,11 +14,13 @@ pub record MarksReached (net : Network) (start removed : ℕ) (marks : List Bool
 
 -- paths that keep off `removed` lead from `start` to every other node
 abbrev pub ReachesAll : Network → ℕ → ℕ → Type 0
-ReachesAll net start removed = (node : ℕ) → node < nodes_of net → node ≢ removed → IsPath (Without removed (Leads net)) start node
+ReachesAll net start removed = (node : ℕ) → node < nodes_of net → node ≢ removed
+    → IsPath (Without removed (Leads net)) start node
 
 -- there is a node but `removed` to which none of these paths leads
 abbrev pub MissesSome : Network → ℕ → ℕ → Type 0
-MissesSome net start removed = (node : ℕ) × (node < nodes_of net) × (node ≢ removed) × ¬ IsPath (Without removed (Leads net)) start node
+MissesSome net start removed = (node : ℕ) × (node < nodes_of net) × (node ≢ removed)
+    × ¬ IsPath (Without removed (Leads net)) start node
 
 -- no path joins some two nodes
 abbrev pub IsApartIn : Network → Type 0
@@ -26,4 +28,5 @@ IsApartIn net = (node other : ℕ) × (node < nodes_of net) × (other < nodes_of
 
 -- no path that keeps off the node joins some two others
 abbrev pub IsCutIn : Network → ℕ → Type 0
-IsCutIn net cut = (cut < nodes_of net) × ((node other : ℕ) × (node < nodes_of net) × (other < nodes_of net) × (node ≢ cut) × (other ≢ cut) × ¬ IsPath (Without cut (Leads net)) node other)
+IsCutIn net cut = (cut < nodes_of net) × ((node other : ℕ) × (node < nodes_of net) × (other < nodes_of net)
+    × (node ≢ cut) × (other ≢ cut) × ¬ IsPath (Without cut (Leads net)) node other)

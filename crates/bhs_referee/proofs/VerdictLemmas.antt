@@ -1,5 +1,6 @@
 -- What is said of a walk that follows the definitions is what they say.
-use Rattle.std.proofs.Common.{◌≡◌, ℕ, ◌+◌, Bool, true, false, List, [], ◌∷◌, ◌++◌, refl, sym, ap, ap₂, ◌∙◌, add-zero, zero-add, if◌then◌else◌}
+use Rattle.std.proofs.Common.{◌≡◌, ℕ, ◌+◌, Bool, true, false, List, [], ◌∷◌, ◌++◌, refl, sym, ap, ap₂, ◌∙◌, add-zero}
+use Rattle.std.proofs.Common.{zero-add, if◌then◌else◌}
 use Rattle.std.specs.Prelude.{count_by}
 use Rattle.std.specs.List.{range_with_len}
 use Rattle.std.proofs.lemmas.List.Sums.{sum_by-append}
@@ -18,37 +19,52 @@ use Rattle.bhs_referee.specs.Verdicts.{outcome_of, verdict_of}
 use Rattle.bhs_referee.specs.Walks.{found_in, position_in, lost_in}
 use Rattle.bhs_referee.proofs.FollowLemmas.{Follows}
 
-count_last : (test : ℕ → Bool) (xs : List ℕ) (x : ℕ) → count_by test (xs ++ x ∷ []) ≡ count_by test xs + (if test x then 1 else 0)
-count_last test xs x = sum_by-append (λ (y : ℕ). if test y then 1 else 0) xs (x ∷ []) ∙ ap (λ (n : ℕ). count_by test xs + n) (zero-add (if test x then 1 else 0))
+count_last : (test : ℕ → Bool) (xs : List ℕ) (x : ℕ) → count_by test (xs ++ x ∷ []) ≡ count_by test
+    xs + (if test x then 1 else 0)
+count_last test xs x = sum_by-append (λ (y : ℕ). if test y then 1 else 0) xs (x ∷ [])
+    ∙ ap (λ (n : ℕ). count_by test xs + n) (zero-add (if test x then 1 else 0))
 
 -- one number more is counted if it passes
-pub counted : (test : ℕ → Bool) (n before : ℕ) → test n ≡ true → before ≡ count_by test (range_with_len 0 n) → before + 1 ≡ count_by test (range_with_len 0 (n + 1))
+pub counted : (test : ℕ → Bool) (n before : ℕ) → test n ≡ true → before ≡ count_by test (range_with_len 0 n)
+    → before + 1 ≡ count_by test (range_with_len 0 (n + 1))
 counted test n before passes same = rw (range_more n, count_last test (range_with_len 0 n) n, passes, same) refl
 
-pub uncounted : (test : ℕ → Bool) (n before : ℕ) → test n ≡ false → before ≡ count_by test (range_with_len 0 n) → before ≡ count_by test (range_with_len 0 (n + 1))
-uncounted test n before fails same = rw (range_more n, count_last test (range_with_len 0 n) n, fails, same) (sym (add-zero _))
+pub uncounted : (test : ℕ → Bool) (n before : ℕ) → test n ≡ false → before ≡ count_by test (range_with_len 0 n)
+    → before ≡ count_by test (range_with_len 0 (n + 1))
+uncounted test n before fails same = rw (range_more n, count_last test (range_with_len 0 n) n, fails, same)
+    (sym (add-zero _))
 
-found_same : (walk : Walk) (state : State) (lost : ℕ → Bool) (found : Findings) → Follows walk state lost found → found_in walk ≡ found
+found_same : (walk : Walk) (state : State) (lost : ℕ → Bool) (found : Findings) → Follows walk state lost found
+    → found_in walk ≡ found
 found_same walk state lost found follows i = record {
   accused = λ agent. (follows.agents agent).accused i;
   reached = λ node. follows.reached node i;
   moves = follows.moves i;
 }
 
-position_same : (walk : Walk) (state : State) (lost : ℕ → Bool) (found : Findings) → Follows walk state lost found → position_in walk ≡ state.position
+position_same : (walk : Walk) (state : State) (lost : ℕ → Bool) (found : Findings) → Follows walk state lost found
+    → position_in walk ≡ state.position
 position_same walk state lost found follows i agent = (follows.agents agent).position i
 
-lost_same : (walk : Walk) (state : State) (lost : ℕ → Bool) (found : Findings) → Follows walk state lost found → lost_in walk ≡ lost
+lost_same : (walk : Walk) (state : State) (lost : ℕ → Bool) (found : Findings) → Follows walk state lost found
+    → lost_in walk ≡ lost
 lost_same walk state lost found follows i agent = (follows.agents agent).lost i
 
 -- the verdict that is given by a walk is that of the definitions
-pub verdict_same : (play : Play) (net : Network) (setup : Setup) (walk : Walk) (outcome : Outcome) (count : ℕ) → Follows walk (run (world_in play) (events_of play.log)) (lost (world_in play) (events_of play.log)) (findings (world_in play) (events_of play.log)) →
-    net ≡ play.net → setup ≡ play.setup → outcome ≡ outcome_of (world_of net setup) (position_in walk) (found_in walk) → count ≡ count_by (lost_in walk) (range_with_len 0 setup.agents) →
+pub verdict_same : (play : Play) (net : Network) (setup : Setup) (walk : Walk) (outcome : Outcome) (count : ℕ)
+    → Follows walk (run (world_in play) (events_of play.log)) (lost (world_in play) (events_of play.log))
+    (findings (world_in play) (events_of play.log)) →
+    net ≡ play.net → setup ≡ play.setup → outcome ≡ outcome_of (world_of net setup) (position_in walk) (found_in walk)
+    → count ≡ count_by (lost_in walk) (range_with_len 0 setup.agents) →
     record { outcome = outcome; moves = walk.moves; lost = count } ≡ verdict_of play
 verdict_same play net setup walk outcome count follows net_is setup_is outcome_is count_is =
     let world = world_in play in
     let found_is = found_same _ _ _ _ follows in
-    let outcomes : outcome ≡ outcome_of world (run world (events_of play.log)).position (findings world (events_of play.log)) =
-    outcome_is ∙ ap₂ (λ (n : Network) (s : Setup). outcome_of (world_of n s) (position_in walk) (found_in walk)) net_is setup_is ∙ ap₂ (outcome_of world) (position_same _ _ _ _ follows) found_is in
-    let counts : count ≡ count_by (lost world (events_of play.log)) (range_with_len 0 play.setup.agents) = count_is ∙ ap (λ (s : Setup). count_by (lost_in walk) (range_with_len 0 s.agents)) setup_is ∙ ap (λ (test : ℕ → Bool). count_by test (range_with_len 0 play.setup.agents)) (lost_same _ _ _ _ follows) in
+    let outcomes : outcome ≡ outcome_of world (run world (events_of play.log)).position
+    (findings world (events_of play.log)) =
+    outcome_is ∙ ap₂ (λ (n : Network) (s : Setup). outcome_of (world_of n s) (position_in walk) (found_in walk)) net_is
+    setup_is ∙ ap₂ (outcome_of world) (position_same _ _ _ _ follows) found_is in
+    let counts : count ≡ count_by (lost world (events_of play.log)) (range_with_len 0 play.setup.agents) =
+    count_is ∙ ap (λ (s : Setup). count_by (lost_in walk) (range_with_len 0 s.agents)) setup_is
+    ∙ ap (λ (test : ℕ → Bool). count_by test (range_with_len 0 play.setup.agents)) (lost_same _ _ _ _ follows) in
     λ i. record { outcome = outcomes i; moves = follows.moves i; lost = counts i }

@@ -1,5 +1,6 @@
 -- The verdict on a match that has ended.
-use Rattle.std.specs.Prelude.{ℕ, Bool, true, false, not, ◌&&◌, ◌||◌, Option, Some, None, ◌==◌, if◌then◌else◌, count_by, find}
+use Rattle.std.specs.Prelude.{ℕ, Bool, true, false, not, ◌&&◌, ◌||◌, Option, Some, None, ◌==◌, if◌then◌else◌, count_by}
+use Rattle.std.specs.Prelude.{find}
 use Rattle.std.specs.List.{list_any, range_with_len}
 use Rattle.bhs_model.specs.Worlds.{World, is_hole, names, is_dark, doomed}
 use Rattle.bhs_model.specs.Runs.{Position, At, run}
@@ -64,7 +65,8 @@ is_unreached world found node = not (node == world.home) && (not (is_hole world.
 abbrev pub first_unreached : World → Findings → Option ℕ
 first_unreached world found = find (is_unreached world found) (range_with_len 0 world.net.nodes)
 
--- Some accusation that is right only by a black hole, while a node was not reached, is a guess: the hole could be there.
+-- Some accusation that is right only by a black hole, while a node was not reached, is a guess: the hole could be
+-- there.
 abbrev pub guess_or_solved : Option ℕ → Outcome
 guess_or_solved (Some node) = Guess node
 guess_or_solved None = Solved

@@ -1,6 +1,7 @@
 -- How the walk over a log goes about it: what it keeps of each agent and each node, and what each event makes of it.
 -- That this is what the definitions say is proved of it.
-use Rattle.std.specs.Prelude.{ℕ, ◌+◌, Bool, true, false, Option, Some, None, List, [], ◌∷◌, if◌then◌else◌, nat_lt, slice_index_or, slice_set, replicate, ◌<◌}
+use Rattle.std.specs.Prelude.{ℕ, ◌+◌, Bool, true, false, Option, Some, None, List, [], ◌∷◌, if◌then◌else◌, nat_lt}
+use Rattle.std.specs.Prelude.{slice_index_or, slice_set, replicate, ◌<◌}
 use Rattle.bhs_net.specs.Network.{Network, nodes_of, degree_of, far_of}
 use Rattle.bhs_model.specs.declared.commands.Command.{Command}
 use Rattle.bhs_model.specs.declared.commands.Command.TheVariants.{Enter, Depart, Accuse, Leave}
@@ -31,8 +32,10 @@ track_at tracks agent = slice_index_or tracks agent fresh
 abbrev pub standing_told : Network → (home : ℕ) → Standing → Command → Standing
 standing_told net home standing Enter = Present home None
 standing_told net home standing Leave = Ended
-standing_told net home (Present node came) (Depart port) = if nat_lt port (degree_of net node) then Away node port else Present node came
-standing_told net home (Present node came) (Accuse port) = if nat_lt port (degree_of net node) then Ended else Present node came
+standing_told net home (Present node came) (Depart port) =
+    if nat_lt port (degree_of net node) then Away node port else Present node came
+standing_told net home (Present node came) (Accuse port) =
+    if nat_lt port (degree_of net node) then Ended else Present node came
 standing_told net home standing command = standing
 
 -- the link that an agent has accused after a command with this mark

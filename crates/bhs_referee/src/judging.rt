@@ -16,7 +16,8 @@ pub fn judge(sealed: &Sealed) -> Verdict
 {
     let net = sealed.net();
     let setup = sealed.setup();
-    let nodes = net.nodes();
+    // A network says how many nodes it has: no more than the walk has places for.
+    let _nodes = net.nodes();
     let walk = walked(net, setup.home, sealed.log());
     Verdict {
         outcome: outcome(net, setup, &walk),

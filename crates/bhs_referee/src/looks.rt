@@ -3,7 +3,8 @@
 ghost use Rattle.std.specs.Prelude.{◌≡◌, not, true, count_by};
 ghost use Rattle.std.specs.List.{range_with_len, list_any};
 ghost use Rattle.bhs_model.specs.Setups.{world_of};
-ghost use Rattle.bhs_referee.specs.Verdicts.{accuses, is_right, is_over_dark, is_hole_accused, is_dark_accused, is_silent, is_unfinished, is_unreached, first_unreached};
+ghost use Rattle.bhs_referee.specs.Verdicts.{accuses, is_right, is_over_dark, is_hole_accused, is_dark_accused};
+ghost use Rattle.bhs_referee.specs.Verdicts.{is_silent, is_unfinished, is_unreached, first_unreached};
 ghost use Rattle.bhs_referee.specs.Walks.{found_in, position_in, lost_in};
 
 use crate::links::{far, is_dark, is_hole, is_right, is_same_link};
@@ -14,7 +15,8 @@ use bhs_net::Net;
 
 /// Whether some accusation is wrong.
 pub(crate) fn is_wrong(net: &Net, setup: &Setup, walk: &Walk) -> bool
-    ensures { result ≡ accuses (world_of net.now setup.now) (found_in walk.now) (λ link. not (is_right (world_of net.now setup.now) link)) }
+    ensures { result ≡ accuses (world_of net.now setup.now) (found_in walk.now)
+        (λ link. not (is_right (world_of net.now setup.now) link)) }
 {
     (0..setup.agents).any(|agent| match walk.track(agent).accused {
         Some(link) => !is_right(net, setup, link),
@@ -51,7 +53,8 @@ fn is_dark_accused(net: &Net, setup: &Setup, walk: &Walk, end: (u16, u16)) -> bo
 
 /// Whether some black hole was not accused.
 fn leaves_hole(net: &Net, setup: &Setup, walk: &Walk) -> bool
-    ensures { result ≡ list_any (λ hole. not (is_hole_accused (world_of net.now setup.now) (found_in walk.now) hole)) setup.now.holes }
+    ensures { result ≡ list_any (λ hole. not (is_hole_accused (world_of net.now setup.now) (found_in walk.now) hole))
+        setup.now.holes }
 {
     setup
         .holes
@@ -62,7 +65,8 @@ fn leaves_hole(net: &Net, setup: &Setup, walk: &Walk) -> bool
 
 /// Whether some dark link was not accused.
 fn leaves_link(net: &Net, setup: &Setup, walk: &Walk) -> bool
-    ensures { result ≡ list_any (λ end. not (is_dark_accused (world_of net.now setup.now) (found_in walk.now) end)) setup.now.dark }
+    ensures { result ≡ list_any (λ end. not (is_dark_accused (world_of net.now setup.now) (found_in walk.now) end))
+        setup.now.dark }
 {
     setup
         .dark
@@ -87,7 +91,8 @@ pub(crate) fn is_unfinished(net: &Net, setup: &Setup, walk: &Walk) -> bool
 
 /// Whether some accusation's link is not dark.
 pub(crate) fn is_past_dark(net: &Net, setup: &Setup, walk: &Walk) -> bool
-    ensures { result ≡ accuses (world_of net.now setup.now) (found_in walk.now) (λ link. not (is_over_dark (world_of net.now setup.now) link)) }
+    ensures { result ≡ accuses (world_of net.now setup.now) (found_in walk.now)
+        (λ link. not (is_over_dark (world_of net.now setup.now) link)) }
 {
     (0..setup.agents).any(|agent| match walk.track(agent).accused {
         Some(link) => !is_dark(net, setup, link),

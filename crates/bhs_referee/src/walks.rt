@@ -1,6 +1,7 @@
 ghost use Rattle.std.specs.Prelude.{◌≡◌, ◌+◌, ◌-◌, ◌<◌, ◌^◌, length, true, false, slice_set, slice_index_or};
 ghost use Rattle.bhs_net.specs.Network.{IsNetwork, nodes_of};
-ghost use Rattle.bhs_referee.specs.Walks.{fresh, start, track_at, standing_told, accused_told, track_told, moves_told, walk_told, walk_delivered, walk_after, walk_from, IsPlaced, AllPlaced};
+ghost use Rattle.bhs_referee.specs.Walks.{fresh, start, track_at, standing_told, accused_told, track_told, moves_told};
+ghost use Rattle.bhs_referee.specs.Walks.{walk_told, walk_delivered, walk_after, walk_from, IsPlaced, AllPlaced};
 
 use bhs_agent::Standing;
 use bhs_model::{Command, Event, Kept, MAX_AGENTS, Mark};

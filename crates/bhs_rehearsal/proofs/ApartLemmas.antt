@@ -1,5 +1,7 @@
 -- What an instruction leaves alone.
-use Rattle.std.proofs.Common.{◌≡◌, ◌≢◌, ◌∙◌, ℕ, zero, suc, ◌+◌, ◌<◌, Bool, true, false, cond, nat_lt, ◌==◌, Option, Some, None, List, [], ◌∷◌, ◌++◌, length, set, get_or, refl, sym, ap, ap₂, subst, append_assoc, arith}
+use Rattle.std.proofs.Common.{◌≡◌, ◌≢◌, ◌∙◌, ℕ, zero, suc, ◌+◌, ◌<◌, Bool, true, false, cond, nat_lt, ◌==◌, Option}
+use Rattle.std.proofs.Common.{Some, None, List, [], ◌∷◌, ◌++◌, length, set, get_or, refl, sym, ap, ap₂, subst}
+use Rattle.std.proofs.Common.{append_assoc, arith}
 use Rattle.std.specs.List.{position}
 use Rattle.std.proofs.lemmas.Bool.{cond-false, ltb-true, eqb-true, eqb-false, eq-eqb, and_parts}
 use Rattle.std.proofs.lemmas.List.{set-get_or, get_or-set_same, get_or-set_other}
@@ -11,11 +13,16 @@ use Rattle.bhs_model.specs.declared.replies.Reply.TheVariants.{Over}
 use Rattle.bhs_session.specs.Texts.{text_of}
 use Rattle.bhs_rehearsal.specs.Games.{Game, state_of, played, reply_to, is_away, drawn}
 use Rattle.bhs_rehearsal.specs.Connections.{Item, Ends, Connection, unfed, shut, Taken, taken, after}
-use Rattle.bhs_rehearsal.specs.Stages.{Stage, game_at, connection_at, with_game, with_connection, has_seat, Entry, Waits, Sits, IsDenied, Goes, entry, Moved, moves, Draws, Closes, Stepped, sent_to, stepped, nothing, tells_arrival, delivers, waits_in, shut_in, told_over, closes, step}
-use Rattle.bhs_rehearsal.specs.Laws.{plays_in, IsOfConnection, IsOfGame, ClientsKeepToThemselves, MatchesKeepToThemselves}
+use Rattle.bhs_rehearsal.specs.Stages.{Stage, game_at, connection_at, with_game, with_connection, has_seat, Entry}
+use Rattle.bhs_rehearsal.specs.Stages.{Waits, Sits, IsDenied, Goes, entry, Moved, moves, Draws, Closes, Stepped}
+use Rattle.bhs_rehearsal.specs.Stages.{sent_to, stepped, nothing, tells_arrival, delivers, waits_in, shut_in, told_over}
+use Rattle.bhs_rehearsal.specs.Stages.{closes, step}
+use Rattle.bhs_rehearsal.specs.Laws.{plays_in, IsOfConnection, IsOfGame, ClientsKeepToThemselves}
+use Rattle.bhs_rehearsal.specs.Laws.{MatchesKeepToThemselves}
 use Rattle.bhs_rehearsal.specs.Clients.{bytes_among}
 use Rattle.bhs_rehearsal.proofs.CuttingLemmas.{by_bool, and_false}
-use Rattle.bhs_rehearsal.proofs.TurnLemmas.{Turn, placed, plays_turn, enters_turn, turn_in, turn_of, moves-placed, grown}
+use Rattle.bhs_rehearsal.proofs.TurnLemmas.{Turn, placed, plays_turn, enters_turn, turn_in, turn_of, moves-placed}
+use Rattle.bhs_rehearsal.proofs.TurnLemmas.{grown}
 use Rattle.bhs_rehearsal.proofs.FeedLemmas.{bytes_among-sent_to}
 
 -- ---- what is sent
@@ -25,9 +32,11 @@ not_itself one other apart = by_bool (one == other) (λ (is : Bool). (one == oth
     (λ same. λ again. absurd (apart (sym (eqb-true one other same)))) (λ differs. λ again. again) refl
 
 pub sent_elsewhere : (other conn : ℕ) (text : List ℕ) → other ≢ conn → bytes_among other (sent_to conn text) ≡ []
-sent_elsewhere other conn text apart = bytes_among-sent_to other conn text ∙ cond-false (conn == other) text [] (not_itself conn other apart)
+sent_elsewhere other conn text apart = bytes_among-sent_to other conn text
+    ∙ cond-false (conn == other) text [] (not_itself conn other apart)
 
-pub bytes_among-append : (conn : ℕ) (one two : List (ℕ × List ℕ)) → bytes_among conn (one ++ two) ≡ bytes_among conn one ++ bytes_among conn two
+pub bytes_among-append : (conn : ℕ) (one two : List (ℕ × List ℕ)) → bytes_among conn (one ++ two) ≡ bytes_among conn one
+    ++ bytes_among conn two
 bytes_among-append conn [] two = refl
 bytes_among-append conn (out ∷ one) two =
     ap (λ (rest : List ℕ). cond (out.0 == conn) out.1 [] ++ rest) (bytes_among-append conn one two)
@@ -45,28 +54,40 @@ nothing_of_connection stage conn = record {
 
 -- a turn changes no match but that of the connection
 abbrev KeepsGames : Stage → Turn → Type 0
-KeepsGames stage turn = (game : ℕ) → plays_in game turn.connection ≡ false → game_at (record stage { games = turn.games }) game ≡ game_at stage game
+KeepsGames stage turn = (game : ℕ) → plays_in game turn.connection ≡ false
+    → game_at (record stage { games = turn.games }) game ≡ game_at stage game
 
-keeps_by : (stage : Stage) (seat : ℕ × ℕ) (connection : Connection) (game : Game) (is_done : Bool) (left : List Item) (text : List ℕ) →
+keeps_by : (stage : Stage) (seat : ℕ × ℕ) (connection : Connection) (game : Game) (is_done : Bool) (left : List Item)
+    (text : List ℕ) →
     let done : Taken = record { game = game; is_done = is_done; left = left; text = text } in
-    KeepsGames stage (record { games = set stage.games seat.0 game; connection = after (record connection { seat = Some seat }) done; text = text })
+    KeepsGames stage (record {
+      games = set stage.games seat.0 game;
+      connection = after
+          (record connection { seat = Some seat }) done;
+      text = text;
+    })
 keeps_by stage seat connection new true left text game elsewhere =
     get_or-set_other stage.games seat.0 game new _ (λ same. eqb-false seat.0 game elsewhere (sym same))
 keeps_by stage seat connection new false left text game elsewhere =
     get_or-set_other stage.games seat.0 game new _ (λ same. eqb-false seat.0 game elsewhere (sym same))
 
-keeps_playing : (stage : Stage) (seat : ℕ × ℕ) (connection : Connection) → KeepsGames stage (plays_turn stage seat connection)
+keeps_playing : (stage : Stage) (seat : ℕ × ℕ) (connection : Connection)
+    → KeepsGames stage (plays_turn stage seat connection)
 keeps_playing stage seat connection =
-    let done = taken (game_at stage seat.0) seat.1 connection.queue in keeps_by stage seat connection done.game done.is_done done.left done.text
+    let done = taken (game_at stage seat.0) seat.1 connection.queue in
+    keeps_by stage seat connection done.game done.is_done done.left done.text
 
-keeps_entering : (stage : Stage) (connection : Connection) (entry : Entry) → KeepsGames stage (enters_turn stage connection entry)
+keeps_entering : (stage : Stage) (connection : Connection) (entry : Entry)
+    → KeepsGames stage (enters_turn stage connection entry)
 keeps_entering stage connection Waits game elsewhere = refl
 keeps_entering stage connection (Sits seat) game elsewhere = keeps_playing stage seat connection game elsewhere
 keeps_entering stage connection (IsDenied denial) game elsewhere = refl
 keeps_entering stage connection Goes game elsewhere = refl
 
-keeps_in : (stage : Stage) (conn : ℕ) (connection : Connection) (seat : Option (ℕ × ℕ)) → KeepsGames stage (turn_in stage conn connection seat)
-keeps_in stage conn connection None = keeps_entering stage connection (entry (with_connection stage conn connection) connection.queue)
+keeps_in : (stage : Stage) (conn : ℕ) (connection : Connection) (seat : Option (ℕ × ℕ))
+    → KeepsGames stage (turn_in stage conn connection seat)
+keeps_in stage conn connection None = keeps_entering stage connection
+    (entry (with_connection stage conn connection) connection.queue)
 keeps_in stage conn connection (Some seat) = keeps_playing stage seat connection
 
 turn_of_connection : (stage : Stage) (conn : ℕ) (connection : Connection) → conn < length stage.connections →
@@ -83,13 +104,16 @@ turn_of_connection stage conn connection within =
     }
 
 -- a client's step, where the connection then stands so before it moves
-client_step : (stage : Stage) (conn : ℕ) (connection : Connection) (below ended : Bool) → nat_lt conn (length stage.connections) ≡ below →
-    IsOfConnection stage conn (cond below (cond ended (nothing stage) (stepped conn (moves (with_connection stage conn connection) conn))) (nothing stage))
+client_step : (stage : Stage) (conn : ℕ) (connection : Connection) (below ended : Bool)
+    → nat_lt conn (length stage.connections) ≡ below →
+    IsOfConnection stage conn (cond below (cond ended (nothing stage)
+    (stepped conn (moves (with_connection stage conn connection) conn))) (nothing stage))
 client_step stage conn connection false ended below = nothing_of_connection stage conn
 client_step stage conn connection true true below = nothing_of_connection stage conn
 client_step stage conn connection true false below =
     let within = ltb-true conn (length stage.connections) below in
-    subst (λ (moved : Moved). IsOfConnection stage conn (stepped conn moved)) (sym (moves-placed stage conn connection within)) (turn_of_connection stage conn connection within)
+    subst (λ (moved : Moved). IsOfConnection stage conn (stepped conn moved))
+    (sym (moves-placed stage conn connection within)) (turn_of_connection stage conn connection within)
 
 pub clients_lemma : ClientsKeepToThemselves
 clients_lemma stage conn bytes =
@@ -104,14 +128,17 @@ clients_lemma stage conn bytes =
 
 -- who has a seat
 pub seat_is : (seat : ℕ × ℕ) (own : Option (ℕ × ℕ)) (unfinished : Option (List ℕ)) (queue : List Item) (ended : Bool) →
-    has_seat seat (record { seat = own; unfinished = unfinished; queue = queue; ended = ended }) ≡ true → own ≡ Some seat
+    has_seat seat (record { seat = own; unfinished = unfinished; queue = queue; ended = ended }) ≡ true
+    → own ≡ Some seat
 seat_is seat None unfinished queue ended has = absurd (cc)
 seat_is seat (Some own) unfinished queue ended has =
     let parts = and_parts (own.0 == seat.0) (own.1 == seat.1) has in
     ap₂ (λ (game agent : ℕ). Some (game, agent)) (eqb-true own.0 seat.0 parts.0) (eqb-true own.1 seat.1 parts.1)
 
-pub seat-has_seat : (seat : ℕ × ℕ) (connection : Connection) → has_seat seat connection ≡ true → connection.seat ≡ Some seat
-seat-has_seat seat connection has = seat_is seat connection.seat connection.unfinished connection.queue connection.ended has
+pub seat-has_seat : (seat : ℕ × ℕ) (connection : Connection) → has_seat seat connection ≡ true
+    → connection.seat ≡ Some seat
+seat-has_seat seat connection has = seat_is seat connection.seat connection.unfinished connection.queue
+    connection.ended has
 
 -- one match was changed, and nothing was sent
 game_alone : (stage : Stage) (game : ℕ) (new : Game) → IsOfGame stage game (nothing (with_game stage game new))
@@ -131,17 +158,21 @@ nothing_of_game stage game = record {
 }
 
 -- who plays elsewhere is not the one that plays here
-pub plays_elsewhere : (stage : Stage) (game conn other : ℕ) (agent : ℕ) → (connection_at stage conn).seat ≡ Some (game, agent) →
+pub plays_elsewhere : (stage : Stage) (game conn other : ℕ) (agent : ℕ)
+    → (connection_at stage conn).seat ≡ Some (game, agent) →
     plays_in game (connection_at stage other) ≡ false → other ≢ conn
 plays_elsewhere stage game conn other agent seated elsewhere same = absurd (
     let here : plays_in game (connection_at stage conn) ≡ true =
-    ap (λ (seat : Option (ℕ × ℕ)). plays_in game (record (connection_at stage conn) { seat = seat })) seated ∙ eq-eqb game game refl in
-    let there : plays_in game (connection_at stage conn) ≡ false = ap (λ (one : ℕ). plays_in game (connection_at stage one)) (sym same) ∙ elsewhere in
+    ap (λ (seat : Option (ℕ × ℕ)). plays_in game (record (connection_at stage conn) { seat = seat })) seated
+    ∙ eq-eqb game game refl in
+    let there : plays_in game (connection_at stage conn) ≡ false =
+    ap (λ (one : ℕ). plays_in game (connection_at stage one)) (sym same) ∙ elsewhere in
     cc
     )
 
 -- the holder of a seat in the match moves
-moves_of_game : (stage : Stage) (game : ℕ) (new : Game) (conn agent : ℕ) (before : List ℕ) → conn < length stage.connections →
+moves_of_game : (stage : Stage) (game : ℕ) (new : Game) (conn agent : ℕ) (before : List ℕ)
+    → conn < length stage.connections →
     (connection_at stage conn).seat ≡ Some (game, agent) →
     let moved = moves (with_game stage game new) conn in
     IsOfGame stage game (record { stage = moved.stage; outs = sent_to conn (before ++ moved.text) })
@@ -150,17 +181,22 @@ moves_of_game stage game new conn agent before within seated =
     let old = connection_at stage conn in
     let turn = plays_turn between (game, agent) old in
     let is_turn : moves between conn ≡ placed between conn turn =
-    ap (λ (connections : List Connection). moves (record between { connections = connections }) conn) (sym (set-get_or stage.connections conn unfed))
+    ap (λ (connections : List Connection). moves (record between { connections = connections }) conn)
+    (sym (set-get_or stage.connections conn unfed))
     ∙ moves-placed between conn old within
     ∙ ap (λ (seat : Option (ℕ × ℕ)). placed between conn (turn_in between conn old seat)) seated in
-    subst (λ (moved : Moved). IsOfGame stage game (record { stage = moved.stage; outs = sent_to conn (before ++ moved.text) })) (sym is_turn) (record {
+    subst (λ (moved : Moved). IsOfGame stage game
+    (record { stage = moved.stage; outs = sent_to conn (before ++ moved.text) })) (sym is_turn) (record {
       games = λ other. λ apart.
-          get_or-set_other (set stage.games game new) game other (taken (game_at between game) agent old.queue).game _ apart
+          get_or-set_other (set stage.games game new) game other
+          (taken (game_at between game) agent old.queue).game _ apart
           ∙ get_or-set_other stage.games game other new _ apart;
       connections = λ other. λ elsewhere.
-          get_or-set_other stage.connections conn other turn.connection unfed (plays_elsewhere stage game conn other agent seated elsewhere);
+          get_or-set_other stage.connections conn other turn.connection unfed
+          (plays_elsewhere stage game conn other agent seated elsewhere);
       keys = refl;
-      outs = λ other. λ elsewhere. sent_elsewhere other conn (before ++ turn.text) (plays_elsewhere stage game conn other agent seated elsewhere);
+      outs = λ other. λ elsewhere. sent_elsewhere other conn (before ++ turn.text)
+          (plays_elsewhere stage game conn other agent seated elsewhere);
     })
 
 arrivals_of_game : (stage : Stage) (game agent : ℕ) (new : Game) (reply : Option Reply) (holder : Option ℕ) →
@@ -170,78 +206,95 @@ arrivals_of_game stage game agent new None holder is = game_alone stage game new
 arrivals_of_game stage game agent new (Some reply) None is = game_alone stage game new
 arrivals_of_game stage game agent new (Some reply) (Some conn) is =
     let found = position-Some (has_seat (game, agent)) stage.connections conn unfed is in
-    moves_of_game stage game new conn agent (text_of reply) found.0 (seat-has_seat (game, agent) (connection_at stage conn) found.1)
+    moves_of_game stage game new conn agent (text_of reply) found.0
+    (seat-has_seat (game, agent) (connection_at stage conn) found.1)
 
 delivers_of_game : (stage : Stage) (game : ℕ) (event : Option Event) → IsOfGame stage game (delivers stage game event)
 delivers_of_game stage game None = nothing_of_game stage game
 delivers_of_game stage game (Some (Tell agent command)) = nothing_of_game stage game
 delivers_of_game stage game (Some Close) = nothing_of_game stage game
 delivers_of_game stage game (Some (Deliver agent)) =
-    arrivals_of_game stage game agent (played (game_at stage game) (Deliver agent)) (reply_to (game_at stage game) (Deliver agent))
+    arrivals_of_game stage game agent (played (game_at stage game) (Deliver agent))
+    (reply_to (game_at stage game) (Deliver agent))
     (position (has_seat (game, agent)) stage.connections) refl
 
 draws_of_game : (stage : Stage) (game word : ℕ) → IsOfGame stage game (step stage (Draws game word))
 draws_of_game stage game word =
     by_bool (nat_lt game (length stage.games))
-    (λ (below : Bool). IsOfGame stage game (cond below (delivers stage game (drawn (game_at stage game) word)) (nothing stage)))
+    (λ (below : Bool). IsOfGame stage game (cond below (delivers stage game (drawn (game_at stage game) word))
+    (nothing stage)))
     (λ below. delivers_of_game stage game (drawn (game_at stage game) word)) (λ past. nothing_of_game stage game)
 
 -- ---- a close
 
 -- who plays elsewhere doesn't wait here
-waits_by : (number : ℕ) (game : Game) (own : Option (ℕ × ℕ)) (unfinished : Option (List ℕ)) (queue : List Item) (ended : Bool) →
+waits_by : (number : ℕ) (game : Game) (own : Option (ℕ × ℕ)) (unfinished : Option (List ℕ)) (queue : List Item)
+    (ended : Bool) →
     let connection : Connection = record { seat = own; unfinished = unfinished; queue = queue; ended = ended } in
     plays_in number connection ≡ false → waits_in number game connection ≡ false
 waits_by number game None unfinished queue ended elsewhere = refl
-waits_by number game (Some seat) unfinished queue ended elsewhere = and_false (seat.0 == number) (is_away game seat.1) elsewhere
+waits_by number game (Some seat) unfinished queue ended elsewhere =
+    and_false (seat.0 == number) (is_away game seat.1) elsewhere
 
-waits_elsewhere : (number : ℕ) (game : Game) (connection : Connection) → plays_in number connection ≡ false → waits_in number game connection ≡ false
+waits_elsewhere : (number : ℕ) (game : Game) (connection : Connection) → plays_in number connection ≡ false
+    → waits_in number game connection ≡ false
 waits_elsewhere number game connection elsewhere =
     waits_by number game connection.seat connection.unfinished connection.queue connection.ended elsewhere
 
 abbrev pub shut_if : (number : ℕ) → Game → Connection → Connection
 shut_if number game connection = cond (waits_in number game connection) (shut connection) connection
 
-pub not_shut : (number : ℕ) (game : Game) (connections : List Connection) (conn : ℕ) → plays_in number (get_or connections conn unfed) ≡ false →
+pub not_shut : (number : ℕ) (game : Game) (connections : List Connection) (conn : ℕ)
+    → plays_in number (get_or connections conn unfed) ≡ false →
     get_or (shut_in number game connections) conn unfed ≡ get_or connections conn unfed
 not_shut number game [] conn elsewhere = refl
 not_shut number game (connection ∷ connections) zero elsewhere =
-    cond-false (waits_in number game connection) (shut connection) connection (waits_elsewhere number game connection elsewhere)
+    cond-false (waits_in number game connection) (shut connection) connection
+    (waits_elsewhere number game connection elsewhere)
 not_shut number game (connection ∷ connections) (suc conn) elsewhere = not_shut number game connections conn elsewhere
 
 -- a connection that is told so has its number or a later one
-told_later : (number : ℕ) (game : Game) (connections : List Connection) (first conn : ℕ) → conn < first → bytes_among conn (told_over number game first connections) ≡ []
+told_later : (number : ℕ) (game : Game) (connections : List Connection) (first conn : ℕ) → conn < first
+    → bytes_among conn (told_over number game first connections) ≡ []
 told_later number game [] first conn earlier = refl
 told_later number game (connection ∷ connections) first conn earlier =
     let apart : conn ≢ first = λ same. absurd (omega (arith, same)) in
-    bytes_among-append conn (cond (waits_in number game connection) (sent_to first (text_of Over)) []) (told_over number game (first + 1) connections)
+    bytes_among-append conn (cond (waits_in number game connection) (sent_to first (text_of Over)) [])
+    (told_over number game (first + 1) connections)
     ∙ ap₂ (λ (one two : List ℕ). one ++ two)
-    (by_bool (waits_in number game connection) (λ (waits : Bool). bytes_among conn (cond waits (sent_to first (text_of Over)) []) ≡ [])
+    (by_bool (waits_in number game connection)
+    (λ (waits : Bool). bytes_among conn (cond waits (sent_to first (text_of Over)) []) ≡ [])
     (λ waits. sent_elsewhere conn first (text_of Over) apart) (λ stays. refl))
     (told_later number game connections (first + 1) conn (omega arith))
 
-told_here : (number : ℕ) (game : Game) (connections : List Connection) (first conn : ℕ) → plays_in number (get_or connections conn unfed) ≡ false →
+told_here : (number : ℕ) (game : Game) (connections : List Connection) (first conn : ℕ)
+    → plays_in number (get_or connections conn unfed) ≡ false →
     bytes_among (first + conn) (told_over number game first connections) ≡ []
 told_here number game [] first conn elsewhere = refl
 told_here number game (connection ∷ connections) first zero elsewhere =
-    ap (λ (waits : Bool). bytes_among (first + 0) (cond waits (sent_to first (text_of Over)) [] ++ told_over number game (first + 1) connections))
+    ap (λ (waits : Bool). bytes_among (first + 0)
+    (cond waits (sent_to first (text_of Over)) [] ++ told_over number game (first + 1) connections))
     (waits_elsewhere number game connection elsewhere)
     ∙ told_later number game connections (first + 1) (first + 0) (omega arith)
 told_here number game (connection ∷ connections) first (suc conn) elsewhere =
     let apart : first + suc conn ≢ first = λ same. absurd (omega (arith, same)) in
     let later : (first + 1) + conn ≡ first + suc conn = omega arith in
-    bytes_among-append (first + suc conn) (cond (waits_in number game connection) (sent_to first (text_of Over)) []) (told_over number game (first + 1) connections)
+    bytes_among-append (first + suc conn) (cond (waits_in number game connection) (sent_to first (text_of Over)) [])
+    (told_over number game (first + 1) connections)
     ∙ ap₂ (λ (one two : List ℕ). one ++ two)
-    (by_bool (waits_in number game connection) (λ (waits : Bool). bytes_among (first + suc conn) (cond waits (sent_to first (text_of Over)) []) ≡ [])
+    (by_bool (waits_in number game connection)
+    (λ (waits : Bool). bytes_among (first + suc conn) (cond waits (sent_to first (text_of Over)) []) ≡ [])
     (λ waits. sent_elsewhere (first + suc conn) first (text_of Over) apart) (λ stays. refl))
     (ap (λ (number_of : ℕ). bytes_among number_of (told_over number game (first + 1) connections)) (sym later)
     ∙ told_here number game connections (first + 1) conn elsewhere)
 
-pub told_elsewhere : (number : ℕ) (game : Game) (connections : List Connection) (conn : ℕ) → plays_in number (get_or connections conn unfed) ≡ false →
+pub told_elsewhere : (number : ℕ) (game : Game) (connections : List Connection) (conn : ℕ)
+    → plays_in number (get_or connections conn unfed) ≡ false →
     bytes_among conn (told_over number game 0 connections) ≡ []
 told_elsewhere number game connections conn elsewhere =
     let same : 0 + conn ≡ conn = omega arith in
-    ap (λ (other : ℕ). bytes_among other (told_over number game 0 connections)) (sym same) ∙ told_here number game connections 0 conn elsewhere
+    ap (λ (other : ℕ). bytes_among other (told_over number game 0 connections)) (sym same)
+    ∙ told_here number game connections 0 conn elsewhere
 
 close_of_game : (stage : Stage) (game : ℕ) (new : Game) →
     let old = game_at stage game in
@@ -263,7 +316,8 @@ closes_of_game stage game =
       stage = record (with_game stage game (played old Close)) { connections = shut_in game old stage.connections };
       outs = told_over game old 0 stage.connections;
     } in
-    by_bool (nat_lt game (length stage.games)) (λ (below : Bool). IsOfGame stage game (cond below (closes stage game) (nothing stage)))
+    by_bool (nat_lt game (length stage.games))
+    (λ (below : Bool). IsOfGame stage game (cond below (closes stage game) (nothing stage)))
     (λ below. by_bool (state_of old).closed (λ (closed : Bool). IsOfGame stage game (cond closed (nothing stage) done))
     (λ closed. nothing_of_game stage game) (λ open_match. close_of_game stage game (played old Close)))
     (λ past. nothing_of_game stage game)

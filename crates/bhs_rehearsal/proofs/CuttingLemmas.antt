@@ -1,5 +1,6 @@
 -- Taking more items is taking the first, and then what they leave with the others.
-use Rattle.std.proofs.Common.{◌≡◌, ◌∙◌, ℕ, Bool, true, false, cond, ◌&&◌, nat_lt, Option, Some, None, List, [], ◌∷◌, ◌++◌, refl, sym, ap, append_assoc, arith, if◌then◌else◌}
+use Rattle.std.proofs.Common.{◌≡◌, ◌∙◌, ℕ, Bool, true, false, cond, ◌&&◌, nat_lt, Option, Some, None, List, [], ◌∷◌}
+use Rattle.std.proofs.Common.{◌++◌, refl, sym, ap, append_assoc, arith, if◌then◌else◌}
 use Rattle.std.proofs.lemmas.Bool.{cond-true, cond-false}
 use Rattle.std.proofs.lemmas.Bool.Decides.{nat_tests}
 use Rattle.bhs_model.specs.declared.commands.Command.{Command}
@@ -25,7 +26,8 @@ behind text done = record done { text = text ++ done.text }
 abbrev pub and_then : Taken → (agent : ℕ) → List Item → Taken
 and_then done agent more = if done.is_done then done else behind done.text (taken done.game agent (done.left ++ more))
 
-behind_then : (text : List ℕ) (game : Game) (is_done : Bool) (left : List Item) (own : List ℕ) (agent : ℕ) (more : List Item) →
+behind_then : (text : List ℕ) (game : Game) (is_done : Bool) (left : List Item) (own : List ℕ) (agent : ℕ)
+    (more : List Item) →
     behind text (and_then (record { game = game; is_done = is_done; left = left; text = own }) agent more)
     ≡ and_then (record { game = game; is_done = is_done; left = left; text = text ++ own }) agent more
 behind_then text game true left own agent more = refl
@@ -34,8 +36,10 @@ behind_then text game false left own agent more =
     (sym (append_assoc text own (taken game agent (left ++ more)).text))
 
 answers_last : (is_last_one : Bool) (reply : Reply) (game : Game) (others : Taken) (agent : ℕ) (more : List Item) →
-    cond is_last_one (record { game = game; is_done = true; left = []; text = text_of reply }) (behind (text_of reply) (and_then others agent more))
-    ≡ and_then (cond is_last_one (record { game = game; is_done = true; left = []; text = text_of reply }) (behind (text_of reply) others)) agent more
+    cond is_last_one (record { game = game; is_done = true; left = []; text = text_of reply })
+    (behind (text_of reply) (and_then others agent more))
+    ≡ and_then (cond is_last_one (record { game = game; is_done = true; left = []; text = text_of reply })
+    (behind (text_of reply) others)) agent more
 answers_last true reply game others agent more = refl
 answers_last false reply game others agent more =
     behind_then (text_of reply) others.game others.is_done others.left others.text agent more
@@ -45,7 +49,8 @@ answers_then : (reply : Option Reply) (game : Game) (others : Taken) (agent : �
 answers_then None game others agent more = refl
 answers_then (Some reply) game others agent more = answers_last (is_last reply) reply game others agent more
 
-pub taken-append : (game : Game) (agent : ℕ) (items more : List Item) → taken game agent (items ++ more) ≡ and_then (taken game agent items) agent more
+pub taken-append : (game : Game) (agent : ℕ) (items more : List Item) → taken game agent (items ++ more) ≡ and_then
+    (taken game agent items) agent more
 taken-append game agent [] more = refl
 taken-append game agent (Says line ∷ items) more =
     let event = Tell agent (command_by (said_by line)) in
@@ -54,8 +59,10 @@ taken-append game agent (Says line ∷ items) more =
     let goes_on = answers (reply_to game event) next (taken next agent (items ++ more)) in
     by_bool (is_away game agent)
     (λ (away : Bool).
-    cond away (leaves game (Says line ∷ (items ++ more))) (answers (reply_to game event) next (taken next agent (items ++ more)))
-    ≡ and_then (cond away (leaves game (Says line ∷ items)) (answers (reply_to game event) next (taken next agent items))) agent more)
+    cond away (leaves game (Says line ∷ (items ++ more)))
+    (answers (reply_to game event) next (taken next agent (items ++ more)))
+    ≡ and_then (cond away (leaves game (Says line ∷ items))
+    (answers (reply_to game event) next (taken next agent items))) agent more)
     (λ away. sym (cond-true (is_away game agent) waits goes_on away))
     (λ here.
     ap (answers (reply_to game event) next) (taken-append next agent items more)
@@ -63,8 +70,10 @@ taken-append game agent (Says line ∷ items) more =
 taken-append game agent (Ends ∷ items) more =
     by_bool (is_away game agent)
     (λ (away : Bool).
-    cond away (leaves game (Ends ∷ (items ++ more))) (record { game = played game (Tell agent Leave); is_done = true; left = []; text = [] })
-    ≡ and_then (cond away (leaves game (Ends ∷ items)) (record { game = played game (Tell agent Leave); is_done = true; left = []; text = [] })) agent more)
+    cond away (leaves game (Ends ∷ (items ++ more)))
+    (record { game = played game (Tell agent Leave); is_done = true; left = []; text = [] })
+    ≡ and_then (cond away (leaves game (Ends ∷ items))
+    (record { game = played game (Tell agent Leave); is_done = true; left = []; text = [] })) agent more)
     (λ away. sym (cond-true _ _ _ away))
     (λ here. refl)
 
@@ -77,29 +86,36 @@ pub and_false : (one other : Bool) → one ≡ false → (one && other) ≡ fals
 and_false true other is = absurd (cc)
 and_false false other is = refl
 
-played_nobody : (game : Game) (agent : ℕ) (command : Command) → game.setup.agents ≡ 0 → played game (Tell agent command) ≡ game
+played_nobody : (game : Game) (agent : ℕ) (command : Command) → game.setup.agents ≡ 0
+    → played game (Tell agent command) ≡ game
 played_nobody game agent command none =
-    cond-false (heard (world_in game) (state_of game) agent command) _ _ (and_false (nat_lt agent game.setup.agents) _ (none_below agent game.setup.agents none))
+    cond-false (heard (world_in game) (state_of game) agent command) _ _
+    (and_false (nat_lt agent game.setup.agents) _ (none_below agent game.setup.agents none))
 
-answers_same : (reply : Option Reply) (game next : Game) (others : Taken) → next ≡ game → others.game ≡ game → (answers reply next others).game ≡ game
+answers_same : (reply : Option Reply) (game next : Game) (others : Taken) → next ≡ game → others.game ≡ game
+    → (answers reply next others).game ≡ game
 answers_same None game next others same later = later
 answers_same (Some reply) game next others same later =
     by_bool (is_last reply)
-    (λ (last : Bool). (cond last (record { game = next; is_done = true; left = []; text = text_of reply }) (behind (text_of reply) others)).game ≡ game)
+    (λ (last : Bool). (cond last (record { game = next; is_done = true; left = []; text = text_of reply })
+    (behind (text_of reply) others)).game ≡ game)
     (λ last. same) (λ later_one. later)
 
 -- nobody's commands change it
-pub taken_nobody : (game : Game) (agent : ℕ) (items : List Item) → game.setup.agents ≡ 0 → (taken game agent items).game ≡ game
+pub taken_nobody : (game : Game) (agent : ℕ) (items : List Item) → game.setup.agents ≡ 0
+    → (taken game agent items).game ≡ game
 taken_nobody game agent [] none = refl
 taken_nobody game agent (Says line ∷ items) none =
     let event = Tell agent (command_by (said_by line)) in
     let same = played_nobody game agent (command_by (said_by line)) none in
     by_bool (is_away game agent)
-    (λ (away : Bool). (cond away (leaves game (Says line ∷ items)) (answers (reply_to game event) (played game event) (taken (played game event) agent items))).game ≡ game)
+    (λ (away : Bool). (cond away (leaves game (Says line ∷ items))
+    (answers (reply_to game event) (played game event) (taken (played game event) agent items))).game ≡ game)
     (λ away. refl)
     (λ here. answers_same (reply_to game event) game (played game event) _ same
     (ap (λ (next : Game). (taken next agent items).game) same ∙ taken_nobody game agent items none))
 taken_nobody game agent (Ends ∷ items) none =
     by_bool (is_away game agent)
-    (λ (away : Bool). (cond away (leaves game (Ends ∷ items)) (record { game = played game (Tell agent Leave); is_done = true; left = []; text = [] })).game ≡ game)
+    (λ (away : Bool). (cond away (leaves game (Ends ∷ items))
+    (record { game = played game (Tell agent Leave); is_done = true; left = []; text = [] })).game ≡ game)
     (λ away. refl) (λ here. played_nobody game agent Leave none)

@@ -12,23 +12,27 @@ FitsHere world view (At node came) = (standing view ≡ Present) × (ports view 
 FitsHere world view (Bound node port) = standing view ≡ Away
 FitsHere world view After = standing view ≡ Ended
 
-legal_fits : (world : World) (view : View) (position : Position) → IsLegal world view position → FitsHere world view position
+legal_fits : (world : World) (view : View) (position : Position) → IsLegal world view position
+    → FitsHere world view position
 legal_fits world view Before legal = legal.standing
 legal_fits world view (At node came) legal = (legal.standing, legal.ports)
 legal_fits world view (Bound node port) legal = legal.standing
 legal_fits world view After legal = legal.standing
 
-pub fits_here : (game : Game) (agent : ℕ) → FitsHere (world_in game) ((state_of game).past agent) ((state_of game).position agent)
+pub fits_here : (game : Game) (agent : ℕ) → FitsHere (world_in game) ((state_of game).past agent)
+    ((state_of game).position agent)
 fits_here game agent = legal_fits (world_in game) _ _ (all_run (world_in game) game.log agent)
 
 -- who is on no link is not away, and who is on one is
-pub here_stands : (world : World) (view : View) (position : Position) → FitsHere world view position → is_bound position ≡ false → standing view ≢ Away
+pub here_stands : (world : World) (view : View) (position : Position) → FitsHere world view position
+    → is_bound position ≡ false → standing view ≢ Away
 here_stands world view Before fits at away = let never = sym fits in cc
 here_stands world view (At node came) fits at away = let present = fits.0 in cc
 here_stands world view (Bound node port) fits at away = cc
 here_stands world view After fits at away = cc
 
-pub away_stands : (world : World) (view : View) (position : Position) → FitsHere world view position → is_bound position ≡ true → standing view ≡ Away
+pub away_stands : (world : World) (view : View) (position : Position) → FitsHere world view position
+    → is_bound position ≡ true → standing view ≡ Away
 away_stands world view Before fits at = absurd (cc)
 away_stands world view (At node came) fits at = absurd (cc)
 away_stands world view (Bound node port) fits at = fits

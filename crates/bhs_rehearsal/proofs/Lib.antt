@@ -9,6 +9,10 @@ pub mod HeldLemmas
 pub mod IsolationLemmas
 pub mod KnownLemmas
 pub mod MetExample
+pub mod MetMoveLemmas
+pub mod MetClientLemmas
+pub mod MetDrawLemmas
+pub mod MetCloseLemmas
 pub mod MetLemmas
 pub mod OfMatchLemmas
 pub mod OneMachineLemmas

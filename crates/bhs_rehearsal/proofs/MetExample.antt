@@ -3,7 +3,8 @@ use Rattle.std.proofs.Common.{◌≡◌, ℕ, zero, suc, [], refl, arith}
 use Rattle.bhs_wire.proofs.OnLiterals.{bhs_wire_on_literals}
 use Rattle.bhs_rehearsal.specs.Stages.{game_at}
 use Rattle.bhs_rehearsal.specs.Headline.{beginning}
-use Rattle.bhs_rehearsal.specs.MetExample.{hasty_look, ThePastIsOfWhatWasMet, TheBytesAreOfWhatWasMet, TheBytesAreThese, TheHeadlineSpeaksOfIt}
+use Rattle.bhs_rehearsal.specs.MetExample.{hasty_look, ThePastIsOfWhatWasMet, TheBytesAreOfWhatWasMet, TheBytesAreThese}
+use Rattle.bhs_rehearsal.specs.MetExample.{TheHeadlineSpeaksOfIt}
 
 begins : (game : ℕ) → (game_at (beginning hasty_look) game).log ≡ []
 begins zero = refl

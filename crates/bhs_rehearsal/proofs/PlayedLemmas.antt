@@ -1,5 +1,6 @@
 -- An event of a match in memory, as the definitions see it.
-use Rattle.std.proofs.Common.{◌≡◌, ℕ, Bool, true, false, ◌||◌, not, ◌&&◌, Option, Some, None, List, [], ◌∷◌, ◌++◌, length, refl, sym, ap, ◌∙◌, if◌then◌else◌, arith}
+use Rattle.std.proofs.Common.{◌≡◌, ℕ, Bool, true, false, ◌||◌, not, ◌&&◌, Option, Some, None, List, [], ◌∷◌, ◌++◌}
+use Rattle.std.proofs.Common.{length, refl, sym, ap, ◌∙◌, if◌then◌else◌, arith}
 use Rattle.std.specs.Prelude.{slice_get, option_and_then, option_map}
 use Rattle.std.proofs.lemmas.Option.{slice_get_past}
 use Rattle.bhs_net.specs.Network.{Network}
@@ -34,9 +35,11 @@ game_in play held = record { net = play.net; setup = play.setup; held = held; lo
 
 by_keep : (keeps : Bool) (net : Network) (setup : Setup) (held : List (ℕ × ℕ)) (log : List Kept) (one : Kept) →
     game_in (record { net = net; setup = setup; log = if keeps then log ++ one ∷ [] else log }) held
-    ≡ (if keeps then record (game_in (record { net = net; setup = setup; log = log }) held) { log = events_of log ++ one.event ∷ [] }
+    ≡ (if keeps then record (game_in (record { net = net; setup = setup; log = log }) held)
+    { log = events_of log ++ one.event ∷ [] }
     else game_in (record { net = net; setup = setup; log = log }) held)
-by_keep true net setup held log one = ap (λ (events : List Event). record { net = net; setup = setup; held = held; log = events }) (events_more log one)
+by_keep true net setup held log one = ap (λ (events : List Event). record
+    { net = net; setup = setup; held = held; log = events }) (events_more log one)
 by_keep false net setup held log one = refl
 
 pub played_lemma : (old new : Play) (held : List (ℕ × ℕ)) (event : Event) (mark : Option Mark) →
@@ -46,17 +49,21 @@ played_lemma old new held event mark log net setup =
     ap (λ (one : Network). record { net = one; setup = new.setup; held = held; log = events_of new.log }) net
     ∙ ap (λ (one : Setup). record { net = old.net; setup = one; held = held; log = events_of new.log }) setup
     ∙ ap (λ (one : List Kept). record { net = old.net; setup = old.setup; held = held; log = events_of one }) log
-    ∙ by_keep (keeps_next (matches.world_in old) old.log event) old.net old.setup held old.log (record { event = event; mark = mark })
+    ∙ by_keep (keeps_next (matches.world_in old) old.log event) old.net old.setup held old.log
+    (record { event = event; mark = mark })
 
 -- what is not kept did not arrive
-not_arrived : (arrived other : Bool) (told : Option Reply) → (arrived || other) ≡ false → None ≡ (if arrived then told else None)
+not_arrived : (arrived other : Bool) (told : Option Reply) → (arrived || other) ≡ false
+    → None ≡ (if arrived then told else None)
 not_arrived true other told is = cc
 not_arrived false other told is = refl
 
-reply_by : (keeps : Bool) (log new : List Kept) (one : Kept) (told : Option Reply) → new ≡ (if keeps then log ++ one ∷ [] else log) →
+reply_by : (keeps : Bool) (log new : List Kept) (one : Kept) (told : Option Reply)
+    → new ≡ (if keeps then log ++ one ∷ [] else log) →
     read_if new one.mark ≡ told → (keeps ≡ false → None ≡ told) → read_if new (mark_at new (length log)) ≡ told
 reply_by true log new one told is told_is none =
-    let at : slice_get new (length log) ≡ Some one = ap (λ (all : List Kept). slice_get all (length log)) is ∙ slice_get_end log one in
+    let at : slice_get new (length log) ≡ Some one = ap (λ (all : List Kept). slice_get all (length log)) is
+    ∙ slice_get_end log one in
     ap (λ (found : Option Kept). read_if new (option_and_then (λ (kept : Kept). kept.mark) found)) at ∙ told_is
 reply_by false log new one told is told_is none =
     let past : slice_get log (length log) ≡ None = slice_get_past log (length log) (omega arith) in
@@ -64,32 +71,46 @@ reply_by false log new one told is told_is none =
     ap (λ (found : Option Kept). read_if new (option_and_then (λ (kept : Kept). kept.mark) found)) at ∙ none refl
 
 -- the reply to a Deliver is read behind the old log
-pub arrival_lemma : (old new : Play) (held : List (ℕ × ℕ)) (agent : ℕ) (answer : Answer) → IsPlayed old (Deliver agent) answer new →
+pub arrival_lemma : (old new : Play) (held : List (ℕ × ℕ)) (agent : ℕ) (answer : Answer)
+    → IsPlayed old (Deliver agent) answer new →
     read_if new.log (mark_at new.log (length old.log)) ≡ reply_to (game_in old held) (Deliver agent)
 arrival_lemma old new held agent answer is =
     let world = matches.world_in old in
     let state : State = matches.state_of old in
-    reply_by (keeps_next world old.log (Deliver agent)) old.log new.log (record { event = Deliver agent; mark = answer.mark }) _ is.log is.reply
-    (λ none. not_arrived (arrives world state agent) (destroys world state agent && not (lost world (events_of old.log) agent)) _ none)
+    reply_by (keeps_next world old.log (Deliver agent)) old.log new.log
+    (record { event = Deliver agent; mark = answer.mark }) _ is.log is.reply
+    (λ none. not_arrived (arrives world state agent)
+    (destroys world state agent && not (lost world (events_of old.log) agent)) _ none)
 
 -- what a draw makes of a match, and whom it tells what
-pub none_drawn : (old new : Play) (held : List (ℕ × ℕ)) (word : ℕ) (found : DrawnOfCode) → found ≡ drawing.drawn (held_in held) (matches.state_of old) word →
+pub none_drawn : (old new : Play) (held : List (ℕ × ℕ)) (word : ℕ) (found : DrawnOfCode)
+    → found ≡ drawing.drawn (held_in held) (matches.state_of old) word →
     IsPlayedIf old (draw (held_in held) (matches.state_of old) word) new → event_of found ≡ None →
     record { game = game_in new held; arrival = None } ≡ after_draw (game_in old held) (drawn (game_in old held) word)
 none_drawn old new held word found is played_if none =
-    let event : draw (held_in held) (matches.state_of old) word ≡ None = draws_are_those (held_in held) (matches.state_of old) word ∙ ap event_of (sym is) ∙ none in
+    let event : draw (held_in held) (matches.state_of old) word ≡ None =
+    draws_are_those (held_in held) (matches.state_of old) word ∙ ap event_of (sym is) ∙ none in
     let same : new ≡ old = rw event at played_if in
     rw (event, same) refl
 
-pub one_drawn : (old new : Play) (held : List (ℕ × ℕ)) (word agent : ℕ) (found : DrawnOfCode) (told : Option Reply) → found ≡ drawing.drawn (held_in held) (matches.state_of old) word →
+pub one_drawn : (old new : Play) (held : List (ℕ × ℕ)) (word agent : ℕ) (found : DrawnOfCode) (told : Option Reply)
+    → found ≡ drawing.drawn (held_in held) (matches.state_of old) word →
     IsPlayedIf old (draw (held_in held) (matches.state_of old) word) new → found ≡ Delivered agent →
     told ≡ read_if new.log (mark_at new.log (length old.log)) →
-    record { game = game_in new held; arrival = option_map (λ (reply : Reply). (agent, reply)) told } ≡ after_draw (game_in old held) (drawn (game_in old held) word)
+    record { game = game_in new held; arrival = option_map (λ (reply : Reply). (agent, reply)) told } ≡ after_draw
+    (game_in old held) (drawn (game_in old held) word)
 one_drawn old new held word agent found told is played_if this read =
-    let event : draw (held_in held) (matches.state_of old) word ≡ Some (Deliver agent) = draws_are_those (held_in held) (matches.state_of old) word ∙ ap event_of (sym is ∙ this) in
+    let event : draw (held_in held) (matches.state_of old) word ≡ Some (Deliver agent) =
+    draws_are_those (held_in held) (matches.state_of old) word ∙ ap event_of (sym is ∙ this) in
     let done : (answer : Answer) × IsPlayed old (Deliver agent) answer new = rw event at played_if in
-    let game : game_in new held ≡ played (game_in old held) (Deliver agent) = played_lemma old new held (Deliver agent) done.0.mark done.1.log done.1.net done.1.setup in
-    let reply : told ≡ reply_to (game_in old held) (Deliver agent) = read ∙ arrival_lemma old new held agent done.0 done.1 in
+    let game : game_in new held ≡ played (game_in old held) (Deliver agent) =
+    played_lemma old new held (Deliver agent) done.0.mark done.1.log done.1.net done.1.setup in
+    let reply : told ≡ reply_to (game_in old held) (Deliver agent) =
+    read ∙ arrival_lemma old new held agent done.0 done.1 in
     ap (λ (one : Game). record { game = one; arrival = option_map (λ (reply : Reply). (agent, reply)) told }) game
-    ∙ ap (λ (one : Option Reply). record { game = played (game_in old held) (Deliver agent); arrival = option_map (λ (reply : Reply). (agent, reply)) one }) reply
+    ∙ ap (λ (one : Option Reply). record {
+      game = played (game_in old held) (Deliver agent);
+      arrival = option_map
+          (λ (reply : Reply). (agent, reply)) one;
+    }) reply
     ∙ ap (after_draw (game_in old held)) (sym event)

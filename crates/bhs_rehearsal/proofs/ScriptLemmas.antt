@@ -7,4 +7,8 @@ pub grows : (stage : Stage) (script : List Instruction) (instruction : Instructi
 grows stage [] instruction = record { stands = refl; sends = refl }
 grows stage (first ∷ script) instruction =
     let rest = grows (step stage first).stage script instruction in
-    record { stands = rest.stands; sends = ap (λ (outs : List (List (ℕ × List ℕ))). (step stage first).outs ∷ outs) rest.sends }
+    record {
+      stands = rest.stands;
+      sends = ap (λ (outs : List (List (ℕ × List ℕ))). (step stage first).outs ∷ outs)
+          rest.sends;
+    }

@@ -1,5 +1,6 @@
 -- Taking the items of a connection, one by one.
-use Rattle.std.proofs.Common.{◌≡◌, ◌∙◌, ℕ, Bool, true, false, Some, List, [], ◌∷◌, ◌++◌, append_assoc, append-nil, refl, sym, ap, if◌then◌else◌}
+use Rattle.std.proofs.Common.{◌≡◌, ◌∙◌, ℕ, Bool, true, false, Some, List, [], ◌∷◌, ◌++◌, append_assoc, append-nil, refl}
+use Rattle.std.proofs.Common.{sym, ap, if◌then◌else◌}
 use Rattle.std.specs.Prelude.{is_some}
 use Rattle.bhs_model.specs.declared.events.Event.TheVariants.{Tell}
 use Rattle.bhs_model.specs.declared.commands.Command.TheVariants.{Leave}
@@ -16,10 +17,12 @@ use Rattle.bhs_rehearsal.specs.Connections.{Item, Says, Ends, Taken, taken, leav
 use Rattle.bhs_rehearsal.specs.Takings.{behind, goes_on}
 
 by_last : (last : Bool) (game : Game) (agent : ℕ) (items : List Item) (old text : List ℕ) →
-    behind old (if last then record { game = game; is_done = true; left = []; text = text } else record (taken game agent items) { text = text ++ (taken game agent items).text })
+    behind old (if last then record { game = game; is_done = true; left = []; text = text } else record
+    (taken game agent items) { text = text ++ (taken game agent items).text })
     ≡ goes_on last game agent items (old ++ text)
 by_last true game agent items old text = refl
-by_last false game agent items old text = ap (λ (all : List ℕ). record (taken game agent items) { text = all }) (sym (append_assoc old text (taken game agent items).text))
+by_last false game agent items old text = ap (λ (all : List ℕ). record (taken game agent items) { text = all })
+    (sym (append_assoc old text (taken game agent items).text))
 
 -- the last answers of the machine are those that end a session
 last_by_ending : (reply : Reply) → is_last reply ≡ is_some (ended_by reply)
@@ -38,7 +41,8 @@ same_command one two same = cc
 
 -- a command that is answered
 pub answered_lemma : (reply : Reply) (game : Game) (agent : ℕ) (items : List Item) (old : List ℕ) →
-    behind old (answers (Some reply) game (taken game agent items)) ≡ goes_on (is_some (ended_by reply)) game agent items (old ++ text_of reply)
+    behind old (answers (Some reply) game (taken game agent items)) ≡ goes_on (is_some (ended_by reply)) game agent
+    items (old ++ text_of reply)
 answered_lemma reply game agent items old =
     by_last (is_last reply) game agent items old (text_of reply)
     ∙ ap (λ (last : Bool). goes_on last game agent items (old ++ text_of reply)) (last_by_ending reply)
@@ -58,18 +62,27 @@ if_here false here there is = absurd (cc_true is) where
 -- the next item of an agent that is not away
 pub takes_line : (game : Game) (agent : ℕ) (line : Line) (items : List Item) → is_away game agent ≡ false →
     taken game agent (Says line ∷ items)
-    ≡ answers (reply_to game (Tell agent (command_by (said_by line)))) (played game (Tell agent (command_by (said_by line)))) (taken (played game (Tell agent (command_by (said_by line)))) agent items)
+    ≡ answers (reply_to game (Tell agent (command_by (said_by line))))
+    (played game (Tell agent (command_by (said_by line))))
+    (taken (played game (Tell agent (command_by (said_by line)))) agent items)
 takes_line game agent line items here = if_away (is_away game agent) _ _ here
 
 pub takes_end : (game : Game) (agent : ℕ) (items : List Item) → is_away game agent ≡ false →
-    taken game agent (Ends ∷ items) ≡ record { game = played game (Tell agent Leave); is_done = true; left = []; text = [] }
+    taken game agent (Ends ∷ items) ≡ record {
+      game = played game (Tell agent Leave);
+      is_done = true;
+      left = [];
+      text = [];
+    }
 takes_end game agent items here = if_away (is_away game agent) _ _ here
 
 -- none is taken of an agent that is away
-pub takes_none : (game : Game) (agent : ℕ) (items : List Item) → is_away game agent ≡ true → taken game agent items ≡ leaves game items
+pub takes_none : (game : Game) (agent : ℕ) (items : List Item) → is_away game agent ≡ true
+    → taken game agent items ≡ leaves game items
 takes_none game agent [] away = refl
 takes_none game agent (Says line ∷ items) away = if_here (is_away game agent) _ _ away
 takes_none game agent (Ends ∷ items) away = if_here (is_away game agent) _ _ away
 
-pub behind_leaves : (text : List ℕ) (game : Game) (items : List Item) → behind text (leaves game items) ≡ record { game = game; is_done = false; left = items; text = text }
+pub behind_leaves : (text : List ℕ) (game : Game) (items : List Item) → behind text (leaves game items) ≡ record
+    { game = game; is_done = false; left = items; text = text }
 behind_leaves text game items = ap (λ (all : List ℕ). record (leaves game items) { text = all }) (append-nil text)

@@ -1,5 +1,6 @@
 -- What an agent meets while items of its connection are taken.
-use Rattle.std.proofs.Common.{◌≡◌, ◌≢◌, ◌∙◌, ℕ, ◌⊎◌, inl, inr, Bool, true, false, cond, not, Option, Some, None, List, [], ◌∷◌, ◌++◌, map, refl, sym, ap, ap₂, subst, append-nil}
+use Rattle.std.proofs.Common.{◌≡◌, ◌≢◌, ◌∙◌, ℕ, ◌⊎◌, inl, inr, Bool, true, false, cond, not, Option, Some, None, List}
+use Rattle.std.proofs.Common.{[], ◌∷◌, ◌++◌, map, refl, sym, ap, ap₂, subst, append-nil}
 use Rattle.bhs_model.specs.declared.commands.Command.{Command}
 use Rattle.bhs_model.specs.declared.commands.Command.TheVariants.{Leave}
 use Rattle.bhs_model.specs.declared.events.Event.TheVariants.{Tell}
@@ -16,9 +17,11 @@ use Rattle.bhs_rehearsal.specs.Games.{Game, world_in, state_of, played, reply_to
 use Rattle.bhs_rehearsal.specs.Connections.{Item, Says, Ends, Taken, is_last, leaves, answers, taken}
 use Rattle.bhs_rehearsal.proofs.CuttingLemmas.{by_bool, behind}
 use Rattle.bhs_rehearsal.proofs.SlowGameLemmas.{state_of-played}
-use Rattle.bhs_session.specs.Met.{Meeting, past_after, view_from, commands, answer_to, bytes_from, takes_commands, AreDue}
+use Rattle.bhs_session.specs.Met.{Meeting, past_after, view_from, commands, answer_to, bytes_from, takes_commands}
+use Rattle.bhs_session.specs.Met.{AreDue}
 use Rattle.bhs_rehearsal.specs.SentAsMet.{IsPastOf, IsSentOf}
-use Rattle.bhs_rehearsal.proofs.EventLemmas.{IsIn, played_in, Alike, alike_itself, alike_through, alike-told, closed-told, Answered, answered-open, answered-closed, unheard-closed}
+use Rattle.bhs_rehearsal.proofs.EventLemmas.{IsIn, played_in, Alike, alike_itself, alike_through, alike-told}
+use Rattle.bhs_rehearsal.proofs.EventLemmas.{closed-told, Answered, answered-open, answered-closed, unheard-closed}
 
 -- the lines among items
 abbrev pub lines_of : List Item → List Line
@@ -58,7 +61,8 @@ has_end-end (Ends ∷ items) = refl
 abbrev pub IsQuiet : (closed away : Bool) → Type 0
 IsQuiet closed away = (closed ≡ true) ⊎ (away ≡ false)
 
-pub record Took (setup : Setup) (closed : Bool) (old : View) (items : List Item) (done : Taken) (agent : ℕ) : Type 0 where
+pub record Took (setup : Setup) (closed : Bool) (old : View) (items : List Item) (done : Taken)
+    (agent : ℕ) : Type 0 where
   pub met : List Meeting
   pub lines : List Line
   pub over : List Line
@@ -72,9 +76,11 @@ pub record Took (setup : Setup) (closed : Bool) (old : View) (items : List Item)
   pub heard : done.is_done ≡ false → done.text ≡ bytes_from setup.board old met
   pub last : done.is_done ≡ true → IsSentOf closed (bytes_from setup.board old met) done.text
   pub quiet : done.is_done ≡ true → IsQuiet closed (is_away done.game agent)
-  -- it goes on with an agent that has not ended; before the close and the end of the input it is done by the agent's end
+  -- it goes on with an agent that has not ended; before the close and the end of the input it is done by the agent's
+  -- end
   pub lives : done.is_done ≡ false → standing ((state_of done.game).past agent) ≢ Ended
-  pub done_by : done.is_done ≡ true → closed ≡ false → has_end items ≡ false → takes_commands (standing (view_from old met)) ≡ false
+  pub done_by : done.is_done ≡ true → closed ≡ false → has_end items ≡ false
+      → takes_commands (standing (view_from old met)) ≡ false
   pub closed_is : (state_of done.game).closed ≡ closed
   pub is_in : IsIn setup agent done.game
 
@@ -83,7 +89,8 @@ not_back true is = absurd (cc)
 not_back false is = refl
 
 -- nothing is taken
-took-leaves : (setup : Setup) (closed : Bool) (game : Game) (agent : ℕ) (items : List Item) → IsIn setup agent game → standing ((state_of game).past agent) ≢ Ended → (state_of game).closed ≡ closed →
+took-leaves : (setup : Setup) (closed : Bool) (game : Game) (agent : ℕ) (items : List Item) → IsIn setup agent game
+    → standing ((state_of game).past agent) ≢ Ended → (state_of game).closed ≡ closed →
     Took setup closed ((state_of game).past agent) items (leaves game items) agent
 took-leaves setup closed game agent items is lives at = record {
   met = [];
@@ -106,21 +113,32 @@ took-leaves setup closed game agent items is lives at = record {
 }
 
 -- the end of the input
-left_position : (world : World) (state : State) (agent : ℕ) → is_bound (state.position agent) ≡ false → is_bound ((next world state (Tell agent Leave)).position agent) ≡ false
+left_position : (world : World) (state : State) (agent : ℕ) → is_bound (state.position agent) ≡ false
+    → is_bound ((next world state (Tell agent Leave)).position agent) ≡ false
 left_position world state agent at =
-    by_bool (heard world state agent Leave) (λ (is : Bool). is_bound ((cond is (told world state agent Leave) state).position agent) ≡ false)
-    (λ is. ap is_bound (changed_same state.position agent (position_after world (state.position agent) Leave))) (λ unheard. at)
+    by_bool (heard world state agent Leave) (λ (is : Bool). is_bound
+    ((cond is (told world state agent Leave) state).position agent) ≡ false)
+    (λ is. ap is_bound (changed_same state.position agent (position_after world (state.position agent) Leave)))
+    (λ unheard. at)
 
 left_glance : (world : World) (state : State) (position : Position) → glance world state position Leave ≡ Nothing
 left_glance world state position = refl
 
-left_past : (world : World) (state : State) (agent : ℕ) → IsPastOf true (state.past agent) ((next world state (Tell agent Leave)).past agent)
+left_past : (world : World) (state : State) (agent : ℕ)
+    → IsPastOf true (state.past agent) ((next world state (Tell agent Leave)).past agent)
 left_past world state agent =
-    by_bool (heard world state agent Leave) (λ (is : Bool). IsPastOf true (state.past agent) ((cond is (told world state agent Leave) state).past agent))
-    (λ is. inr (changed_same state.past agent _ ∙ ap (λ seen. Told (state.past agent) Leave seen) (left_glance world state (state.position agent)), refl)) (λ unheard. inl refl)
+    by_bool (heard world state agent Leave) (λ (is : Bool). IsPastOf true (state.past agent)
+    ((cond is (told world state agent Leave) state).past agent))
+    (λ is. inr (
+      changed_same state.past agent _ ∙ ap (λ seen. Told (state.past agent) Leave seen)
+          (left_glance world state (state.position agent)),
+      refl,
+    )) (λ unheard. inl refl)
 
-took-end : (setup : Setup) (closed : Bool) (game : Game) (agent : ℕ) (items : List Item) → IsIn setup agent game → (state_of game).closed ≡ closed → is_away game agent ≡ false →
-    Took setup closed ((state_of game).past agent) (Ends ∷ items) (record { game = played game (Tell agent Leave); is_done = true; left = []; text = [] }) agent
+took-end : (setup : Setup) (closed : Bool) (game : Game) (agent : ℕ) (items : List Item) → IsIn setup agent game
+    → (state_of game).closed ≡ closed → is_away game agent ≡ false →
+    Took setup closed ((state_of game).past agent) (Ends ∷ items)
+    (record { game = played game (Tell agent Leave); is_done = true; left = []; text = [] }) agent
 took-end setup closed game agent items is at here =
     let stands = state_of-played game (Tell agent Leave) in
     record {
@@ -133,10 +151,12 @@ took-end setup closed game agent items is at here =
       said = refl;
       due = tt;
       lived = λ goes_on. absurd (cc);
-      died = λ done. subst (λ (state : State). IsPastOf true ((state_of game).past agent) (state.past agent)) (sym stands) (left_past (world_in game) (state_of game) agent);
+      died = λ done. subst (λ (state : State). IsPastOf true ((state_of game).past agent) (state.past agent))
+          (sym stands) (left_past (world_in game) (state_of game) agent);
       heard = λ goes_on. refl;
       last = λ done. inl refl;
-      quiet = λ done. inr (ap (λ (state : State). is_bound (state.position agent)) stands ∙ left_position (world_in game) (state_of game) agent here);
+      quiet = λ done. inr (ap (λ (state : State). is_bound (state.position agent)) stands
+          ∙ left_position (world_in game) (state_of game) agent here);
       lives = λ goes_on. absurd (cc);
       done_by = λ done still unended. absurd (cc);
       closed_is = closed-told game agent Leave ∙ at;
@@ -144,8 +164,16 @@ took-end setup closed game agent items is at here =
     }
 
 -- a line behind the close
-took-over : (setup : Setup) (game : Game) (agent : ℕ) (line : Line) (items : List Item) → IsIn setup agent game → standing ((state_of game).past agent) ≢ Ended → (state_of game).closed ≡ true → is_away game agent ≡ false →
-    Took setup true ((state_of game).past agent) (Says line ∷ items) (record { game = played game (Tell agent (command_of line)); is_done = true; left = []; text = text_of replies.Over }) agent
+took-over : (setup : Setup) (game : Game) (agent : ℕ) (line : Line) (items : List Item) → IsIn setup agent game
+    → standing ((state_of game).past agent) ≢ Ended → (state_of game).closed ≡ true → is_away game agent ≡ false →
+    Took setup true ((state_of game).past agent) (Says line ∷ items)
+    (record {
+      game = played game (Tell agent (command_of line));
+      is_done = true;
+      left = [];
+      text = text_of
+          replies.Over;
+    }) agent
 took-over setup game agent line items is lives at here =
     let still = unheard-closed setup game agent (command_of line) is here lives at in
     record {
@@ -169,7 +197,8 @@ took-over setup game agent line items is lives at here =
     }
 
 -- a line before it
-module _ (setup : Setup) (game : Game) (agent : ℕ) (line : Line) (items : List Item) (is : IsIn setup agent game) (lives : standing ((state_of game).past agent) ≢ Ended)
+module _ (setup : Setup) (game : Game) (agent : ℕ) (line : Line) (items : List Item) (is : IsIn setup agent game)
+    (lives : standing ((state_of game).past agent) ≢ Ended)
     (at : (state_of game).closed ≡ false) (here : is_away game agent ≡ false) where
   abbrev command : Command
   command = command_of line
@@ -183,9 +212,12 @@ module _ (setup : Setup) (game : Game) (agent : ℕ) (line : Line) (items : List
   abbrev new : View
   new = (state_of next_game).past agent
 
-  took-last : (a : Answered setup old new command (reply_to game (Tell agent command)) (not (is_away next_game agent))) →
+  took-last : (a : Answered setup old new command (reply_to game (Tell agent command)) (not (is_away next_game agent)))
+      →
       is_last (answer_to setup.board old a.meeting) ≡ true →
-      Took setup false old (Says line ∷ items) (record { game = next_game; is_done = true; left = []; text = text_of (answer_to setup.board old a.meeting) }) agent
+      Took setup false old (Says line ∷ items)
+      (record { game = next_game; is_done = true; left = []; text = text_of (answer_to setup.board old a.meeting) })
+      agent
   took-last a is_last_one = record {
     met = a.meeting ∷ [];
     lines = line ∷ [];
@@ -201,12 +233,14 @@ module _ (setup : Setup) (game : Game) (agent : ℕ) (line : Line) (items : List
     last = λ done. inl (sym (append-nil (text_of (answer_to setup.board old a.meeting))));
     quiet = λ done. inr (not_back (is_away next_game agent) (a.stays is_last_one));
     lives = λ goes_on. absurd (cc);
-    done_by = λ done still unended. ap (λ (view : View). takes_commands (standing view)) (sym a.new_is) ∙ a.ends_it is_last_one;
+    done_by = λ done still unended. ap (λ (view : View). takes_commands (standing view)) (sym a.new_is)
+        ∙ a.ends_it is_last_one;
     closed_is = closed-told game agent command ∙ at;
     is_in = played_in setup agent game (Tell agent command) is;
   }
 
-  took-more : (a : Answered setup old new command (reply_to game (Tell agent command)) (not (is_away next_game agent))) → (others : Taken) →
+  took-more : (a : Answered setup old new command (reply_to game (Tell agent command)) (not (is_away next_game agent)))
+      → (others : Taken) →
       Took setup false new items others agent →
       Took setup false old (Says line ∷ items) (behind (text_of (answer_to setup.board old a.meeting)) others) agent
   took-more a others more =
@@ -223,15 +257,19 @@ module _ (setup : Setup) (game : Game) (agent : ℕ) (line : Line) (items : List
         said = ap₂ (λ (one two : List Command). one ++ two) a.command_is more.said;
         due = (a.due, subst (λ (view : View). AreDue setup.quota view more.met) same more.due);
         lived = λ goes_on. more.lived goes_on ∙ ap (λ (view : View). view_from view more.met) same;
-        died = λ done. subst (λ (view : View). IsPastOf (has_end items) (view_from view more.met) ((state_of others.game).past agent)) same (more.died done);
-        heard = λ goes_on. ap (λ (rest : List ℕ). text ++ rest) (more.heard goes_on ∙ ap (λ (view : View). bytes_from setup.board view more.met) same);
+        died = λ done. subst (λ (view : View). IsPastOf (has_end items) (view_from view more.met)
+            ((state_of others.game).past agent)) same (more.died done);
+        heard = λ goes_on. ap (λ (rest : List ℕ). text ++ rest)
+            (more.heard goes_on ∙ ap (λ (view : View). bytes_from setup.board view more.met) same);
         last = λ done. elim (more.last done) [
-          | inl e ↦ inl (ap (λ (rest : List ℕ). text ++ rest) (e ∙ ap (λ (view : View). bytes_from setup.board view more.met) same))
+          | inl e ↦ inl (ap (λ (rest : List ℕ). text ++ rest)
+              (e ∙ ap (λ (view : View). bytes_from setup.board view more.met) same))
           | inr p ↦ absurd (let never = p.1 in cc)
         ];
         quiet = more.quiet;
         lives = more.lives;
-        done_by = λ done still unended. ap (λ (view : View). takes_commands (standing (view_from view more.met))) (sym same) ∙ more.done_by done still unended;
+        done_by = λ done still unended. ap (λ (view : View). takes_commands (standing (view_from view more.met)))
+            (sym same) ∙ more.done_by done still unended;
         closed_is = more.closed_is;
         is_in = more.is_in;
       }
@@ -241,12 +279,16 @@ module _ (setup : Setup) (game : Game) (agent : ℕ) (line : Line) (items : List
   took-line others more =
       let a = answered-open setup game agent command is here lives at in
       let reply = answer_to setup.board old a.meeting in
-      subst (λ (replied : Option Reply). Took setup false old (Says line ∷ items) (answers replied next_game others) agent) (sym a.replied_is)
+      subst (λ (replied : Option Reply). Took setup false old (Says line ∷ items) (answers replied next_game others)
+      agent) (sym a.replied_is)
       (by_bool (is_last reply)
-      (λ (last : Bool). is_last reply ≡ last → Took setup false old (Says line ∷ items) (cond last (record { game = next_game; is_done = true; left = []; text = text_of reply }) (behind (text_of reply) others)) agent)
+      (λ (last : Bool). is_last reply ≡ last → Took setup false old (Says line ∷ items)
+      (cond last (record { game = next_game; is_done = true; left = []; text = text_of reply })
+      (behind (text_of reply) others)) agent)
       (λ first last. took-last a last) (λ first goes_on. took-more a others (more (a.goes_on goes_on))) refl)
 
-pub took : (setup : Setup) (closed : Bool) (game : Game) (agent : ℕ) (items : List Item) → IsIn setup agent game → standing ((state_of game).past agent) ≢ Ended → (state_of game).closed ≡ closed →
+pub took : (setup : Setup) (closed : Bool) (game : Game) (agent : ℕ) (items : List Item) → IsIn setup agent game
+    → standing ((state_of game).past agent) ≢ Ended → (state_of game).closed ≡ closed →
     Took setup closed ((state_of game).past agent) items (taken game agent items) agent
 took setup closed game agent [] is lives at = took-leaves setup closed game agent [] is lives at
 took setup closed game agent (Says line ∷ items) is lives at =
@@ -254,48 +296,67 @@ took setup closed game agent (Says line ∷ items) is lives at =
     let next_game = played game event in
     let others = taken next_game agent items in
     by_bool (is_away game agent)
-    (λ (away : Bool). Took setup closed ((state_of game).past agent) (Says line ∷ items) (cond away (leaves game (Says line ∷ items)) (answers (reply_to game event) next_game others)) agent)
+    (λ (away : Bool). Took setup closed ((state_of game).past agent) (Says line ∷ items)
+    (cond away (leaves game (Says line ∷ items)) (answers (reply_to game event) next_game others)) agent)
     (λ away. took-leaves setup closed game agent (Says line ∷ items) is lives at)
     (λ here. by_closed setup closed game agent line items is lives at here others
-    (λ still_lives. took setup closed next_game agent items (played_in setup agent game event is) still_lives (closed-told game agent (command_of line) ∙ at)))
+    (λ still_lives. took setup closed next_game agent items (played_in setup agent game event is) still_lives
+    (closed-told game agent (command_of line) ∙ at)))
   where
-    by_closed : (setup : Setup) (closed : Bool) (game : Game) (agent : ℕ) (line : Line) (items : List Item) → IsIn setup agent game → standing ((state_of game).past agent) ≢ Ended → (state_of game).closed ≡ closed →
+    by_closed : (setup : Setup) (closed : Bool) (game : Game) (agent : ℕ) (line : Line) (items : List Item)
+        → IsIn setup agent game → standing ((state_of game).past agent) ≢ Ended → (state_of game).closed ≡ closed →
         is_away game agent ≡ false → (others : Taken) →
-        (standing ((state_of (played game (Tell agent (command_of line)))).past agent) ≢ Ended → Took setup closed ((state_of (played game (Tell agent (command_of line)))).past agent) items others agent) →
-        Took setup closed ((state_of game).past agent) (Says line ∷ items) (answers (reply_to game (Tell agent (command_of line))) (played game (Tell agent (command_of line))) others) agent
+        (standing ((state_of (played game (Tell agent (command_of line)))).past agent) ≢ Ended
+        → Took setup closed ((state_of (played game (Tell agent (command_of line)))).past agent) items others agent)
+        →
+        Took setup closed ((state_of game).past agent) (Says line ∷ items)
+        (answers (reply_to game (Tell agent (command_of line))) (played game (Tell agent (command_of line))) others)
+        agent
     by_closed setup true game agent line items is lives at here others more =
-        subst (λ (replied : Option Reply). Took setup true ((state_of game).past agent) (Says line ∷ items) (answers replied (played game (Tell agent (command_of line))) others) agent)
-        (sym (answered-closed setup game agent (command_of line) is here lives at)) (took-over setup game agent line items is lives at here)
-    by_closed setup false game agent line items is lives at here others more = took-line setup game agent line items is lives at here others more
+        subst (λ (replied : Option Reply). Took setup true ((state_of game).past agent) (Says line ∷ items)
+        (answers replied (played game (Tell agent (command_of line))) others) agent)
+        (sym (answered-closed setup game agent (command_of line) is here lives at))
+        (took-over setup game agent line items is lives at here)
+    by_closed setup false game agent line items is lives at here others more =
+        took-line setup game agent line items is lives at here others more
 took setup closed game agent (Ends ∷ items) is lives at =
     by_bool (is_away game agent)
-    (λ (away : Bool). Took setup closed ((state_of game).past agent) (Ends ∷ items) (cond away (leaves game (Ends ∷ items)) (record { game = played game (Tell agent Leave); is_done = true; left = []; text = [] })) agent)
+    (λ (away : Bool). Took setup closed ((state_of game).past agent) (Ends ∷ items)
+    (cond away (leaves game (Ends ∷ items))
+    (record { game = played game (Tell agent Leave); is_done = true; left = []; text = [] })) agent)
     (λ away. took-leaves setup closed game agent (Ends ∷ items) is lives at)
     (λ here. took-end setup closed game agent items is at here)
 
 -- ---- and of the others
 
-answers_alike : (reply : Option Reply) (game next_game : Game) (others : Taken) (agent : ℕ) → Alike agent game next_game → Alike agent game others.game →
+answers_alike : (reply : Option Reply) (game next_game : Game) (others : Taken) (agent : ℕ) → Alike agent game next_game
+    → Alike agent game others.game →
     Alike agent game (answers reply next_game others).game
 answers_alike None game next_game others agent same later = later
 answers_alike (Some reply) game next_game others agent same later =
     by_bool (is_last reply)
-    (λ (last : Bool). Alike agent game (cond last (record { game = next_game; is_done = true; left = []; text = text_of reply }) (behind (text_of reply) others)).game)
+    (λ (last : Bool). Alike agent game (cond last
+    (record { game = next_game; is_done = true; left = []; text = text_of reply })
+    (behind (text_of reply) others)).game)
     (λ last. same) (λ more. later)
 
 -- taking an agent's items changes nothing for another
-pub taken_alike : (game : Game) (agent : ℕ) (items : List Item) (other : ℕ) → other ≢ agent → Alike other game (taken game agent items).game
+pub taken_alike : (game : Game) (agent : ℕ) (items : List Item) (other : ℕ) → other ≢ agent
+    → Alike other game (taken game agent items).game
 taken_alike game agent [] other apart = alike_itself other game
 taken_alike game agent (Says line ∷ items) other apart =
     let command = command_of line in
     let next_game = played game (Tell agent command) in
     let same = alike-told game agent command other apart in
     by_bool (is_away game agent)
-    (λ (away : Bool). Alike other game (cond away (leaves game (Says line ∷ items)) (answers (reply_to game (Tell agent command)) next_game (taken next_game agent items))).game)
+    (λ (away : Bool). Alike other game (cond away (leaves game (Says line ∷ items))
+    (answers (reply_to game (Tell agent command)) next_game (taken next_game agent items))).game)
     (λ away. alike_itself other game)
     (λ stays. answers_alike (reply_to game (Tell agent command)) game next_game (taken next_game agent items) other same
-    (alike_through other game next_game (taken next_game agent items).game same (taken_alike next_game agent items other apart)))
+    (alike_through other game next_game (taken next_game agent items).game same
+    (taken_alike next_game agent items other apart)))
 taken_alike game agent (Ends ∷ items) other apart =
     by_bool (is_away game agent)
-    (λ (away : Bool). Alike other game (cond away (leaves game (Ends ∷ items)) (record { game = played game (Tell agent Leave); is_done = true; left = []; text = [] })).game)
+    (λ (away : Bool). Alike other game (cond away (leaves game (Ends ∷ items))
+    (record { game = played game (Tell agent Leave); is_done = true; left = []; text = [] })).game)
     (λ away. alike_itself other game) (λ stays. alike-told game agent Leave other apart)

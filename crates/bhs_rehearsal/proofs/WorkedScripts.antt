@@ -3,7 +3,12 @@ use Rattle.std.proofs.Common.{zero, suc, refl, arith}
 use Rattle.bhs_wire.proofs.OnLiterals.{bhs_wire_on_literals}
 use Rattle.bhs_rehearsal.specs.Laws.{HoldsAsWell}
 use Rattle.bhs_rehearsal.proofs.SlowGameLemmas.{begin_lemma}
-use Rattle.bhs_rehearsal.specs.Examples.{AKeyLetsIn, ALineMayComeInPieces, TheBlackHoleIsSilent, HeldLinksSendTheSame, TheSlowTriangleIsSlow, triangle, slow, LinesWaitForTheArrival, TheSecondWriterSeesTheFirst, TheQuotaIsSpent, AStrangeKeyIsDenied, AUsedKeyIsDenied, AFirstLookIsDenied, ThePresentAreToldLater, AnEndWaitsForTheArrival, TheAgentOfAnEndLeaves, TheOtherMatchIsNotHeard, WhatIsNotThereDoesNothing}
+use Rattle.bhs_rehearsal.specs.Examples.{AKeyLetsIn, ALineMayComeInPieces, TheBlackHoleIsSilent, HeldLinksSendTheSame}
+use Rattle.bhs_rehearsal.specs.Examples.{TheSlowTriangleIsSlow, triangle, slow, LinesWaitForTheArrival}
+use Rattle.bhs_rehearsal.specs.Examples.{TheSecondWriterSeesTheFirst, TheQuotaIsSpent, AStrangeKeyIsDenied}
+use Rattle.bhs_rehearsal.specs.Examples.{AUsedKeyIsDenied, AFirstLookIsDenied, ThePresentAreToldLater}
+use Rattle.bhs_rehearsal.specs.Examples.{AnEndWaitsForTheArrival, TheAgentOfAnEndLeaves, TheOtherMatchIsNotHeard}
+use Rattle.bhs_rehearsal.specs.Examples.{WhatIsNotThereDoesNothing}
 
 pub a_key_lets_in : AKeyLetsIn
 unfolding bhs_wire_on_literals

@@ -175,7 +175,8 @@ TheQuotaIsSpent =
     said (stage_of short) (
     says 0 enter_ka ∷ says 0 depart_by_2 ∷ says 0 look ∷ says 0 look ∷ says 0 look ∷ says 0 leave ∷ says 0 look
     ∷ [])
-    ≡ sent 0 here_at_home ∷ sent 0 no_port ∷ sent 0 here_at_home ∷ sent 0 here_at_home ∷ sent 0 no_spent ∷ sent 0 bye ∷ silence
+    ≡ sent 0 here_at_home ∷ sent 0 no_port ∷ sent 0 here_at_home ∷ sent 0 here_at_home ∷ sent 0
+    no_spent ∷ sent 0 bye ∷ silence
     ∷ []
 
 -- ---- who is not let in

@@ -1,5 +1,6 @@
 -- The laws of rehearsals, over the definitions alone.
-use Rattle.std.specs.Prelude.{ℕ, ◌≡◌, ◌≢◌, ◌<◌, Bool, false, ◌||◌, ◌==◌, Option, Some, None, List, [], ◌∷◌, ◌++◌, length, map, if◌then◌else◌}
+use Rattle.std.specs.Prelude.{ℕ, ◌≡◌, ◌≢◌, ◌<◌, Bool, false, ◌||◌, ◌==◌, Option, Some, None, List, [], ◌∷◌, ◌++◌}
+use Rattle.std.specs.Prelude.{length, map, if◌then◌else◌}
 use Rattle.bhs_lineup.specs.KeyTable.{Seat}
 use Rattle.bhs_net.specs.Network.{degree_of}
 use Rattle.bhs_model.specs.Worlds.{doomed}
@@ -124,7 +125,8 @@ moves_in_turn stage (conn ∷ conns) =
 abbrev pub AllItemsAreTaken : Type 0
 AllItemsAreTaken =
     (games : List Game) (keys : List Seat) (connections : ℕ) (script : List Instruction) (conns : List ℕ) →
-    moves_in_turn (stands_after (begun games keys connections) script) conns ≡ nothing (stands_after (begun games keys connections) script)
+    moves_in_turn (stands_after (begun games keys connections) script) conns
+    ≡ nothing (stands_after (begun games keys connections) script)
 
 -- ---- matches side by side
 

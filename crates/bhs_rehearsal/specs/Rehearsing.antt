@@ -109,7 +109,8 @@ Follows old instruction (Err Memory) new = new.has_failed ≡ true
 -- One more instruction leads from the stage of the script to the next, and sends what it sends there.
 pub record Grows (start : Stage) (script : List Instruction) (instruction : Instruction) : Type 0 where
   pub stands : stands_after start (script ++ instruction ∷ []) ≡ (step (stands_after start script) instruction).stage
-  pub sends : said start (script ++ instruction ∷ []) ≡ said start script ++ (step (stands_after start script) instruction).outs ∷ []
+  pub sends : said start (script ++ instruction ∷ [])
+      ≡ said start script ++ (step (stands_after start script) instruction).outs ∷ []
 
 abbrev pub StandsForTheScript : Type 0
 StandsForTheScript = (start : Stage) (script : List Instruction) (instruction : Instruction) →

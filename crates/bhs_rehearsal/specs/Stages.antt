@@ -104,7 +104,8 @@ plays stage conn seat =
     let connection = connection_at stage conn in
     let done = taken (game_at stage seat.0) seat.1 connection.queue in
     record {
-      stage = with_connection (with_game stage seat.0 done.game) conn (after (record connection { seat = Some seat }) done);
+      stage = with_connection (with_game stage seat.0 done.game) conn
+          (after (record connection { seat = Some seat }) done);
       text = done.text;
     }
 

@@ -31,7 +31,12 @@ impl Model for Connection {
 
     ghost Value = { Connection };
 
-    ghost view = { λ one. record { seat = one.seat; unfinished = one.lines; queue = map seen_item one.queue.items; ended = one.ended } };
+    ghost view = { λ one. record {
+      seat = one.seat;
+      unfinished = one.lines;
+      queue = map seen_item one.queue.items;
+      ended = one.ended;
+    } };
 }
 
 impl Connection {
@@ -100,7 +105,8 @@ impl Connection {
 
     // Its input ends.
     pub(crate) fn end(&mut self, alloc: Global) -> Result<(), Memory>
-        ensures ended { OnOk result (self.new ≡ record self.old { unfinished = Some []; queue = self.old.queue ++ Ends ∷ []; ended = true }) }
+        ensures ended { OnOk result (self.new
+            ≡ record self.old { unfinished = Some []; queue = self.old.queue ++ Ends ∷ []; ended = true }) }
         ensures seat { self.new.seat ≡ self.old.seat }
     {
         self.queue.push_back(Item::Ends)?;
@@ -127,7 +133,8 @@ impl Connection {
     ) -> Result<Vec<u8>, Memory>
         ensures game { OnOk result (game_of ready.new ≡ (taken (game_of ready.old) seat.1 self.old.queue).game) }
         ensures text { IfOk result (λ text. text.items ≡ (taken (game_of ready.old) seat.1 self.old.queue).text) }
-        ensures connection { OnOk result (self.new ≡ after (record self.old { seat = Some seat }) (taken (game_of ready.old) seat.1 self.old.queue)) }
+        ensures connection { OnOk result (self.new
+            ≡ after (record self.old { seat = Some seat }) (taken (game_of ready.old) seat.1 self.old.queue)) }
         ensures seat { self.new.seat ≡ Some seat }
         ensures team { team_of ready.new ≡ team_of ready.old }
     {
@@ -141,7 +148,8 @@ impl Connection {
 }
 
 fn queue_lines(queue: &mut VecDeque<Item>, found: Vec<Raw>) -> Result<(), Memory>
-    ensures { OnOk result (map seen_item queue.new.items ≡ map seen_item queue.old.items ++ map Says (map seen found.items)) }
+    ensures { OnOk result (map seen_item queue.new.items ≡ map seen_item queue.old.items
+        ++ map Says (map seen found.items)) }
 {
     for line in found {
         queue.push_back(Item::Says(line))?;

@@ -57,7 +57,8 @@ impl Rehearsal {
     // A word is drawn in a match.
     pub(crate) fn drawn(&mut self, game: u32, word: u32) -> Result<Vec<Out>, Memory>
         requires { game < length self.old.stage.games }
-        ensures { IsStepped self.old (delivers self.old.stage game (drawn (game_at self.old.stage game) word)) result self.new }
+        ensures { IsStepped self.old (delivers self.old.stage game (drawn (game_at self.old.stage game) word))
+            result self.new }
     {
         let alloc = *self.connections.allocator();
         let Some((agent, reply)) = self.delivered(game, word)? else {
@@ -72,7 +73,8 @@ impl Rehearsal {
     // What the draw makes of the match. Gives the agent that arrives, and what it is told.
     fn delivered(&mut self, game: u32, word: u32) -> Result<Option<(u16, Reply)>, Memory>
         requires { game < length self.old.stage.games }
-        ensures { IsDrawn self.old game (after_draw (game_at self.old.stage game) (drawn (game_at self.old.stage game) word)) result self.new }
+        ensures { IsDrawn self.old game (after_draw (game_at self.old.stage game)
+            (drawn (game_at self.old.stage game) word)) result self.new }
     {
         let ready = &mut self.ready[game as usize];
         deliver(ready, word)
@@ -127,7 +129,11 @@ impl Rehearsal {
     // Nothing more is taken of the connections that wait in a match.
     fn shuts_waiting(&mut self, alloc: Global, game: u32)
         requires { game < length self.old.stage.games }
-        ensures { self.new ≡ on_stage self.old (record self.old.stage { connections = shut_in game (game_at self.old.stage game) self.old.stage.connections }) }
+        ensures { self.new ≡ on_stage self.old
+            (record self.old.stage {
+              connections = shut_in game (game_at self.old.stage game)
+                  self.old.stage.connections;
+            }) }
     {
         let ready = &self.ready[game as usize];
         shut_waiting(alloc, game, ready, &mut self.connections);
@@ -135,7 +141,8 @@ impl Rehearsal {
 
     fn plays_close(&mut self, game: u32)
         requires { game < length self.old.stage.games }
-        ensures { self.new ≡ on_stage self.old (with_game self.old.stage game (played (game_at self.old.stage game) Close)) }
+        ensures { self.new ≡ on_stage self.old
+            (with_game self.old.stage game (played (game_at self.old.stage game) Close)) }
     {
         let ready = &mut self.ready[game as usize];
         play(ready, Event::Close);

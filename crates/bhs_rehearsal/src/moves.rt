@@ -28,7 +28,8 @@ impl Rehearsal {
     // The first item of a connection that was not let in.
     fn enters(&mut self, alloc: Global, conn: u16) -> Result<Vec<u8>, Memory>
         requires { conn < length self.old.stage.connections }
-        ensures { IsMoved self.old (enters self.old.stage conn (entry self.old.stage (connection_at self.old.stage conn).queue)) result self.new }
+        ensures { IsMoved self.old (enters self.old.stage conn
+            (entry self.old.stage (connection_at self.old.stage conn).queue)) result self.new }
     {
         let entry = first_entry(
             alloc,

@@ -36,9 +36,15 @@ impl Model for Rehearsal {
 
     ghost Value = { Rehearsing };
 
-    ghost view = { λ one. record { stage = stage_of one.ready.items one.keys one.connections.items; teams = map team_of one.ready.items; has_failed = one.has_failed } };
+    ghost view = { λ one. record {
+      stage = stage_of one.ready.items one.keys one.connections.items;
+      teams = map team_of
+          one.ready.items;
+      has_failed = one.has_failed;
+    } };
 
-    ghost invariant = { λ one. (length one.connections.items < 2 ^ 16) × All (λ connection. IsSeated (length one.ready.items) connection.seat) one.connections.items };
+    ghost invariant = { λ one. (length one.connections.items < 2 ^ 16)
+        × All (λ connection. IsSeated (length one.ready.items) connection.seat) one.connections.items };
 }
 
 impl Rehearsal {

@@ -26,8 +26,14 @@ pub(crate) fn take_items(
     queue: &mut VecDeque<Item>,
     text: &mut Vec<u8>,
 ) -> Result<bool, Memory>
-    ensures taken { IfOk result (λ is_done. behind text.old.items (taken (game_of ready.old) agent (map seen_item queue.old.items))
-        ≡ record { game = game_of ready.new; is_done = is_done; left = left_if is_done (map seen_item queue.new.items); text = text.new.items }) }
+    ensures taken { IfOk result (λ is_done. behind text.old.items
+        (taken (game_of ready.old) agent (map seen_item queue.old.items))
+        ≡ record {
+          game = game_of ready.new;
+          is_done = is_done;
+          left = left_if is_done (map seen_item queue.new.items);
+          text = text.new.items;
+        }) }
     ensures team { team_of ready.new ≡ team_of ready.old }
 {
     while let Some(item) = next_item(ready, agent, queue) {
@@ -42,7 +48,8 @@ pub(crate) fn take_items(
 fn next_item(ready: &Ready, agent: u16, queue: &mut VecDeque<Item>) -> Option<Item>
     ensures { MatchOption result
         ((queue.new.items ≡ queue.old.items)
-        × (taken (game_of ready.now) agent (map seen_item queue.old.items) ≡ leaves (game_of ready.now) (map seen_item queue.old.items)))
+        × (taken (game_of ready.now) agent (map seen_item queue.old.items)
+        ≡ leaves (game_of ready.now) (map seen_item queue.old.items)))
         (λ item. (queue.old.items ≡ item ∷ queue.new.items) × (is_away (game_of ready.now) agent ≡ false)) }
 {
     if ready.game.is_away(agent) {
@@ -91,7 +98,8 @@ fn tell(
     text: &mut Vec<u8>,
 ) -> Result<bool, Memory>
     ensures taken { (others : List ItemData) → IfOk result (λ is_done.
-        behind text.old.items (answers (reply_to (game_of ready.old) (Tell agent command)) (played (game_of ready.old) (Tell agent command))
+        behind text.old.items (answers (reply_to (game_of ready.old) (Tell agent command))
+        (played (game_of ready.old) (Tell agent command))
         (taken (played (game_of ready.old) (Tell agent command)) agent others))
         ≡ goes_on is_done (game_of ready.new) agent others text.new.items) }
     ensures team { team_of ready.new ≡ team_of ready.old }

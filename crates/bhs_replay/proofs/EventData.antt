@@ -20,14 +20,19 @@ abbrev pub said_members : Command → Members → Members
 said_members Enter rest = member (codes "do") (string (codes "enter")) rest
 said_members Look rest = member (codes "do") (string (codes "look")) rest
 said_members (Write expect put) rest =
-    member (codes "do") (string (codes "write")) (member (codes "expect") (string expect) (member (codes "put") (string put) rest))
-said_members (Depart port) rest = member (codes "do") (string (codes "depart")) (member (codes "port") (number (unsigned port)) rest)
-said_members (Accuse port) rest = member (codes "do") (string (codes "accuse")) (member (codes "port") (number (unsigned port)) rest)
+    member (codes "do") (string (codes "write"))
+    (member (codes "expect") (string expect) (member (codes "put") (string put) rest))
+said_members (Depart port) rest = member (codes "do") (string (codes "depart"))
+    (member (codes "port") (number (unsigned port)) rest)
+said_members (Accuse port) rest = member (codes "do") (string (codes "accuse"))
+    (member (codes "port") (number (unsigned port)) rest)
 said_members Leave rest = member (codes "do") (string (codes "leave")) rest
 said_members Bad rest = member (codes "do") (string (codes "bad")) rest
 
 abbrev pub event_data : Event → Option Reply → Data
-event_data (Tell agent command) reply = object (member (codes "agent") (number (unsigned agent)) (said_members command (reply_member reply)))
+event_data (Tell agent command) reply = object
+    (member (codes "agent") (number (unsigned agent)) (said_members command (reply_member reply)))
 event_data (Deliver agent) reply =
-    object (member (codes "agent") (number (unsigned agent)) (member (codes "do") (string (codes "deliver")) (reply_member reply)))
+    object (member (codes "agent") (number (unsigned agent))
+    (member (codes "do") (string (codes "deliver")) (reply_member reply)))
 event_data Close reply = object (member (codes "do") (string (codes "close")) (reply_member reply))

@@ -1,5 +1,6 @@
 -- The line of an event is read as its data.
-use Rattle.std.proofs.Common.{◌≡◌, ℕ, ◌<◌, ◌≤◌, ◌^◌, List, [], decimal, Option, Some, None, option_and_then, refl, sym, ap, ◌∙◌, arith, append-nil}
+use Rattle.std.proofs.Common.{◌≡◌, ℕ, ◌<◌, ◌≤◌, ◌^◌, List, [], decimal, Option, Some, None, option_and_then, refl, sym}
+use Rattle.std.proofs.Common.{ap, ◌∙◌, arith, append-nil}
 use Rattle.json.specs.Json as json
 use Rattle.json.specs.Token.{Token}
 use Rattle.json.specs.Lex.{tokens}
@@ -27,9 +28,12 @@ abbrev whole : Option (json.Json × List Token) → Option Data
 whole o = option_and_then of_json (option_and_then (λ p. json.if_last p.0 p.1) o)
 
 -- what was printed of a value with such numbers is read as the value
-pub read-compact_text : (value : Data) → HasNumbers (outline value) → depth (outline value) ≤ max_depth → of_json (outline value) ≡ Some value → read (compact_text value) ≡ Some value
+pub read-compact_text : (value : Data) → HasNumbers (outline value) → depth (outline value) ≤ max_depth
+    → of_json (outline value) ≡ Some value → read (compact_text value) ≡ Some value
 read-compact_text value numbers shallow same =
-    let printed = ap tokens (sym (print-outline value)) ∙ (tokens-print (json_tokens (outline value)) (ArePrintable-json_tokens (outline value) numbers) ∙ sym (append-nil _)) in
+    let printed = ap tokens (sym (print-outline value))
+    ∙ (tokens-print (json_tokens (outline value)) (ArePrintable-json_tokens (outline value) numbers)
+    ∙ sym (append-nil _)) in
     ap whole (ap (json.value max_depth) printed ∙ value-json_tokens (outline value) max_depth [] shallow) ∙ same
 
 pub is_number : (n : ℕ) → n < 2 ^ 16 → IsNumber (decimal n)
@@ -43,7 +47,8 @@ reads n small = number_of-decimal n (omega arith)
 answer_numbers : (reply : Option Reply) → ReplyFits reply → HasNumbers (outline (answer_data reply))
 answer_numbers None fits = tt
 answer_numbers (Some (Here ports None board)) fits = (tt, (tt, (tt, (is_number ports fits.0, tt))))
-answer_numbers (Some (Here ports (Some port) board)) fits = (tt, (is_number port fits.1, (tt, (is_number ports fits.0, tt))))
+answer_numbers (Some (Here ports (Some port) board)) fits =
+    (tt, (is_number port fits.1, (tt, (is_number ports fits.0, tt))))
 answer_numbers (Some Written) fits = (tt, tt)
 answer_numbers (Some (Changed board)) fits = (tt, (tt, tt))
 answer_numbers (Some Gone) fits = (tt, tt)
@@ -64,7 +69,8 @@ answer_depth (Some Bye) = omega arith
 answer_depth (Some Over) = omega arith
 answer_depth (Some (No why)) = omega arith
 
-answer_same : (reply : Option Reply) → ReplyFits reply → of_json (outline (answer_data reply)) ≡ Some (answer_data reply)
+answer_same : (reply : Option Reply) → ReplyFits reply → of_json (outline (answer_data reply)) ≡ Some
+    (answer_data reply)
 answer_same None fits = refl
 answer_same (Some (Here ports None board)) fits = rw (reads ports fits.0)
 answer_same (Some (Here ports (Some port) board)) fits = rw (reads ports fits.0, reads port fits.1)
@@ -78,12 +84,16 @@ answer_same (Some (No why)) fits = refl
 
 -- ---- of events
 
-event_numbers : (event : Event) (reply : Option Reply) → EventFits event → ReplyFits reply → HasNumbers (outline (event_data event reply))
+event_numbers : (event : Event) (reply : Option Reply) → EventFits event → ReplyFits reply
+    → HasNumbers (outline (event_data event reply))
 event_numbers (Tell agent Enter) reply fits answer = (is_number agent fits.0, (tt, (answer_numbers reply answer, tt)))
 event_numbers (Tell agent Look) reply fits answer = (is_number agent fits.0, (tt, (answer_numbers reply answer, tt)))
-event_numbers (Tell agent (Write expect put)) reply fits answer = (is_number agent fits.0, (tt, (tt, (tt, (answer_numbers reply answer, tt)))))
-event_numbers (Tell agent (Depart port)) reply fits answer = (is_number agent fits.0, (tt, (is_number port fits.1, (answer_numbers reply answer, tt))))
-event_numbers (Tell agent (Accuse port)) reply fits answer = (is_number agent fits.0, (tt, (is_number port fits.1, (answer_numbers reply answer, tt))))
+event_numbers (Tell agent (Write expect put)) reply fits answer =
+    (is_number agent fits.0, (tt, (tt, (tt, (answer_numbers reply answer, tt)))))
+event_numbers (Tell agent (Depart port)) reply fits answer =
+    (is_number agent fits.0, (tt, (is_number port fits.1, (answer_numbers reply answer, tt))))
+event_numbers (Tell agent (Accuse port)) reply fits answer =
+    (is_number agent fits.0, (tt, (is_number port fits.1, (answer_numbers reply answer, tt))))
 event_numbers (Tell agent Leave) reply fits answer = (is_number agent fits.0, (tt, (answer_numbers reply answer, tt)))
 event_numbers (Tell agent Bad) reply fits answer = (is_number agent fits.0, (tt, (answer_numbers reply answer, tt)))
 event_numbers (Deliver agent) reply fits answer = (is_number agent fits, (tt, (answer_numbers reply answer, tt)))
@@ -100,17 +110,22 @@ event_depth (Tell agent Bad) reply = omega (arith, answer_depth reply)
 event_depth (Deliver agent) reply = omega (arith, answer_depth reply)
 event_depth Close reply = omega (arith, answer_depth reply)
 
-event_same : (event : Event) (reply : Option Reply) → EventFits event → ReplyFits reply → of_json (outline (event_data event reply)) ≡ Some (event_data event reply)
+event_same : (event : Event) (reply : Option Reply) → EventFits event → ReplyFits reply
+    → of_json (outline (event_data event reply)) ≡ Some (event_data event reply)
 event_same (Tell agent Enter) reply fits answer = rw (reads agent fits.0, answer_same reply answer)
 event_same (Tell agent Look) reply fits answer = rw (reads agent fits.0, answer_same reply answer)
 event_same (Tell agent (Write expect put)) reply fits answer = rw (reads agent fits.0, answer_same reply answer)
-event_same (Tell agent (Depart port)) reply fits answer = rw (reads agent fits.0, reads port fits.1, answer_same reply answer)
-event_same (Tell agent (Accuse port)) reply fits answer = rw (reads agent fits.0, reads port fits.1, answer_same reply answer)
+event_same (Tell agent (Depart port)) reply fits answer =
+    rw (reads agent fits.0, reads port fits.1, answer_same reply answer)
+event_same (Tell agent (Accuse port)) reply fits answer =
+    rw (reads agent fits.0, reads port fits.1, answer_same reply answer)
 event_same (Tell agent Leave) reply fits answer = rw (reads agent fits.0, answer_same reply answer)
 event_same (Tell agent Bad) reply fits answer = rw (reads agent fits.0, answer_same reply answer)
 event_same (Deliver agent) reply fits answer = rw (reads agent fits, answer_same reply answer)
 event_same Close reply fits answer = rw (answer_same reply answer)
 
-pub read-event_line : (event : Event) (reply : Option Reply) → EventFits event → ReplyFits reply → read (event_line event reply) ≡ Some (event_data event reply)
+pub read-event_line : (event : Event) (reply : Option Reply) → EventFits event → ReplyFits reply
+    → read (event_line event reply) ≡ Some (event_data event reply)
 read-event_line event reply fits answer =
-    ap read (sym (compact_text-event_data event reply)) ∙ read-compact_text (event_data event reply) (event_numbers event reply fits answer) (event_depth event reply) (event_same event reply fits answer)
+    ap read (sym (compact_text-event_data event reply)) ∙ read-compact_text (event_data event reply)
+    (event_numbers event reply fits answer) (event_depth event reply) (event_same event reply fits answer)

@@ -1,5 +1,6 @@
 -- The text of an event's data and of its tokens is its line.
-use Rattle.std.proofs.Common.{◌≡◌, ℕ, List, [], ◌∷◌, ◌++◌, codes, decimal, true, Option, Some, None, refl, sym, ap, ◌∙◌, append_assoc}
+use Rattle.std.proofs.Common.{◌≡◌, ℕ, List, [], ◌∷◌, ◌++◌, codes, decimal, true, Option, Some, None, refl, sym, ap, ◌∙◌}
+use Rattle.std.proofs.Common.{append_assoc}
 use Rattle.json.specs.Token.{Token}
 use Rattle.json.specs.Tree.{json_tokens}
 use Rattle.json.specs.Print.{print}
@@ -30,22 +31,31 @@ part_text reply = ap (λ text. codes ",\"reply\":" ++ (text ++ codes "}")) (answ
 regroup : (a b c d : List ℕ) → a ++ (b ++ (c ++ d)) ≡ (a ++ (b ++ c)) ++ d
 regroup a b c d = sym (append_assoc a (b ++ c) d ∙ ap (λ t. a ++ t) (append_assoc b c d))
 
-said_text : (command : Command) (reply : Option Reply) → members_text true (said_members command (reply_member reply)) ≡ codes ",\"do\":" ++ (said command ++ reply_part reply)
+said_text : (command : Command) (reply : Option Reply)
+    → members_text true (said_members command (reply_member reply)) ≡ codes ",\"do\":"
+    ++ (said command ++ reply_part reply)
 unfolding serde_json_on_literals
 said_text Enter reply = ap (λ text. codes ",\"do\":\"enter\"" ++ text) (part_text reply)
 said_text Look reply = ap (λ text. codes ",\"do\":\"look\"" ++ text) (part_text reply)
 said_text (Write expect put) reply =
-    ap (λ text. codes ",\"do\":\"write\",\"expect\":" ++ (quoted_text expect ++ (codes ",\"put\":" ++ (quoted_text put ++ text)))) (part_text reply)
-    ∙ ap (λ text. codes ",\"do\":\"write\",\"expect\":" ++ text) (regroup (quoted_text expect) (codes ",\"put\":") (quoted_text put) (reply_part reply))
-said_text (Depart port) reply = ap (λ text. codes ",\"do\":\"depart\",\"port\":" ++ (decimal port ++ text)) (part_text reply)
-said_text (Accuse port) reply = ap (λ text. codes ",\"do\":\"accuse\",\"port\":" ++ (decimal port ++ text)) (part_text reply)
+    ap (λ text. codes ",\"do\":\"write\",\"expect\":"
+    ++ (quoted_text expect ++ (codes ",\"put\":" ++ (quoted_text put ++ text)))) (part_text reply)
+    ∙ ap (λ text. codes ",\"do\":\"write\",\"expect\":" ++ text)
+    (regroup (quoted_text expect) (codes ",\"put\":") (quoted_text put) (reply_part reply))
+said_text (Depart port) reply = ap (λ text. codes ",\"do\":\"depart\",\"port\":" ++ (decimal port ++ text))
+    (part_text reply)
+said_text (Accuse port) reply = ap (λ text. codes ",\"do\":\"accuse\",\"port\":" ++ (decimal port ++ text))
+    (part_text reply)
 said_text Leave reply = ap (λ text. codes ",\"do\":\"leave\"" ++ text) (part_text reply)
 said_text Bad reply = ap (λ text. codes ",\"do\":\"bad\"" ++ text) (part_text reply)
 
-pub compact_text-event_data : (event : Event) (reply : Option Reply) → compact_text (event_data event reply) ≡ event_line event reply
+pub compact_text-event_data : (event : Event) (reply : Option Reply)
+    → compact_text (event_data event reply) ≡ event_line event reply
 unfolding serde_json_on_literals
-compact_text-event_data (Tell agent command) reply = ap (λ text. codes "{\"agent\":" ++ (decimal agent ++ text)) (said_text command reply)
-compact_text-event_data (Deliver agent) reply = ap (λ text. codes "{\"agent\":" ++ (decimal agent ++ (codes ",\"do\":\"deliver\"" ++ text))) (part_text reply)
+compact_text-event_data (Tell agent command) reply =
+    ap (λ text. codes "{\"agent\":" ++ (decimal agent ++ text)) (said_text command reply)
+compact_text-event_data (Deliver agent) reply =
+    ap (λ text. codes "{\"agent\":" ++ (decimal agent ++ (codes ",\"do\":\"deliver\"" ++ text))) (part_text reply)
 compact_text-event_data Close reply = ap (λ text. codes "{\"do\":\"close\"" ++ text) (part_text reply)
 
 answer_tokens-data : (reply : Option Reply) → json_tokens (outline (answer_data reply)) ≡ answer_tokens reply
@@ -61,9 +71,11 @@ answer_tokens-data (Some Over) = refl
 answer_tokens-data (Some (No why)) = refl
 
 abbrev with_answer : Event → List Token → List Token
-with_answer event answer = Token.begin_object ∷ (happening_tokens event ++ (Token.key (codes "reply") ∷ (answer ++ Token.end_object ∷ [])))
+with_answer event answer = Token.begin_object ∷ (happening_tokens event
+    ++ (Token.key (codes "reply") ∷ (answer ++ Token.end_object ∷ [])))
 
-tokens_with : (event : Event) (reply : Option Reply) → json_tokens (outline (event_data event reply)) ≡ with_answer event (json_tokens (outline (answer_data reply)))
+tokens_with : (event : Event) (reply : Option Reply) → json_tokens (outline (event_data event reply)) ≡ with_answer
+    event (json_tokens (outline (answer_data reply)))
 tokens_with (Tell agent Enter) reply = refl
 tokens_with (Tell agent Look) reply = refl
 tokens_with (Tell agent (Write expect put)) reply = refl
@@ -74,20 +86,26 @@ tokens_with (Tell agent Bad) reply = refl
 tokens_with (Deliver agent) reply = refl
 tokens_with Close reply = refl
 
-pub tokens-event_data : (event : Event) (reply : Option Reply) → json_tokens (outline (event_data event reply)) ≡ event_tokens event reply
+pub tokens-event_data : (event : Event) (reply : Option Reply)
+    → json_tokens (outline (event_data event reply)) ≡ event_tokens event reply
 tokens-event_data event reply = tokens_with event reply ∙ ap (with_answer event) (answer_tokens-data reply)
 
-pub print-event_tokens : (event : Event) (reply : Option Reply) → print (event_tokens event reply) ≡ event_line event reply
-print-event_tokens event reply = ap print (sym (tokens-event_data event reply)) ∙ (print-outline (event_data event reply) ∙ compact_text-event_data event reply)
+pub print-event_tokens : (event : Event) (reply : Option Reply)
+    → print (event_tokens event reply) ≡ event_line event reply
+print-event_tokens event reply = ap print (sym (tokens-event_data event reply))
+    ∙ (print-outline (event_data event reply) ∙ compact_text-event_data event reply)
 
 -- the tokens of the parts, one after the other
 pub gathered : (event : Event) (reply : Option Reply) {a b c d e f : List Token}
-    → a ≡ [] → b ≡ a ++ Token.begin_object ∷ [] → c ≡ b ++ happening_tokens event → d ≡ c ++ Token.key (codes "reply") ∷ [] → e ≡ d ++ answer_tokens reply → f ≡ e ++ Token.end_object ∷ []
+    → a ≡ [] → b ≡ a ++ Token.begin_object ∷ [] → c ≡ b ++ happening_tokens event
+    → d ≡ c ++ Token.key (codes "reply") ∷ [] → e ≡ d ++ answer_tokens reply → f ≡ e ++ Token.end_object ∷ []
     → f ≡ event_tokens event reply
 gathered event reply none opened happened named answered closed =
     let head = Token.begin_object ∷ happening_tokens event in
     let end = Token.end_object ∷ [] in
-    let before = happened ∙ ap (λ t. t ++ happening_tokens event) (opened ∙ ap (λ t. t ++ Token.begin_object ∷ []) none) in
-    closed ∙ ap (λ t. t ++ end) (answered ∙ ap (λ t. t ++ answer_tokens reply) (named ∙ ap (λ t. t ++ Token.key (codes "reply") ∷ []) before))
+    let before = happened ∙ ap (λ t. t ++ happening_tokens event)
+    (opened ∙ ap (λ t. t ++ Token.begin_object ∷ []) none) in
+    closed ∙ ap (λ t. t ++ end) (answered ∙ ap (λ t. t ++ answer_tokens reply)
+    (named ∙ ap (λ t. t ++ Token.key (codes "reply") ∷ []) before))
     ∙ append_assoc (head ++ Token.key (codes "reply") ∷ []) (answer_tokens reply) end
     ∙ append_assoc head (Token.key (codes "reply") ∷ []) (answer_tokens reply ++ end)

@@ -1,5 +1,6 @@
 -- The numbers of a head have 16 bits.
-use Rattle.std.proofs.Common.{zero, suc, ◌≡◌, ◌≢◌, ℕ, ◌<◌, ◌≤◌, ◌==◌, Bool, true, false, if◌then◌else◌, List, [], ◌∷◌, refl, sym, subst, ◌∙◌, arith}
+use Rattle.std.proofs.Common.{zero, suc, ◌≡◌, ◌≢◌, ℕ, ◌<◌, ◌≤◌, ◌==◌, Bool, true, false, if◌then◌else◌, List, [], ◌∷◌}
+use Rattle.std.proofs.Common.{refl, sym, subst, ◌∙◌, arith}
 use Rattle.std.specs.Prelude.{map}
 use Rattle.std.specs.List.{list_any}
 use Rattle.std.proofs.lemmas.Bool.{or_left, or_right, eqb-true, eq-eqb, false≢true}
@@ -25,7 +26,8 @@ IsApart count f = (i j : ℕ) → i < count → j < count → f i ≡ f j → i 
 swapped : (f : ℕ → ℕ) (last limit i : ℕ) → ℕ
 swapped f last limit i = if f i == limit then f last else f i
 
-swapped-at : (f : ℕ → ℕ) (last limit i : ℕ) (b : Bool) → (f i == limit) ≡ b → swapped f last limit i ≡ (if b then f last else f i)
+swapped-at : (f : ℕ → ℕ) (last limit i : ℕ) (b : Bool) → (f i == limit) ≡ b
+    → swapped f last limit i ≡ (if b then f last else f i)
 unfolding swapped
 swapped-at f last limit i b is = rw is refl
 
@@ -35,22 +37,31 @@ below_less a limit lt differ = grind arith
 not_eq : (a b : ℕ) → (a == b) ≡ false → a ≢ b
 not_eq a b is same = false≢true (sym is ∙ eq-eqb a b same)
 
-swapped-below : (f : ℕ → ℕ) (last limit i : ℕ) (b : Bool) → (f i == limit) ≡ b → IsBelow (suc last) (suc limit) f → IsApart (suc last) f → i < last → swapped f last limit i < limit
+swapped-below : (f : ℕ → ℕ) (last limit i : ℕ) (b : Bool) → (f i == limit) ≡ b → IsBelow (suc last) (suc limit) f
+    → IsApart (suc last) f → i < last → swapped f last limit i < limit
 swapped-below f last limit i true is below apart lt =
     let at : f i ≡ limit = eqb-true (f i) limit is in
-    let other : f last ≢ limit = λ same. let twice : i ≡ last = apart i last (omega arith) (omega arith) (at ∙ sym same) in omega arith in
-    subst (λ (k : ℕ). k < limit) (sym (swapped-at f last limit i true is)) (below_less (f last) limit (below last (omega arith)) other)
+    let other : f last ≢ limit = λ same. let twice : i ≡ last = apart i last (omega arith) (omega arith)
+    (at ∙ sym same) in omega arith in
+    subst (λ (k : ℕ). k < limit) (sym (swapped-at f last limit i true is))
+    (below_less (f last) limit (below last (omega arith)) other)
 swapped-below f last limit i false is below apart lt =
-    subst (λ (k : ℕ). k < limit) (sym (swapped-at f last limit i false is)) (below_less (f i) limit (below i (omega arith)) (not_eq (f i) limit is))
+    subst (λ (k : ℕ). k < limit) (sym (swapped-at f last limit i false is))
+    (below_less (f i) limit (below i (omega arith)) (not_eq (f i) limit is))
 
-swapped-apart : (f : ℕ → ℕ) (last limit i j : ℕ) (b d : Bool) → (f i == limit) ≡ b → (f j == limit) ≡ d → IsApart (suc last) f → i < last → j < last → swapped f last limit i ≡ swapped f last limit j → i ≡ j
-swapped-apart f last limit i j true true is js apart lt ltj same = apart i j (omega arith) (omega arith) (eqb-true (f i) limit is ∙ sym (eqb-true (f j) limit js))
+swapped-apart : (f : ℕ → ℕ) (last limit i j : ℕ) (b d : Bool) → (f i == limit) ≡ b → (f j == limit) ≡ d
+    → IsApart (suc last) f → i < last → j < last → swapped f last limit i ≡ swapped f last limit j → i ≡ j
+swapped-apart f last limit i j true true is js apart lt ltj same =
+    apart i j (omega arith) (omega arith) (eqb-true (f i) limit is ∙ sym (eqb-true (f j) limit js))
 swapped-apart f last limit i j true false is js apart lt ltj same =
-    absurd (let twice : last ≡ j = apart last j (omega arith) (omega arith) (sym (swapped-at f last limit i true is) ∙ same ∙ swapped-at f last limit j false js) in omega arith)
+    absurd (let twice : last ≡ j = apart last j (omega arith) (omega arith)
+    (sym (swapped-at f last limit i true is) ∙ same ∙ swapped-at f last limit j false js) in omega arith)
 swapped-apart f last limit i j false true is js apart lt ltj same =
-    absurd (let twice : i ≡ last = apart i last (omega arith) (omega arith) (sym (swapped-at f last limit i false is) ∙ same ∙ swapped-at f last limit j true js) in omega arith)
+    absurd (let twice : i ≡ last = apart i last (omega arith) (omega arith)
+    (sym (swapped-at f last limit i false is) ∙ same ∙ swapped-at f last limit j true js) in omega arith)
 swapped-apart f last limit i j false false is js apart lt ltj same =
-    apart i j (omega arith) (omega arith) (sym (swapped-at f last limit i false is) ∙ same ∙ swapped-at f last limit j false js)
+    apart i j (omega arith) (omega arith) (sym (swapped-at f last limit i false is) ∙ same
+    ∙ swapped-at f last limit j false js)
 
 few_below : (count limit : ℕ) (f : ℕ → ℕ) → IsBelow count limit f → IsApart count f → count ≤ limit
 few_below zero limit f below apart = omega arith
@@ -88,19 +99,32 @@ module _ (net : Network) (network : IsNetwork net) where
 
   holes_small : (holes : List ℕ) → ((node : ℕ) → is_hole holes node ≡ true → node < nodes_of net) → AllOf IsSmall holes
   holes_small [] within = tt
-  holes_small (hole ∷ holes) within =
-      (node_small hole (within hole (or_left _ _ (eq-eqb hole hole refl))), holes_small holes (λ node is. within node (or_right (hole == node) _ is)))
+  holes_small (hole ∷ holes) within = (
+    node_small hole (within hole (or_left _ _ (eq-eqb hole hole refl))),
+    holes_small holes
+        (λ node is. within node (or_right (hole == node) _ is)),
+  )
 
-  ends_small : (ends : List (ℕ × ℕ)) → ((node port : ℕ) → is_dark (far_of net) ends node port ≡ true → port < degree_of net node) → AllOf IsSmallEnd ends
+  ends_small : (ends : List (ℕ × ℕ)) → ((node port : ℕ) → is_dark (far_of net) ends node port ≡ true
+      → port < degree_of net node) → AllOf IsSmallEnd ends
   ends_small [] within = tt
-  ends_small (end ∷ ends) within =
-      (end_small end (within end.0 end.1 (or_left _ _ (or_left _ _ (named end.0 end.1)))), ends_small ends (λ node port is. within node port (or_right _ _ is)))
+  ends_small (end ∷ ends) within = (
+    end_small end (within end.0 end.1 (or_left _ _ (or_left _ _ (named end.0 end.1)))),
+    ends_small ends
+        (λ node port is. within node port (or_right _ _ is)),
+  )
 
-  all_links : (ends : List (ℕ × ℕ)) → ((end : ℕ × ℕ) → list_any (names end.0 end.1) ends ≡ true → end.1 < degree_of net end.0) → AllOf IsSmallLink (map (link_from net) ends)
+  all_links : (ends : List (ℕ × ℕ)) → ((end : ℕ × ℕ) → list_any (names end.0 end.1) ends ≡ true
+      → end.1 < degree_of net end.0) → AllOf IsSmallLink (map (link_from net) ends)
   all_links [] within = tt
-  all_links (end ∷ ends) within = (link_small end (within end (or_left _ _ (named end.0 end.1))), all_links ends (λ other is. within other (or_right _ _ is)))
+  all_links (end ∷ ends) within = (
+    link_small end (within end (or_left _ _ (named end.0 end.1))),
+    all_links ends
+        (λ other is. within other (or_right _ _ is)),
+  )
 
-  has_port : (end : ℕ × ℕ) → list_any (names end.0 end.1) (links_where net (λ node port. true)) ≡ true → end.1 < degree_of net end.0
+  has_port : (end : ℕ × ℕ) → list_any (names end.0 end.1) (links_where net (λ node port. true)) ≡ true
+      → end.1 < degree_of net end.0
   has_port end listed =
       let found = listed_out net (λ node port. true) (names end.0 end.1) listed in
       subst (λ (e : ℕ × ℕ). e.1 < degree_of net e.0) (is_named end.0 end.1 (found.0, found.1) found.4) found.2

@@ -1,5 +1,6 @@
 -- What a line spells has numbers of 16 bits, and the line is text.
-use Rattle.std.proofs.Common.{◌≡◌, ℕ, ◌<◌, ◌^◌, Bool, true, false, if◌then◌else◌, ◌&&◌, List, codes, bytes_eq, Option, Some, None, option_map, option_and_then, unwrap_or, nat_lt, refl, subst, ap}
+use Rattle.std.proofs.Common.{◌≡◌, ℕ, ◌<◌, ◌^◌, Bool, true, false, if◌then◌else◌, ◌&&◌, List, codes, bytes_eq, Option}
+use Rattle.std.proofs.Common.{Some, None, option_map, option_and_then, unwrap_or, nat_lt, refl, subst, ap}
 use Rattle.std.proofs.lemmas.Bool.{ltb-true}
 use Rattle.std.specs.Prelude.{⊤}
 use Rattle.std.specs.Str.{IsUtf8, is_utf8}
@@ -16,7 +17,9 @@ use Rattle.bhs_model.specs.declared.replies.Reply.TheVariants.{Written, Changed,
 use Rattle.bhs_model.specs.declared.replies.Why.{Why}
 use Rattle.bhs_wire.specs.First.{text_at, if_port, port_at}
 use Rattle.bhs_replay.specs.EventLine.{event_line}
-use Rattle.bhs_replay.specs.Spelling.{may_stand, CommandFits, EventFits, LabelFits, ReplyFits, write_with, write_in, command_by, agents_by, event_by, event_in, why_by, here_with, here_in, changed_in, ok_by, reply_by, reply_in, answer_in, if_spelled, spelled_in, spelled}
+use Rattle.bhs_replay.specs.Spelling.{may_stand, CommandFits, EventFits, LabelFits, ReplyFits, write_with, write_in}
+use Rattle.bhs_replay.specs.Spelling.{command_by, agents_by, event_by, event_in, why_by, here_with, here_in, changed_in}
+use Rattle.bhs_replay.specs.Spelling.{ok_by, reply_by, reply_in, answer_in, if_spelled, spelled_in, spelled}
 
 abbrev Each : {A : Type 0} → Option A → (A → Type 0) → Type 0
 Each None P = ⊤
@@ -27,11 +30,13 @@ module _ {A : Type 0} (P : A → Type 0) where
   for_if true x y h k = h
   for_if false x y h k = k
 
-  for_then : {B : Type 0} (f : B → Option A) (Q : B → Type 0) (o : Option B) → ((b : B) → Q b → Each (f b) P) → Each o Q → Each (option_and_then f o) P
+  for_then : {B : Type 0} (f : B → Option A) (Q : B → Type 0) (o : Option B) → ((b : B) → Q b → Each (f b) P) → Each o Q
+      → Each (option_and_then f o) P
   for_then f Q None step h = tt
   for_then f Q (Some b) step h = step b h
 
-  for_map : {B : Type 0} (f : B → A) (Q : B → Type 0) (o : Option B) → ((b : B) → Q b → P (f b)) → Each o Q → Each (option_map f o) P
+  for_map : {B : Type 0} (f : B → A) (Q : B → Type 0) (o : Option B) → ((b : B) → Q b → P (f b)) → Each o Q
+      → Each (option_map f o) P
   for_map f Q None step h = tt
   for_map f Q (Some b) step h = step b h
 
@@ -54,8 +59,12 @@ write_with-fits None put = tt
 write_with-fits (Some expect) None = tt
 write_with-fits (Some expect) (Some put) = tt
 
-command_chain : (b1 b2 b3 b4 b5 b6 b7 : Bool) (write : Option Command) (port : Option ℕ) → Each write CommandFits → Each port IsPort
-    → Each (if b1 then Some Enter else (if b2 then Some Look else (if b3 then write else (if b4 then option_map Depart port else (if b5 then option_map Accuse port else (if b6 then Some Leave else (if b7 then Some Bad else None))))))) CommandFits
+command_chain : (b1 b2 b3 b4 b5 b6 b7 : Bool) (write : Option Command) (port : Option ℕ) → Each write CommandFits
+    → Each port IsPort
+    → Each (if b1 then Some Enter else (if b2 then Some
+    Look else (if b3 then write else (if b4 then option_map Depart
+    port else (if b5 then option_map Accuse
+    port else (if b6 then Some Leave else (if b7 then Some Bad else None))))))) CommandFits
 command_chain true b2 b3 b4 b5 b6 b7 write port h k = tt
 command_chain false true b3 b4 b5 b6 b7 write port h k = tt
 command_chain false false true b4 b5 b6 b7 write port h k = h
@@ -67,15 +76,22 @@ command_chain false false false false false false false write port h k = tt
 
 command_by-fits : (word : List ℕ) (value : Data) → Each (command_by word value) CommandFits
 command_by-fits word value =
-    command_chain (bytes_eq word (codes "enter")) (bytes_eq word (codes "look")) (bytes_eq word (codes "write")) (bytes_eq word (codes "depart")) (bytes_eq word (codes "accuse"))
+    command_chain (bytes_eq word (codes "enter")) (bytes_eq word (codes "look")) (bytes_eq word (codes "write"))
+    (bytes_eq word (codes "depart")) (bytes_eq word (codes "accuse"))
     (bytes_eq word (codes "leave")) (bytes_eq word (codes "bad")) (write_in value) (port_at (codes "port") value)
     (write_with-fits (text_at (codes "expect") value) (text_at (codes "put") value)) (port_at-fits (codes "port") value)
 
 agents_by-fits : (word : List ℕ) (value : Data) (agent : ℕ) → IsPort agent → Each (agents_by word value agent) EventFits
-agents_by-fits word value agent h = for_if EventFits (bytes_eq word (codes "deliver")) (Some (Deliver agent)) (option_map (Tell agent) (command_by word value)) h (for_map EventFits (Tell agent) CommandFits (command_by word value) (λ command k. (h, k)) (command_by-fits word value))
+agents_by-fits word value agent h = for_if EventFits (bytes_eq word (codes "deliver")) (Some (Deliver agent))
+    (option_map (Tell agent) (command_by word value)) h
+    (for_map EventFits (Tell agent) CommandFits (command_by word value) (λ command k. (h, k))
+    (command_by-fits word value))
 
 event_by-fits : (word : List ℕ) (value : Data) → Each (event_by word value) EventFits
-event_by-fits word value = for_if EventFits (bytes_eq word (codes "close")) (Some Close) (option_and_then (agents_by word value) (port_at (codes "agent") value)) tt (for_then EventFits (agents_by word value) IsPort (port_at (codes "agent") value) (agents_by-fits word value) (port_at-fits (codes "agent") value))
+event_by-fits word value = for_if EventFits (bytes_eq word (codes "close")) (Some Close)
+    (option_and_then (agents_by word value) (port_at (codes "agent") value)) tt
+    (for_then EventFits (agents_by word value) IsPort (port_at (codes "agent") value) (agents_by-fits word value)
+    (port_at-fits (codes "agent") value))
 
 event_in-fits : (value : Data) (word : Option (List ℕ)) → Each (option_and_then (λ w. event_by w value) word) EventFits
 event_in-fits value None = tt
@@ -87,7 +103,8 @@ label_fits : (o : Option ℕ) → Each o IsPort → LabelFits o
 label_fits None h = tt
 label_fits (Some port) h = h
 
-here_with-fits : (ports came : Option ℕ) (board : Option (List ℕ)) → Each ports IsPort → Each came IsPort → ReplyFits (here_with ports came board)
+here_with-fits : (ports came : Option ℕ) (board : Option (List ℕ)) → Each ports IsPort → Each came IsPort
+    → ReplyFits (here_with ports came board)
 here_with-fits None came board h k = tt
 here_with-fits (Some ports) came None h k = tt
 here_with-fits (Some ports) came (Some board) h k = (h, label_fits came k)
@@ -97,7 +114,9 @@ changed_fits None = tt
 changed_fits (Some board) = tt
 
 ok_chain : (b1 b2 b3 b4 b5 b6 b7 : Bool) (here changed : Option Reply) → ReplyFits here → ReplyFits changed
-    → ReplyFits (if b1 then here else (if b2 then Some Written else (if b3 then changed else (if b4 then Some Gone else (if b5 then Some Noted else (if b6 then Some Bye else (if b7 then Some Over else None)))))))
+    → ReplyFits (if b1 then here else (if b2 then Some
+    Written else (if b3 then changed else (if b4 then Some
+    Gone else (if b5 then Some Noted else (if b6 then Some Bye else (if b7 then Some Over else None)))))))
 ok_chain true b2 b3 b4 b5 b6 b7 here changed h k = h
 ok_chain false true b3 b4 b5 b6 b7 here changed h k = tt
 ok_chain false false true b4 b5 b6 b7 here changed h k = k
@@ -109,9 +128,11 @@ ok_chain false false false false false false false here changed h k = tt
 
 ok_by-fits : (word : List ℕ) (value : Data) → ReplyFits (ok_by word value)
 ok_by-fits word value =
-    ok_chain (bytes_eq word (codes "here")) (bytes_eq word (codes "written")) (bytes_eq word (codes "changed")) (bytes_eq word (codes "gone")) (bytes_eq word (codes "noted"))
+    ok_chain (bytes_eq word (codes "here")) (bytes_eq word (codes "written")) (bytes_eq word (codes "changed"))
+    (bytes_eq word (codes "gone")) (bytes_eq word (codes "noted"))
     (bytes_eq word (codes "bye")) (bytes_eq word (codes "over")) (here_in value) (changed_in value)
-    (here_with-fits (port_at (codes "ports") value) (port_at (codes "from") value) (text_at (codes "board") value) (port_at-fits (codes "ports") value) (port_at-fits (codes "from") value))
+    (here_with-fits (port_at (codes "ports") value) (port_at (codes "from") value) (text_at (codes "board") value)
+    (port_at-fits (codes "ports") value) (port_at-fits (codes "from") value))
     (changed_fits (text_at (codes "board") value))
 
 refusal_fits : (why : Option Why) → ReplyFits (option_map No why)
@@ -131,24 +152,32 @@ answer_fits (Some value) = reply_by-fits (text_at (codes "ok") value) value
 abbrev Fit : Event × Option Reply → Type 0
 Fit found = EventFits found.0 × ReplyFits found.1
 
-fits_if : (b : Bool) (event : Event) (reply : Option Reply) (found : Event × Option Reply) → EventFits event → ReplyFits reply → (if b then Some (event, reply) else None) ≡ Some found → Fit found
+fits_if : (b : Bool) (event : Event) (reply : Option Reply) (found : Event × Option Reply) → EventFits event
+    → ReplyFits reply → (if b then Some (event, reply) else None) ≡ Some found → Fit found
 fits_if true event reply found h k is = subst Fit (ap (λ o. unwrap_or o (event, reply)) is) (h, k)
 fits_if false event reply found h k is = absurd (cc)
 
-fits_event : (text : List ℕ) (reply : Option Reply) (event : Option Event) (found : Event × Option Reply) → Each event EventFits → ReplyFits reply → option_and_then (if_spelled text reply) event ≡ Some found → Fit found
+fits_event : (text : List ℕ) (reply : Option Reply) (event : Option Event) (found : Event × Option Reply)
+    → Each event EventFits → ReplyFits reply → option_and_then (if_spelled text reply) event ≡ Some found → Fit found
 fits_event text reply None found h k is = absurd (cc)
-fits_event text reply (Some event) found h k is = fits_if (may_stand event reply && bytes_eq text (event_line event reply)) event reply found h k is
+fits_event text reply (Some event) found h k is =
+    fits_if (may_stand event reply && bytes_eq text (event_line event reply)) event reply found h k is
 
-fits_value : (text : List ℕ) (value : Option Data) (found : Event × Option Reply) → option_and_then (spelled_in text) value ≡ Some found → Fit found
+fits_value : (text : List ℕ) (value : Option Data) (found : Event × Option Reply)
+    → option_and_then (spelled_in text) value ≡ Some found → Fit found
 fits_value text None found is = absurd (cc)
-fits_value text (Some value) found is = fits_event text (answer_in value) (event_in value) found (event_in-fits value (text_at (codes "do") value)) (answer_fits (get (codes "reply") value)) is
+fits_value text (Some value) found is = fits_event text (answer_in value) (event_in value) found
+    (event_in-fits value (text_at (codes "do") value)) (answer_fits (get (codes "reply") value)) is
 
-pub spelled-fits : (text : List ℕ) (event : Event) (reply : Option Reply) → spelled text ≡ Some (event, reply) → EventFits event × ReplyFits reply
+pub spelled-fits : (text : List ℕ) (event : Event) (reply : Option Reply) → spelled text ≡ Some (event, reply)
+    → EventFits event × ReplyFits reply
 spelled-fits text event reply is = fits_value text (if is_utf8 text then read text else None) (event, reply) is
 
-utf8_if : (text : List ℕ) (b : Bool) (found : Event × Option Reply) → option_and_then (spelled_in text) (if b then read text else None) ≡ Some found → b ≡ true
+utf8_if : (text : List ℕ) (b : Bool) (found : Event × Option Reply)
+    → option_and_then (spelled_in text) (if b then read text else None) ≡ Some found → b ≡ true
 utf8_if text true found is = refl
 utf8_if text false found is = absurd (cc)
 
-pub spelled-utf8 : (text : List ℕ) (event : Event) (reply : Option Reply) → spelled text ≡ Some (event, reply) → IsUtf8 text
+pub spelled-utf8 : (text : List ℕ) (event : Event) (reply : Option Reply)
+    → spelled text ≡ Some (event, reply) → IsUtf8 text
 spelled-utf8 text event reply is = IsUtf8-from_is_utf8 text (utf8_if text (is_utf8 text) (event, reply) is)

@@ -1,5 +1,6 @@
 -- No line of a replay has a line feed inside.
-use Rattle.std.proofs.Common.{◌≡◌, ℕ, ◌+◌, ◌<◌, ◌≤◌, ◌^◌, ◌/◌, ◌%◌, ◌==◌, ◌||◌, Bool, true, false, cond, nat_lt, List, [], ◌∷◌, ◌++◌, decimal, inl, inr, refl, sym, subst, arith, ne_eqb}
+use Rattle.std.proofs.Common.{◌≡◌, ℕ, ◌+◌, ◌<◌, ◌≤◌, ◌^◌, ◌/◌, ◌%◌, ◌==◌, ◌||◌, Bool, true, false, cond, nat_lt, List}
+use Rattle.std.proofs.Common.{[], ◌∷◌, ◌++◌, decimal, inl, inr, refl, sym, subst, arith, ne_eqb}
 use Rattle.std.specs.Prelude.{⊤}
 use Rattle.std.specs.List.{list_any}
 use Rattle.std.proofs.lemmas.Bool.{or_parts, or_cases, eqb-true}
@@ -7,7 +8,8 @@ use Rattle.std.proofs.lemmas.Bool.Decides.{nat_tests}
 use Rattle.std.proofs.lemmas.Fmt.{decimal_by_steps}
 use Rattle.std.specs.Char.{digit_char}
 use Rattle.json.specs.Print.{escape_letter, escape_byte, escape, quoted}
-use Rattle.serde_json.specs.Data.{unsigned, negative, float, Data, null, boolean, number, string, array, object, Items, no_items, item, Members, no_members, member}
+use Rattle.serde_json.specs.Data.{unsigned, negative, float, Data, null, boolean, number, string, array, object, Items}
+use Rattle.serde_json.specs.Data.{no_items, item, Members, no_members, member}
 use Rattle.serde_json.specs.Written.{comma_if, compact_text, items_text, members_text}
 use Rattle.bhs_wire.specs.Lines.{is_line_feed}
 
@@ -16,7 +18,8 @@ IsFlat bytes = list_any is_line_feed bytes ≡ false
 
 pub flat_append : (xs ys : List ℕ) → IsFlat xs → IsFlat ys → IsFlat (xs ++ ys)
 flat_append [] ys first second = second
-flat_append (x ∷ xs) ys first second = let parts = or_parts (is_line_feed x) _ first in rw parts.0 (flat_append xs ys parts.1 second)
+flat_append (x ∷ xs) ys first second = let parts = or_parts (is_line_feed x) _ first in
+    rw parts.0 (flat_append xs ys parts.1 second)
 
 -- ---- texts between quotes
 
@@ -34,13 +37,16 @@ itself_flat x is = elim (or_cases (x == 34) (x == 92) is) [
   | inr back ↦ subst (λ (n : ℕ). is_line_feed n ≡ false) (sym (eqb-true x 92 back)) refl
 ]
 
-first_flat : (x other : ℕ) (b : Bool) → ((x == 34) || (x == 92)) ≡ b → is_line_feed other ≡ false → is_line_feed (cond b x other) ≡ false
+first_flat : (x other : ℕ) (b : Bool) → ((x == 34) || (x == 92)) ≡ b → is_line_feed other ≡ false
+    → is_line_feed (cond b x other) ≡ false
 first_flat x other true is flat = itself_flat x is
 first_flat x other false is flat = flat
 
 letter_flat : (x : ℕ) → is_line_feed (escape_letter x) ≡ false
 letter_flat x =
-    first_flat x _ _ refl (cond_flat (x == 8) 98 _ refl (cond_flat (x == 12) 102 _ refl (cond_flat (x == 10) 110 _ refl (cond_flat (x == 13) 114 _ refl (cond_flat (x == 9) 116 0 refl refl)))))
+    first_flat x _ _ refl (cond_flat (x == 8) 98 _ refl
+    (cond_flat (x == 12) 102 _ refl (cond_flat (x == 10) 110 _ refl
+    (cond_flat (x == 13) 114 _ refl (cond_flat (x == 9) 116 0 refl refl)))))
 
 more_than : (base n : ℕ) → 11 ≤ base → is_line_feed (base + n) ≡ false
 more_than base n large = ne_eqb (base + n) 10 (λ e. omega arith)
@@ -55,14 +61,17 @@ six : (x y : ℕ) → is_line_feed x ≡ false → is_line_feed y ≡ false → 
 six x y one other = rw (one, other) refl
 
 plain_flat : (x : ℕ) → nat_lt x 32 ≡ false → IsFlat (x ∷ [])
-plain_flat x large = let flat : is_line_feed x ≡ false = ne_eqb x 10 (λ e. let small : nat_lt x 32 ≡ true = grind (arith, nat_tests) in absurd (cc)) in rw flat refl
+plain_flat x large = let flat : is_line_feed x ≡ false = ne_eqb x 10
+    (λ e. let small : nat_lt x 32 ≡ true = grind (arith, nat_tests) in absurd (cc)) in rw flat refl
 
 byte_flat : (x : ℕ) → IsFlat (escape_byte x)
 unfolding escape_byte
 byte_flat x =
     let hexed : List ℕ = 92 ∷ 117 ∷ 48 ∷ 48 ∷ digit_char (x / 16) ∷ digit_char (x % 16) ∷ [] in
-    cond_bytes (nat_lt 0 (escape_letter x)) (92 ∷ escape_letter x ∷ []) (cond (nat_lt x 32) hexed (x ∷ [])) (two (escape_letter x) (letter_flat x))
-    (λ none. cond_bytes (nat_lt x 32) hexed (x ∷ []) (six (digit_char (x / 16)) (digit_char (x % 16)) (digit_flat (x / 16)) (digit_flat (x % 16))) (plain_flat x))
+    cond_bytes (nat_lt 0 (escape_letter x)) (92 ∷ escape_letter x ∷ []) (cond (nat_lt x 32) hexed (x ∷ []))
+    (two (escape_letter x) (letter_flat x))
+    (λ none. cond_bytes (nat_lt x 32) hexed (x ∷ [])
+    (six (digit_char (x / 16)) (digit_char (x % 16)) (digit_flat (x / 16)) (digit_flat (x % 16))) (plain_flat x))
 
 escape_flat : (text : List ℕ) → IsFlat (escape text)
 escape_flat [] = refl
@@ -121,11 +130,15 @@ mutual
   items_flat : (later : Bool) (items : Items) → ArePlain items → IsFlat (items_text later items)
   items_flat later no_items plain = refl
   items_flat later (item value others) plain =
-      flat_append (comma_if later) (compact_text value ++ items_text true others) (comma_flat later) (flat_append (compact_text value) (items_text true others) (text_flat value plain.0) (items_flat true others plain.1))
+      flat_append (comma_if later) (compact_text value ++ items_text true others) (comma_flat later)
+      (flat_append (compact_text value) (items_text true others) (text_flat value plain.0)
+      (items_flat true others plain.1))
 
   members_flat : (later : Bool) (members : Members) → HavePlain members → IsFlat (members_text later members)
   members_flat later no_members plain = refl
   members_flat later (member key value others) plain =
-      flat_append (comma_if later) (quoted key ++ 58 ∷ (compact_text value ++ members_text true others)) (comma_flat later)
+      flat_append (comma_if later) (quoted key ++ 58 ∷ (compact_text value ++ members_text true others))
+      (comma_flat later)
       (flat_append (quoted key) (58 ∷ (compact_text value ++ members_text true others)) (quoted_flat key)
-      (flat_append (compact_text value) (members_text true others) (text_flat value plain.0) (members_flat true others plain.1)))
+      (flat_append (compact_text value) (members_text true others) (text_flat value plain.0)
+      (members_flat true others plain.1)))

@@ -1,5 +1,6 @@
 -- A head line is read as what it says.
-use Rattle.std.proofs.Common.{◌≡◌, ℕ, suc, ◌<◌, ◌≤◌, ◌^◌, nat_lt, true, List, [], ◌∷◌, length, Option, Some, option_map, refl, sym, subst, ap, ap₂, ◌∙◌, arith}
+use Rattle.std.proofs.Common.{◌≡◌, ℕ, suc, ◌<◌, ◌≤◌, ◌^◌, nat_lt, true, List, [], ◌∷◌, length, Option, Some, option_map}
+use Rattle.std.proofs.Common.{refl, sym, subst, ap, ap₂, ◌∙◌, arith}
 use Rattle.std.specs.Prelude.{map, ⊤}
 use Rattle.std.proofs.lemmas.Bool.{lt-ltb}
 use Rattle.json.specs.Tree.{depth, HasNumbers, ItemsHaveNumbers}
@@ -45,38 +46,52 @@ pub record HeadFits (net : Network) (setup : Setup) : Type 0 where
 
 -- data that are read from their text, and nest so deep
 abbrev Reads : ℕ → Data → Type 0
-Reads deep value = HasNumbers (outline value) × ((of_json (outline value) ≡ Some value) × (depth (outline value) ≤ deep))
+Reads deep value = HasNumbers (outline value)
+    × ((of_json (outline value) ≡ Some value) × (depth (outline value) ≤ deep))
 
 whole_reads : (n : ℕ) → IsSmall n → Reads 0 (whole n)
 whole_reads n small = (is_number n small, (ap (option_map _) (reads n small), omega arith))
 
-items_numbers : (deep : ℕ) (values : List Data) → AllOf (Reads deep) values → ItemsHaveNumbers (items_outline (items_of values))
+items_numbers : (deep : ℕ) (values : List Data) → AllOf (Reads deep) values
+    → ItemsHaveNumbers (items_outline (items_of values))
 items_numbers deep [] all = tt
 items_numbers deep (value ∷ values) all = (all.0.0, items_numbers deep values all.1)
 
-items_same : (deep : ℕ) (values : List Data) → AllOf (Reads deep) values → of_items (items_outline (items_of values)) ≡ Some (items_of values)
+items_same : (deep : ℕ) (values : List Data) → AllOf (Reads deep) values
+    → of_items (items_outline (items_of values)) ≡ Some (items_of values)
 items_same deep [] all = refl
 items_same deep (value ∷ values) all = rw (all.0.1.0, items_same deep values all.1) refl
 
 items_deep : (deep : ℕ) (values : List Data) → AllOf (Reads deep) values → depth (outline (listed values)) ≤ suc deep
 items_deep deep [] all = omega arith
-items_deep deep (value ∷ values) all = let here = all.0.1.1 in let others = items_deep deep values all.1 in omega (arith, here, others)
+items_deep deep (value ∷ values) all = let here = all.0.1.1 in let others = items_deep deep values all.1 in
+    omega (arith, here, others)
 
 listed_reads : (deep : ℕ) (values : List Data) → AllOf (Reads deep) values → Reads (suc deep) (listed values)
-listed_reads deep values all = (items_numbers deep values all, (rw (items_same deep values all) refl, items_deep deep values all))
+listed_reads deep values all = (
+  items_numbers deep values all,
+  (rw (items_same deep values all) refl, items_deep deep values all),
+)
 
-module _ {A : Type 0} (made : A → Data) (Fits : A → Type 0) (deep : ℕ) (one : (x : A) → Fits x → Reads deep (made x)) where
+module _ {A : Type 0} (made : A → Data) (Fits : A → Type 0) (deep : ℕ)
+    (one : (x : A) → Fits x → Reads deep (made x)) where
   each_reads : (xs : List A) → AllOf Fits xs → AllOf (Reads deep) (map made xs)
   each_reads [] all = tt
   each_reads (x ∷ xs) all = (one x all.0, each_reads xs all.1)
 
 end_reads : (end : ℕ × ℕ) → IsSmallEnd end → Reads 1 (end_data end)
-end_reads end small = listed_reads 0 (whole end.0 ∷ whole end.1 ∷ []) (whole_reads end.0 small.0, (whole_reads end.1 small.1, tt))
+end_reads end small = listed_reads 0 (whole end.0 ∷ whole end.1 ∷ [])
+    (whole_reads end.0 small.0, (whole_reads end.1 small.1, tt))
 
 link_reads : (link : Link) → IsSmallLink link → Reads 1 (link_data link)
 link_reads link small =
-    listed_reads 0 (whole link.v ∷ whole link.p ∷ whole link.w ∷ whole link.q ∷ [])
-    (whole_reads link.v small.0, (whole_reads link.p small.1.0, (whole_reads link.w small.1.1.0, (whole_reads link.q small.1.1.1, tt))))
+    listed_reads 0 (whole link.v ∷ whole link.p ∷ whole link.w ∷ whole link.q ∷ []) (
+      whole_reads link.v small.0,
+      (
+        whole_reads link.p small.1.0,
+        (whole_reads link.w small.1.1.0, (whole_reads link.q small.1.1.1, tt)),
+      ),
+    )
 
 hole_reads : (holes : List ℕ) → AllOf IsSmall holes → Reads 0 (hole_data holes)
 hole_reads [] all = (tt, (refl, omega arith))
@@ -90,7 +105,8 @@ module _ (net : Network) (setup : Setup) (fits : HeadFits net setup) where
   dark_read = listed_reads 1 (map end_data setup.dark) (each_reads end_data IsSmallEnd 1 end_reads setup.dark fits.dark)
 
   links_read : Reads 2 (listed (map link_data (links_of net)))
-  links_read = listed_reads 1 (map link_data (links_of net)) (each_reads link_data IsSmallLink 1 link_reads (links_of net) fits.links)
+  links_read = listed_reads 1 (map link_data (links_of net))
+      (each_reads link_data IsSmallLink 1 link_reads (links_of net) fits.links)
 
   head_numbers : (version : Version) → HasNumbers (outline (head_data version net setup))
   head_numbers One = (
@@ -136,8 +152,10 @@ module _ (net : Network) (setup : Setup) (fits : HeadFits net setup) where
   )
 
   head_depth : (version : Version) → depth (outline (head_data version net setup)) ≤ max_depth
-  head_depth One = let hole = (hole_reads setup.holes fits.holes).1.1 in let links = links_read.1.1 in omega (arith, hole, links)
-  head_depth Two = let dark = dark_read.1.1 in let holes = holes_read.1.1 in let links = links_read.1.1 in omega (arith, dark, holes, links)
+  head_depth One = let hole = (hole_reads setup.holes fits.holes).1.1 in let links = links_read.1.1 in
+      omega (arith, hole, links)
+  head_depth Two = let dark = dark_read.1.1 in let holes = holes_read.1.1 in let links = links_read.1.1 in
+      omega (arith, dark, holes, links)
 
   head_same : (version : Version) → of_json (outline (head_data version net setup)) ≡ Some (head_data version net setup)
   head_same One =
@@ -165,14 +183,16 @@ module _ (net : Network) (setup : Setup) (fits : HeadFits net setup) where
       ) refl
 
   pub read-head_line : (version : Version) → read (head_line version net setup) ≡ Some (head_data version net setup)
-  read-head_line version = read-compact_text (head_data version net setup) (head_numbers version) (head_depth version) (head_same version)
+  read-head_line version = read-compact_text (head_data version net setup) (head_numbers version) (head_depth version)
+      (head_same version)
 
 -- ---- and the data say what they were made of
 
 small : (n : ℕ) → IsSmall n → nat_lt n (2 ^ 16) ≡ true
 small n fits = lt-ltb n (2 ^ 16) fits
 
-module _ {A : Type 0} (made : A → Data) (shape : Data → Option A) (Fits : A → Type 0) (back : (x : A) → Fits x → shape (made x) ≡ Some x) where
+module _ {A : Type 0} (made : A → Data) (shape : Data → Option A) (Fits : A → Type 0)
+    (back : (x : A) → Fits x → shape (made x) ≡ Some x) where
   each_back : (xs : List A) → AllOf Fits xs → each shape (items_of (map made xs)) ≡ Some xs
   each_back [] all = refl
   each_back (x ∷ xs) all = rw (back x all.0, each_back xs all.1) refl
@@ -184,7 +204,8 @@ pair_back : (end : ℕ × ℕ) → IsSmallEnd end → pair_in (end_data end) ≡
 pair_back end fits = rw (small end.0 fits.0, small end.1 fits.1) refl
 
 link_back : (link : Link) → IsSmallLink link → link_in (link_data link) ≡ Some link
-link_back link fits = rw (small link.v fits.0, small link.p fits.1.0, small link.w fits.1.1.0, small link.q fits.1.1.1) refl
+link_back link fits = rw (small link.v fits.0, small link.p fits.1.0, small link.w fits.1.1.0, small link.q fits.1.1.1)
+    refl
 
 abbrev pub said : Version → Network → Setup → Says
 said version net setup = record { version = version; nodes = nodes_of net; links = links_of net; setup = setup }
@@ -197,7 +218,8 @@ one_more_is_two n few = omega arith
 abbrev told_with : Network → Setup → List ℕ → List (ℕ × ℕ) → Says
 told_with net setup holes dark = said One net (record setup { holes = holes; dark = dark })
 
-says_none : (net : Network) (setup : Setup) → HeadFits net setup → setup.holes ≡ [] → says_in (head_data One net setup) ≡ Some (told_with net setup [] [])
+says_none : (net : Network) (setup : Setup) → HeadFits net setup → setup.holes ≡ []
+    → says_in (head_data One net setup) ≡ Some (told_with net setup [] [])
 says_none net setup fits is =
     rw (
       is,
@@ -209,7 +231,8 @@ says_none net setup fits is =
       small (nodes_of net) fits.nodes,
     ) refl
 
-says_hole : (net : Network) (setup : Setup) (hole : ℕ) → HeadFits net setup → IsSmall hole → setup.holes ≡ hole ∷ [] → says_in (head_data One net setup) ≡ Some (told_with net setup (hole ∷ []) [])
+says_hole : (net : Network) (setup : Setup) (hole : ℕ) → HeadFits net setup → IsSmall hole → setup.holes ≡ hole ∷ []
+    → says_in (head_data One net setup) ≡ Some (told_with net setup (hole ∷ []) [])
 says_hole net setup hole fits hole_fits is =
     rw (
       is,
@@ -222,17 +245,23 @@ says_hole net setup hole fits hole_fits is =
       small (nodes_of net) fits.nodes,
     ) refl
 
-told_whole : (net : Network) (setup : Setup) (holes : List ℕ) → setup.holes ≡ holes → setup.dark ≡ [] → Some (told_with net setup holes []) ≡ Some (said One net setup)
-told_whole net setup holes is no_dark = ap₂ (λ (hs : List ℕ) (ds : List (ℕ × ℕ)). Some (told_with net setup hs ds)) (sym is) (sym no_dark)
+told_whole : (net : Network) (setup : Setup) (holes : List ℕ) → setup.holes ≡ holes → setup.dark ≡ []
+    → Some (told_with net setup holes []) ≡ Some (said One net setup)
+told_whole net setup holes is no_dark = ap₂ (λ (hs : List ℕ) (ds : List (ℕ × ℕ)). Some (told_with net setup hs ds))
+    (sym is) (sym no_dark)
 
-says_one : (net : Network) (setup : Setup) → HeadFits net setup → setup.dark ≡ [] → (holes : List ℕ) → setup.holes ≡ holes → length setup.holes ≤ 1
+says_one : (net : Network) (setup : Setup) → HeadFits net setup → setup.dark ≡ [] → (holes : List ℕ)
+    → setup.holes ≡ holes → length setup.holes ≤ 1
     → says_in (head_data One net setup) ≡ Some (said One net setup)
 says_one net setup fits no_dark [] is few = says_none net setup fits is ∙ told_whole net setup [] is no_dark
 says_one net setup fits no_dark (hole ∷ []) is few =
-    says_hole net setup hole fits (subst (λ (hs : List ℕ). AllOf IsSmall hs) is fits.holes).0 is ∙ told_whole net setup (hole ∷ []) is no_dark
-says_one net setup fits no_dark (hole ∷ other ∷ holes) is few = absurd (one_more_is_two (length holes) (subst (λ (hs : List ℕ). length hs ≤ 1) is few))
+    says_hole net setup hole fits (subst (λ (hs : List ℕ). AllOf IsSmall hs) is fits.holes).0 is
+    ∙ told_whole net setup (hole ∷ []) is no_dark
+says_one net setup fits no_dark (hole ∷ other ∷ holes) is few =
+    absurd (one_more_is_two (length holes) (subst (λ (hs : List ℕ). length hs ≤ 1) is few))
 
-pub says_in-head : (version : Version) (net : Network) (setup : Setup) → HeadFits net setup → CanSay version setup → says_in (head_data version net setup) ≡ Some (said version net setup)
+pub says_in-head : (version : Version) (net : Network) (setup : Setup) → HeadFits net setup → CanSay version setup
+    → says_in (head_data version net setup) ≡ Some (said version net setup)
 says_in-head Two net setup fits can =
     rw (
       each_back link_data link_in IsSmallLink link_back (links_of net) fits.links,

@@ -48,12 +48,18 @@ whole_valid : (n : ℕ) → IsSmall n → IsText (whole n)
 whole_valid n small = IsUtf8-from_ascii (compact_text (whole n)) (IsAscii-decimal n (omega arith))
 
 end_valid : (end : ℕ × ℕ) → IsSmallEnd end → IsText (end_data end)
-end_valid end small = listed_valid (whole end.0 ∷ whole end.1 ∷ []) (whole_valid end.0 small.0, (whole_valid end.1 small.1, tt))
+end_valid end small = listed_valid (whole end.0 ∷ whole end.1 ∷ [])
+    (whole_valid end.0 small.0, (whole_valid end.1 small.1, tt))
 
 link_valid : (link : Link) → IsSmallLink link → IsText (link_data link)
 link_valid link small =
-    listed_valid (whole link.v ∷ whole link.p ∷ whole link.w ∷ whole link.q ∷ [])
-    (whole_valid link.v small.0, (whole_valid link.p small.1.0, (whole_valid link.w small.1.1.0, (whole_valid link.q small.1.1.1, tt))))
+    listed_valid (whole link.v ∷ whole link.p ∷ whole link.w ∷ whole link.q ∷ []) (
+      whole_valid link.v small.0,
+      (
+        whole_valid link.p small.1.0,
+        (whole_valid link.w small.1.1.0, (whole_valid link.q small.1.1.1, tt)),
+      ),
+    )
 
 hole_valid : (holes : List ℕ) → AllOf IsSmall holes → IsText (hole_data holes)
 hole_valid [] all = IsUtf8-are_ascii (compact_text (hole_data [])) refl
@@ -66,14 +72,17 @@ AreValid (member key value others) = (are_ascii key ≡ true) × (IsText value �
 members_valid : (later : Bool) (members : Members) → AreValid members → IsUtf8 (members_text later members)
 members_valid later no_members all = IsUtf8-are_ascii (members_text later no_members) refl
 members_valid later (member key value others) all =
-    IsUtf8-append (comma_if later) (quoted key ++ 58 ∷ (compact_text value ++ members_text true others)) (comma_valid later)
-    (IsUtf8-append (quoted key) (58 ∷ (compact_text value ++ members_text true others)) (IsUtf8-quoted key (IsUtf8-are_ascii key all.0))
+    IsUtf8-append (comma_if later) (quoted key ++ 58 ∷ (compact_text value ++ members_text true others))
+    (comma_valid later)
+    (IsUtf8-append (quoted key) (58 ∷ (compact_text value ++ members_text true others))
+    (IsUtf8-quoted key (IsUtf8-are_ascii key all.0))
     (then_more 58 (compact_text value ++ members_text true others) refl
     (IsUtf8-append (compact_text value) (members_text true others) all.1.0 (members_valid true others all.1.1))))
 
 module _ (net : Network) (setup : Setup) (fits : HeadFits net setup) where
   links_valid : IsText (listed (map link_data (links_of net)))
-  links_valid = listed_valid (map link_data (links_of net)) (each_valid link_data IsSmallLink link_valid (links_of net) fits.links)
+  links_valid = listed_valid (map link_data (links_of net))
+      (each_valid link_data IsSmallLink link_valid (links_of net) fits.links)
 
   dark_valid : IsText (listed (map end_data setup.dark))
   dark_valid = listed_valid (map end_data setup.dark) (each_valid end_data IsSmallEnd end_valid setup.dark fits.dark)
@@ -107,7 +116,19 @@ module _ (net : Network) (setup : Setup) (fits : HeadFits net setup) where
                     refl,
                     (
                       whole_valid setup.home fits.home,
-                      (refl, (links_valid, (refl, (whole_valid (nodes_of net) fits.nodes, (refl, (whole_valid setup.quota fits.quota, (refl, (whole_valid 1 (omega arith), tt)))))))),
+                      (
+                        refl,
+                        (
+                          links_valid,
+                          (
+                            refl,
+                            (
+                              whole_valid (nodes_of net) fits.nodes,
+                              (refl, (whole_valid setup.quota fits.quota, (refl, (whole_valid 1 (omega arith), tt)))),
+                            ),
+                          ),
+                        ),
+                      ),
                     ),
                   ),
                 ),
@@ -146,7 +167,25 @@ module _ (net : Network) (setup : Setup) (fits : HeadFits net setup) where
                         refl,
                         (
                           whole_valid setup.home fits.home,
-                          (refl, (links_valid, (refl, (whole_valid (nodes_of net) fits.nodes, (refl, (whole_valid setup.quota fits.quota, (refl, (whole_valid 2 (omega arith), tt)))))))),
+                          (
+                            refl,
+                            (
+                              links_valid,
+                              (
+                                refl,
+                                (
+                                  whole_valid (nodes_of net) fits.nodes,
+                                  (
+                                    refl,
+                                    (
+                                      whole_valid setup.quota fits.quota,
+                                      (refl, (whole_valid 2 (omega arith), tt)),
+                                    ),
+                                  ),
+                                ),
+                              ),
+                            ),
+                          ),
                         ),
                       ),
                     ),

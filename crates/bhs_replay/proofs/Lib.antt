@@ -13,7 +13,6 @@ pub mod HeadUtf8
 pub mod LinkLists
 pub mod ListLemmas
 pub mod ListedLinks
-pub mod NoFault
 pub mod OpeningLemmas
 pub mod ReplayTexts
 pub mod TextLines

@@ -12,19 +12,25 @@ use Rattle.bhs_replay.specs.declared.faults.ReplayFault.TheVariants as fault
 use Rattle.bhs_replay.specs.Head.{links_of}
 use Rattle.bhs_replay.specs.HeadReading.{Says, head_says}
 use Rattle.bhs_replay.specs.Opening.{IsHead}
-use Rattle.bhs_replay.specs.Stages.{Stage, Opens, Goes, Ends, Wrong, after_line, Follows, opens, no_head, goes, goes_past, stays, Leads, begins, follows, with_rest, Comes, ended}
+use Rattle.bhs_replay.specs.Stages.{Stage, Opens, Goes, Ends, Wrong, after_line, Follows, opens, no_head, goes}
+use Rattle.bhs_replay.specs.Stages.{goes_past, stays, Leads, begins, follows, with_rest, Comes, ended}
 use Rattle.bhs_replay.proofs.HeadReads.{said}
 use Rattle.bhs_replay.proofs.FitLemmas.{head_fits}
 use Rattle.bhs_replay.proofs.OpeningLemmas.{says-head, same_says, fit_within}
 
 -- ---- a line is the head of one match
 
-says_of : (line : List ℕ) (net : Network) (setup : Setup) (head : IsHead line net setup) → head_says line ≡ Some (said head.version net setup)
-says_of line net setup head = says-head line head.version net setup (head_fits net head.made.network setup (fit_within net setup head.made.network.labelled head.fits)) head.can_say head.spelled
+says_of : (line : List ℕ) (net : Network) (setup : Setup) (head : IsHead line net setup)
+    → head_says line ≡ Some (said head.version net setup)
+says_of line net setup head = says-head line head.version net setup
+    (head_fits net head.made.network setup (fit_within net setup head.made.network.labelled head.fits))
+    head.can_say head.spelled
 
-module _ (line : List ℕ) (net other : Network) (setup too : Setup) (head : IsHead line net setup) (again : IsHead line other too) where
+module _ (line : List ℕ) (net other : Network) (setup too : Setup) (head : IsHead line net setup)
+    (again : IsHead line other too) where
   same_said : said head.version net setup ≡ said again.version other too
-  same_said = same_says (said head.version net setup) (said again.version other too) (sym (says_of line net setup head) ∙ says_of line other too again)
+  same_said = same_says (said head.version net setup) (said again.version other too)
+      (sym (says_of line net setup head) ∙ says_of line other too again)
 
   one_setup : setup ≡ too
   one_setup = ap (λ (s : Says). s.setup) same_said
@@ -33,7 +39,8 @@ module _ (line : List ℕ) (net other : Network) (setup too : Setup) (head : IsH
   one_network =
       same_network (nodes_of net) (links_of net) net other head.made
       (subst (λ (n : ℕ). Makes n (links_of net) other) (sym (ap (λ (s : Says). s.nodes) same_said))
-      (subst (λ (links : List Link). Makes (nodes_of other) links other) (sym (ap (λ (s : Says). s.links) same_said)) again.made))
+      (subst (λ (links : List Link). Makes (nodes_of other) links other)
+      (sym (ap (λ (s : Says). s.links) same_said)) again.made))
 
 -- ---- a line leads to one stage
 
@@ -78,18 +85,24 @@ one_next (Wrong found) line to other is too = is ∙ sym too
 -- ---- and so do lines
 
 no_push : (before : List (List ℕ)) (line : List ℕ) → [] ≡ before ++ line ∷ [] → ⊥
-no_push before line is = let long = length_push before line in let none : 0 ≡ length (before ++ line ∷ []) = ap length is in omega arith
+no_push before line is = let long = length_push before line in
+    let none : 0 ≡ length (before ++ line ∷ []) = ap length is in omega arith
 
-one_stage : (lines : List (List ℕ)) (one : Stage) → Leads lines one → (others : List (List ℕ)) (other : Stage) → Leads others other → lines ≡ others → one ≡ other
+one_stage : (lines : List (List ℕ)) (one : Stage) → Leads lines one → (others : List (List ℕ)) (other : Stage)
+    → Leads others other → lines ≡ others → one ≡ other
 one_stage lines one begins others other begins same = refl
-one_stage lines one begins others other (follows before line from to leads next) same = absurd (no_push before line same)
-one_stage lines one (follows before line from to leads next) others other begins same = absurd (no_push before line (sym same))
+one_stage lines one begins others other (follows before line from to leads next) same =
+    absurd (no_push before line same)
+one_stage lines one (follows before line from to leads next) others other begins same =
+    absurd (no_push before line (sym same))
 one_stage lines one (follows before line from to leads next) others other (follows early last start end led step) same =
     let parts = same_from_push before early line last same in
     let start_is : from ≡ start = one_stage before from leads early start led parts.0 in
     one_next from line to end (next_of from to line next)
-    (subst (λ (s : Stage). Next s line end) (sym start_is) (subst (λ (l : List ℕ). Next start l end) (sym parts.1) (next_of start end last step)))
+    (subst (λ (s : Stage). Next s line end) (sym start_is)
+    (subst (λ (l : List ℕ). Next start l end) (sym parts.1) (next_of start end last step)))
 
 pub one_reading : (text : List ℕ) (one other : Stage) → Comes text one → Comes text other → one ≡ other
 one_reading text one other comes too =
-    comes.same ∙ ap (with_rest (rest text)) (one_stage (ended text) comes.lines comes.leads (ended text) too.lines too.leads refl) ∙ sym too.same
+    comes.same ∙ ap (with_rest (rest text)) (one_stage (ended text) comes.lines comes.leads (ended text) too.lines
+    too.leads refl) ∙ sym too.same

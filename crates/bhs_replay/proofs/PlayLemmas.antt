@@ -13,20 +13,27 @@ use Rattle.bhs_replay.specs.Readers.{stage_by}
 
 module _ (line : List ℕ) where
   pub past_end : (game : Play) (over : Bool) → over ≡ true → Follows (stage_of game over) line (Wrong fault.End)
-  past_end game over is = subst (λ b. Follows (stage_of game b) line (Wrong fault.End)) (sym is) (goes_past line game.net game.setup (events_of game.log))
+  past_end game over is = subst (λ b. Follows (stage_of game b) line (Wrong fault.End)) (sym is)
+      (goes_past line game.net game.setup (events_of game.log))
 
-  pub on_line : (game : Play) (over : Bool) (to : Stage) → over ≡ false → to ≡ after_line game.net game.setup (events_of game.log) line → Follows (stage_of game over) line to
-  on_line game over to is next = subst (λ b. Follows (stage_of game b) line to) (sym is) (goes line game.net game.setup (events_of game.log) to next)
+  pub on_line : (game : Play) (over : Bool) (to : Stage) → over ≡ false
+      → to ≡ after_line game.net game.setup (events_of game.log) line → Follows (stage_of game over) line to
+  on_line game over to is next = subst (λ b. Follows (stage_of game b) line to) (sym is)
+      (goes line game.net game.setup (events_of game.log) to next)
 
-  pub on_fault : (game : Play) (over : Bool) (found : ReplayFault) → over ≡ false → (found ≡ fault.Memory) ⊎ (Wrong found ≡ after_line game.net game.setup (events_of game.log) line)
+  pub on_fault : (game : Play) (over : Bool) (found : ReplayFault) → over ≡ false → (found ≡ fault.Memory)
+      ⊎ (Wrong found ≡ after_line game.net game.setup (events_of game.log) line)
       → (found ≡ fault.Memory) ⊎ Follows (stage_of game over) line (Wrong found)
   on_fault game over found is (inl memory) = inl memory
   on_fault game over found is (inr next) = inr (on_line game over (Wrong found) is next)
 
-  pub opens_match : (playing : Option Playing) (game : Play) → playing ≡ None → OpensAs line (Some game) → Follows (stage_by playing) line (Goes game.net game.setup (events_of game.log))
+  pub opens_match : (playing : Option Playing) (game : Play) → playing ≡ None → OpensAs line (Some game)
+      → Follows (stage_by playing) line (Goes game.net game.setup (events_of game.log))
   opens_match playing game is head =
       subst (λ p. Follows (stage_by p) line (Goes game.net game.setup (events_of game.log))) (sym is)
-      (subst (λ (log : List Kept). Follows (stage_by None) line (Goes game.net game.setup (events_of log))) (sym head.1) (opens line game.net game.setup head.0))
+      (subst (λ (log : List Kept). Follows (stage_by None) line (Goes game.net game.setup (events_of log))) (sym head.1)
+      (opens line game.net game.setup head.0))
 
-  pub opens_none : (playing : Option Playing) → playing ≡ None → OpensAs line None → Follows (stage_by playing) line (Wrong fault.Head)
+  pub opens_none : (playing : Option Playing) → playing ≡ None → OpensAs line None
+      → Follows (stage_by playing) line (Wrong fault.Head)
   opens_none playing is none = subst (λ p. Follows (stage_by p) line (Wrong fault.Head)) (sym is) (no_head line none)

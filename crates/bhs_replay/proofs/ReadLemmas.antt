@@ -1,5 +1,7 @@
 -- The reads of a replay, one by one.
-use Rattle.std.proofs.Common.{◌≡◌, ◌⊎◌, inl, inr, ℕ, ◌+◌, ◌<◌, List, [], ◌∷◌, ◌++◌, Bool, true, false, ◌&&◌, if◌then◌else◌, length, Option, Some, None, Result, Ok, Err, IfOk, IfErr, refl, sym, subst, ap, ◌∙◌, arith}
+use Rattle.std.proofs.Common.{◌≡◌, ◌⊎◌, inl, inr, ℕ, ◌+◌, ◌<◌, List, [], ◌∷◌, ◌++◌, Bool, true, false, ◌&&◌}
+use Rattle.std.proofs.Common.{if◌then◌else◌, length, Option, Some, None, Result, Ok, Err, IfOk, IfErr, refl, sym, subst}
+use Rattle.std.proofs.Common.{ap, ◌∙◌, arith}
 use Rattle.bhs_model.specs.Marks.{events_of}
 use Rattle.bhs_match.specs.Matches.{Play, state_of}
 use Rattle.bhs_wire.specs.Lines.{rest}
@@ -16,14 +18,17 @@ use Rattle.bhs_replay.proofs.StageLemmas.{IsOfText, IsProper, leads_proper, come
 
 -- ---- where a reader stands, nothing is wrong
 
-rest_same : (playing : Option Playing) (left : List ℕ) → (IsOver playing → left ≡ []) → stage_by playing ≡ with_rest left (stage_by playing)
+rest_same : (playing : Option Playing) (left : List ℕ) → (IsOver playing → left ≡ [])
+    → stage_by playing ≡ with_rest left (stage_by playing)
 rest_same playing [] quiet = refl
 rest_same None (byte ∷ left) quiet = refl
 rest_same (Some playing) (byte ∷ left) quiet = over playing.is_over refl
   where
-    over : (b : Bool) → playing.is_over ≡ b → stage_of playing.game playing.is_over ≡ with_rest (byte ∷ left) (stage_of playing.game playing.is_over)
+    over : (b : Bool) → playing.is_over ≡ b → stage_of playing.game playing.is_over ≡ with_rest (byte ∷ left)
+        (stage_of playing.game playing.is_over)
     over true is = absurd (let none : byte ∷ left ≡ [] = quiet is in cc)
-    over false is = subst (λ b. stage_of playing.game b ≡ with_rest (byte ∷ left) (stage_of playing.game b)) (sym is) refl
+    over false is = subst (λ b. stage_of playing.game b ≡ with_rest (byte ∷ left) (stage_of playing.game b)) (sym is)
+        refl
 
 comes_here : (text : List ℕ) (reader : Reader) → Stands text reader → Comes text (stage_in reader)
 comes_here text reader stands = record {
@@ -42,22 +47,27 @@ sound_here (Some playing) = of_sound playing.game playing.is_over
 
 -- ---- the end of a text
 
-over_whole : (game play : Play) (over closed : Bool) → (if over && closed then Ok game else Err fault.End) ≡ Ok play → stage_of game over ≡ Ends play.net play.setup (events_of play.log)
+over_whole : (game play : Play) (over closed : Bool) → (if over && closed then Ok game else Err fault.End) ≡ Ok play
+    → stage_of game over ≡ Ends play.net play.setup (events_of play.log)
 over_whole game play true true is = let same : game ≡ play = cc in ap (λ p. Ends p.net p.setup (events_of p.log)) same
 over_whole game play true false is = absurd (cc)
 over_whole game play false closed is = absurd (cc)
 
-whole_by : (playing : Option Playing) (play : Play) → finished_by playing ≡ Ok play → stage_by playing ≡ Ends play.net play.setup (events_of play.log)
+whole_by : (playing : Option Playing) (play : Play) → finished_by playing ≡ Ok play
+    → stage_by playing ≡ Ends play.net play.setup (events_of play.log)
 whole_by None play is = absurd (cc)
 whole_by (Some playing) play is = over_whole playing.game play playing.is_over (state_of playing.game).closed is
 
-over_short : (game : Play) (found : ReplayFault) (over closed : Bool) → (state_of game).closed ≡ closed → IsProper (stage_of game over) → (if over && closed then Ok game else Err fault.End) ≡ Err found
+over_short : (game : Play) (found : ReplayFault) (over closed : Bool) → (state_of game).closed ≡ closed
+    → IsProper (stage_of game over) → (if over && closed then Ok game else Err fault.End) ≡ Err found
     → (fault_at_end (stage_of game over) ≡ Some found) × (found ≡ fault.End)
 over_short game found true true is proper ended = absurd (cc)
 over_short game found true false is proper ended = absurd (cc)
 over_short game found false closed is proper ended = let same : fault.End ≡ found = cc in (ap Some same, sym same)
 
-short_by : (playing : Option Playing) (found : ReplayFault) → IsProper (stage_by playing) → finished_by playing ≡ Err found → (fault_at_end (stage_by playing) ≡ Some found) × ((found ≡ fault.Head) ⊎ (found ≡ fault.End))
+short_by : (playing : Option Playing) (found : ReplayFault) → IsProper (stage_by playing)
+    → finished_by playing ≡ Err found → (fault_at_end (stage_by playing) ≡ Some found)
+    × ((found ≡ fault.Head) ⊎ (found ≡ fault.End))
 short_by None found proper ended = let same : fault.Head ≡ found = cc in (ap Some same, inl (sym same))
 short_by (Some playing) found proper ended =
     let both = over_short playing.game found playing.is_over (state_of playing.game).closed refl proper ended in
@@ -66,24 +76,36 @@ short_by (Some playing) found proper ended =
 -- ---- reads
 
 -- by so many reads a reader came to stand here
-pub record SoFar {I : Type 0} (gives : I → Chunk → I → Type 0) (start : I) (reads : ℕ) (here : I) (reader : Reader) : Type 0 where
+pub record SoFar {I : Type 0} (gives : I → Chunk → I → Type 0) (start : I) (reads : ℕ) (here : I)
+    (reader : Reader) : Type 0 where
   pub bytes : List ℕ
   pub gathered : Gathers gives start reads bytes here
   pub stands : Stands bytes reader
 
-pub at_start : {I : Type 0} (gives : I → Chunk → I → Type 0) (start : I) (reader : Reader) → Stands [] reader → SoFar gives start 0 start reader
+pub at_start : {I : Type 0} (gives : I → Chunk → I → Type 0) (start : I) (reader : Reader) → Stands [] reader
+    → SoFar gives start 0 start reader
 at_start gives start reader stands = record { bytes = []; gathered = begins; stands = stands }
 
-module _ {I : Type 0} (gives : I → Chunk → I → Type 0) (start here next : I) (reads turns : ℕ) (reader : Reader) (so_far : SoFar gives start reads here reader) where
-  pub one_read_more : (piece : List ℕ) (new : Reader) → IsPiece piece → gives here (Bytes piece) next → Stands (so_far.bytes ++ piece) new → SoFar gives start (reads + 1) next new
+module _ {I : Type 0} (gives : I → Chunk → I → Type 0) (start here next : I) (reads turns : ℕ) (reader : Reader)
+    (so_far : SoFar gives start reads here reader) where
+  pub one_read_more : (piece : List ℕ) (new : Reader) → IsPiece piece → gives here (Bytes piece) next
+      → Stands (so_far.bytes ++ piece) new → SoFar gives start (reads + 1) next new
   one_read_more piece new is_piece given stands = record {
     bytes = so_far.bytes ++ piece;
     gathered = goes_on reads so_far.bytes piece here next so_far.gathered is_piece given;
     stands = stands;
   }
 
-  closes : (chunk : Chunk) → reads < turns → gives here chunk next → Closes gives start (length so_far.bytes) turns so_far.bytes chunk next
-  closes chunk left given = record { reads = reads; before = here; gathered = so_far.gathered; turn_left = left; fits = omega arith; last = given }
+  closes : (chunk : Chunk) → reads < turns → gives here chunk next → Closes gives start (length so_far.bytes) turns
+      so_far.bytes chunk next
+  closes chunk left given = record {
+    reads = reads;
+    before = here;
+    gathered = so_far.gathered;
+    turn_left = left;
+    fits = omega arith;
+    last = given;
+  }
 
   pub read_fails : reads < turns → gives here Fails next → StopsBy gives start turns fault.Read next
   read_fails left given = record {
@@ -99,7 +121,8 @@ module _ {I : Type 0} (gives : I → Chunk → I → Type 0) (start here next : 
     so_far.bytes,
     record {
       stage = stage_in reader;
-      gathered = subst (λ (i : I). Gathers gives start turns so_far.bytes i) same (subst (λ (n : ℕ). Gathers gives start n so_far.bytes here) all so_far.gathered);
+      gathered = subst (λ (i : I). Gathers gives start turns so_far.bytes i) same
+          (subst (λ (n : ℕ). Gathers gives start n so_far.bytes here) all so_far.gathered);
       comes = comes_here so_far.bytes reader so_far.stands;
       sound = sound_here reader.playing;
     },
@@ -107,35 +130,46 @@ module _ {I : Type 0} (gives : I → Chunk → I → Type 0) (start here next : 
 
   -- ---- the text has ended
 
-  pub ends_whole : (r : Result Play ReplayFault) → r ≡ finished reader → reads < turns → gives here End next → IfOk r (λ play. ReadsWhole gives start turns play next)
+  pub ends_whole : (r : Result Play ReplayFault) → r ≡ finished reader → reads < turns → gives here End next
+      → IfOk r (λ play. ReadsWhole gives start turns play next)
   ends_whole (Ok play) is left given = record {
     text = so_far.bytes;
     closes = closes End left given;
-    comes = subst (Comes so_far.bytes) (whole_by reader.playing play (sym is)) (comes_here so_far.bytes reader so_far.stands);
+    comes = subst (Comes so_far.bytes) (whole_by reader.playing play (sym is))
+        (comes_here so_far.bytes reader so_far.stands);
   }
   ends_whole (Err found) is left given = tt
 
-  short : (found : ReplayFault) → finished reader ≡ Err found → reads < turns → gives here End next → EndsShort gives start turns found next
+  short : (found : ReplayFault) → finished reader ≡ Err found → reads < turns → gives here End next
+      → EndsShort gives start turns found next
   short found is left given = record {
     text = so_far.bytes;
     stage = stage_in reader;
     closes = closes End left given;
     comes = comes_here so_far.bytes reader so_far.stands;
-    short = (short_by reader.playing found (leads_proper (ended so_far.bytes) (stage_in reader) so_far.stands.leads) is).0;
+    short = (short_by reader.playing found (leads_proper (ended so_far.bytes) (stage_in reader) so_far.stands.leads)
+        is).0;
   }
 
-  stops_at_end : (found : ReplayFault) → (found ≡ fault.Head) ⊎ (found ≡ fault.End) → EndsShort gives start turns found next → StopsBy gives start turns found next
-  stops_at_end found (inl head) ends = subst (λ f. StopsBy gives start turns f next) (sym head) (inl (subst (λ f. EndsShort gives start turns f next) head ends))
-  stops_at_end found (inr end) ends = subst (λ f. StopsBy gives start turns f next) (sym end) (inl (subst (λ f. EndsShort gives start turns f next) end ends))
+  stops_at_end : (found : ReplayFault) → (found ≡ fault.Head) ⊎ (found ≡ fault.End)
+      → EndsShort gives start turns found next → StopsBy gives start turns found next
+  stops_at_end found (inl head) ends = subst (λ f. StopsBy gives start turns f next) (sym head)
+      (inl (subst (λ f. EndsShort gives start turns f next) head ends))
+  stops_at_end found (inr end) ends = subst (λ f. StopsBy gives start turns f next) (sym end)
+      (inl (subst (λ f. EndsShort gives start turns f next) end ends))
 
-  pub ends_short : (r : Result Play ReplayFault) → r ≡ finished reader → reads < turns → gives here End next → IfErr r (λ found. StopsBy gives start turns found next)
+  pub ends_short : (r : Result Play ReplayFault) → r ≡ finished reader → reads < turns → gives here End next
+      → IfErr r (λ found. StopsBy gives start turns found next)
   ends_short (Ok play) is left given = tt
   ends_short (Err found) is left given =
-      stops_at_end found (short_by reader.playing found (leads_proper (ended so_far.bytes) (stage_in reader) so_far.stands.leads) (sym is)).1 (short found (sym is) left given)
+      stops_at_end found (short_by reader.playing found
+      (leads_proper (ended so_far.bytes) (stage_in reader) so_far.stands.leads) (sym is)).1
+      (short found (sym is) left given)
 
   -- ---- a fault in the midst
 
-  meets : (piece : List ℕ) (found : ReplayFault) → reads < turns → gives here (Bytes piece) next → Comes (so_far.bytes ++ piece) (Wrong found) → MeetsFault gives start turns found next
+  meets : (piece : List ℕ) (found : ReplayFault) → reads < turns → gives here (Bytes piece) next
+      → Comes (so_far.bytes ++ piece) (Wrong found) → MeetsFault gives start turns found next
   meets piece found left given wrong = record {
     bytes = so_far.bytes;
     piece = piece;
@@ -146,7 +180,8 @@ module _ {I : Type 0} (gives : I → Chunk → I → Type 0) (start here next : 
     wrong = wrong;
   }
 
-  by_text : (found : ReplayFault) → IsOfText found → MeetsFault gives start turns found next → StopsBy gives start turns found next
+  by_text : (found : ReplayFault) → IsOfText found → MeetsFault gives start turns found next
+      → StopsBy gives start turns found next
   by_text fault.Head is met = inr met
   by_text (fault.Line line) is met = inr met
   by_text (fault.Event line) is met = inr met
@@ -156,10 +191,16 @@ module _ {I : Type 0} (gives : I → Chunk → I → Type 0) (start here next : 
   by_text fault.Memory is met = absurd is
   by_text fault.Turns is met = absurd is
 
-  pub stops_at_fault : (piece : List ℕ) (found : ReplayFault) → IsPiece piece → reads < turns → gives here (Bytes piece) next → (found ≡ fault.Memory) ⊎ Comes (so_far.bytes ++ piece) (Wrong found)
+  pub stops_at_fault : (piece : List ℕ) (found : ReplayFault) → IsPiece piece → reads < turns
+      → gives here (Bytes piece) next → (found ≡ fault.Memory) ⊎ Comes (so_far.bytes ++ piece) (Wrong found)
       → StopsBy gives start turns found next
   stops_at_fault piece found is_piece left given (inl memory) =
-      subst (λ f. StopsBy gives start turns f next) (sym memory)
-      (so_far.bytes ++ piece, reads + 1, omega arith, goes_on reads so_far.bytes piece here next so_far.gathered is_piece given)
+      subst (λ f. StopsBy gives start turns f next) (sym memory) (
+        so_far.bytes ++ piece,
+        reads + 1,
+        omega arith,
+        goes_on reads so_far.bytes piece here next
+            so_far.gathered is_piece given,
+      )
   stops_at_fault piece found is_piece left given (inr wrong) =
       by_text found (comes_proper (so_far.bytes ++ piece) (Wrong found) wrong) (meets piece found left given wrong)

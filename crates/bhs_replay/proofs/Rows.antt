@@ -15,7 +15,8 @@ use Rattle.bhs_replay.specs.Replay.{end_line}
 use Rattle.bhs_replay.specs.Spelling.{spelled}
 use Rattle.bhs_replay.specs.Stages.{is_end_line, Ends, Wrong, after_line}
 
-enter_row : event_line (Tell 0 Enter) (Some (Here 2 None [])) ≡ codes "{\"agent\":0,\"do\":\"enter\",\"reply\":{\"board\":\"\",\"from\":null,\"ok\":\"here\",\"ports\":2}}"
+enter_row : event_line (Tell 0 Enter) (Some (Here 2 None [])) ≡ codes
+    "{\"agent\":0,\"do\":\"enter\",\"reply\":{\"board\":\"\",\"from\":null,\"ok\":\"here\",\"ports\":2}}"
 unfolding bhs_wire_on_literals
 enter_row = refl
 
@@ -23,11 +24,13 @@ close_row : event_line Close None ≡ codes "{\"do\":\"close\",\"reply\":null}"
 unfolding bhs_wire_on_literals
 close_row = refl
 
-write_row : event_line (Tell 1 (Write [] (34 ∷ 10 ∷ 97 ∷ []))) (Some Written) ≡ codes "{\"agent\":1,\"do\":\"write\",\"expect\":\"\",\"put\":\"\\\"\\na\",\"reply\":{\"ok\":\"written\"}}"
+write_row : event_line (Tell 1 (Write [] (34 ∷ 10 ∷ 97 ∷ []))) (Some Written) ≡ codes
+    "{\"agent\":1,\"do\":\"write\",\"expect\":\"\",\"put\":\"\\\"\\na\",\"reply\":{\"ok\":\"written\"}}"
 unfolding bhs_wire_on_literals
 write_row = refl
 
-read_row : spelled (codes "{\"agent\":0,\"do\":\"accuse\",\"port\":2,\"reply\":{\"ok\":\"noted\"}}") ≡ Some (Tell 0 (Accuse 2), Some Noted)
+read_row : spelled (codes "{\"agent\":0,\"do\":\"accuse\",\"port\":2,\"reply\":{\"ok\":\"noted\"}}") ≡ Some
+    (Tell 0 (Accuse 2), Some Noted)
 unfolding bhs_wire_on_literals
 read_row = refl
 
@@ -88,11 +91,13 @@ zero_end_row = refl
 abbrev entered : List Event
 entered = Tell 0 Enter ∷ []
 
-differs_row : after_line triangle two_agents entered (codes "{\"agent\":0,\"do\":\"accuse\",\"port\":2,\"reply\":{\"ok\":\"noted\"}}") ≡ Wrong (fault.Differs 3)
+differs_row : after_line triangle two_agents entered
+    (codes "{\"agent\":0,\"do\":\"accuse\",\"port\":2,\"reply\":{\"ok\":\"noted\"}}") ≡ Wrong (fault.Differs 3)
 unfolding bhs_wire_on_literals
 differs_row = refl
 
-not_kept_row : after_line triangle two_agents entered (codes "{\"agent\":0,\"do\":\"enter\",\"reply\":{\"no\":\"twice\"}}") ≡ Wrong (fault.Event 3)
+not_kept_row : after_line triangle two_agents entered
+    (codes "{\"agent\":0,\"do\":\"enter\",\"reply\":{\"no\":\"twice\"}}") ≡ Wrong (fault.Event 3)
 unfolding bhs_wire_on_literals
 not_kept_row = refl
 

@@ -1,5 +1,6 @@
 -- A text that comes to the end of a match is the replay of that match.
-use Rattle.std.proofs.Common.{◌≡◌, ℕ, suc, List, [], ◌∷◌, ◌++◌, Bool, true, false, not, ◌&&◌, bytes_eq, if◌then◌else◌, length, Option, Some, None, refl, sym, subst, ap, ap₂, ◌∙◌, append_assoc, append-nil}
+use Rattle.std.proofs.Common.{◌≡◌, ℕ, suc, List, [], ◌∷◌, ◌++◌, Bool, true, false, not, ◌&&◌, bytes_eq, if◌then◌else◌}
+use Rattle.std.proofs.Common.{length, Option, Some, None, refl, sym, subst, ap, ap₂, ◌∙◌, append_assoc, append-nil}
 use Rattle.std.proofs.lemmas.Bool.{eqb-true}
 use Rattle.std.proofs.lemmas.Slice.Eq.{bytes_eq-Decides}
 use Rattle.bhs_net.specs.Network.{Network}
@@ -20,27 +21,35 @@ use Rattle.bhs_replay.specs.EventLine.{event_line}
 use Rattle.bhs_replay.specs.Spelling.{spelled}
 use Rattle.bhs_replay.specs.Replay.{end_line, event_lines, body_lines, with_feeds, replay}
 use Rattle.bhs_replay.specs.Opening.{IsHead}
-use Rattle.bhs_replay.specs.Stages.{ended_after, ended, next_number, is_end_line, Stage, Opens, Goes, Ends, Wrong, after_spelled, Follows, opens, no_head, goes, goes_past, stays, Leads, begins, follows, with_rest, Comes}
+use Rattle.bhs_replay.specs.Stages.{ended_after, ended, next_number, is_end_line, Stage, Opens, Goes, Ends, Wrong}
+use Rattle.bhs_replay.specs.Stages.{after_spelled, Follows, opens, no_head, goes, goes_past, stays, Leads, begins}
+use Rattle.bhs_replay.specs.Stages.{follows, with_rest, Comes}
 
 -- ---- the lines of events, one more at a time
 
-same_length : (world : World) (state : State) (events : List Event) → length (replies_from world state events) ≡ length events
+same_length : (world : World) (state : State) (events : List Event)
+    → length (replies_from world state events) ≡ length events
 same_length world state [] = refl
 same_length world state (event ∷ events) = ap suc (same_length world (next world state event) events)
 
-lines_more : (events : List Event) (answers : List (Option Reply)) (event : Event) (answer : Option Reply) → length answers ≡ length events
-    → event_lines (events ++ event ∷ []) (answers ++ answer ∷ []) ≡ event_lines events answers ++ event_line event answer ∷ []
+lines_more : (events : List Event) (answers : List (Option Reply)) (event : Event) (answer : Option Reply)
+    → length answers ≡ length events
+    → event_lines (events ++ event ∷ []) (answers ++ answer ∷ []) ≡ event_lines events answers
+    ++ event_line event answer ∷ []
 lines_more [] [] event answer same = refl
 lines_more [] (other ∷ answers) event answer same = absurd (cc)
 lines_more (one ∷ events) [] event answer same = absurd (cc)
 lines_more (one ∷ events) (other ∷ answers) event answer same =
-    let fewer : length answers ≡ length events = cc in ap (λ lines. event_line one other ∷ lines) (lines_more events answers event answer fewer)
+    let fewer : length answers ≡ length events = cc in
+    ap (λ lines. event_line one other ∷ lines) (lines_more events answers event answer fewer)
 
 pub told_more : (world : World) (events : List Event) (event : Event)
-    → event_lines (events ++ event ∷ []) (replies world (events ++ event ∷ [])) ≡ event_lines events (replies world events) ++ event_line event (reply world (run world events) event) ∷ []
+    → event_lines (events ++ event ∷ []) (replies world (events ++ event ∷ [])) ≡ event_lines events
+    (replies world events) ++ event_line event (reply world (run world events) event) ∷ []
 told_more world events event =
     ap (event_lines (events ++ event ∷ [])) (events_add_lemma world events event).answers
-    ∙ lines_more events (replies world events) event (reply world (run world events) event) (same_length world initial events)
+    ∙ lines_more events (replies world events) event (reply world (run world events) event)
+    (same_length world initial events)
 
 -- ---- what the lines so far are
 
@@ -61,9 +70,12 @@ Shows lines (Goes net setup events) = IsGoing lines net setup events
 Shows lines (Ends net setup events) = IsWhole lines net setup events
 Shows lines (Wrong found) = Unit {0}
 
-module _ (before : List (List ℕ)) (line : List ℕ) (net : Network) (setup : Setup) (events : List Event) (going : IsGoing before net setup events) where
-  event_shows : (event : Event) (closed keep same : Bool) → bytes_eq line (event_line event (reply (world_of net setup) (run (world_of net setup) events) event)) ≡ same
-      → Shows (before ++ line ∷ []) (if closed then Wrong (fault.Line (next_number events)) else (if not keep then Wrong (fault.Event (next_number events))
+module _ (before : List (List ℕ)) (line : List ℕ) (net : Network) (setup : Setup) (events : List Event)
+    (going : IsGoing before net setup events) where
+  event_shows : (event : Event) (closed keep same : Bool)
+      → bytes_eq line (event_line event (reply (world_of net setup) (run (world_of net setup) events) event)) ≡ same
+      → Shows (before ++ line ∷ []) (if closed then Wrong
+      (fault.Line (next_number events)) else (if not keep then Wrong (fault.Event (next_number events))
       else (if same then Goes net setup (events ++ event ∷ []) else Wrong (fault.Differs (next_number events)))))
   event_shows event true keep same is = tt
   event_shows event false false same is = tt
@@ -71,23 +83,34 @@ module _ (before : List (List ℕ)) (line : List ℕ) (net : Network) (setup : S
   event_shows event false true true is = record {
     head = going.head;
     is_head = going.is_head;
-    lines_are = ap₂ (λ (lines : List (List ℕ)) (last : List ℕ). lines ++ last ∷ []) going.lines_are ((bytes_eq-Decides line _).0 is)
+    lines_are = ap₂ (λ (lines : List (List ℕ)) (last : List ℕ). lines ++ last ∷ []) going.lines_are
+        ((bytes_eq-Decides line _).0 is)
         ∙ ap (λ (lines : List (List ℕ)). going.head ∷ lines) (sym (told_more (world_of net setup) events event));
   }
 
-  other_shows : (closed same : Bool) (found : ReplayFault) → bytes_eq line (end_line (length events)) ≡ same → Shows (before ++ line ∷ []) (if closed && same then Ends net setup events else Wrong found)
-  other_shows true true found is = record { before = before; going = going; lines_are = ap (λ (last : List ℕ). before ++ last ∷ []) ((bytes_eq-Decides line (end_line (length events))).0 is) }
+  other_shows : (closed same : Bool) (found : ReplayFault) → bytes_eq line (end_line (length events)) ≡ same
+      → Shows (before ++ line ∷ []) (if closed && same then Ends net setup events else Wrong found)
+  other_shows true true found is = record {
+    before = before;
+    going = going;
+    lines_are = ap (λ (last : List ℕ). before ++ last ∷ [])
+        ((bytes_eq-Decides line (end_line (length events))).0 is);
+  }
   other_shows true false found is = tt
   other_shows false same found is = tt
 
-  spelled_shows : (found : Option (Event × Option Reply)) → Shows (before ++ line ∷ []) (after_spelled net setup events line found)
+  spelled_shows : (found : Option (Event × Option Reply))
+      → Shows (before ++ line ∷ []) (after_spelled net setup events line found)
   spelled_shows (Some (event, answer)) = event_shows event _ _ _ refl
   spelled_shows None = other_shows _ _ (if is_end_line line then fault.End else fault.Line (next_number events)) refl
 
-first_shows : (before : List (List ℕ)) (line : List ℕ) (net : Network) (setup : Setup) → before ≡ [] → IsHead line net setup → IsGoing (before ++ line ∷ []) net setup []
-first_shows before line net setup none head = record { head = line; is_head = head; lines_are = ap (λ (lines : List (List ℕ)). lines ++ line ∷ []) none }
+first_shows : (before : List (List ℕ)) (line : List ℕ) (net : Network) (setup : Setup) → before ≡ []
+    → IsHead line net setup → IsGoing (before ++ line ∷ []) net setup []
+first_shows before line net setup none head =
+    record { head = line; is_head = head; lines_are = ap (λ (lines : List (List ℕ)). lines ++ line ∷ []) none }
 
-follows_shows : (before : List (List ℕ)) (line : List ℕ) (from to : Stage) → Follows from line to → Shows before from → Shows (before ++ line ∷ []) to
+follows_shows : (before : List (List ℕ)) (line : List ℕ) (from to : Stage) → Follows from line to → Shows before from
+    → Shows (before ++ line ∷ []) to
 follows_shows before line from to (opens same net setup head) shown = first_shows before same net setup shown head
 follows_shows before line from to (no_head same none) shown = tt
 follows_shows before line from to (goes same net setup events next is) shown =
@@ -97,7 +120,8 @@ follows_shows before line from to (stays same found) shown = tt
 
 leads_shows : (lines : List (List ℕ)) (stage : Stage) → Leads lines stage → Shows lines stage
 leads_shows lines stage begins = refl
-leads_shows lines stage (follows before line from to leads next) = follows_shows before line from to next (leads_shows before from leads)
+leads_shows lines stage (follows before line from to leads next) =
+    follows_shows before line from to next (leads_shows before from leads)
 
 -- ---- the text
 
@@ -106,7 +130,8 @@ feed_is byte is = eqb-true byte 10 is
 
 text_at : (line bytes : List ℕ) (byte : ℕ) (b : Bool) → is_line_feed byte ≡ b
     → ((l : List ℕ) → with_feeds (ended_after l bytes) ++ rest_after l bytes ≡ l ++ bytes)
-    → with_feeds ((if b then line ∷ [] else []) ++ ended_after (if b then [] else line ++ byte ∷ []) bytes) ++ rest_after (if b then [] else line ++ byte ∷ []) bytes ≡ line ++ byte ∷ bytes
+    → with_feeds ((if b then line ∷ [] else []) ++ ended_after (if b then [] else line ++ byte ∷ []) bytes)
+    ++ rest_after (if b then [] else line ++ byte ∷ []) bytes ≡ line ++ byte ∷ bytes
 text_at line bytes byte true is whole =
     append_assoc (line ++ 10 ∷ []) (with_feeds (ended_after [] bytes)) (rest_after [] bytes)
     ∙ (ap (λ (text : List ℕ). (line ++ 10 ∷ []) ++ text) (whole [])
@@ -117,7 +142,8 @@ text_whole : (line bytes : List ℕ) → with_feeds (ended_after line bytes) ++ 
 text_whole line [] = sym (append-nil line)
 text_whole line (byte ∷ bytes) = text_at line bytes byte (is_line_feed byte) refl (λ l. text_whole l bytes)
 
-ends_quiet : (bytes : List ℕ) (stage : Stage) (net : Network) (setup : Setup) (events : List Event) → Ends net setup events ≡ with_rest bytes stage → (bytes ≡ []) × (stage ≡ Ends net setup events)
+ends_quiet : (bytes : List ℕ) (stage : Stage) (net : Network) (setup : Setup) (events : List Event)
+    → Ends net setup events ≡ with_rest bytes stage → (bytes ≡ []) × (stage ≡ Ends net setup events)
 ends_quiet [] stage net setup events is = (refl, sym is)
 ends_quiet (byte ∷ bytes) Opens net setup events is = absurd (cc)
 ends_quiet (byte ∷ bytes) (Goes n s e) net setup events is = absurd (cc)
@@ -128,7 +154,8 @@ pub sound : (text : List ℕ) (net : Network) (setup : Setup) (events : List Eve
     → (version : Version) × CanSay version setup × (text ≡ replay version net setup events)
 sound text net setup events comes =
     let quiet = ends_quiet (rest text) comes.lines net setup events comes.same in
-    let whole : IsWhole (ended text) net setup events = leads_shows (ended text) (Ends net setup events) (subst (λ s. Leads (ended text) s) quiet.1 comes.leads) in
+    let whole : IsWhole (ended text) net setup events =
+    leads_shows (ended text) (Ends net setup events) (subst (λ s. Leads (ended text) s) quiet.1 comes.leads) in
     let head = whole.going.is_head in
     let lines : ended text ≡ head_line head.version net setup ∷ body_lines net setup events =
     whole.lines_are ∙ (ap (λ (ls : List (List ℕ)). ls ++ end_line (length events) ∷ []) whole.going.lines_are
@@ -136,5 +163,6 @@ sound text net setup events comes =
     in (
       head.version,
       head.can_say,
-      sym (text_whole [] text) ∙ (ap (λ (left : List ℕ). with_feeds (ended text) ++ left) quiet.0 ∙ (append-nil (with_feeds (ended text)) ∙ ap with_feeds lines)),
+      sym (text_whole [] text) ∙ (ap (λ (left : List ℕ). with_feeds (ended text) ++ left) quiet.0
+          ∙ (append-nil (with_feeds (ended text)) ∙ ap with_feeds lines)),
     )

@@ -1,5 +1,6 @@
 -- A line spells an event and a reply exactly where it is their line.
-use Rattle.std.proofs.Common.{◌≡◌, ℕ, ◌<◌, ◌^◌, Bool, true, false, cond, if◌then◌else◌, ◌&&◌, List, bytes_eq, Option, Some, None, option_and_then, unwrap_or, nat_lt, refl, sym, subst, ap, ◌∙◌}
+use Rattle.std.proofs.Common.{◌≡◌, ℕ, ◌<◌, ◌^◌, Bool, true, false, cond, if◌then◌else◌, ◌&&◌, List, bytes_eq, Option}
+use Rattle.std.proofs.Common.{Some, None, option_and_then, unwrap_or, nat_lt, refl, sym, subst, ap, ◌∙◌}
 use Rattle.std.proofs.lemmas.Bool.{lt-ltb}
 use Rattle.std.proofs.lemmas.Slice.Eq.{bytes_eq-Decides}
 use Rattle.std.specs.Str.{IsUtf8, is_utf8}
@@ -12,11 +13,13 @@ use Rattle.bhs_model.specs.declared.events.Event.TheVariants.{Tell, Deliver, Clo
 use Rattle.bhs_model.specs.declared.replies.Reply.{Reply}
 use Rattle.bhs_model.specs.declared.replies.Reply.TheVariants.{Here, Written, Changed, Gone, Noted, Bye, Over, No}
 use Rattle.bhs_model.specs.declared.replies.Why.{Why}
-use Rattle.bhs_model.specs.declared.replies.Why.TheVariants.{Agent, Outside, Twice, Ended, Spent, Away, Line, Port, Long}
+use Rattle.bhs_model.specs.declared.replies.Why.TheVariants.{Agent, Outside, Twice, Ended, Spent, Away, Line, Port}
+use Rattle.bhs_model.specs.declared.replies.Why.TheVariants.{Long}
 use Rattle.bhs_wire.specs.Reply.{data_of}
 use Rattle.bhs_replay.specs.EventLine.{event_line}
 use Rattle.bhs_replay.proofs.EventData.{answer_data, event_data}
-use Rattle.bhs_replay.specs.Spelling.{may_stand, EventFits, ReplyFits, reply_in, answer_in, event_in, if_spelled, spelled_in, spelled}
+use Rattle.bhs_replay.specs.Spelling.{may_stand, EventFits, ReplyFits, reply_in, answer_in, event_in, if_spelled}
+use Rattle.bhs_replay.specs.Spelling.{spelled_in, spelled}
 use Rattle.bhs_replay.proofs.EventReads.{read-event_line}
 
 small : (n : ℕ) → n < 2 ^ 16 → nat_lt n (2 ^ 16) ≡ true
@@ -44,7 +47,8 @@ reply_in-data Bye fits = refl
 reply_in-data Over fits = refl
 reply_in-data (No why) fits = refusal_in-data why
 
-answer_in-null_or : (reply : Option Reply) → ReplyFits reply → option_and_then reply_in (Some (answer_data reply)) ≡ reply
+answer_in-null_or : (reply : Option Reply) → ReplyFits reply
+    → option_and_then reply_in (Some (answer_data reply)) ≡ reply
 answer_in-null_or None fits = refl
 answer_in-null_or (Some reply) fits = reply_in-data reply fits
 
@@ -59,7 +63,8 @@ answer_in-data (Tell agent Bad) reply fits = answer_in-null_or reply fits
 answer_in-data (Deliver agent) reply fits = answer_in-null_or reply fits
 answer_in-data Close reply fits = answer_in-null_or reply fits
 
-event_in-data : (event : Event) (reply : Option Reply) → EventFits event → event_in (event_data event reply) ≡ Some event
+event_in-data : (event : Event) (reply : Option Reply) → EventFits event
+    → event_in (event_data event reply) ≡ Some event
 event_in-data (Tell agent Enter) reply fits = rw (small agent fits.0)
 event_in-data (Tell agent Look) reply fits = rw (small agent fits.0)
 event_in-data (Tell agent (Write expect put)) reply fits = rw (small agent fits.0)
@@ -76,17 +81,29 @@ same_bytes : (text : List ℕ) → bytes_eq text text ≡ true
 same_bytes text = (bytes_eq-Decides text text).1 refl
 
 -- the line of an event and a reply spells them
-pub spelled-event_line : (event : Event) (reply : Option Reply) → EventFits event → ReplyFits reply → may_stand event reply ≡ true → IsUtf8 (event_line event reply) → spelled (event_line event reply) ≡ Some (event, reply)
+pub spelled-event_line : (event : Event) (reply : Option Reply) → EventFits event → ReplyFits reply
+    → may_stand event reply ≡ true → IsUtf8 (event_line event reply)
+    → spelled (event_line event reply) ≡ Some (event, reply)
 spelled-event_line event reply fits answer stands text =
-    rw (is_utf8-from_IsUtf8 _ text, read-event_line event reply fits answer, event_in-data event reply fits, answer_in-data event reply answer, stands, same_bytes (event_line event reply))
+    rw (
+      is_utf8-from_IsUtf8 _ text,
+      read-event_line event reply fits answer,
+      event_in-data event reply fits,
+      answer_in-data event reply answer,
+      stands,
+      same_bytes (event_line event reply),
+    )
 
 -- ---- what the reading of a line gave
 
-pub spelled-read : (text : List ℕ) (value : Data) → IsUtf8 text → read text ≡ Some value → spelled_in text value ≡ spelled text
+pub spelled-read : (text : List ℕ) (value : Data) → IsUtf8 text → read text ≡ Some value
+    → spelled_in text value ≡ spelled text
 spelled-read text value valid found =
-    sym (ap (λ b. option_and_then (spelled_in text) (cond b (read text) None)) (is_utf8-from_IsUtf8 text valid) ∙ ap (option_and_then (spelled_in text)) found)
+    sym (ap (λ b. option_and_then (spelled_in text) (cond b (read text) None)) (is_utf8-from_IsUtf8 text valid)
+    ∙ ap (option_and_then (spelled_in text)) found)
 
-unread : (text : List ℕ) (b : Bool) (r : Option Data) → (b ≡ true → r ≡ None) → option_and_then (spelled_in text) (cond b r None) ≡ None
+unread : (text : List ℕ) (b : Bool) (r : Option Data) → (b ≡ true → r ≡ None)
+    → option_and_then (spelled_in text) (cond b r None) ≡ None
 unread text true r none = ap (option_and_then (spelled_in text)) (none refl)
 unread text false r none = refl
 
@@ -95,23 +112,29 @@ spelled-unread text none = sym (unread text (is_utf8 text) (read text) (λ h. no
 
 -- ---- what a line spells has it as its line
 
-checked : (text : List ℕ) (reply : Option Reply) (event : Event) (found : Event × Option Reply) (stands same : Bool) → may_stand event reply ≡ stands → bytes_eq text (event_line event reply) ≡ same
-    → cond (stands && same) (Some (event, reply)) None ≡ Some found → (text ≡ event_line found.0 found.1) × (may_stand found.0 found.1 ≡ true)
+checked : (text : List ℕ) (reply : Option Reply) (event : Event) (found : Event × Option Reply) (stands same : Bool)
+    → may_stand event reply ≡ stands → bytes_eq text (event_line event reply) ≡ same
+    → cond (stands && same) (Some (event, reply)) None ≡ Some found → (text ≡ event_line found.0 found.1)
+    × (may_stand found.0 found.1 ≡ true)
 checked text reply event found true true stands same is =
     let both : (event, reply) ≡ found = ap (λ o. unwrap_or o (event, reply)) is in
-    subst (λ f. (text ≡ event_line f.0 f.1) × (may_stand f.0 f.1 ≡ true)) both ((bytes_eq-Decides text (event_line event reply)).0 same, stands)
+    subst (λ f. (text ≡ event_line f.0 f.1) × (may_stand f.0 f.1 ≡ true)) both
+    ((bytes_eq-Decides text (event_line event reply)).0 same, stands)
 checked text reply event found true false stands same is = absurd (cc)
 checked text reply event found false same_text stands same is = absurd (cc)
 
-from_event : (text : List ℕ) (reply : Option Reply) (event : Option Event) (found : Event × Option Reply) → option_and_then (if_spelled text reply) event ≡ Some found
+from_event : (text : List ℕ) (reply : Option Reply) (event : Option Event) (found : Event × Option Reply)
+    → option_and_then (if_spelled text reply) event ≡ Some found
     → (text ≡ event_line found.0 found.1) × (may_stand found.0 found.1 ≡ true)
 from_event text reply None found is = absurd (cc)
 from_event text reply (Some event) found is = checked text reply event found _ _ refl refl is
 
-from_value : (text : List ℕ) (value : Option Data) (found : Event × Option Reply) → option_and_then (spelled_in text) value ≡ Some found
+from_value : (text : List ℕ) (value : Option Data) (found : Event × Option Reply)
+    → option_and_then (spelled_in text) value ≡ Some found
     → (text ≡ event_line found.0 found.1) × (may_stand found.0 found.1 ≡ true)
 from_value text None found is = absurd (cc)
 from_value text (Some value) found is = from_event text (answer_in value) (event_in value) found is
 
-pub event_line-spelled : (text : List ℕ) (event : Event) (reply : Option Reply) → spelled text ≡ Some (event, reply) → (text ≡ event_line event reply) × (may_stand event reply ≡ true)
+pub event_line-spelled : (text : List ℕ) (event : Event) (reply : Option Reply) → spelled text ≡ Some (event, reply)
+    → (text ≡ event_line event reply) × (may_stand event reply ≡ true)
 event_line-spelled text event reply is = from_value text (if is_utf8 text then read text else None) (event, reply) is

@@ -11,7 +11,8 @@ use Rattle.bhs_wire.specs.Reply.{quoted_text, line}
 abbrev pub said : Command → List ℕ
 said Enter = codes "\"enter\""
 said Look = codes "\"look\""
-said (Write expect put) = codes "\"write\",\"expect\":" ++ (quoted_text expect ++ (codes ",\"put\":" ++ quoted_text put))
+said (Write expect put) = codes "\"write\",\"expect\":"
+    ++ (quoted_text expect ++ (codes ",\"put\":" ++ quoted_text put))
 said (Depart port) = codes "\"depart\",\"port\":" ++ decimal port
 said (Accuse port) = codes "\"accuse\",\"port\":" ++ decimal port
 said Leave = codes "\"leave\""
@@ -28,6 +29,8 @@ reply_part reply = codes ",\"reply\":" ++ (answered reply ++ codes "}")
 
 -- the line, without its line feed
 abbrev pub event_line : Event → Option Reply → List ℕ
-event_line (Tell agent command) reply = codes "{\"agent\":" ++ (decimal agent ++ (codes ",\"do\":" ++ (said command ++ reply_part reply)))
-event_line (Deliver agent) reply = codes "{\"agent\":" ++ (decimal agent ++ (codes ",\"do\":\"deliver\"" ++ reply_part reply))
+event_line (Tell agent command) reply = codes "{\"agent\":"
+    ++ (decimal agent ++ (codes ",\"do\":" ++ (said command ++ reply_part reply)))
+event_line (Deliver agent) reply = codes "{\"agent\":"
+    ++ (decimal agent ++ (codes ",\"do\":\"deliver\"" ++ reply_part reply))
 event_line Close reply = codes "{\"do\":\"close\"" ++ reply_part reply

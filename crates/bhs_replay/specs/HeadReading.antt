@@ -1,5 +1,6 @@
 -- What a head line says, if it is spelled as it would be written.
-use Rattle.std.specs.Prelude.{ℕ, ◌==◌, List, [], ◌∷◌, codes, if◌then◌else◌, Option, Some, None, option_map, option_and_then, option_to_list}
+use Rattle.std.specs.Prelude.{ℕ, ◌==◌, List, [], ◌∷◌, codes, if◌then◌else◌, Option, Some, None, option_map}
+use Rattle.std.specs.Prelude.{option_and_then, option_to_list}
 use Rattle.std.specs.Str.{is_utf8}
 use Rattle.serde_json.specs.Data.{Data, Items, no_items, item}
 use Rattle.serde_json.specs.Find.{get, at, as_array, as_number, as_u64}
@@ -30,7 +31,8 @@ pair_in value = option_and_then (λ node. option_map (λ port. (node, port)) (it
 
 abbrev pub link_in : Data → Option Link
 link_in value =
-    option_and_then (λ v. option_and_then (λ p. option_and_then (λ w. option_map (λ q. record { v = v; p = p; w = w; q = q })
+    option_and_then (λ v. option_and_then (λ p.
+    option_and_then (λ w. option_map (λ q. record { v = v; p = p; w = w; q = q })
     (item_at 3 value)) (item_at 2 value)) (item_at 1 value)) (item_at 0 value)
 
 module _ {A : Type 0} (shape : Data → Option A) where
@@ -62,16 +64,20 @@ abbrev pub setup_with : List ℕ → List (ℕ × ℕ) → Data → Option Setup
 setup_with holes dark value =
     option_and_then (λ home. option_and_then (λ agents. option_and_then (λ quota. option_map (λ board.
     record { home = home; holes = holes; dark = dark; agents = agents; quota = quota; board = board })
-    (port_at (codes "board") value)) (port_at (codes "quota") value)) (port_at (codes "agents") value)) (port_at (codes "home") value)
+    (port_at (codes "board") value)) (port_at (codes "quota") value)) (port_at (codes "agents") value))
+    (port_at (codes "home") value)
 
 abbrev pub setup_in : Version → Data → Option Setup
-setup_in version value = option_and_then (λ holes. option_and_then (λ dark. setup_with holes dark value) (dark_in version value)) (holes_in version value)
+setup_in version value = option_and_then (λ holes. option_and_then (λ dark. setup_with holes dark value)
+    (dark_in version value)) (holes_in version value)
 
 abbrev pub says_with : Version → List Link → Data → Setup → Option Says
-says_with version links value setup = option_map (λ nodes. record { version = version; nodes = nodes; links = links; setup = setup }) (port_at (codes "nodes") value)
+says_with version links value setup = option_map
+    (λ nodes. record { version = version; nodes = nodes; links = links; setup = setup }) (port_at (codes "nodes") value)
 
 abbrev pub says_as : Data → Version → Option Says
-says_as value version = option_and_then (λ links. option_and_then (says_with version links value) (setup_in version value)) (list_at link_in (codes "links") value)
+says_as value version = option_and_then (λ links. option_and_then (says_with version links value)
+    (setup_in version value)) (list_at link_in (codes "links") value)
 
 abbrev pub says_in : Data → Option Says
 says_in value = option_and_then (says_as value) (version_in value)

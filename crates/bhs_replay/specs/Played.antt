@@ -7,5 +7,6 @@ use Rattle.bhs_replay.specs.Spelling.{spelled}
 
 -- each of these lines spells its event and its reply: their numbers have 16 bits, and the line is text
 abbrev pub AreSpelled : List Event → List (Option Reply) → Type 0
-AreSpelled (event ∷ events) (reply ∷ others) = (spelled (event_line event reply) ≡ Some (event, reply)) × AreSpelled events others
+AreSpelled (event ∷ events) (reply ∷ others) = (spelled (event_line event reply) ≡ Some (event, reply))
+    × AreSpelled events others
 AreSpelled events others = ⊤

@@ -1,5 +1,6 @@
 -- Where a reader stands.
-use Rattle.std.specs.Prelude.{ℕ, ◌≡◌, true, ◌&&◌, if◌then◌else◌, List, [], ◌∷◌, ◌++◌, Option, Some, None, Result, Ok, Err}
+use Rattle.std.specs.Prelude.{ℕ, ◌≡◌, true, ◌&&◌, if◌then◌else◌, List, [], ◌∷◌, ◌++◌, Option, Some, None, Result, Ok}
+use Rattle.std.specs.Prelude.{Err}
 use Rattle.bhs_match.specs.Matches.{Play, state_of}
 use Rattle.bhs_wire.specs.Lines.{rest}
 use Rattle.bhs_replay.specs.declared.faults.ReplayFault.{ReplayFault}
@@ -43,7 +44,8 @@ IsPast reader (byte ∷ bytes) = IsOver reader.playing
 
 abbrev pub finished_by : Option Playing → Result Play ReplayFault
 finished_by None = Err fault.Head
-finished_by (Some playing) = if playing.is_over && (state_of playing.game).closed then Ok playing.game else Err fault.End
+finished_by (Some playing) = if playing.is_over && (state_of playing.game).closed then Ok playing.game
+    else Err fault.End
 
 -- what the text comes to where it ends here
 abbrev pub finished : Reader → Result Play ReplayFault

@@ -10,7 +10,8 @@ use Rattle.bhs_replay.specs.Stages.{Stage, Opens, Goes, Ends, Wrong, Comes}
 
 -- the stage of a match, before or behind the end line
 abbrev pub stage_of : Play → (is_over : Bool) → Stage
-stage_of play is_over = if is_over then Ends play.net play.setup (events_of play.log) else Goes play.net play.setup (events_of play.log)
+stage_of play is_over = if is_over then Ends play.net play.setup (events_of play.log) else Goes play.net play.setup
+    (events_of play.log)
 
 -- nothing is wrong yet
 abbrev pub IsSound : Stage → Type 0
@@ -25,20 +26,23 @@ fault_at_end (Ends net setup events) = None
 fault_at_end (Wrong found) = Some found
 
 -- the whole text is that of a match: reads brought it, and the last one brought its end
-pub record ReadsWhole {I : Type 0} (gives : I → Chunk → I → Type 0) (old : I) (turns : ℕ) (play : Play) (new : I) : Type 0 where
+pub record ReadsWhole {I : Type 0} (gives : I → Chunk → I → Type 0) (old : I) (turns : ℕ) (play : Play)
+    (new : I) : Type 0 where
   pub text : List ℕ
   pub closes : Closes gives old (length text) turns text End new
   pub comes : Comes text (Ends play.net play.setup (events_of play.log))
 
 -- the bytes that reads brought, in which nothing was wrong
-pub record ReadsSound {I : Type 0} (gives : I → Chunk → I → Type 0) (old : I) (reads : ℕ) (bytes : List ℕ) (here : I) : Type 0 where
+pub record ReadsSound {I : Type 0} (gives : I → Chunk → I → Type 0) (old : I) (reads : ℕ) (bytes : List ℕ)
+    (here : I) : Type 0 where
   pub stage : Stage
   pub gathered : Gathers gives old reads bytes here
   pub comes : Comes bytes stage
   pub sound : IsSound stage
 
 -- the reads stopped where nothing was wrong: the last one brought this
-pub record StopsSound {I : Type 0} (gives : I → Chunk → I → Type 0) (old : I) (turns : ℕ) (chunk : Chunk) (new : I) : Type 0 where
+pub record StopsSound {I : Type 0} (gives : I → Chunk → I → Type 0) (old : I) (turns : ℕ) (chunk : Chunk)
+    (new : I) : Type 0 where
   pub bytes : List ℕ
   pub stage : Stage
   pub closes : Closes gives old (length bytes) turns bytes chunk new
@@ -46,7 +50,8 @@ pub record StopsSound {I : Type 0} (gives : I → Chunk → I → Type 0) (old :
   pub sound : IsSound stage
 
 -- the reads brought a text whose end is its first fault
-pub record EndsShort {I : Type 0} (gives : I → Chunk → I → Type 0) (old : I) (turns : ℕ) (found : ReplayFault) (new : I) : Type 0 where
+pub record EndsShort {I : Type 0} (gives : I → Chunk → I → Type 0) (old : I) (turns : ℕ) (found : ReplayFault)
+    (new : I) : Type 0 where
   pub text : List ℕ
   pub stage : Stage
   pub closes : Closes gives old (length text) turns text End new
@@ -54,7 +59,8 @@ pub record EndsShort {I : Type 0} (gives : I → Chunk → I → Type 0) (old : 
   pub short : fault_at_end stage ≡ Some found
 
 -- the last read brought the first fault, whatever would have followed it
-pub record MeetsFault {I : Type 0} (gives : I → Chunk → I → Type 0) (old : I) (turns : ℕ) (found : ReplayFault) (new : I) : Type 0 where
+pub record MeetsFault {I : Type 0} (gives : I → Chunk → I → Type 0) (old : I) (turns : ℕ) (found : ReplayFault)
+    (new : I) : Type 0 where
   pub bytes : List ℕ
   pub piece : List ℕ
   pub stage : Stage
@@ -64,8 +70,10 @@ pub record MeetsFault {I : Type 0} (gives : I → Chunk → I → Type 0) (old :
   pub wrong : Comes (bytes ++ piece) (Wrong found)
 
 -- how the reads of a text decide which fault is answered
-abbrev pub StopsBy : {I : Type 0} → (I → Chunk → I → Type 0) → (old : I) → (turns : ℕ) → ReplayFault → (new : I) → Type 0
+abbrev pub StopsBy : {I : Type 0} → (I → Chunk → I → Type 0) → (old : I) → (turns : ℕ) → ReplayFault
+    → (new : I) → Type 0
 StopsBy gives old turns fault.Read new = StopsSound gives old turns Fails new
 StopsBy gives old turns fault.Turns new = (bytes : List ℕ) × ReadsSound gives old turns bytes new
-StopsBy gives old turns fault.Memory new = (bytes : List ℕ) × (reads : ℕ) × (reads ≤ turns) × Gathers gives old reads bytes new
+StopsBy gives old turns fault.Memory new = (bytes : List ℕ) × (reads : ℕ) × (reads ≤ turns)
+    × Gathers gives old reads bytes new
 StopsBy gives old turns found new = EndsShort gives old turns found new ⊎ MeetsFault gives old turns found new

@@ -1,5 +1,6 @@
 -- How a text is read, line by line.
-use Rattle.std.specs.Prelude.{ℕ, ◌+◌, ◌-◌, ◌≡◌, Bool, not, ◌&&◌, ◌||◌, ◌==◌, nat_le, bytes_eq, if◌then◌else◌, List, [], ◌∷◌, ◌++◌, length, slice_index, slice_range, codes, Option, Some, None}
+use Rattle.std.specs.Prelude.{ℕ, ◌+◌, ◌-◌, ◌≡◌, Bool, not, ◌&&◌, ◌||◌, ◌==◌, nat_le, bytes_eq, if◌then◌else◌, List, []}
+use Rattle.std.specs.Prelude.{◌∷◌, ◌++◌, length, slice_index, slice_range, codes, Option, Some, None}
 use Rattle.std.specs.List.{list_all}
 use Rattle.bhs_net.specs.Network.{Network}
 use Rattle.bhs_model.specs.declared.setups.Setup.{Setup}
@@ -65,8 +66,10 @@ abbrev pub after_event : Network → Setup → List Event → (line : List ℕ) 
 after_event net setup events line event =
     let world = world_of net setup in
     if (run world events).closed then Wrong (fault.Line (next_number events))
-    else (if not (keeps world (run world events) (lost world events) event) then Wrong (fault.Event (next_number events))
-    else (if bytes_eq line (event_line event (reply world (run world events) event)) then Goes net setup (events ++ event ∷ [])
+    else (if not (keeps world (run world events) (lost world events) event)
+    then Wrong (fault.Event (next_number events))
+    else (if bytes_eq line (event_line event (reply world (run world events) event))
+    then Goes net setup (events ++ event ∷ [])
     else Wrong (fault.Differs (next_number events))))
 
 -- a line that spells no event
@@ -85,16 +88,21 @@ after_line net setup events line = after_spelled net setup events line (spelled 
 
 -- what a line leads to
 pub data Follows : Stage → List ℕ → Stage → Type 0 where
-  opens : (line : List ℕ) (net : Network) (setup : Setup) → IsHead line net setup → Follows Opens line (Goes net setup [])
-  no_head : (line : List ℕ) → ((net : Network) (setup : Setup) → ¬ IsHead line net setup) → Follows Opens line (Wrong fault.Head)
-  goes : (line : List ℕ) (net : Network) (setup : Setup) (events : List Event) (to : Stage) → to ≡ after_line net setup events line → Follows (Goes net setup events) line to
-  goes_past : (line : List ℕ) (net : Network) (setup : Setup) (events : List Event) → Follows (Ends net setup events) line (Wrong fault.End)
+  opens : (line : List ℕ) (net : Network) (setup : Setup) → IsHead line net setup
+      → Follows Opens line (Goes net setup [])
+  no_head : (line : List ℕ) → ((net : Network) (setup : Setup) → ¬ IsHead line net setup)
+      → Follows Opens line (Wrong fault.Head)
+  goes : (line : List ℕ) (net : Network) (setup : Setup) (events : List Event) (to : Stage) → to
+      ≡ after_line net setup events line → Follows (Goes net setup events) line to
+  goes_past : (line : List ℕ) (net : Network) (setup : Setup) (events : List Event)
+      → Follows (Ends net setup events) line (Wrong fault.End)
   stays : (line : List ℕ) (found : ReplayFault) → Follows (Wrong found) line (Wrong found)
 
 -- what the lines of a text lead to
 pub data Leads : List (List ℕ) → Stage → Type 0 where
   begins : Leads [] Opens
-  follows : (lines : List (List ℕ)) (line : List ℕ) (from to : Stage) → Leads lines from → Follows from line to → Leads (lines ++ line ∷ []) to
+  follows : (lines : List (List ℕ)) (line : List ℕ) (from to : Stage) → Leads lines from → Follows from line to
+      → Leads (lines ++ line ∷ []) to
 
 -- bytes without a line feed behind the lines: nothing may stand behind the end line
 abbrev pub with_rest : List ℕ → Stage → Stage

@@ -1,5 +1,6 @@
 -- Judging a script line by line.
-use Rattle.std.proofs.Common.{◌≡◌, ℕ, ◌+◌, List, [], ◌∷◌, ◌++◌, length, Option, None, Some, IfSome, ◌<◌, ◌≤◌, arith, Result, Ok, Err, Bor, refl, ap, sym, append_assoc}
+use Rattle.std.proofs.Common.{◌≡◌, ℕ, ◌+◌, List, [], ◌∷◌, ◌++◌, length, Option, None, Some, IfSome, ◌<◌, ◌≤◌, arith}
+use Rattle.std.proofs.Common.{Result, Ok, Err, Bor, refl, ap, sym, append_assoc}
 use Rattle.std.specs.Option.{option_map_or}
 use Rattle.bhs_rehearsal.specs.Stages.{Instruction}
 use Rattle.bhs_script.specs.Script.{Meaning, lines_of, meaning, before, with_meaning, instructions_from}
@@ -21,17 +22,22 @@ pub with_front-none : (others : Result (List Instruction) ℕ) → with_front []
 with_front-none (Ok others) = refl
 with_front-none (Err line) = refl
 
-pub with_front-before : (front : List Instruction) (one : Instruction) (others : Result (List Instruction) ℕ) → with_front front (before one others) ≡ with_front (front ++ one ∷ []) others
-with_front-before front one (Ok others) = ap (λ (all : List Instruction). Ok all) (sym (append_assoc front (one ∷ []) others))
+pub with_front-before : (front : List Instruction) (one : Instruction) (others : Result (List Instruction) ℕ)
+    → with_front front (before one others) ≡ with_front (front ++ one ∷ []) others
+with_front-before front one (Ok others) = ap (λ (all : List Instruction). Ok all)
+    (sym (append_assoc front (one ∷ []) others))
 with_front-before front one (Err line) = refl
 
 -- one line further
-pub one_line : (games : ℕ) (front : List Instruction) (number : ℕ) (text line : List ℕ) (lines : List (List ℕ)) (means : Meaning)
+pub one_line : (games : ℕ) (front : List Instruction) (number : ℕ) (text line : List ℕ) (lines : List (List ℕ))
+    (means : Meaning)
     → lines_of text ≡ line ∷ lines → means ≡ meaning games line
-    → with_front front (instructions_from games (number + 1) (lines_of text)) ≡ with_front front (with_meaning (number + 1) means (instructions_from games (number + 1 + 1) lines))
+    → with_front front (instructions_from games (number + 1) (lines_of text)) ≡ with_front front
+    (with_meaning (number + 1) means (instructions_from games (number + 1 + 1) lines))
 one_line games front number text line lines means first is = rw (first, is) refl
 
 -- a rest that is shorter has fewer bytes left
-pub bytes_left-shorter : (rest : Option (Bor (List ℕ))) (n : ℕ) → IfSome rest (λ text. length text.now < n) → bytes_left rest ≤ n
+pub bytes_left-shorter : (rest : Option (Bor (List ℕ))) (n : ℕ) → IfSome rest (λ text. length text.now < n)
+    → bytes_left rest ≤ n
 bytes_left-shorter None n shorter = omega arith
 bytes_left-shorter (Some text) n shorter = omega arith

@@ -1,4 +1,5 @@
-use Rattle.std.proofs.Common.{◌≡◌, ℕ, suc, ◌+◌, ◌-◌, ◌*◌, ◌^◌, ◌<◌, ◌≤◌, length, get_or, drop, drop-cons, List, [], ◌∷◌, Bool, true, false, Option, None, refl, arith, if◌then◌else◌}
+use Rattle.std.proofs.Common.{◌≡◌, ℕ, suc, ◌+◌, ◌-◌, ◌*◌, ◌^◌, ◌<◌, ◌≤◌, length, get_or, drop, drop-cons, List, [], ◌∷◌}
+use Rattle.std.proofs.Common.{Bool, true, false, Option, None, refl, arith, if◌then◌else◌}
 use Rattle.std.proofs.lemmas.Bool.Decides.{nat_tests}
 use Rattle.std.specs.Char.{is_ascii_digit}
 use Rattle.bhs_script.specs.Number.{fitting, read_on}
@@ -14,6 +15,8 @@ too_large n (digit ∷ digits) large =
     none_either_way (is_ascii_digit digit) _ (too_large (10 * n + (digit - 48)) digits (omega arith))
 
 -- the same at the digit behind the first i
-pub too_large_at : (n : ℕ) (digits : List ℕ) (i : ℕ) → i < length digits → 2 ^ 32 ≤ 10 * n + (get_or digits i 0 - 48) → fitting (read_on n (drop i digits)) ≡ None
+pub too_large_at : (n : ℕ) (digits : List ℕ) (i : ℕ) → i < length digits → 2 ^ 32 ≤ 10 * n + (get_or digits i 0 - 48)
+    → fitting (read_on n (drop i digits)) ≡ None
 too_large_at n digits i within large =
-    rw (drop-cons digits i 0 within) (none_either_way (is_ascii_digit (get_or digits i 0)) _ (too_large (10 * n + (get_or digits i 0 - 48)) (drop (suc i) digits) large))
+    rw (drop-cons digits i 0 within) (none_either_way (is_ascii_digit (get_or digits i 0)) _
+    (too_large (10 * n + (get_or digits i 0 - 48)) (drop (suc i) digits) large))

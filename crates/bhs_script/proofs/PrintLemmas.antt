@@ -1,5 +1,6 @@
 -- How a text is printed line by line.
-use Rattle.std.proofs.Common.{◌≡◌, ◌≢◌, ◌∙◌, ℕ, List, [], ◌∷◌, ◌++◌, Bool, true, false, ◌||◌, refl, ap, append_assoc, length}
+use Rattle.std.proofs.Common.{◌≡◌, ◌≢◌, ◌∙◌, ℕ, List, [], ◌∷◌, ◌++◌, Bool, true, false, ◌||◌, refl, ap, append_assoc}
+use Rattle.std.proofs.Common.{length}
 use Rattle.std.specs.List.{list_any}
 use Rattle.bhs_wire.specs.Lines.{is_line_feed}
 use Rattle.bhs_script.specs.Transcript.{begun_with}
@@ -11,7 +12,8 @@ begun-flat beginning [] rest none = refl
 begun-flat beginning (byte ∷ line) rest none = by_byte (is_line_feed byte) none (λ h. begun-flat beginning line rest h)
   where
     by_byte : (b : Bool) → (b || list_any is_line_feed line) ≡ false
-        → (list_any is_line_feed line ≡ false → begun_with beginning false (line ++ 10 ∷ rest) ≡ line ++ 10 ∷ begun_with beginning true rest)
+        → (list_any is_line_feed line ≡ false → begun_with beginning false (line ++ 10 ∷ rest) ≡ line
+        ++ 10 ∷ begun_with beginning true rest)
         → byte ∷ begun_with beginning b (line ++ 10 ∷ rest) ≡ byte ∷ (line ++ 10 ∷ begun_with beginning true rest)
     by_byte true none later = cc
     by_byte false none later = ap (λ bytes. byte ∷ bytes) (later none)
@@ -34,7 +36,8 @@ begun-rest beginning [] none = refl
 begun-rest beginning (byte ∷ line) none = by_byte (is_line_feed byte) none (λ h. begun-rest beginning line h)
   where
     by_byte : (b : Bool) → (b || list_any is_line_feed line) ≡ false
-        → (list_any is_line_feed line ≡ false → begun_with beginning false line ≡ line) → byte ∷ begun_with beginning b line ≡ byte ∷ line
+        → (list_any is_line_feed line ≡ false → begun_with beginning false line ≡ line)
+        → byte ∷ begun_with beginning b line ≡ byte ∷ line
     by_byte true none later = cc
     by_byte false none later = ap (λ bytes. byte ∷ bytes) (later none)
 

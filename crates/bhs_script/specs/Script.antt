@@ -1,5 +1,6 @@
 -- What a script means: the instructions that its lines give.
-use Rattle.std.specs.Prelude.{ℕ, ◌+◌, ◌==◌, Bool, List, [], ◌∷◌, ◌++◌, take, drop, nat_lt, bytes_eq, codes, Option, None, Some, option_map, option_and_then, Result, Ok, Err, if◌then◌else◌}
+use Rattle.std.specs.Prelude.{ℕ, ◌+◌, ◌==◌, Bool, List, [], ◌∷◌, ◌++◌, take, drop, nat_lt, bytes_eq, codes, Option}
+use Rattle.std.specs.Prelude.{None, Some, option_map, option_and_then, Result, Ok, Err, if◌then◌else◌}
 use Rattle.std.specs.List.{position}
 use Rattle.std.specs.Result.{result_ok}
 use Rattle.hex.specs.Hex.{decode_of}

@@ -1,7 +1,8 @@
 ghost use Rattle.std.specs.Prelude.{◌≡◌, ◌+◌, ◌<◌, ◌≤◌, ◌∷◌, [], length, IfOk, IfSome, MatchResult, option_map, map};
 ghost use Rattle.std.specs.List.{position};
 ghost use Rattle.std.specs.Option.{option_map_or};
-ghost use Rattle.bhs_script.specs.Script.{meaning, lines_of, is_space, instructions_of, instruction_in, parted, number_below, bytes_of, feeds_line, feeds_bytes, ends_input, draws, closes};
+ghost use Rattle.bhs_script.specs.Script.{meaning, lines_of, is_space, instructions_of, instruction_in, parted};
+ghost use Rattle.bhs_script.specs.Script.{number_below, bytes_of, feeds_line, feeds_bytes, ends_input, draws, closes};
 ghost use Rattle.bhs_script.specs.Instructions.{seen, seen_as};
 ghost use Rattle.bhs_script.specs.declared.instructions.TheConstants.{CONNECTIONS};
 ghost use Rattle.bhs_script.specs.ScriptFault.{Refuses};

@@ -7,18 +7,22 @@ use Rattle.bhs_stream.specs.Streams.{Taken}
 use Rattle.bhs_stream.specs.Sending.{PutsAll}
 use Rattle.bhs_session.specs.declared.endings.Ended.{Ended}
 use Rattle.bhs_session.specs.declared.endings.Ended.TheVariants as endings
-use Rattle.bhs_session.specs.Phase.{Phase, Ready, Owes, Leaves, Finished, Sends, all, part, none, stopped, waiting, finished_or}
+use Rattle.bhs_session.specs.Phase.{Phase, Ready, Owes, Leaves, Finished, Sends, all, part, none, stopped, waiting}
+use Rattle.bhs_session.specs.Phase.{finished_or}
 use Rattle.bhs_session.specs.Sent.{SentBut}
 
 -- bytes that the output took, and that lead from one phase to another
 abbrev pub Wrote : {O : Type 0} → (O → List ℕ → Taken → O → Type 0) → O → O → Phase → Phase → Type 0
 Wrote takes a b phase next = (more : List ℕ) × Sends takes a phase more b next
 
-pub Wrote-all : {O : Type 0} (takes : O → List ℕ → Taken → O → Type 0) (a b : O) (text : List ℕ) (next : Phase) → PutsAll takes a text b → Wrote takes a b (Owes text next) next
+pub Wrote-all : {O : Type 0} (takes : O → List ℕ → Taken → O → Type 0) (a b : O) (text : List ℕ) (next : Phase)
+    → PutsAll takes a text b → Wrote takes a b (Owes text next) next
 Wrote-all takes a b text next whole = (text, all text next b whole)
 
-pub Wrote-but : {O : Type 0} (takes : O → List ℕ → Taken → O → Type 0) (cause : Ended) (a b : O) (text : List ℕ) (next : Phase) → SentBut takes cause a text b → Wrote takes a b (Owes text next) (stopped next cause)
-Wrote-but takes endings.Memory a b text next kept = subst (λ (o : _). Wrote takes a o (Owes text next) (stopped next endings.Memory)) (sym kept) ([], none text next)
+pub Wrote-but : {O : Type 0} (takes : O → List ℕ → Taken → O → Type 0) (cause : Ended) (a b : O) (text : List ℕ)
+    (next : Phase) → SentBut takes cause a text b → Wrote takes a b (Owes text next) (stopped next cause)
+Wrote-but takes endings.Memory a b text next kept =
+    subst (λ (o : _). Wrote takes a o (Owes text next) (stopped next endings.Memory)) (sym kept) ([], none text next)
 Wrote-but takes endings.WriteFault a b text next short = (take short.sent text, part text next b short)
 Wrote-but takes endings.Bye a b text next h = absurd h
 Wrote-but takes endings.Noted a b text next h = absurd h
@@ -41,7 +45,8 @@ waiting-false (replies.Changed board) = refl
 waiting-false (replies.No why) = refl
 
 -- its agent is inside
-pub stopped-waiting : (waits : Bool) (reply : Reply) (cause : Ended) → stopped (waiting waits reply) cause ≡ Leaves cause
+pub stopped-waiting : (waits : Bool) (reply : Reply) (cause : Ended)
+    → stopped (waiting waits reply) cause ≡ Leaves cause
 stopped-waiting true replies.Gone cause = refl
 stopped-waiting false replies.Gone cause = refl
 stopped-waiting waits replies.Bye cause = refl
@@ -54,18 +59,26 @@ stopped-waiting waits (replies.No why) cause = refl
 
 -- ---- the same, by the ending that the code found
 
-module _ {O : Type 0} (takes : O → List ℕ → Taken → O → Type 0) (a b : O) (text : List ℕ) (next : Phase) (ending : Option Ended) where
+module _ {O : Type 0} (takes : O → List ℕ → Taken → O → Type 0) (a b : O) (text : List ℕ) (next : Phase)
+    (ending : Option Ended) where
   pub Wrote-answer : None ≡ ending → PutsAll takes a text b → Wrote takes a b (Owes text (finished_or ending next)) next
-  Wrote-answer goes whole = subst (λ (o : Option Ended). Wrote takes a b (Owes text (finished_or o next)) next) goes (Wrote-all takes a b text next whole)
+  Wrote-answer goes whole = subst (λ (o : Option Ended). Wrote takes a b (Owes text (finished_or o next)) next) goes
+      (Wrote-all takes a b text next whole)
 
-  pub Wrote-ending : (ended : Ended) → Some ended ≡ ending → PutsAll takes a text b → Wrote takes a b (Owes text (finished_or ending next)) (Finished ended)
-  Wrote-ending ended ends whole = subst (λ (o : Option Ended). Wrote takes a b (Owes text (finished_or o next)) (Finished ended)) ends (Wrote-all takes a b text (Finished ended) whole)
+  pub Wrote-ending : (ended : Ended) → Some ended ≡ ending → PutsAll takes a text b
+      → Wrote takes a b (Owes text (finished_or ending next)) (Finished ended)
+  Wrote-ending ended ends whole = subst (λ (o : Option Ended). Wrote takes a b (Owes text (finished_or o next))
+      (Finished ended)) ends (Wrote-all takes a b text (Finished ended) whole)
 
-  pub Wrote-answer_but : (cause : Ended) → None ≡ ending → stopped next cause ≡ Leaves cause → SentBut takes cause a text b → Wrote takes a b (Owes text (finished_or ending next)) (Leaves cause)
+  pub Wrote-answer_but : (cause : Ended) → None ≡ ending → stopped next cause ≡ Leaves cause
+      → SentBut takes cause a text b → Wrote takes a b (Owes text (finished_or ending next)) (Leaves cause)
   Wrote-answer_but cause goes inside short =
       subst (λ (o : Option Ended). Wrote takes a b (Owes text (finished_or o next)) (Leaves cause)) goes
-      (subst (λ (phase : Phase). Wrote takes a b (Owes text next) phase) inside (Wrote-but takes cause a b text next short))
+      (subst (λ (phase : Phase). Wrote takes a b (Owes text next) phase) inside
+      (Wrote-but takes cause a b text next short))
 
-  pub Wrote-ending_but : (cause ended : Ended) → Some ended ≡ ending → SentBut takes cause a text b → Wrote takes a b (Owes text (finished_or ending next)) (Finished cause)
+  pub Wrote-ending_but : (cause ended : Ended) → Some ended ≡ ending → SentBut takes cause a text b
+      → Wrote takes a b (Owes text (finished_or ending next)) (Finished cause)
   Wrote-ending_but cause ended ends short =
-      subst (λ (o : Option Ended). Wrote takes a b (Owes text (finished_or o next)) (Finished cause)) ends (Wrote-but takes cause a b text (Finished ended) short)
+      subst (λ (o : Option Ended). Wrote takes a b (Owes text (finished_or o next)) (Finished cause)) ends
+      (Wrote-but takes cause a b text (Finished ended) short)

@@ -18,7 +18,9 @@ compare_total = then_total (on_total (λ (row : Row). rank_of row.verdict.outcom
 pub precedes_orders : (rows : List Row) → IsStrictWeakOrder (precedes rows)
 precedes_orders rows = ranks_by (options_total compare_total) (slice_get rows)
 
-pub ranking_of : (rows : List Row) (before places : List ℕ) (n : ℕ) → n ≡ length rows → before ≡ range_with_len 0 n → IsPermutation before places → IsSortedBy (precedes rows) places → IsStableBy (precedes rows) before places → IsRanking rows places
+pub ranking_of : (rows : List Row) (before places : List ℕ) (n : ℕ) → n ≡ length rows → before ≡ range_with_len 0 n
+    → IsPermutation before places → IsSortedBy (precedes rows) places → IsStableBy (precedes rows) before places
+    → IsRanking rows places
 ranking_of rows before places n all same moved sorted stable =
     let from : before ≡ range_with_len 0 (length rows) = same ∙ ap (range_with_len 0) all in
     record {

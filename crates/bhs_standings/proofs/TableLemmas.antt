@@ -6,8 +6,10 @@ use Rattle.std.proofs.Math.ListN.{drop_of_length-le}
 use Rattle.bhs_standings.specs.declared.rows.Row.{Row}
 use Rattle.bhs_standings.specs.Tables.{line_of, lines_from}
 
-module _ (rows : List Row) (places : List ℕ) (ahead : ℕ) (text whole : List ℕ) (so_far : text ++ lines_from (ahead + 1) rows (drop ahead places) ≡ whole) where
-  pub goes_on : (at : ℕ) (new : List ℕ) → ahead < length places → at ≡ get_or places ahead 0 → new ≡ text ++ line_of (ahead + 1) (slice_get rows at) →
+module _ (rows : List Row) (places : List ℕ) (ahead : ℕ) (text whole : List ℕ)
+    (so_far : text ++ lines_from (ahead + 1) rows (drop ahead places) ≡ whole) where
+  pub goes_on : (at : ℕ) (new : List ℕ) → ahead < length places → at ≡ get_or places ahead 0
+      → new ≡ text ++ line_of (ahead + 1) (slice_get rows at) →
       new ++ lines_from (ahead + 1 + 1) rows (drop (ahead + 1) places) ≡ whole
   goes_on at new lt is grown =
       let rest = drop (ahead + 1) places in
@@ -18,4 +20,5 @@ module _ (rows : List Row) (places : List ℕ) (ahead : ℕ) (text whole : List 
       ∙ so_far
 
   pub ends : length places ≤ ahead → text ≡ whole
-  ends le = sym (append-nil text) ∙ sym (ap (λ ats. text ++ lines_from (ahead + 1) rows ats) (drop_of_length-le places le)) ∙ so_far
+  ends le = sym (append-nil text) ∙ sym (ap (λ ats. text ++ lines_from (ahead + 1) rows ats)
+      (drop_of_length-le places le)) ∙ so_far

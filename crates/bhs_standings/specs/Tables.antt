@@ -1,5 +1,6 @@
 -- The text of a table of verdicts.
-use Rattle.std.specs.Prelude.{ℕ, ◌+◌, ◌-◌, ◌^◌, false, Option, Some, None, List, [], ◌∷◌, ◌++◌, codes, decimal, slice_get, string_bytes}
+use Rattle.std.specs.Prelude.{ℕ, ◌+◌, ◌-◌, ◌^◌, false, Option, Some, None, List, [], ◌∷◌, ◌++◌, codes, decimal}
+use Rattle.std.specs.Prelude.{slice_get, string_bytes}
 use Rattle.std.specs.Fmt.{format_spec, padded, padded_integral}
 use Rattle.bhs_referee.specs.declared.verdicts.Outcome.{Outcome}
 use Rattle.bhs_referee.specs.declared.verdicts.Outcome.TheVariants.{Solved, Guess, Unfinished, Silent, Wrong}

@@ -45,7 +45,8 @@ fn line_at(alloc: Global, place: usize, rows: &[Row], at: usize) -> Result<Strin
 
 /// The table of these rows, the best first: a head line, and then a line for each row.
 pub fn table(alloc: Global, rows: &[Row]) -> Result<String, Memory>
-    ensures { IfOk result (λ text. (places : List ℕ) × IsRanking rows.now places × (string_bytes text ≡ table_of rows.now places)) }
+    ensures { IfOk result (λ text. (places : List ℕ) × IsRanking rows.now places
+        × (string_bytes text ≡ table_of rows.now places)) }
 {
     let places = rank(alloc, rows)?;
     let mut text = String::from_str(alloc, "  # team             outcome     moves lost\n")?;

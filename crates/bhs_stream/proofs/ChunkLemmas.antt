@@ -6,6 +6,8 @@ pub chunk_by-some : (bytes : List ℕ) → 0 < length bytes → chunk_by bytes �
 chunk_by-some [] some = absurd (omega (arith, some))
 chunk_by-some (byte ∷ more) some = refl
 
-pub chunk_by-take : (count : ℕ) (buffer : List ℕ) → 0 < count → count ≤ length buffer → chunk_by (take count buffer) ≡ Bytes (take count buffer)
+pub chunk_by-take : (count : ℕ) (buffer : List ℕ) → 0 < count → count ≤ length buffer
+    → chunk_by (take count buffer) ≡ Bytes (take count buffer)
 chunk_by-take count buffer some within =
-    let long : length (take count buffer) ≡ count = length-take-le count buffer within in chunk_by-some (take count buffer) (omega arith)
+    let long : length (take count buffer) ≡ count = length-take-le count buffer within in
+    chunk_by-some (take count buffer) (omega arith)

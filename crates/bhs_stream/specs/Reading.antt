@@ -12,11 +12,13 @@ IsPiece piece = (0 < length piece) × (length piece ≤ BUFFER)
 -- by so many reads, each of which brought bytes, these bytes came, and the input is in this state
 pub data Gathers {I : Type 0} (gives : I → Chunk → I → Type 0) (start : I) : (reads : ℕ) → List ℕ → I → Type 0 where
   begins : Gathers gives start 0 [] start
-  goes_on : (reads : ℕ) (bytes piece : List ℕ) (here next : I) → Gathers gives start reads bytes here → IsPiece piece → gives here (Bytes piece) next
+  goes_on : (reads : ℕ) (bytes piece : List ℕ) (here next : I) → Gathers gives start reads bytes here → IsPiece piece
+      → gives here (Bytes piece) next
       → Gathers gives start (reads + 1) (bytes ++ piece) next
 
 -- bytes came that fit the limit, a turn was left, and the next read, the last one, brought this
-pub record Closes {I : Type 0} (gives : I → Chunk → I → Type 0) (old : I) (limit turns : ℕ) (bytes : List ℕ) (chunk : Chunk) (new : I) : Type 0 where
+pub record Closes {I : Type 0} (gives : I → Chunk → I → Type 0) (old : I) (limit turns : ℕ) (bytes : List ℕ)
+    (chunk : Chunk) (new : I) : Type 0 where
   pub reads : ℕ
   pub before : I
   pub gathered : Gathers gives old reads bytes before
@@ -25,7 +27,8 @@ pub record Closes {I : Type 0} (gives : I → Chunk → I → Type 0) (old : I) 
   pub last : gives before chunk new
 
 -- the last read brought what is too long, or what there was no memory for
-pub record Overruns {I : Type 0} (gives : I → Chunk → I → Type 0) (old : I) (limit turns : ℕ) (whole : List ℕ) (new : I) : Type 0 where
+pub record Overruns {I : Type 0} (gives : I → Chunk → I → Type 0) (old : I) (limit turns : ℕ) (whole : List ℕ)
+    (new : I) : Type 0 where
   pub bytes : List ℕ
   pub piece : List ℕ
   pub is_piece : IsPiece piece
@@ -33,8 +36,12 @@ pub record Overruns {I : Type 0} (gives : I → Chunk → I → Type 0) (old : I
   pub joined : whole ≡ bytes ++ piece
 
 -- how the reads of a text decide which fault is answered
-abbrev pub EndsBy : {I : Type 0} → (I → Chunk → I → Type 0) → (old : I) → (limit turns : ℕ) → ReadFault → (new : I) → Type 0
+abbrev pub EndsBy : {I : Type 0} → (I → Chunk → I → Type 0) → (old : I) → (limit turns : ℕ) → ReadFault
+    → (new : I) → Type 0
 EndsBy gives old limit turns faults.Read new = (bytes : List ℕ) × Closes gives old limit turns bytes Fails new
-EndsBy gives old limit turns faults.Text new = (whole : List ℕ) × (limit < length whole) × Overruns gives old limit turns whole new
-EndsBy gives old limit turns faults.Memory new = (whole : List ℕ) × (length whole ≤ limit) × Overruns gives old limit turns whole new
-EndsBy gives old limit turns faults.Turns new = (bytes : List ℕ) × (length bytes ≤ limit) × Gathers gives old turns bytes new
+EndsBy gives old limit turns faults.Text new = (whole : List ℕ) × (limit < length whole)
+    × Overruns gives old limit turns whole new
+EndsBy gives old limit turns faults.Memory new = (whole : List ℕ) × (length whole ≤ limit)
+    × Overruns gives old limit turns whole new
+EndsBy gives old limit turns faults.Turns new = (bytes : List ℕ) × (length bytes ≤ limit)
+    × Gathers gives old turns bytes new

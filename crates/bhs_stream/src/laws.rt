@@ -12,13 +12,15 @@ use std::io::{Read, Write};
 
 /// A text that was read to its end is all that the reader had left.
 pub fn known_texts<R: Read>()
-    ensures { (old new : R) (limit turns : ℕ) (text : List ℕ) → Closes (known_gives R.remaining) old limit turns text End new
+    ensures { (old new : R) (limit turns : ℕ) (text : List ℕ)
+        → Closes (known_gives R.remaining) old limit turns text End new
         → Consumes (R.remaining old) (R.remaining new) text × IsAtEnd (R.remaining new) }
 {}
 
 /// A fault of reading says how many bytes the reader gave before it.
 pub fn known_faults<R: Read>()
-    ensures { (old new : R) (limit turns : ℕ) (fault : ReadFault) → EndsBy (known_gives R.remaining) old limit turns fault new
+    ensures { (old new : R) (limit turns : ℕ) (fault : ReadFault)
+        → EndsBy (known_gives R.remaining) old limit turns fault new
         → (bytes : List ℕ) × Consumes (R.remaining old) (R.remaining new) bytes × StoppedBy fault limit turns bytes }
 {}
 

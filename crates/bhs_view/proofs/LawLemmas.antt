@@ -28,7 +28,8 @@ cuts_tell_all_lemma play agent ended = record {
 
 pub equal_pasts_lemma : EqualPastsAreAnsweredAlike
 equal_pasts_lemma one two place other_place agent other quota board plays plays_too same =
-    model_pasts (world_in one) (world_in two) (take place (events_of one.log)) (take other_place (events_of two.log)) agent other quota board plays plays_too same
+    model_pasts (world_in one) (world_in two) (take place (events_of one.log)) (take other_place (events_of two.log))
+    agent other quota board plays plays_too same
 
 pub twins_look_alike_lemma : TwinsLookAlike
 twins_look_alike_lemma whole twin node ended fits is_twin = twins_alike whole twin node ended fits is_twin

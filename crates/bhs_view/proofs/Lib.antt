@@ -1,7 +1,6 @@
 pub mod ForwardLemmas
 pub mod BackLemmas
 pub mod CutLemmas
-pub mod FaultLemmas
 pub mod PlayingLemmas
 pub mod SetLemmas
 pub mod ClosedLemmas

@@ -1,5 +1,6 @@
 -- The log of a twin.
-use Rattle.std.proofs.Common.{ℕ, ◌≡◌, ◌<◌, Bool, true, false, not, Option, Some, None, List, [], ◌∷◌, ◌++◌, if◌then◌else◌, ◌==◌, nat_lt, map, append-nil, refl, sym, ap, ap₂, ◌∙◌, subst}
+use Rattle.std.proofs.Common.{ℕ, ◌≡◌, ◌<◌, Bool, true, false, not, Option, Some, None, List, [], ◌∷◌, ◌++◌}
+use Rattle.std.proofs.Common.{if◌then◌else◌, ◌==◌, nat_lt, map, append-nil, refl, sym, ap, ap₂, ◌∙◌, subst}
 use Rattle.std.specs.Prelude.{option_map}
 use Rattle.std.proofs.lemmas.Bool.{ltb-true}
 use Rattle.bhs_net.specs.Network.{Network, nodes_of}
@@ -35,8 +36,10 @@ pub record IsPair (world twin : World) (events chosen : List Event) (answers : L
   pub kept : kept twin chosen ≡ chosen
   pub answers_are : replies twin chosen ≡ answers
 
-pair_of : (world : World) (holes : List ℕ) (dark : List (ℕ × ℕ)) (old : Option ℕ) (new : ℕ) (events : List Event) → HasMoved world holes dark old new → kept world events ≡ events → first_arrival world new events ≡ None →
-    IsPair world (with_these world holes dark) events (at_places events (left world old events)) (at_places (replies world events) (left world old events))
+pair_of : (world : World) (holes : List ℕ) (dark : List (ℕ × ℕ)) (old : Option ℕ) (new : ℕ) (events : List Event)
+    → HasMoved world holes dark old new → kept world events ≡ events → first_arrival world new events ≡ None →
+    IsPair world (with_these world holes dark) events (at_places events (left world old events))
+    (at_places (replies world events) (left world old events))
 pair_of world holes dark old new events moved all unreached =
     let twin = with_these world holes dark in
     let same = left_same world holes dark old new initial nobody nobody 0 events moved (λ agent is. is) all unreached in
@@ -46,7 +49,12 @@ pair_of world holes dark old new events moved all unreached =
       reveals_nothing = same.hides;
       other_reveals_nothing = same.hides_too;
     } in
-    record { twins = twins; alike = twins_look_alike_lemma world events twin _ twins; kept = same.kept; answers_are = same.answers_are }
+    record {
+      twins = twins;
+      alike = twins_look_alike_lemma world events twin _ twins;
+      kept = same.kept;
+      answers_are = same.answers_are;
+    }
 
 -- what it means that there is no fault
 pub record IsFree (play : Play) (node : ℕ) : Type 0 where
@@ -55,7 +63,10 @@ pub record IsFree (play : Play) (node : ℕ) : Type 0 where
   pub no_hole : is_hole play.setup.holes node ≡ false
   pub unreached : first_arrival (world_in play) node (events_of play.log) ≡ None
 
-free_parts : (a b c : Bool) (found : Option ℕ) → (if not a then Some Node else (if b then Some Home else (if c then Some Same else option_map Reached found))) ≡ None → (a ≡ true) × (b ≡ false) × (c ≡ false) × (found ≡ None)
+free_parts : (a b c : Bool) (found : Option ℕ)
+    → (if not a then Some Node else (if b then Some
+    Home else (if c then Some Same else option_map Reached found))) ≡ None → (a ≡ true) × (b ≡ false) × (c ≡ false)
+    × (found ≡ None)
 free_parts false b c found e = cc
 free_parts true true c found e = cc
 free_parts true false true found e = cc
@@ -64,20 +75,24 @@ free_parts true false false None e = (refl, refl, refl, refl)
 
 pub is_free : (play : Play) (node : ℕ) → twin_fault play node ≡ None → IsFree play node
 is_free play node fits =
-    let parts = free_parts (nat_lt node (nodes_of play.net)) (node == play.setup.home) (is_hole play.setup.holes node) (first_arrival (world_in play) node (events_of play.log)) fits in
+    let parts = free_parts (nat_lt node (nodes_of play.net)) (node == play.setup.home) (is_hole play.setup.holes node)
+    (first_arrival (world_in play) node (events_of play.log)) fits in
     record { is_node = ltb-true _ _ parts.0; away = parts.1; no_hole = parts.2; unreached = parts.3 }
 
 -- what a twin is made of
-pub record IsTwinOf (whole part : Play) (node : ℕ) (holes : List ℕ) (dark : List (ℕ × ℕ)) (old : Option ℕ) : Type 0 where
+pub record IsTwinOf (whole part : Play) (node : ℕ) (holes : List ℕ) (dark : List (ℕ × ℕ))
+    (old : Option ℕ) : Type 0 where
   pub moved : HasMoved (world_in whole) holes dark old node
   pub world : world_in part ≡ with_these (world_in whole) holes dark
   pub events : events_of part.log ≡ at_places (events_of whole.log) (left (world_in whole) old (events_of whole.log))
 
-firsts : (log all : List Kept) → map (λ (entry : Entry). entry.0) (map (λ (one : Kept). (one.event, read_if all one.mark)) log) ≡ events_of log
+firsts : (log all : List Kept) → map (λ (entry : Entry). entry.0)
+    (map (λ (one : Kept). (one.event, read_if all one.mark)) log) ≡ events_of log
 firsts [] all = refl
 firsts (one ∷ log) all = ap (λ (others : List Event). one.event ∷ others) (firsts log all)
 
-firsts_at : (chosen : List Entry) (set : List Bool) → map (λ (entry : Entry). entry.0) (at_places chosen set) ≡ at_places (map (λ (entry : Entry). entry.0) chosen) set
+firsts_at : (chosen : List Entry) (set : List Bool)
+    → map (λ (entry : Entry). entry.0) (at_places chosen set) ≡ at_places (map (λ (entry : Entry). entry.0) chosen) set
 firsts_at [] set = refl
 firsts_at (one ∷ chosen) [] = refl
 firsts_at (one ∷ chosen) (true ∷ set) = ap (λ (others : List Event). one.0 ∷ others) (firsts_at chosen set)
@@ -99,7 +114,8 @@ made_of whole part node ended is_node twin =
     }
 
 -- a log that was kept whole, and that ends the match, is kept whole with one Close more
-closed_whole : (world : World) (chosen : List Event) → kept world chosen ≡ chosen → (run world chosen).closed ≡ true → kept world (chosen ++ Close ∷ []) ≡ chosen
+closed_whole : (world : World) (chosen : List Event) → kept world chosen ≡ chosen → (run world chosen).closed ≡ true
+    → kept world (chosen ++ Close ∷ []) ≡ chosen
 closed_whole world chosen all ended =
     kept-append world initial nobody chosen (Close ∷ [])
     ∙ ap₂ (λ (before : List Event) (closed : Bool). before ++ kept_first (not closed) Close []) all ended
@@ -109,13 +125,18 @@ pub record AreTwins (whole part : Play) (node : ℕ) : Type 0 where
   pub twin : IsTwin whole node part
   pub alike : LookAlike (world_in whole) (events_of whole.log) (world_in part) (events_of part.log)
 
-pub is_twin : (whole part game : Play) (net : Network) (setup : Setup) (log : List Kept) (node : ℕ) (marks : List Bool) → net ≡ whole.net → log ≡ whole.log → IsEnded whole → node < nodes_of whole.net →
+pub is_twin : (whole part game : Play) (net : Network) (setup : Setup) (log : List Kept) (node : ℕ) (marks : List Bool)
+    → net ≡ whole.net → log ≡ whole.log → IsEnded whole → node < nodes_of whole.net →
     first_arrival (world_in whole) node (events_of whole.log) ≡ None →
-    setup ≡ moved whole.net whole.setup (replaced (world_in whole) (events_of whole.log)) node → game ≡ record { net = net; setup = normal net setup; log = [] } →
+    setup ≡ moved whole.net whole.setup (replaced (world_in whole) (events_of whole.log)) node
+    → game ≡ record { net = net; setup = normal net setup; log = [] } →
     marks ≡ left (world_in whole) (replaced (world_in whole) (events_of whole.log)) (events_of whole.log) →
-    kept (world_in game) (at_places (events_of log) marks ++ Close ∷ []) ≡ events_of part.log → (part.net ≡ game.net) × (part.setup ≡ game.setup) →
-    map (λ (one : Kept). read_if part.log one.mark) part.log ≡ replies (world_in part) (events_of part.log) → AreTwins whole part node
-is_twin whole part game net setup log node marks is_net is_log ended is_node unreached is_setup is_game is_marks is_part same part_replied =
+    kept (world_in game) (at_places (events_of log) marks ++ Close ∷ []) ≡ events_of part.log → (part.net ≡ game.net)
+    × (part.setup ≡ game.setup) →
+    map (λ (one : Kept). read_if part.log one.mark) part.log ≡ replies (world_in part) (events_of part.log)
+    → AreTwins whole part node
+is_twin whole part game net setup log node marks is_net is_log ended is_node unreached is_setup is_game is_marks is_part
+    same part_replied =
     let world = world_in whole in
     let events = events_of whole.log in
     let old = replaced world events in
@@ -123,30 +144,37 @@ is_twin whole part game net setup log node marks is_net is_log ended is_node unr
     let twin = with_these world other.holes other.dark in
     let set = left world old events in
     let chosen = at_places events set in
-    let pair = pair_of world other.holes other.dark old node events (has_moved whole.net whole.setup events node ended.network.labelled ended.within is_node) ended.kept unreached in
+    let pair = pair_of world other.holes other.dark old node events
+    (has_moved whole.net whole.setup events node ended.network.labelled ended.within is_node)
+    ended.kept unreached in
     let game_net : game.net ≡ whole.net = ap (λ (play : Play). play.net) is_game ∙ is_net in
     let game_setup : game.setup ≡ other = ap (λ (play : Play). play.setup) is_game ∙ ap₂ normal is_net is_setup in
     let game_world : world_in game ≡ twin = ap₂ world_of game_net game_setup in
     let part_world : world_in part ≡ twin = ap₂ world_of (same.0 ∙ game_net) (same.1 ∙ game_setup) in
-    let shut : (run twin chosen).closed ≡ true = ap (λ (state : State). state.closed) (sym pair.alike.states) ∙ ended.closed in
+    let shut : (run twin chosen).closed ≡ true = ap (λ (state : State). state.closed) (sym pair.alike.states)
+    ∙ ended.closed in
     let part_events : events_of part.log ≡ chosen =
     sym is_part
-    ∙ ap₂ (λ (world : World) (events : List Event). kept world (events ++ Close ∷ [])) game_world (ap₂ (λ (log : List Kept) (set : List Bool). at_places (events_of log) set) is_log is_marks)
+    ∙ ap₂ (λ (world : World) (events : List Event). kept world (events ++ Close ∷ [])) game_world
+    (ap₂ (λ (log : List Kept) (set : List Bool). at_places (events_of log) set) is_log is_marks)
     ∙ closed_whole twin chosen pair.kept shut in
     record {
       twin = record {
         net = same.0 ∙ game_net;
         setup = same.1 ∙ game_setup;
         log = entries_paired part.log part.log
-            ∙ ap (paired (events_of part.log)) (part_replied ∙ ap₂ replies part_world part_events ∙ pair.answers_are ∙ ap (λ (answers : List (Option Reply)). at_places answers set) (sym ended.replies))
-            ∙ ap (λ (events : List Event). paired events (at_places (map (λ (one : Kept). read_if whole.log one.mark) whole.log) set)) part_events
+            ∙ ap (paired (events_of part.log)) (part_replied ∙ ap₂ replies part_world part_events ∙ pair.answers_are
+            ∙ ap (λ (answers : List (Option Reply)). at_places answers set) (sym ended.replies))
+            ∙ ap (λ (events : List Event). paired events
+            (at_places (map (λ (one : Kept). read_if whole.log one.mark) whole.log) set)) part_events
             ∙ sym (chosen_paired whole.log whole.log set);
       };
       alike = subst (λ (there : World). LookAlike world events there (events_of part.log)) (sym part_world)
           (subst (λ (others : List Event). LookAlike world events twin others) (sym part_events) pair.alike);
     }
 
-pub twins_alike : (whole twin : Play) (node : ℕ) → IsEnded whole → twin_fault whole node ≡ None → IsTwin whole node twin →
+pub twins_alike : (whole twin : Play) (node : ℕ) → IsEnded whole → twin_fault whole node ≡ None
+    → IsTwin whole node twin →
     LookAlike (world_in whole) (events_of whole.log) (world_in twin) (events_of twin.log)
 twins_alike whole part node ended fits twin =
     let world = world_in whole in
@@ -157,4 +185,5 @@ twins_alike whole part node ended fits twin =
     let made = made_of whole part node ended free.is_node twin in
     let pair = pair_of world other.holes other.dark old node events made.moved ended.kept free.unreached in
     subst (λ (there : World). LookAlike world events there (events_of part.log)) (sym made.world)
-    (subst (λ (others : List Event). LookAlike world events (with_these world other.holes other.dark) others) (sym made.events) pair.alike)
+    (subst (λ (others : List Event). LookAlike world events (with_these world other.holes other.dark) others)
+    (sym made.events) pair.alike)

@@ -13,7 +13,8 @@ pub record IsRefuted (play : Play) (node : ℕ) : Type 0 where
   pub wrong : (twin : Play) → IsTwin play node twin → (verdict_of twin).outcome ≡ Wrong
 
 abbrev pub GuessesAreRefuted : Type 0
-GuessesAreRefuted = (play : Play) (node : ℕ) → IsEnded play → (verdict_of play).outcome ≡ Guess node → IsRefuted play node
+GuessesAreRefuted = (play : Play) (node : ℕ) → IsEnded play → (verdict_of play).outcome ≡ Guess node
+    → IsRefuted play node
 
 -- Where the match is solved no twin is Wrong.
 abbrev pub SolvedIsNotRefuted : Type 0

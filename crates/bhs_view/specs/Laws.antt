@@ -21,14 +21,16 @@ pub record IsEnded (play : Play) : Type 0 where
   pub kept : kept (world_in play) (events_of play.log) ≡ events_of play.log
   pub replies : map (λ one. read_if play.log one.mark) play.log ≡ replies (world_in play) (events_of play.log)
 
--- The cut of an agent in a match is the least closed set of places with all its own, and by itself it gives the agent the
--- past, the position and the answers that it had. Each closed set is answered by itself as it was.
+-- The cut of an agent in a match is the least closed set of places with all its own, and by itself it gives the agent
+-- the past, the position and the answers that it had. Each closed set is answered by itself as it was.
 pub record CutTellsAll (play : Play) (agent : ℕ) : Type 0 where
-  pub least : IsLeastCut (world_in play) (events_of play.log) agent (cut agent (footprints (world_in play) (events_of play.log)))
+  pub least : IsLeastCut (world_in play) (events_of play.log) agent
+      (cut agent (footprints (world_in play) (events_of play.log)))
   pub given : IsGivenAll (world_in play) (events_of play.log)
       (at_places (events_of play.log) (cut agent (footprints (world_in play) (events_of play.log)))) agent
   pub alone : (places : List Bool) → is_closed (footprints (world_in play) (events_of play.log)) places ≡ true →
-      replies (world_in play) (at_places (events_of play.log) places) ≡ at_places (map (λ one. read_if play.log one.mark) play.log) places
+      replies (world_in play) (at_places (events_of play.log) places)
+      ≡ at_places (map (λ one. read_if play.log one.mark) play.log) places
 
 abbrev pub CutsTellAll : Type 0
 CutsTellAll = (play : Play) (agent : ℕ) → IsEnded play → CutTellsAll play agent
@@ -40,16 +42,19 @@ EqualPastsAreAnsweredAlike = (one two : Play) (place other_place agent other : �
     one.setup.quota ≡ two.setup.quota → one.setup.board ≡ two.setup.board →
     IsPlaying (world_in one) (take place (events_of one.log)) agent →
     IsPlaying (world_in two) (take other_place (events_of two.log)) other →
-    past (world_in one) (take place (events_of one.log)) agent ≡ past (world_in two) (take other_place (events_of two.log)) other →
-    AreAnsweredAlike (world_in one) (take place (events_of one.log)) agent (world_in two) (take other_place (events_of two.log)) other
+    past (world_in one) (take place (events_of one.log)) agent
+    ≡ past (world_in two) (take other_place (events_of two.log)) other →
+    AreAnsweredAlike (world_in one) (take place (events_of one.log)) agent (world_in two)
+    (take other_place (events_of two.log)) other
 
 -- A match and its twin look alike: each agent has the same past and was answered the same.
 abbrev pub TwinsLookAlike : Type 0
-TwinsLookAlike = (whole twin : Play) (node : ℕ) → IsEnded whole → twin_fault whole node ≡ None → IsTwin whole node twin →
+TwinsLookAlike = (whole twin : Play) (node : ℕ) → IsEnded whole → twin_fault whole node ≡ None
+    → IsTwin whole node twin →
     LookAlike (world_in whole) (events_of whole.log) (world_in twin) (events_of twin.log)
 
--- A match with black holes and dark links, and one without in which the doomed links are held as well, played by the same
--- commands and words: each agent was answered the same until the close.
+-- A match with black holes and dark links, and one without in which the doomed links are held as well, played by the
+-- same commands and words: each agent was answered the same until the close.
 abbrev pub HolesLookSlow : Type 0
 HolesLookSlow = (fast slow : Play) (held still : Held) (acts : List Act) (agent : ℕ) →
     SlowInstead (world_in fast) held (world_in slow) still →

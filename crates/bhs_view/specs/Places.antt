@@ -1,5 +1,6 @@
 -- Places of a log: as an ascending list of numbers, and as a set, which is a list of Bool beside the log.
-use Rattle.std.specs.Prelude.{ℕ, suc, Bool, ◌&&◌, Option, Some, None, List, [], ◌∷◌, if◌then◌else◌, nat_eq, nat_le, nat_lt}
+use Rattle.std.specs.Prelude.{ℕ, suc, Bool, ◌&&◌, Option, Some, None, List, [], ◌∷◌, if◌then◌else◌, nat_eq, nat_le}
+use Rattle.std.specs.Prelude.{nat_lt}
 use Rattle.std.specs.List.{list_any}
 
 -- the places of a set, ascending, where the first of the set has this number
@@ -16,8 +17,8 @@ abbrev pub set_from : {A : Type 0} → (place : ℕ) → (places : List ℕ) →
 set_from place places [] = []
 set_from place places (x ∷ xs) = list_any (nat_eq place) places ∷ set_from (suc place) places xs
 
--- the index of the first of these places that is below the least that may stand there, or past so many; the least is one
--- more than the place before
+-- the index of the first of these places that is below the least that may stand there, or past so many; the least is
+-- one more than the place before
 abbrev pub misplaced_from : (index least count : ℕ) → List ℕ → Option ℕ
 misplaced_from index least count [] = None
 misplaced_from index least count (place ∷ places) =

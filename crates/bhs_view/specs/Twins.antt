@@ -1,5 +1,6 @@
 -- Twins of a match: the same match with a black hole elsewhere, at a node where no agent arrived.
-use Rattle.std.specs.Prelude.{ℕ, suc, ◌≡◌, Bool, true, false, not, ◌&&◌, ◌||◌, ◌==◌, Option, Some, None, List, [], ◌∷◌, if◌then◌else◌, nat_lt, find, option_map}
+use Rattle.std.specs.Prelude.{ℕ, suc, ◌≡◌, Bool, true, false, not, ◌&&◌, ◌||◌, ◌==◌, Option, Some, None, List, [], ◌∷◌}
+use Rattle.std.specs.Prelude.{if◌then◌else◌, nat_lt, find, option_map}
 use Rattle.std.specs.List.{range_with_len}
 use Rattle.std.specs.Option.{option_or}
 use Rattle.bhs_net.specs.Network.{Network, nodes_of}
@@ -36,7 +37,8 @@ is_noted reply = false
 -- the black hole that an event accuses by a link that is not dark: the event is an accusation that is noted
 abbrev pub hole_accused : World → State → Event → Option ℕ
 hole_accused world state (Tell agent (Accuse port)) =
-    if is_noted (reply world state (Tell agent (Accuse port))) then hole_from world (state.position agent) port else None
+    if is_noted (reply world state (Tell agent (Accuse port))) then hole_from world
+    (state.position agent) port else None
 hole_accused world state event = None
 
 abbrev pub first_accused_from : World → State → List Event → Option ℕ
@@ -88,8 +90,8 @@ first_arrival_from world node state place (event ∷ events) =
 abbrev pub first_arrival : World → (node : ℕ) → List Event → Option ℕ
 first_arrival world node events = first_arrival_from world node initial 0 events
 
--- why a match has no twin with a black hole at this node: it is no node, or the home base, or a black hole already, or an
--- agent arrived there
+-- why a match has no twin with a black hole at this node: it is no node, or the home base, or a black hole already, or
+-- an agent arrived there
 abbrev pub twin_fault : Play → (node : ℕ) → Option TwinFault
 twin_fault play node =
     if not (nat_lt node (nodes_of play.net)) then Some Node
@@ -97,8 +99,8 @@ twin_fault play node =
     else (if is_hole play.setup.holes node then Some Same
     else option_map Reached (first_arrival (world_in play) node (events_of play.log))))
 
--- the twin of a match with a black hole at this node: the hole that gives way is no hole, each Deliver that finds its agent
--- bound for it is taken out, and all else happened with the replies that it had
+-- the twin of a match with a black hole at this node: the hole that gives way is no hole, each Deliver that finds its
+-- agent bound for it is taken out, and all else happened with the replies that it had
 pub record IsTwin (whole : Play) (node : ℕ) (twin : Play) : Type 0 where
   pub net : twin.net ≡ whole.net
   pub setup : twin.setup

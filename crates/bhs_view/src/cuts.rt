@@ -15,7 +15,8 @@ use std::alloc::Global;
 /// The places of the agent's causal past, ascending: the least closed set of places of the log that has all places of
 /// the agent. None for a number that is no agent's. The log is walked over twice, forward and back.
 pub fn cut_of(alloc: Global, sealed: &Sealed, agent: u16) -> Result<Vec<u32>, Memory>
-    ensures cut { IfOk result (λ places. places.items ≡ places_of (cut agent (footprints (world_in sealed.now) (events_of sealed.now.log)))) }
+    ensures cut { IfOk result (λ places. places.items
+        ≡ places_of (cut agent (footprints (world_in sealed.now) (events_of sealed.now.log)))) }
     ensures stranger { sealed.now.setup.agents ≤ agent → IfOk result (λ places. places.items ≡ []) }
 {
     let (places, _) = cut_and_looks(alloc, sealed, agent)?;
@@ -25,7 +26,8 @@ pub fn cut_of(alloc: Global, sealed: &Sealed, agent: u16) -> Result<Vec<u32>, Me
 /// The places of the agent's causal past, and how many places of the log the walk back looked at: each once, and none
 /// for a number that is no agent's.
 pub fn cut_and_looks(alloc: Global, sealed: &Sealed, agent: u16) -> Result<(Vec<u32>, u32), Memory>
-    ensures cut { IfOk result (λ found. found.0.items ≡ places_of (cut agent (footprints (world_in sealed.now) (events_of sealed.now.log)))) }
+    ensures cut { IfOk result (λ found. found.0.items
+        ≡ places_of (cut agent (footprints (world_in sealed.now) (events_of sealed.now.log)))) }
     ensures stranger { sealed.now.setup.agents ≤ agent → IfOk result (λ found. (found.0.items ≡ []) × (found.1 ≡ 0)) }
     ensures looks { agent < sealed.now.setup.agents → IfOk result (λ found. found.1 ≡ length sealed.now.log) }
 {

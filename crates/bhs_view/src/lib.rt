@@ -1,5 +1,5 @@
-//! Why an agent saw what it saw, in a match that has ended: the causal past of an agent, closed sets of places played by
-//! themselves, and twins, which no agent can tell apart.
+//! Why an agent saw what it saw, in a match that has ended: the causal past of an agent, closed sets of places played
+//! by themselves, and twins, which no agent can tell apart.
 #![tactic(auto)]
 
 mod cuts;

@@ -1,6 +1,7 @@
 ghost use Rattle.std.specs.Prelude.{◌≡◌, ◌<◌, IfOk, IfSome, length};
 ghost use Rattle.bhs_view.specs.Entries.{closes};
-ghost use Rattle.bhs_view.specs.Walks.{footprint_at, who_of, seen_by, written_by, marked, marks_with, is_needed, needed_after, nothing_needed, IsInRange};
+ghost use Rattle.bhs_view.specs.Walks.{footprint_at, who_of, seen_by, written_by, marked, marks_with, is_needed};
+ghost use Rattle.bhs_view.specs.Walks.{needed_after, nothing_needed, IsInRange};
 
 use bhs_model::{Command, Event, Kept, Mark};
 use bhs_net::Memory;

@@ -32,8 +32,10 @@ pub(crate) fn begun(alloc: Global, net: &Net, setup: Setup) -> Result<Match, Mem
 pub(crate) fn replay(mut game: Match, log: &[Kept], set: &[bool]) -> Result<Sealed, Memory>
     requires fresh { game.log ≡ [] }
     requires set { length set.now ≡ length log.now }
-    ensures log { IfOk result (λ part. kept (world_in game) (at_places (events_of log.now) set.now ++ Close ∷ []) ≡ events_of part.log) }
-    ensures replies { IfOk result (λ part. map (λ one. read_if part.log one.mark) part.log ≡ replies (world_in part) (events_of part.log)) }
+    ensures log { IfOk result (λ part. kept (world_in game) (at_places (events_of log.now) set.now ++ Close ∷ [])
+        ≡ events_of part.log) }
+    ensures replies { IfOk result (λ part. map (λ one. read_if part.log one.mark) part.log
+        ≡ replies (world_in part) (events_of part.log)) }
     ensures same { IfOk result (λ part. (part.net ≡ game.net) × (part.setup ≡ game.setup)) }
 {
     for place in 0..log.len() {

@@ -1,4 +1,5 @@
-ghost use Rattle.std.specs.Prelude.{ℕ, ◌≡◌, ◌<◌, ◌⊎◌, ◌^◌, [], None, Some, IfOk, IfErr, OnOk, length, slice_index_or, nat_eq, false};
+ghost use Rattle.std.specs.Prelude.{ℕ, ◌≡◌, ◌<◌, ◌⊎◌, ◌^◌, [], None, Some, IfOk, IfErr, OnOk, length, slice_index_or};
+ghost use Rattle.std.specs.Prelude.{nat_eq, false};
 ghost use Rattle.std.specs.List.{list_any};
 ghost use Rattle.bhs_net.specs.Network.{IsNetwork};
 ghost use Rattle.bhs_view.specs.Places.{misplaced};
@@ -37,8 +38,8 @@ impl From<Memory> for RestrictFault {
     }
 }
 
-/// Plays the events of a closed set of places of the log anew, by themselves, and then a Close. Each event has the reply
-/// that it has in the whole log.
+/// Plays the events of a closed set of places of the log anew, by themselves, and then a Close. Each event has the
+/// reply that it has in the whole log.
 pub fn restrict(alloc: Global, sealed: &Sealed, places: &[u32]) -> Result<Sealed, RestrictFault>
     ensures played { IfOk result (λ part. IsRestricted sealed.now places.now part) }
     ensures fit { OnOk result (first_fault sealed.now places.now ≡ None) }
@@ -91,7 +92,8 @@ fn misplaced(places: &[u32], count: usize) -> Option<usize>
 /// The places as a set of so many.
 fn set_of(alloc: Global, places: &[u32], count: usize) -> Result<Vec<bool>, Memory>
     ensures length { IfOk result (λ set. length set.items ≡ count) }
-    ensures marks { IfOk result (λ set. (place : ℕ) → place < count → slice_index_or set.items place false ≡ list_any (nat_eq place) places.now) }
+    ensures marks { IfOk result (λ set. (place : ℕ) → place < count → slice_index_or set.items place false
+        ≡ list_any (nat_eq place) places.now) }
 {
     let mut set = vec![in alloc; false; count]?;
     for place in places {

@@ -7,7 +7,8 @@ ghost use Rattle.bhs_model.specs.Setups.{world_of};
 ghost use Rattle.bhs_model.specs.declared.setups.Setup.{Setup as SetupData};
 ghost use Rattle.bhs_world.specs.Faults.{IsWithinLimits};
 ghost use Rattle.bhs_view.specs.Sites.{sites};
-ghost use Rattle.bhs_view.specs.Walks.{IsOn, IsReady, told_site, told_spot, delivered_site, landed, site_by, spots_after};
+ghost use Rattle.bhs_view.specs.Walks.{IsOn, IsReady, told_site, told_spot, delivered_site, landed, site_by};
+ghost use Rattle.bhs_view.specs.Walks.{spots_after};
 
 use bhs_model::{Command, Event, Kept, Mark, Setup};
 use bhs_net::{Memory, Net};
@@ -34,7 +35,8 @@ pub(crate) fn sites(
     requires network { IsNetwork net.now }
     requires within { IsWithinLimits net.now setup.now }
     requires kept { kept (world_of net.now setup.now) (events_of log.now) ≡ events_of log.now }
-    requires replies { map (λ one. read_if log.now one.mark) log.now ≡ replies (world_of net.now setup.now) (events_of log.now) }
+    requires replies { map (λ one. read_if log.now one.mark) log.now
+        ≡ replies (world_of net.now setup.now) (events_of log.now) }
     ensures { IfOk result (λ found. found.items ≡ sites (world_of net.now setup.now) (events_of log.now)) }
 {
     let mut spots = vec![in alloc; Spot::Off; usize::from(setup.agents)]?;

@@ -48,12 +48,13 @@ impl From<Memory> for TwinFault {
     }
 }
 
-/// The match with a black hole at this node, in which no agent saw anything else. The black hole that was first accused by
-/// a link that is not dark gives way; without such an accusation the least, and none where there is none. Each Deliver
-/// that finds its agent bound for that one is left out.
+/// The match with a black hole at this node, in which no agent saw anything else. The black hole that was first accused
+/// by a link that is not dark gives way; without such an accusation the least, and none where there is none. Each
+/// Deliver that finds its agent bound for that one is left out.
 pub fn twin_of(alloc: Global, sealed: &Sealed, node: u16) -> Result<Sealed, TwinFault>
     ensures twin { IfOk result (λ twin. IsTwin sealed.now node twin) }
-    ensures alike { IfOk result (λ twin. LookAlike (world_in sealed.now) (events_of sealed.now.log) (world_in twin) (events_of twin.log)) }
+    ensures alike { IfOk result (λ twin. LookAlike (world_in sealed.now) (events_of sealed.now.log) (world_in twin)
+        (events_of twin.log)) }
     ensures fit { OnOk result (twin_fault sealed.now node ≡ None) }
     ensures fault { IfErr result (λ fault. (fault ≡ OutOfMemory) ⊎ (twin_fault sealed.now node ≡ Some fault)) }
 {
@@ -115,7 +116,8 @@ fn is_arrival(kept: &Kept, site: Option<u16>, node: u16) -> bool
 /// The black hole that gives way.
 fn replaced(net: &Net, setup: &Setup, log: &[Kept], sites: &[Option<u16>]) -> Option<u16>
     requires sites { length sites.now ≡ length log.now }
-    ensures { result ≡ option_or (first_hole (world_of net.now setup.now) log.now sites.now) (find (is_hole setup.now.holes) (range_with_len 0 (nodes_of net.now))) }
+    ensures { result ≡ option_or (first_hole (world_of net.now setup.now) log.now sites.now)
+        (find (is_hole setup.now.holes) (range_with_len 0 (nodes_of net.now))) }
 {
     match first_hole(net, setup, log, sites) {
         Some(hole) => Some(hole),

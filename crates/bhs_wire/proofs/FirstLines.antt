@@ -8,7 +8,8 @@ use Rattle.bhs_model.specs.declared.commands.Command.TheVariants.{Bad}
 use Rattle.bhs_wire.specs.declared.commands.First.TheVariants.{Tell}
 use Rattle.bhs_wire.specs.First.{first_in, first_of, first_of_read}
 
-pub first_of-read : (line : List ℕ) (value : Data) → IsUtf8 line → read line ≡ Some value → first_of line ≡ first_in value
+pub first_of-read : (line : List ℕ) (value : Data) → IsUtf8 line → read line ≡ Some value
+    → first_of line ≡ first_in value
 first_of-read line value text found =
     ap (λ b. first_of_read (cond b (read line) None)) (is_utf8-from_IsUtf8 line text) ∙ ap first_of_read found
 

@@ -21,7 +21,9 @@ label (Some port) = decimal port
 -- the line, without its line feed
 abbrev pub line : Reply → List ℕ
 line (Here ports came board) =
-    codes "{\"board\":" ++ (quoted_text board ++ (codes ",\"from\":" ++ (label came ++ (codes ",\"ok\":\"here\",\"ports\":" ++ (decimal ports ++ codes "}")))))
+    codes "{\"board\":" ++ (quoted_text board
+    ++ (codes ",\"from\":" ++ (label came
+    ++ (codes ",\"ok\":\"here\",\"ports\":" ++ (decimal ports ++ codes "}")))))
 line Written = codes "{\"ok\":\"written\"}"
 line (Changed board) = codes "{\"board\":" ++ (quoted_text board ++ codes ",\"ok\":\"changed\"}")
 line Gone = codes "{\"ok\":\"gone\"}"
@@ -45,7 +47,8 @@ here ports came board =
 
 -- with the board's text
 abbrev pub changed : List ℕ → Data
-changed board = object (member (codes "board") (string board) (member (codes "ok") (string (codes "changed")) no_members))
+changed board = object (member (codes "board") (string board)
+    (member (codes "ok") (string (codes "changed")) no_members))
 
 -- a reply that is a word
 abbrev pub plain : List ℕ → Data

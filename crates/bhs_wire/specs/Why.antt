@@ -1,7 +1,8 @@
 -- The word of a refusal on the wire.
 use Rattle.std.specs.Prelude.{ℕ, List, codes}
 use Rattle.bhs_model.specs.declared.replies.Why.{Why}
-use Rattle.bhs_model.specs.declared.replies.Why.TheVariants.{Agent, Outside, Twice, Ended, Spent, Away, Line, Port, Long}
+use Rattle.bhs_model.specs.declared.replies.Why.TheVariants.{Agent, Outside, Twice, Ended, Spent, Away, Line, Port}
+use Rattle.bhs_model.specs.declared.replies.Why.TheVariants.{Long}
 
 -- one word for each reason
 abbrev pub word : Why → List ℕ

@@ -1,11 +1,13 @@
 -- What holds of a list that is written at one place.
-use Rattle.std.proofs.Common.{◌≡◌, ℕ, ◌+◌, ◌<◌, ◌≤◌, true, false, List, length, nat_lt, ◌==◌, ◌⊎◌, inl, inr, refl, arith, get_or-set_same, get_or-set_other}
+use Rattle.std.proofs.Common.{◌≡◌, ℕ, ◌+◌, ◌<◌, ◌≤◌, true, false, List, length, nat_lt, ◌==◌, ◌⊎◌, inl, inr, refl}
+use Rattle.std.proofs.Common.{arith, get_or-set_same, get_or-set_other}
 use Rattle.std.specs.Prelude.{slice_set, slice_index_or, nat_le}
 use Rattle.bhs_model.specs.Runs.{changed}
 use Rattle.std.proofs.lemmas.Bool.Decides.{eqb_tells, leb_tells}
 
 -- P holds at each place of a list that is written at one, if it holds of what is written and at each other place
-pub each_set : {A : Type 0} (P : ℕ → A → Type 0) (xs : List A) (i : ℕ) (x d : A) → i < length xs → P i x → ((k : ℕ) → (k == i) ≡ false → P k (slice_index_or xs k d)) → (k : ℕ) → P k (slice_index_or (slice_set xs i x) k d)
+pub each_set : {A : Type 0} (P : ℕ → A → Type 0) (xs : List A) (i : ℕ) (x d : A) → i < length xs → P i x
+    → ((k : ℕ) → (k == i) ≡ false → P k (slice_index_or xs k d)) → (k : ℕ) → P k (slice_index_or (slice_set xs i x) k d)
 each_set P xs i x d lt written others k = elim (eqb_tells k i) [
   | inl h ↦ rw h.1 (rw (get_or-set_same xs i x d lt) written)
   | inr h ↦ rw (get_or-set_other xs i k x d h.1) (others k h.0)

@@ -1,5 +1,6 @@
 -- A step keeps a table sound.
-use Rattle.std.proofs.Common.{◌≡◌, ℕ, ◌<◌, ◌≤◌, List, [], ◌++◌, length, take, drop, refl, sym, ap, ◌∙◌, subst, inl, inr, arith, length-set}
+use Rattle.std.proofs.Common.{◌≡◌, ℕ, ◌<◌, ◌≤◌, List, [], ◌++◌, length, take, drop, refl, sym, ap, ◌∙◌, subst, inl, inr}
+use Rattle.std.proofs.Common.{arith, length-set}
 use Rattle.std.specs.Prelude.{slice_set, slice_index_or}
 use Rattle.std.proofs.lemmas.List.{get_or_past, get_or_read}
 use Rattle.std.proofs.Math.Seq.{take-append_seam}
@@ -17,7 +18,8 @@ use Rattle.bhs_world.specs.Steps.{IsSound, IsPlaced, agent_told, boards_told, bo
 use Rattle.bhs_world.proofs.ListLemmas.{each_set, lt_tells}
 
 -- where a heard command leaves an agent
-pub placed_after : (net : Network) (setup : Setup) (position : Position) (command : Command) → setup.home < nodes_of net → IsPlaced net position → IsPlaced net (position_after (world_of net setup) position command)
+pub placed_after : (net : Network) (setup : Setup) (position : Position) (command : Command) → setup.home < nodes_of net
+    → IsPlaced net position → IsPlaced net (position_after (world_of net setup) position command)
 placed_after net setup position Enter home placed = home
 placed_after net setup position Leave home placed = tt
 placed_after net setup (At node came) (Depart port) home placed = elim (lt_tells port (degree_of net node)) [
@@ -48,7 +50,8 @@ placed_after net setup After (Write expect put) home placed = placed
 placed_after net setup After Bad home placed = placed
 
 -- a write changes the whiteboard of one node, and no limit
-pub counted_boards : (log : List Kept) (boards : List Whiteboard) (position : Position) (command : Command) → length (boards_told log boards position command) ≡ length boards
+pub counted_boards : (log : List Kept) (boards : List Whiteboard) (position : Position) (command : Command)
+    → length (boards_told log boards position command) ≡ length boards
 counted_boards log boards (At node came) (Write expect put) = length-set boards node _
 counted_boards log boards (At node came) Enter = refl
 counted_boards log boards (At node came) Look = refl
@@ -63,15 +66,20 @@ counted_boards log boards After command = refl
 abbrev AreLimited : ℕ → List Whiteboard → Type 0
 AreLimited limit boards = (node : ℕ) → node < length boards → (board_at boards node).limit ≡ limit
 
-pub limited_written : (limit : ℕ) (boards : List Whiteboard) (node : ℕ) (board : Whiteboard) → node < length boards → board.limit ≡ limit → AreLimited limit boards → AreLimited limit (slice_set boards node board)
+pub limited_written : (limit : ℕ) (boards : List Whiteboard) (node : ℕ) (board : Whiteboard) → node < length boards
+    → board.limit ≡ limit → AreLimited limit boards → AreLimited limit (slice_set boards node board)
 limited_written limit boards node board within same limited k lt =
     let bound : k < length boards = omega (arith, length-set boards node board) in
-    each_set (λ k board. k < length boards → board.limit ≡ limit) boards node board untouched within (λ _. same) (λ k _. limited k) k bound
+    each_set (λ k board. k < length boards → board.limit ≡ limit) boards node board untouched within (λ _. same)
+    (λ k _. limited k) k bound
 
-pub limited_boards : (net : Network) (limit : ℕ) (log : List Kept) (boards : List Whiteboard) (position : Position) (command : Command) → length boards ≡ nodes_of net → IsPlaced net position → AreLimited limit boards → AreLimited limit (boards_told log boards position command)
+pub limited_boards : (net : Network) (limit : ℕ) (log : List Kept) (boards : List Whiteboard) (position : Position)
+    (command : Command) → length boards ≡ nodes_of net → IsPlaced net position → AreLimited limit boards
+    → AreLimited limit (boards_told log boards position command)
 limited_boards net limit log boards (At node came) (Write expect put) counted placed limited =
     let within : node < length boards = omega arith in
-    limited_written limit boards node (board_written log (board_at boards node) expect put) within (limited node within) limited
+    limited_written limit boards node (board_written log (board_at boards node) expect put) within
+    (limited node within) limited
 limited_boards net limit log boards (At node came) Enter counted placed limited = limited
 limited_boards net limit log boards (At node came) Look counted placed limited = limited
 limited_boards net limit log boards (At node came) (Depart port) counted placed limited = limited
@@ -83,7 +91,8 @@ limited_boards net limit log boards (Bound node port) command counted placed lim
 limited_boards net limit log boards After command counted placed limited = limited
 
 -- a command that is heard keeps the table sound
-pub sound_heard : (table : Table) (log : List Kept) (agent : ℕ) (command : Command) → IsSound table → agent < length table.agents → IsSound (table_heard table log agent command)
+pub sound_heard : (table : Table) (log : List Kept) (agent : ℕ) (command : Command) → IsSound table
+    → agent < length table.agents → IsSound (table_heard table log agent command)
 sound_heard table log agent command sound within =
     let position = (agent_at table.agents agent).position in
     record {
@@ -91,38 +100,66 @@ sound_heard table log agent command sound within =
       ordered = sound.ordered;
       agents = length-set table.agents agent _ ∙ sound.agents;
       boards = counted_boards log table.boards position command ∙ sound.boards;
-      limits = limited_boards table.net table.setup.board log table.boards position command sound.boards (sound.places agent) sound.limits;
+      limits = limited_boards table.net table.setup.board log table.boards position command sound.boards
+          (sound.places agent) sound.limits;
       places = each_set (λ k course. IsPlaced table.net course.position) table.agents agent _ _ within
-          (placed_after table.net table.setup position command sound.within.home (sound.places agent)) (λ k _. sound.places k);
+          (placed_after table.net table.setup position command sound.within.home (sound.places agent))
+          (λ k _. sound.places k);
     }
 
 -- the far end of a link is a node
-pub far_placed : (net : Network) (node port : ℕ) → IsPortLabelled net → port < degree_of net node → (far_of net node port).0 < nodes_of net
+pub far_placed : (net : Network) (node port : ℕ) → IsPortLabelled net → port < degree_of net node
+    → (far_of net node port).0 < nodes_of net
 far_placed net node port labelled lt = elim (lt_tells (far_of net node port).0 (nodes_of net)) [
   | inl h ↦ h.1
   | inr h ↦ absurd (no_ports _ _ h.1 (labelled.within node port lt))
 ]
   where
     no_ports : (k label : ℕ) → nodes_of net ≤ k → HasPort net (k, label) → ⊥
-    no_ports k label past has = let none : slice_index_or net k [] ≡ [] = get_or_past net k [] past in absurd (omega (arith, ap length none, has))
+    no_ports k label past has = let none : slice_index_or net k [] ≡ [] = get_or_past net k [] past in
+        absurd (omega (arith, ap length none, has))
 
 -- the same, for lists that are those of the table that was heard
-pub sound_told : (table : Table) (log : List Kept) (agent : ℕ) (command : Command) (agents : List Course) (boards : List Whiteboard) → IsSound table → agent < length table.agents → agents ≡ (table_heard table log agent command).agents → boards ≡ (table_heard table log agent command).boards → IsSound (record { net = table.net; setup = table.setup; agents = agents; boards = boards; closed = table.closed })
+pub sound_told : (table : Table) (log : List Kept) (agent : ℕ) (command : Command) (agents : List Course)
+    (boards : List Whiteboard) → IsSound table → agent < length table.agents
+    → agents ≡ (table_heard table log agent command).agents → boards ≡ (table_heard table log agent command).boards
+    → IsSound (record { net = table.net; setup = table.setup; agents = agents; boards = boards; closed = table.closed })
 sound_told table log agent command agents boards sound within same_agents same_boards =
     let is_sound : Table → Type 0 = λ table. IsSound table in
-    subst (λ (agents : List Course). is_sound (record { net = table.net; setup = table.setup; agents = agents; boards = boards; closed = table.closed })) (sym same_agents)
-    (subst (λ (boards : List Whiteboard). is_sound (record { net = table.net; setup = table.setup; agents = (table_heard table log agent command).agents; boards = boards; closed = table.closed })) (sym same_boards)
+    subst (λ (agents : List Course). is_sound
+    (record { net = table.net; setup = table.setup; agents = agents; boards = boards; closed = table.closed }))
+    (sym same_agents)
+    (subst (λ (boards : List Whiteboard). is_sound
+    (record {
+      net = table.net;
+      setup = table.setup;
+      agents = (table_heard table log agent command).agents;
+      boards = boards;
+      closed = table.closed;
+    })) (sym same_boards)
     (sound_heard table log agent command sound within))
 
 -- the same, as the code goes about it: the agent is read, the whiteboards are lent as a slice and come back
-pub sound_played : (table : Table) (log : List Kept) (agent : ℕ) (command : Command) (course told : Course) (position : Position) (lent boards : List Whiteboard) (len : ℕ) → IsSound table → agent < length table.agents →
-    course ≡ slice_index_or table.agents agent course → position ≡ course.position → told ≡ agent_told (world_in table) course command →
+pub sound_played : (table : Table) (log : List Kept) (agent : ℕ) (command : Command) (course told : Course)
+    (position : Position) (lent boards : List Whiteboard) (len : ℕ) → IsSound table → agent < length table.agents →
+    course ≡ slice_index_or table.agents agent course → position ≡ course.position
+    → told ≡ agent_told (world_in table) course command →
     lent ≡ table.boards → len ≡ length table.boards → boards ≡ boards_told log lent position command →
-    IsSound (record { net = table.net; setup = table.setup; agents = slice_set table.agents agent told; boards = take len (boards ++ drop (length boards) table.boards); closed = table.closed })
-sound_played table log agent command course told position lent boards len sound within found at is_told is_lent counted written =
+    IsSound (record {
+      net = table.net;
+      setup = table.setup;
+      agents = slice_set table.agents agent told;
+      boards = take
+          len (boards ++ drop (length boards) table.boards);
+      closed = table.closed;
+    })
+sound_played table log agent command course told position lent boards len sound within found at is_told is_lent
+    counted written =
     let read : course ≡ agent_at table.agents agent = get_or_read table.agents agent course within found newcomer in
     let same_agents : slice_set table.agents agent told ≡ (table_heard table log agent command).agents = cc in
     let same_boards : boards ≡ boards_told log table.boards (agent_at table.agents agent).position command = cc in
-    let same_length : length boards ≡ len = ap length same_boards ∙ counted_boards log table.boards (agent_at table.agents agent).position command ∙ sym counted in
-    let whole : take len (boards ++ drop (length boards) table.boards) ≡ boards = rw (← same_length) (take-append_seam boards (drop (length boards) table.boards)) in
+    let same_length : length boards ≡ len = ap length same_boards
+    ∙ counted_boards log table.boards (agent_at table.agents agent).position command ∙ sym counted in
+    let whole : take len (boards ++ drop (length boards) table.boards) ≡ boards =
+    rw (← same_length) (take-append_seam boards (drop (length boards) table.boards)) in
     sound_told table log agent command _ _ sound within same_agents (whole ∙ same_boards)

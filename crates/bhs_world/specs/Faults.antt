@@ -1,5 +1,6 @@
 -- Which setups make a world.
-use Rattle.std.specs.Prelude.{ℕ, ◌<◌, ◌≤◌, ◌≢◌, Bool, true, not, ◌&&◌, Option, Some, None, List, [], ◌∷◌, ◌++◌, ◌==◌, nat_lt, nat_le, ◌≡◌, if◌then◌else◌}
+use Rattle.std.specs.Prelude.{ℕ, ◌<◌, ◌≤◌, ◌≢◌, Bool, true, not, ◌&&◌, Option, Some, None, List, [], ◌∷◌, ◌++◌, ◌==◌}
+use Rattle.std.specs.Prelude.{nat_lt, nat_le, ◌≡◌, if◌then◌else◌}
 use Rattle.bhs_net.specs.Network.{Network, nodes_of, degree_of, far_of}
 use Rattle.bhs_model.specs.Worlds.{is_hole, is_dark}
 use Rattle.bhs_model.specs.declared.limits.TheConstants.{MAX_AGENTS, MAX_QUOTA, MAX_BOARD}

@@ -33,13 +33,15 @@ AwayAlike = (world : World) (events : List Event) (agent other : ℕ) (command :
 pub record HaveEqualSets (net : networks.Network) (one two : Setup) : Type 0 where
   pub home : one.home ≡ two.home
   pub nodes : (node : ℕ) → is_hole one.holes node ≡ is_hole two.holes node
-  pub links : (node port : ℕ) → is_dark (networks.far_of net) one.dark node port ≡ is_dark (networks.far_of net) two.dark node port
+  pub links : (node port : ℕ) → is_dark (networks.far_of net) one.dark node port
+      ≡ is_dark (networks.far_of net) two.dark node port
   pub agents : one.agents ≡ two.agents
   pub quota : one.quota ≡ two.quota
   pub board : one.board ≡ two.board
 
 abbrev pub EqualSetsAreOneSetup : Type 0
-EqualSetsAreOneSetup = (net : networks.Network) (one two : Setup) → HaveEqualSets net one two → normal net one ≡ normal net two
+EqualSetsAreOneSetup = (net : networks.Network) (one two : Setup) → HaveEqualSets net one two → normal net one
+    ≡ normal net two
 
 abbrev pub NormalFormsDestroyAlike : Type 0
 NormalFormsDestroyAlike = (net : networks.Network) (setup : Setup) → networks.IsNetwork net → IsWithinLimits net setup →

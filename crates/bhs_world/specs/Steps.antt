@@ -1,6 +1,7 @@
 -- What a step does to a table, and which mark it answers. This says how the code goes about it; that it is
 -- what the definitions say is proved of it.
-use Rattle.std.specs.Prelude.{ℕ, ◌+◌, ◌<◌, ◌≡◌, Bool, true, false, not, ◌&&◌, Option, Some, None, List, length, nat_lt, nat_le, if◌then◌else◌, slice_set}
+use Rattle.std.specs.Prelude.{ℕ, ◌+◌, ◌<◌, ◌≡◌, Bool, true, false, not, ◌&&◌, Option, Some, None, List, length, nat_lt}
+use Rattle.std.specs.Prelude.{nat_le, if◌then◌else◌, slice_set}
 use Rattle.bhs_net.specs.Network.{Network, nodes_of, degree_of}
 use Rattle.bhs_model.specs.declared.commands.Command.{Command}
 use Rattle.bhs_model.specs.declared.commands.Command.TheVariants.{Enter, Look, Write, Depart, Accuse, Leave, Bad}
@@ -53,11 +54,16 @@ swap_at log board expect put = swap_of board.limit (text_at log board.last) expe
 
 -- the whiteboard after a write that will stand next in the log
 abbrev pub board_written : List Kept → Whiteboard → (expect put : List ℕ) → Whiteboard
-board_written log board expect put = record { limit = board.limit; last = last_after (swap_at log board expect put) board.last (length log) }
+board_written log board expect put = record {
+  limit = board.limit;
+  last = last_after (swap_at log board expect put)
+      board.last (length log);
+}
 
 -- the whiteboards after a command that is heard of an agent at this position
 abbrev pub boards_told : List Kept → List Whiteboard → Position → Command → List Whiteboard
-boards_told log boards (At node came) (Write expect put) = slice_set boards node (board_written log (board_at boards node) expect put)
+boards_told log boards (At node came) (Write expect put) =
+    slice_set boards node (board_written log (board_at boards node) expect put)
 boards_told log boards position command = boards
 
 -- what a command that is heard of an agent at this position is answered
@@ -65,16 +71,20 @@ abbrev pub mark_told : World → List Kept → List Whiteboard → Position → 
 mark_told world log boards position Leave = marks.Bye
 mark_told world log boards position Enter = mark_here world boards world.home None
 mark_told world log boards (At node came) Look = mark_here world boards node came
-mark_told world log boards (At node came) (Write expect put) = mark_of_swap (swap_at log (board_at boards node) expect put) (board_at boards node).last
-mark_told world log boards (At node came) (Depart port) = if nat_lt port (world.net.degree node) then marks.Gone else marks.No whys.Port
-mark_told world log boards (At node came) (Accuse port) = if nat_lt port (world.net.degree node) then marks.Noted else marks.No whys.Port
+mark_told world log boards (At node came) (Write expect put) =
+    mark_of_swap (swap_at log (board_at boards node) expect put) (board_at boards node).last
+mark_told world log boards (At node came) (Depart port) =
+    if nat_lt port (world.net.degree node) then marks.Gone else marks.No whys.Port
+mark_told world log boards (At node came) (Accuse port) =
+    if nat_lt port (world.net.degree node) then marks.Noted else marks.No whys.Port
 mark_told world log boards (At node came) Bad = marks.No whys.Line
 mark_told world log boards position command = marks.No whys.Away
 
 -- whether the command is heard of the agent, the match being open
 abbrev pub hears_in : Table → (agent : ℕ) → Command → Bool
 hears_in table agent command =
-    accepts (standing_at (agent_at table.agents agent).position) (nat_lt (agent_at table.agents agent).used table.setup.quota) command
+    accepts (standing_at (agent_at table.agents agent).position)
+    (nat_lt (agent_at table.agents agent).used table.setup.quota) command
 
 abbrev pub heard_in : Table → (agent : ℕ) → Command → Bool
 heard_in table agent command = nat_lt agent table.setup.agents && (not table.closed && hears_in table agent command)
@@ -87,7 +97,8 @@ table_heard table log agent command = record table {
 }
 
 abbrev pub mark_heard : Table → List Kept → (agent : ℕ) → Command → Mark
-mark_heard table log agent command = mark_told (world_in table) log table.boards (agent_at table.agents agent).position command
+mark_heard table log agent command = mark_told (world_in table) log table.boards
+    (agent_at table.agents agent).position command
 
 -- what a command is answered
 abbrev pub mark_of_command : Table → List Kept → (agent : ℕ) → Command → Mark
@@ -105,24 +116,34 @@ abbrev pub agent_delivered : World → Course → (node port : ℕ) → Course
 agent_delivered world course node port =
     if doomed world node port
     then record { position = course.position; used = course.used; lost = true }
-    else record { position = At (world.net.far node port).0 (Some (world.net.far node port).1); used = course.used; lost = course.lost }
+    else record {
+      position = At (world.net.far node port).0 (Some (world.net.far node port).1);
+      used = course.used;
+      lost = course.lost;
+    }
 
 -- the table after a Deliver of an agent at this position
 abbrev pub table_delivered : Table → (agent : ℕ) → Position → Table
 table_delivered table agent (Bound node port) =
-    record table { agents = slice_set table.agents agent (agent_delivered (world_in table) (agent_at table.agents agent) node port) }
+    record table {
+      agents = slice_set table.agents agent
+          (agent_delivered (world_in table) (agent_at table.agents agent) node port);
+    }
 table_delivered table agent position = table
 
 -- what an agent is answered that arrives
 abbrev pub mark_delivered : World → List Whiteboard → Position → Option Mark
 mark_delivered world boards (Bound node port) =
-    if doomed world node port then None else Some (mark_here world boards (world.net.far node port).0 (Some (world.net.far node port).1))
+    if doomed world node port then None else Some
+    (mark_here world boards (world.net.far node port).0 (Some (world.net.far node port).1))
 mark_delivered world boards position = None
 
 -- the table after an event
 abbrev pub table_after : Table → List Kept → Event → Table
-table_after table log (Tell agent command) = if heard_in table agent command then table_heard table log agent command else table
-table_after table log (Deliver agent) = if table.closed then table else table_delivered table agent (agent_at table.agents agent).position
+table_after table log (Tell agent command) = if heard_in table agent command then table_heard table log agent
+    command else table
+table_after table log (Deliver agent) = if table.closed then table else table_delivered table agent
+    (agent_at table.agents agent).position
 table_after table log Close = record table { closed = true }
 
 -- what is answered
@@ -140,7 +161,8 @@ keeps_delivered world course position = false
 -- whether the event is kept
 abbrev pub keeps_in : Table → Event → Bool
 keeps_in table (Tell agent command) = heard_in table agent command
-keeps_in table (Deliver agent) = not table.closed && keeps_delivered (world_in table) (agent_at table.agents agent) (agent_at table.agents agent).position
+keeps_in table (Deliver agent) = not table.closed && keeps_delivered (world_in table) (agent_at table.agents agent)
+    (agent_at table.agents agent).position
 keeps_in table Close = not table.closed
 
 -- an agent at this position is at a node, or on a link from a node

@@ -1,5 +1,6 @@
 -- What a world keeps, and what it means that this stands for what happened.
-use Rattle.std.specs.Prelude.{ℕ, ◌++◌, ◌∷◌, Bool, true, false, Option, Some, None, List, [], ◌≡◌, IfSome, IsSome, if◌then◌else◌, option_and_then, map, slice_index_or}
+use Rattle.std.specs.Prelude.{ℕ, ◌++◌, ◌∷◌, Bool, true, false, Option, Some, None, List, [], ◌≡◌, IfSome, IsSome}
+use Rattle.std.specs.Prelude.{if◌then◌else◌, option_and_then, map, slice_index_or}
 use Rattle.std.specs.List.{AllByRecursion}
 use Rattle.bhs_net.specs.Network.{Network}
 use Rattle.bhs_model.specs.declared.setups.Setup.{Setup}
@@ -92,4 +93,5 @@ keeps_next world log event = keeps world (run world (events_of log)) (lost world
 
 -- the log after an event, with what was answered, which stands in it where the event is kept
 abbrev pub log_after : World → List Kept → Event → Option Mark → List Kept
-log_after world log event mark = if keeps_next world log event then log ++ record { event = event; mark = mark } ∷ [] else log
+log_after world log event mark = if keeps_next world log event then log
+    ++ record { event = event; mark = mark } ∷ [] else log

@@ -6,7 +6,8 @@ ghost use Rattle.bhs_model.specs.Setups.{world_of};
 ghost use Rattle.bhs_agent.specs.Agents.{position_of};
 ghost use Rattle.bhs_world.specs.Tables.{board_at};
 ghost use Rattle.bhs_model.specs.Standings.{standing_at};
-ghost use Rattle.bhs_world.specs.Steps.{refusal_of, agent_told, mark_here, mark_of_swap, swap_at, board_written, boards_told, mark_told, IsPlaced, shows_from};
+ghost use Rattle.bhs_world.specs.Steps.{refusal_of, agent_told, mark_here, mark_of_swap, swap_at, board_written};
+ghost use Rattle.bhs_world.specs.Steps.{boards_told, mark_told, IsPlaced, shows_from};
 
 use bhs_agent::{Agent, Standing};
 use bhs_board::{Board, Swap};
@@ -37,7 +38,8 @@ fn counts(command: &Command) -> bool
 /// Moves an agent by a command that is heard.
 pub(crate) fn advance(agent: &mut Agent, net: &Net, setup: &Setup, command: &Command)
     requires placed { IsPlaced net.now agent.old.position }
-    requires heard { IsTrue (accepts (standing_at agent.old.position) (nat_lt agent.old.used setup.now.quota) command.now) }
+    requires heard { IsTrue (accepts (standing_at agent.old.position)
+        (nat_lt agent.old.used setup.now.quota) command.now) }
     requires quota { setup.now.quota ≤ MAX_QUOTA }
     ensures { agent.new ≡ agent_told (world_of net.now setup.now) agent.old command.now }
 {
@@ -101,7 +103,8 @@ pub(crate) fn answer(
     requires home { setup.now.home < nodes_of net.now }
     requires placed { IsPlaced net.now (position_of standing) }
     requires boards { length boards.old ≡ nodes_of net.now }
-    ensures mark { result ≡ mark_told (world_of net.now setup.now) log.now boards.old (position_of standing) command.now }
+    ensures mark { result ≡ mark_told (world_of net.now setup.now) log.now boards.old
+        (position_of standing) command.now }
     ensures boards { boards.new ≡ boards_told log.now boards.old (position_of standing) command.now }
 {
     match (standing, command) {

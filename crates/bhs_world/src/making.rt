@@ -3,7 +3,8 @@ ghost use Rattle.bhs_net.specs.Network.{nodes_of};
 ghost use Rattle.bhs_model.specs.Dooms.{AreSignsOf};
 ghost use Rattle.bhs_model.specs.Setups.{normal};
 ghost use Rattle.bhs_agent.specs.Agents.{newcomer};
-ghost use Rattle.bhs_world.specs.Faults.{first_fault, is_hole_fit, are_holes_fit, is_port_of, are_links_fit, IsWithinLimits};
+ghost use Rattle.bhs_world.specs.Faults.{first_fault, is_hole_fit, are_holes_fit, is_port_of, are_links_fit};
+ghost use Rattle.bhs_world.specs.Faults.{IsWithinLimits};
 
 use crate::faults::SetupFault;
 use bhs_agent::Agent;

@@ -1,4 +1,5 @@
-ghost use Rattle.std.specs.Prelude.{◌≡◌, ◌<◌, ◌^◌, ℕ, List, length, slice_get, [], Some, None, IfOk, IfErr, true, IsTrue, OnOk, MatchResult, if◌then◌else◌, ◌⊎◌, nat_lt, option_and_then};
+ghost use Rattle.std.specs.Prelude.{◌≡◌, ◌<◌, ◌^◌, ℕ, List, length, slice_get, [], Some, None, IfOk, IfErr, true};
+ghost use Rattle.std.specs.Prelude.{IsTrue, OnOk, MatchResult, if◌then◌else◌, ◌⊎◌, nat_lt, option_and_then};
 ghost use Rattle.bhs_net.specs.Network.{nodes_of};
 ghost use Rattle.bhs_model.specs.declared.marks.Kept.{Kept as KeptData};
 ghost use Rattle.bhs_model.specs.Marks.{events_of, read_if, board_of};
@@ -6,9 +7,11 @@ ghost use Rattle.bhs_model.specs.Places.{written, named};
 ghost use Rattle.bhs_model.specs.Runs.{run, reply};
 ghost use Rattle.bhs_model.specs.Setups.{normal, IsNormal};
 ghost use Rattle.bhs_world.specs.Faults.{first_fault, IsWithinLimits};
-ghost use Rattle.bhs_world.specs.Tables.{agent_at, board_at, world_in, StandsFor, keeps_next, log_after, is_of_board_if};
+ghost use Rattle.bhs_world.specs.Tables.{agent_at, board_at, world_in, StandsFor, keeps_next, log_after};
+ghost use Rattle.bhs_world.specs.Tables.{is_of_board_if};
 ghost use Rattle.bhs_model.specs.Standings.{standing_at};
-ghost use Rattle.bhs_world.specs.Steps.{IsSound, IsPlaced, refusal_of, hears_in, table_heard, mark_heard, table_after, mark_after, mark_of_command, heard_in, keeps_delivered, keeps_in, shows_in};
+ghost use Rattle.bhs_world.specs.Steps.{IsSound, IsPlaced, refusal_of, hears_in, table_heard, mark_heard, table_after};
+ghost use Rattle.bhs_world.specs.Steps.{mark_after, mark_of_command, heard_in, keeps_delivered, keeps_in, shows_in};
 
 use crate::faults::SetupFault;
 use crate::hearing::{advance, answer, here, refusal, shows_from};
@@ -40,9 +43,21 @@ impl Model for World {
     ghost use Rattle.bhs_world.specs.Steps.{IsSound};
     ghost use Rattle.bhs_model.specs.Dooms.{AreSignsOf};
 
-    ghost view = { λ world. record { net = world.net; setup = world.setup; agents = world.agents.items; boards = world.boards.items; closed = world.closed } };
+    ghost view = { λ world. record {
+      net = world.net;
+      setup = world.setup;
+      agents = world.agents.items;
+      boards = world.boards.items;
+      closed = world.closed;
+    } };
 
-    ghost invariant = { λ world. IsSound (record { net = world.net; setup = world.setup; agents = world.agents.items; boards = world.boards.items; closed = world.closed }) × AreSignsOf world.net world.setup.holes world.setup.dark world.dooms };
+    ghost invariant = { λ world. IsSound (record {
+      net = world.net;
+      setup = world.setup;
+      agents = world.agents.items;
+      boards = world.boards.items;
+      closed = world.closed;
+    }) × AreSignsOf world.net world.setup.holes world.setup.dark world.dooms };
 }
 
 impl World {
@@ -100,7 +115,8 @@ impl World {
         ensures kept { result ≡ (board_at self.now.boards node).last }
 
         // The last Write there that was answered Written.
-        ensures place { (log : List KeptData) → StandsFor self.now log → result ≡ written (world_in self.now) (events_of log) node }
+        ensures place { (log : List KeptData) → StandsFor self.now log → result
+            ≡ written (world_in self.now) (events_of log) node }
     {
         self.boards[usize::from(node)].last()
     }
@@ -115,7 +131,8 @@ impl World {
     /// Whether the next event is kept: a heard command, an arrival, the first Deliver that destroys its agent,
     /// the first Close. Nothing else changes the match.
     pub fn keeps(&self, event: &Event) -> bool
-        ensures { (log : List KeptData) → StandsFor self.now log → result ≡ keeps_next (world_in self.now) log event.now }
+        ensures { (log : List KeptData) → StandsFor self.now log → result
+            ≡ keeps_next (world_in self.now) log event.now }
     {
         self.keeps_event(event)
     }
@@ -123,7 +140,9 @@ impl World {
     /// Whether the answer to a command, if it were told now, would say what a whiteboard shows or that it was written.
     /// No other answer needs a text.
     pub fn shows(&self, agent: u16, command: &Command) -> bool
-        ensures { (log : List KeptData) → StandsFor self.now log → result ≡ is_of_board_if (reply (world_in self.now) (run (world_in self.now) (events_of log)) (Event.Tell agent command.now)) }
+        ensures { (log : List KeptData) → StandsFor self.now log → result
+            ≡ is_of_board_if (reply (world_in self.now) (run (world_in self.now) (events_of log))
+            (Event.Tell agent command.now)) }
     {
         self.shows_board(agent, command)
     }
@@ -137,12 +156,14 @@ impl World {
 
         // The answer is the reply of the definitions.
         ensures reply { let world = world_in self.old in
-            read_if (log_after world log.now event.now result) result ≡ reply world (run world (events_of log.now)) event.now }
+            read_if (log_after world log.now event.now result) result
+            ≡ reply world (run world (events_of log.now)) event.now }
         ensures stands { StandsFor self.new (log_after (world_in self.old) log.now event.now result) }
 
         // A mark that shows a whiteboard names the last Write there that was answered Written.
         ensures shown { let world = world_in self.old in
-            option_and_then board_of result ≡ named world (run world (events_of log.now)) (written world (events_of log.now)) event.now }
+            option_and_then board_of result
+            ≡ named world (run world (events_of log.now)) (written world (events_of log.now)) event.now }
         ensures same { (self.new.net ≡ self.old.net) × (self.new.setup ≡ self.old.setup) }
     {
         self.play(log, event)
@@ -172,7 +193,8 @@ impl World {
     /// Why a command is not heard of an agent, the match being open.
     fn refusal(&self, agent: u16, command: &Command) -> Option<Why>
         requires { agent < self.now.setup.agents }
-        ensures { result ≡ refusal_of (standing_at (agent_at self.now.agents agent).position) (nat_lt (agent_at self.now.agents agent).used self.now.setup.quota) command.now }
+        ensures { result ≡ refusal_of (standing_at (agent_at self.now.agents agent).position)
+            (nat_lt (agent_at self.now.agents agent).used self.now.setup.quota) command.now }
     {
         let agent = &self.agents[usize::from(agent)];
         refusal(agent.standing(), agent.used() < self.setup.quota, command)
@@ -182,7 +204,8 @@ impl World {
     fn tell(&mut self, log: &[Kept], agent: u16, command: &Command) -> Mark
         requires room { length log.now < 2 ^ 32 }
         ensures mark { result ≡ mark_of_command self.old log.now agent command.now }
-        ensures world { self.new ≡ (if heard_in self.old agent command.now then table_heard self.old log.now agent command.now else self.old) }
+        ensures world { self.new ≡ (if heard_in self.old agent command.now then table_heard self.old log.now agent
+            command.now else self.old) }
         ensures sound { IsSound self.old }
     {
         if agent >= self.setup.agents {
@@ -265,7 +288,8 @@ impl World {
     /// Whether a Deliver of the agent is kept: it arrives, or is destroyed for the first time.
     fn keeps_delivered(&self, agent: u16) -> bool
         requires { agent < self.now.setup.agents }
-        ensures { result ≡ keeps_delivered (world_in self.now) (agent_at self.now.agents agent) (agent_at self.now.agents agent).position }
+        ensures { result ≡ keeps_delivered (world_in self.now) (agent_at self.now.agents agent)
+            (agent_at self.now.agents agent).position }
     {
         let agent = &self.agents[usize::from(agent)];
         match agent.bound() {

@@ -4,7 +4,11 @@ use Rattle.bhs_deal.proofs.DrawLemmas.{draws_at}
 use Rattle.bhs_deal.proofs.draws.judged.Goals as goal
 
 pub returns-then-has : goal.returns-then-has
-returns-then-has c = draws_at (held_in c.args.held.now) (state_of c.args.game.now) _ _ c.pool-pool.result.now (record { agent = 0; node = 0; port = 0 }) _ c.pool-pool.ensures c.if-closed.ensures c.in-Some.ensures.place c.if-has.ensures
+returns-then-has c = draws_at (held_in c.args.held.now) (state_of c.args.game.now) _ _ c.pool-pool.result.now
+    (record { agent = 0; node = 0; port = 0 }) _ c.pool-pool.ensures c.if-closed.ensures c.in-Some.ensures.place
+    c.if-has.ensures
 
 pub returns-else-has : goal.returns-else-has
-returns-else-has c = draws_at (held_in c.args.held.now) (state_of c.args.game.now) _ _ c.pool-pool.result.now (record { agent = 0; node = 0; port = 0 }) _ c.pool-pool.ensures c.if-closed.ensures c.in-Some.ensures.place c.if-has.ensures
+returns-else-has c = draws_at (held_in c.args.held.now) (state_of c.args.game.now) _ _ c.pool-pool.result.now
+    (record { agent = 0; node = 0; port = 0 }) _ c.pool-pool.ensures c.if-closed.ensures c.in-Some.ensures.place
+    c.if-has.ensures

@@ -11,8 +11,18 @@ loop-fixture-preserved c =
     let steps = c.in-Some.ensures.steps in
     let first = ap (λ (fixtures : List Fixture). length fixtures) steps.0.0 in
     let second = ap (λ (games : List Play). length games) steps.1.0 in
-    let more = goes_beside (vec_len c.loop-fixture.all) c.loop-fixture.all.items _ _ _ _ _ c.in-Some.fixture c.in-Some.game steps.0.0 steps.1.0 c.loop-fixture.invariant.5 c.in_ok-ready.field-0 c.push.new.self.items (rw c.len-number.ensures at c.in_ok-ready.ensures) c.in_ok-push.ensures.items in
-    ((tt, tt), tt, omega (arith, steps.0.1, first, c.loop-fixture.invariant.2), omega (arith, steps.1.1, second, c.loop-fixture.invariant.3), omega (arith, first, c.loop-fixture.invariant.4, c.in_ok-push.ensures.len), rw c.in_ok-push.ensures.len more)
+    let more = goes_beside (vec_len c.loop-fixture.all) c.loop-fixture.all.items _ _ _ _ _ c.in-Some.fixture
+    c.in-Some.game steps.0.0 steps.1.0 c.loop-fixture.invariant.5 c.in_ok-ready.field-0 c.push.new.self.items
+    (rw c.len-number.ensures at c.in_ok-ready.ensures) c.in_ok-push.ensures.items in (
+      (tt, tt),
+      tt,
+      omega (arith, steps.0.1, first, c.loop-fixture.invariant.2),
+      omega
+          (arith, steps.1.1, second, c.loop-fixture.invariant.3),
+      omega
+          (arith, first, c.loop-fixture.invariant.4, c.in_ok-push.ensures.len),
+      rw c.in_ok-push.ensures.len more,
+    )
 
 pub returns : goal.returns
 returns c =

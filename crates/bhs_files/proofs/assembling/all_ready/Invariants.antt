@@ -15,4 +15,6 @@ invariant-loop-fixture l =
     × (into_iter_len fixtures ≡ length (into_iter_items fixtures))
     × (into_iter_len games ≡ length (into_iter_items games))
     × (vec_len l.all + length (into_iter_items fixtures) ≡ length l.fn.matches.items)
-    × (then l.all.items (each_in readied (vec_len l.all) (zip (into_iter_items fixtures) (into_iter_items games))) ≡ each_in readied 0 (zip l.fn.matches.items l.fn.games.items))
+    × (then l.all.items (each_in readied (vec_len l.all)
+    (zip (into_iter_items fixtures) (into_iter_items games))) ≡ each_in readied 0
+    (zip l.fn.matches.items l.fn.games.items))

@@ -9,4 +9,5 @@ abbrev pub invariant-loop-game : goal.invariant-loop-game
 invariant-loop-game l =
     let matches = l.tournament.matches.items in
     let make = begun (network_in (first_seen (map (λ fixture. fixture.network) matches)) l.networks) in
-    then l.games.items (each_in make l.game (map planned (drop l.game l.fixture-items))) ≡ each_in make 0 (map planned matches)
+    then l.games.items (each_in make l.game (map planned (drop l.game l.fixture-items))) ≡ each_in make 0
+    (map planned matches)

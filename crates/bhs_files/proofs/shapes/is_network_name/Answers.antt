@@ -6,5 +6,7 @@ use Rattle.bhs_files.proofs.shapes.is_network_name.Goals as goal
 
 pub returns-then-is_sized : goal.returns-then-is_sized
 returns-then-is_sized c =
-    let all : c.all.result ≡ list_all (λ byte. not (byte == 0)) c.args.name.now = all_from_yields_List (λ byte. not (byte == 0)) _ _ c.all.result c.all.ensures.ran (YieldsList-from_slice c.args.name.now cc) (λ x b q k. search (rules, tests)) in
+    let all : c.all.result ≡ list_all (λ byte. not (byte == 0)) c.args.name.now =
+    all_from_yields_List (λ byte. not (byte == 0)) _ _ c.all.result c.all.ensures.ran
+    (YieldsList-from_slice c.args.name.now cc) (λ x b q k. search (rules, tests)) in
     rw (← c.if-is_sized.ensures) all

@@ -7,5 +7,7 @@ use Rattle.bhs_files.proofs.shapes.is_team.Goals as goal
 
 pub returns-then-is_sized : goal.returns-then-is_sized
 returns-then-is_sized c =
-    let all : c.all.result ≡ list_all is_team_character c.args.name.now = all_from_yields_List is_team_character _ _ c.all.result c.all.ensures.ran (YieldsList-from_slice c.args.name.now cc) (λ x b q k. search (rules, tests)) in
+    let all : c.all.result ≡ list_all is_team_character c.args.name.now =
+    all_from_yields_List is_team_character _ _ c.all.result c.all.ensures.ran
+    (YieldsList-from_slice c.args.name.now cc) (λ x b q k. search (rules, tests)) in
     rw (← c.if-is_sized.ensures) all

@@ -5,4 +5,5 @@ use Rattle.bhs_files.proofs.Each.{after}
 use Rattle.bhs_files.proofs.shapes.numbers.Given as goal
 
 abbrev pub invariant-loop-item : goal.invariant-loop-item
-invariant-loop-item l = after number l.numbers.items (items_view (drop l.item-index l.items)) ≡ each number (items_view l.items)
+invariant-loop-item l = after number l.numbers.items (items_view (drop l.item-index l.items)) ≡ each number
+    (items_view l.items)

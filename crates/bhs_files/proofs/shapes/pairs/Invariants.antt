@@ -5,4 +5,5 @@ use Rattle.bhs_files.proofs.Each.{after}
 use Rattle.bhs_files.proofs.shapes.pairs.Given as goal
 
 abbrev pub invariant-loop-item : goal.invariant-loop-item
-invariant-loop-item l = after pair l.pairs.items (items_view (drop l.item-index l.items)) ≡ each pair (items_view l.items)
+invariant-loop-item l = after pair l.pairs.items (items_view (drop l.item-index l.items)) ≡ each pair
+    (items_view l.items)

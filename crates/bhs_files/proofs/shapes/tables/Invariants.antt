@@ -6,4 +6,5 @@ use Rattle.bhs_files.proofs.Each.{after}
 use Rattle.bhs_files.proofs.shapes.tables.Given as goal
 
 abbrev pub invariant-loop-item : goal.invariant-loop-item
-invariant-loop-item l = (after as_table (map (λ table. table_view table.now) l.tables.items) (items_view (drop l.item-index l.items)) ≡ each as_table (items_view l.items)) × (vec_len l.tables ≡ l.item-index)
+invariant-loop-item l = (after as_table (map (λ table. table_view table.now) l.tables.items)
+    (items_view (drop l.item-index l.items)) ≡ each as_table (items_view l.items)) × (vec_len l.tables ≡ l.item-index)

@@ -4,5 +4,8 @@ use Rattle.bhs_lock.proofs.networks.is_same_network.Goals as goal
 
 pub returns : goal.returns
 returns c =
-    let same = sym c.nodes-nodes.ensures.count ∙ c.if-nodes.false ∙ c.nodes.ensures.count in
-    (λ _. ext_get_or [] _ _ same (λ node below. c.loop-node.invariant node (omega (arith, below, c.loop-node-test.false, c.nodes-nodes.ensures.count))), λ _. refl)
+    let same = sym c.nodes-nodes.ensures.count ∙ c.if-nodes.false ∙ c.nodes.ensures.count in (
+      λ _. ext_get_or [] _ _ same (λ node below. c.loop-node.invariant node
+          (omega (arith, below, c.loop-node-test.false, c.nodes-nodes.ensures.count))),
+      λ _. refl,
+    )

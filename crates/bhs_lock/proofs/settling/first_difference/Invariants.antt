@@ -1,4 +1,5 @@
-use Rattle.bhs_lock.proofs.OnePassLemmas.{IsSoFar, IsEnding}
+use Rattle.bhs_lock.proofs.OnePassLemmas.{IsSoFar}
+use Rattle.bhs_lock.proofs.PastLogLemmas.{IsEnding}
 use Rattle.bhs_lock.proofs.settling.first_difference.Given as goal
 
 abbrev pub invariant-loop-place : goal.invariant-loop-place

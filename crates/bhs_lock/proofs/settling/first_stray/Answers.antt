@@ -4,7 +4,8 @@ use Rattle.bhs_lock.proofs.settling.first_stray.Goals as goal
 
 pub loop-pass-preserved : goal.loop-pass-preserved
 loop-pass-preserved c =
-    mapped_more (arrived_by c.args.play.now) _ _ _ _ _ _ _ c.loop-pass.invariant c.loop-pass-test.true c.pass-item.is c.agent.ensures c.stray.ensures c.lesser-best.ensures
+    mapped_more (arrived_by c.args.play.now) _ _ _ _ _ _ _ c.loop-pass.invariant c.loop-pass-test.true c.pass-item.is
+    c.agent.ensures c.stray.ensures c.lesser-best.ensures
 
 pub returns : goal.returns
 returns c = mapped_all (arrived_by c.args.play.now) _ _ _ c.loop-pass.invariant c.loop-pass-test.false

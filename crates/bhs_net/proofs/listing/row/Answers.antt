@@ -6,5 +6,6 @@ use Rattle.bhs_net.proofs.listing.row.Goals as goal
 pub returns-in-None : goal.returns-in-None
 returns-in-None c = record {
   ports = λ port h. c.loop-port.invariant.ports port (let len = c.loop-port.invariant.len in omega arith);
-  stops = inl (ap (λ k. get end_cmp c.args.far_ends.now (c.args.node, k)) c.loop-port.invariant.len ∙ sym c.in-None.ensures.value);
+  stops = inl (ap (λ k. get end_cmp c.args.far_ends.now (c.args.node, k)) c.loop-port.invariant.len
+      ∙ sym c.in-None.ensures.value);
 }

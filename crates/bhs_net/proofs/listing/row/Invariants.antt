@@ -7,5 +7,6 @@ use Rattle.bhs_net.proofs.listing.row.Given as goal
 abbrev pub invariant-loop-port : goal.invariant-loop-port
 invariant-loop-port l = record {
   len : length l.row.items ≡ l.port;
-  ports : (port : ℕ) → port < l.port → get end_cmp l.far_ends (l.node, port) ≡ Some (slice_index_or l.row.items port (0, 0));
+  ports : (port : ℕ) → port < l.port → get end_cmp l.far_ends (l.node, port) ≡ Some
+      (slice_index_or l.row.items port (0, 0));
 }

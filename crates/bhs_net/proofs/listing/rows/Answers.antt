@@ -7,4 +7,6 @@ loop-node-init c = rw c.new-rows.ensures.items (AreRowsOf-none c.args.far_ends.n
 
 pub loop-node-preserved : goal.loop-node-preserved
 loop-node-preserved c =
-    rw (c.in_ok-push.ensures.items, map-append) (AreRowsOf-more c.args.far_ends.now c.loop-node.node _ c.in_ok-row.field-0.items c.loop-node.invariant c.in_ok-row.ensures)
+    rw (c.in_ok-push.ensures.items, map-append)
+    (AreRowsOf-more c.args.far_ends.now c.loop-node.node _ c.in_ok-row.field-0.items c.loop-node.invariant
+    c.in_ok-row.ensures)

@@ -26,12 +26,28 @@ returns-then-not-branch-2-clause-err c =
     let node = c.loop-node.node in
     let at : node < nodes_of net = let t = c.loop-node-test.true in omega arith in
     let begins : (start < nodes_of net) × (start ≢ node) = elim c.if-node-eq0.branch [
-      | then-node-eq0 w ↦ (let s = w.start-is in omega arith, λ e. let s = w.start-is in let z = w.if-node-eq0.true in omega arith)
-      | else-node-eq0 w ↦ (let s = w.start-is in omega arith, λ e. let s = w.start-is in let z = w.if-node-eq0.false in omega arith)
+      | then-node-eq0 w ↦ (
+        let s = w.start-is in omega arith,
+        λ e. let s = w.start-is in
+            let z = w.if-node-eq0.true in omega arith,
+      )
+      | else-node-eq0 w ↦ (
+        let s = w.start-is in omega arith,
+        λ e. let s = w.start-is in
+            let z = w.if-node-eq0.false in omega arith,
+      )
     ] in
     inr (inr (
       connected net c.requires 0 _ (omega arith) reached,
-      (node, refl, (is_cut net c.requires start node at begins.0 begins.1 missed, λ early lt. not_cut net early (c.loop-node.invariant early lt))),
+      (
+        node,
+        refl,
+        (
+          is_cut net c.requires start node at begins.0 begins.1 missed,
+          λ early lt. not_cut net early
+              (c.loop-node.invariant early lt),
+        ),
+      ),
     ))
 
 pub loop-node-preserved : goal.loop-node-preserved
@@ -40,7 +56,8 @@ loop-node-preserved c =
     let reached = rw c.if-not-branch-2.false at c.in_ok-reaches_all-2.ensures in
     λ cut h. ⊎_elim
     (λ below. c.loop-node.invariant cut below)
-    (λ at. subst (λ d. AreJoinedWithout net d) (sym at) (joined_without net c.requires c.if-node-eq0.start c.loop-node.node reached))
+    (λ at. subst (λ d. AreJoinedWithout net d) (sym at)
+    (joined_without net c.requires c.if-node-eq0.start c.loop-node.node reached))
     (below_or_at cut c.loop-node.node h)
 
 pub returns-clause-ok : goal.returns-clause-ok

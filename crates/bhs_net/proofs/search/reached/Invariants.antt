@@ -11,4 +11,5 @@ invariant-loop-next l = record {
 }
 
 abbrev pub invariant-loop-end : goal.invariant-loop-end
-invariant-loop-end l = IsStep (network_of l.rows) l.start l.removed l.next l.node l.end-index l.marks.items l.found.items
+invariant-loop-end l = IsStep (network_of l.rows) l.start l.removed l.next l.node l.end-index
+    l.marks.items l.found.items

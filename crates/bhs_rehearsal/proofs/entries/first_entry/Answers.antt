@@ -14,8 +14,10 @@ pub returns-in_ok-first-in-Some-Says : goal.returns-in_ok-first-in-Some-Says
 returns-in_ok-first-in-Some-Says c stage games keys connections =
     let here = c.index-connections-conn.result in
     let at : connection_at stage c.args.conn ≡ here =
-    ap (λ (all : List Connection). slice_index_or all c.args.conn unfed) connections ∙ sym (get_or_read c.args.connections.now c.args.conn here c.requires c.index-connections-conn.is unfed) in
-    let first : slice_get here.queue 0 ≡ Some (Says (seen c.in-Some-Says.line)) = sym c.in-Some-Says.ensures ∙ ap (λ (item : ItemOfCode). Some (seen_item item)) c.in-Some-Says.field-0-is in
+    ap (λ (all : List Connection). slice_index_or all c.args.conn unfed) connections
+    ∙ sym (get_or_read c.args.connections.now c.args.conn here c.requires c.index-connections-conn.is unfed) in
+    let first : slice_get here.queue 0 ≡ Some (Says (seen c.in-Some-Says.line)) = sym c.in-Some-Says.ensures
+    ∙ ap (λ (item : ItemOfCode). Some (seen_item item)) c.in-Some-Says.field-0-is in
     c.entry_by.ensures stage games keys connections
     ∙ ap (λ (said : First). entry_by stage said) c.in_ok-first-in-Some-Says.ensures.said
     ∙ sym (first_says stage here.queue _ first)

@@ -23,9 +23,13 @@ returns-in_ok-first-in-Says-clause-taken c others here =
     same_command (command_by (said_by (seen line))) c.command_in.result
     (ap (λ (first : First). ask Ready first) (sym c.in_ok-first-in-Says.ensures.said) ∙ c.command_in.ensures) in
     let told : taken game agent (seen_item c.args.item ∷ others)
-    ≡ answers (reply_to game (Tell agent c.command_in.result)) (played game (Tell agent c.command_in.result)) (taken (played game (Tell agent c.command_in.result)) agent others) =
+    ≡ answers (reply_to game (Tell agent c.command_in.result)) (played game (Tell agent c.command_in.result))
+    (taken (played game (Tell agent c.command_in.result)) agent others) =
     ap (λ (item : ItemOfCode). taken game agent (seen_item item ∷ others)) c.in-Says.is
     ∙ takes_line game agent (seen line) others here
-    ∙ ap (λ (command : Command). answers (reply_to game (Tell agent command)) (played game (Tell agent command)) (taken (played game (Tell agent command)) agent others)) said in
-    subst (λ (taken : Taken). IfOk c.tell.result (λ is_done. behind c.args.text.now.items taken ≡ goes_on is_done (game_of c.tell.new.ready) agent others c.tell.new.text.items))
+    ∙ ap (λ (command : Command). answers (reply_to game (Tell agent command)) (played game (Tell agent command))
+    (taken (played game (Tell agent command)) agent others)) said in
+    subst (λ (taken : Taken). IfOk c.tell.result
+    (λ is_done. behind c.args.text.now.items taken ≡ goes_on is_done (game_of c.tell.new.ready) agent others
+    c.tell.new.text.items))
     (sym told) (c.tell.ensures.taken others)

@@ -5,7 +5,8 @@ use Rattle.bhs_replay.proofs.OpeningLemmas.{says-read, says-unread}
 use Rattle.bhs_replay.proofs.head_parts.head_says.Goals as goal
 
 pub returns-in-Ok : goal.returns-in-Ok
-returns-in-Ok c = IfOk-weaker c.says_in.result _ _ (λ found is. is ∙ says-read c.args.line.now _ c.in-Ok.ensures.ok.0 c.in-Ok.ensures.ok.1) c.says_in.ensures
+returns-in-Ok c = IfOk-weaker c.says_in.result _ _
+    (λ found is. is ∙ says-read c.args.line.now _ c.in-Ok.ensures.ok.0 c.in-Ok.ensures.ok.1) c.says_in.ensures
 
 pub returns-in-Err-2 : goal.returns-in-Err-2
 returns-in-Err-2 c =

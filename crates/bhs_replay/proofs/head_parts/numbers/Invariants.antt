@@ -5,4 +5,5 @@ use Rattle.bhs_replay.proofs.Each.{after}
 use Rattle.bhs_replay.proofs.head_parts.numbers.Given as goal
 
 abbrev pub invariant-loop-item : goal.invariant-loop-item
-invariant-loop-item l = after number_in l.numbers.items (items_view (drop l.item-index l.items)) ≡ each number_in (items_view l.items)
+invariant-loop-item l = after number_in l.numbers.items (items_view (drop l.item-index l.items)) ≡ each number_in
+    (items_view l.items)

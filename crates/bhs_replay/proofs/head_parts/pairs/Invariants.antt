@@ -5,4 +5,5 @@ use Rattle.bhs_replay.proofs.Each.{after}
 use Rattle.bhs_replay.proofs.head_parts.pairs.Given as goal
 
 abbrev pub invariant-loop-item : goal.invariant-loop-item
-invariant-loop-item l = after pair_in l.pairs.items (items_view (drop l.item-index l.items)) ≡ each pair_in (items_view l.items)
+invariant-loop-item l = after pair_in l.pairs.items (items_view (drop l.item-index l.items)) ≡ each pair_in
+    (items_view l.items)

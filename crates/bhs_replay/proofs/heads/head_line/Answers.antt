@@ -14,13 +14,18 @@ returns-clause-line c =
     let nodes = rw c.nodes.ensures.count at c.in_ok-write_number-4.ensures.ok in
     let number = rw c.number_of.ensures at c.in_ok-write_number-6.ensures.ok in
     let all =
-    gathered version net setup c.new-out.ensures.tokens c.in_ok-begin_object.ensures.ok c.in_ok-write_number.ensures.ok c.in_ok-write_number-2.ensures.ok c.in_ok-write_dooms.ensures.ok
+    gathered version net setup c.new-out.ensures.tokens c.in_ok-begin_object.ensures.ok c.in_ok-write_number.ensures.ok
+    c.in_ok-write_number-2.ensures.ok c.in_ok-write_dooms.ensures.ok
     c.in_ok-write_number-3.ensures.ok links nodes c.in_ok-write_number-5.ensures.ok number c.in_ok-end_object.ensures.ok
     in
     let before =
     c.end_object.ensures.room.0
-    ∙ (c.write_number-6.ensures.before ∙ (c.write_number-5.ensures.before ∙ (c.write_number-4.ensures.before ∙ (c.write_links.ensures.before ∙ (c.write_number-3.ensures.before
-    ∙ (c.write_dooms.ensures.before ∙ (c.write_number-2.ensures.before ∙ (c.write_number.ensures.before ∙ (c.begin_object.ensures.room.0 ∙ (c.new-out.ensures.before ∙ c.new.ensures.items))))))))))
+    ∙ (c.write_number-6.ensures.before ∙ (c.write_number-5.ensures.before
+    ∙ (c.write_number-4.ensures.before ∙ (c.write_links.ensures.before ∙ (c.write_number-3.ensures.before
+    ∙ (c.write_dooms.ensures.before ∙ (c.write_number-2.ensures.before
+    ∙ (c.write_number.ensures.before ∙ (c.begin_object.ensures.room.0
+    ∙ (c.new-out.ensures.before ∙ c.new.ensures.items))))))))))
     in
-    let text = c.into_inner.ensures.items ∙ (ap (λ b. b ++ print c.end_object.new.self.tokens) before ∙ (ap print all ∙ print-outline (head_data version net setup))) in
+    let text = c.into_inner.ensures.items ∙ (ap (λ b. b ++ print c.end_object.new.self.tokens) before
+    ∙ (ap print all ∙ print-outline (head_data version net setup))) in
     ap (λ v. v.items) (rw c.unwrap.ensures at c.from_utf8.ensures.ok) ∙ text

@@ -5,4 +5,5 @@ use Rattle.bhs_replay.proofs.HeadLists.{IsWritingOn}
 use Rattle.bhs_replay.proofs.heads.write_links.Given as goal
 
 abbrev pub invariant-loop-link : goal.invariant-loop-link
-invariant-loop-link l = IsWritingOn l.initial.out l.out (map link_data l.links) (map link_data (drop l.link-index l.links))
+invariant-loop-link l = IsWritingOn l.initial.out l.out (map link_data l.links)
+    (map link_data (drop l.link-index l.links))

@@ -5,4 +5,5 @@ use Rattle.bhs_replay.proofs.HeadLists.{IsWritingOn}
 use Rattle.bhs_replay.proofs.heads.write_row.Given as goal
 
 abbrev pub invariant-loop-number : goal.invariant-loop-number
-invariant-loop-number l = IsWritingOn l.initial.out l.out (map whole l.numbers) (map whole (drop l.number-index l.numbers))
+invariant-loop-number l = IsWritingOn l.initial.out l.out (map whole l.numbers)
+    (map whole (drop l.number-index l.numbers))

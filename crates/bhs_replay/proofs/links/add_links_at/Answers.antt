@@ -17,7 +17,8 @@ loop-port-preserved c =
     elim c.if-node-w.branch [
       | then-node-w+in_ok-push w ↦ one_link_more net node port _ _ c.loop-port.invariant _
           (subst (λ (e : ℕ × ℕ). nat_lt node e.0 ≡ true) c.far-w.ensures.end (lt-ltb _ _ w.if-node-w.true))
-          (ap (λ v. v.items) w.links-is ∙ w.in_ok-push.ensures.items ∙ ap (λ (e : ℕ × ℕ). c.loop-port.links.items ++ made e ∷ []) c.far-w.ensures.end)
+          (ap (λ v. v.items) w.links-is ∙ w.in_ok-push.ensures.items
+          ∙ ap (λ (e : ℕ × ℕ). c.loop-port.links.items ++ made e ∷ []) c.far-w.ensures.end)
       | else-node-w w ↦ no_link_more net node port _ _ c.loop-port.invariant _
           (subst (λ (e : ℕ × ℕ). nat_lt node e.0 ≡ false) c.far-w.ensures.end (not_below _ _ w.if-node-w.false))
           (ap (λ v. v.items) w.links-is)

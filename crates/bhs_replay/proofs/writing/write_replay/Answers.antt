@@ -16,38 +16,54 @@ use Rattle.bhs_replay.proofs.ReadBack.{AreReadUpTo, none_read, one_more, all_rea
 use Rattle.bhs_replay.proofs.WritingLemmas.{fault_is, breaks_at, first_line, ends_whole, ends_broken}
 use Rattle.bhs_replay.proofs.writing.write_replay.Goals as goal
 
-begun : {O : Type 0} (takes : O → List ℕ → Taken → O → Type 0) (a : O) (play : Play) → map (λ one. read_if play.log one.mark) play.log ≡ replies (world_in play) (events_of play.log)
-    → IsSentUpTo takes a a (replay_of play) ((head_line Two play.net play.setup ++ 10 ∷ []) ++ left_of play.log play.log)
-begun takes a play answered = first_line takes a (replay_of play) (head_line Two play.net play.setup ++ 10 ∷ []) (left_of play.log play.log) (replay-along play answered)
+begun : {O : Type 0} (takes : O → List ℕ → Taken → O → Type 0) (a : O) (play : Play)
+    → map (λ one. read_if play.log one.mark) play.log ≡ replies (world_in play) (events_of play.log)
+    → IsSentUpTo takes a a (replay_of play) ((head_line Two play.net play.setup ++ 10 ∷ [])
+    ++ left_of play.log play.log)
+begun takes a play answered = first_line takes a (replay_of play) (head_line Two play.net play.setup ++ 10 ∷ [])
+    (left_of play.log play.log) (replay-along play answered)
 
 -- before the event at a place
-at_event : {O : Type 0} (takes : O → List ℕ → Taken → O → Type 0) (a b : O) (text : List ℕ) (log : List Kept) (i : ℕ) (one : Kept) → i < length log → one ≡ get_or log i one
-    → IsSentUpTo takes a b text (left_of log (drop i log)) → IsSentUpTo takes a b text ((kept_line log one ++ 10 ∷ []) ++ left_of log (drop (i + 1) log))
-at_event takes a b text log i one within is so_far = subst (λ (left : List ℕ). IsSentUpTo takes a b text left) (left-next log (drop i log) (drop (i + 1) log) one (drop-next log i one within is)) so_far
+at_event : {O : Type 0} (takes : O → List ℕ → Taken → O → Type 0) (a b : O) (text : List ℕ) (log : List Kept) (i : ℕ)
+    (one : Kept) → i < length log → one ≡ get_or log i one
+    → IsSentUpTo takes a b text (left_of log (drop i log))
+    → IsSentUpTo takes a b text ((kept_line log one ++ 10 ∷ []) ++ left_of log (drop (i + 1) log))
+at_event takes a b text log i one within is so_far =
+    subst (λ (left : List ℕ). IsSentUpTo takes a b text left)
+    (left-next log (drop i log) (drop (i + 1) log) one (drop-next log i one within is)) so_far
 
-at_end : {O : Type 0} (takes : O → List ℕ → Taken → O → Type 0) (a b : O) (text : List ℕ) (log : List Kept) (i : ℕ) → length log ≤ i
-    → IsSentUpTo takes a b text (left_of log (drop i log)) → IsSentUpTo takes a b text (end_line (length log) ++ 10 ∷ [])
-at_end takes a b text log i past so_far = subst (λ (left : List ℕ). IsSentUpTo takes a b text left) (left-last log i past) so_far
+at_end : {O : Type 0} (takes : O → List ℕ → Taken → O → Type 0) (a b : O) (text : List ℕ) (log : List Kept) (i : ℕ)
+    → length log ≤ i
+    → IsSentUpTo takes a b text (left_of log (drop i log))
+    → IsSentUpTo takes a b text (end_line (length log) ++ 10 ∷ [])
+at_end takes a b text log i past so_far = subst (λ (left : List ℕ). IsSentUpTo takes a b text left)
+    (left-last log i past) so_far
 
 pub returns-in_err-send_line-clause-err : goal.returns-in_err-send_line-clause-err
 returns-in_err-send_line-clause-err g c =
     let play : Play = c.args.sealed.now in
     let made =
-    IfOk-weaker c.head_line.result _ _ (λ text is. is ∙ ap₂ (λ (n : Network) (s : Setup). head_line Two n s) c.net.ensures c.setup.ensures.setup) c.head_line.ensures.line
+    IfOk-weaker c.head_line.result _ _ (λ text is. is ∙ ap₂ (λ (n : Network) (s : Setup). head_line Two n s)
+    c.net.ensures c.setup.ensures.setup) c.head_line.ensures.line
     in
     fault_is c.from_residual.result c.in_err-send_line.field-0.0 _ c.from_residual.ensures.1
-    (breaks_at g.W.Output.takes _ _ _ (replay_of play) (head_line Two play.net play.setup ++ 10 ∷ []) (left_of play.log play.log) _
-    (begun g.W.Output.takes c.args.writer.now play c.log-log.ensures.replies) (c.in_err-send_line.ensures.err (head_line Two play.net play.setup) made))
+    (breaks_at g.W.Output.takes _ _ _ (replay_of play) (head_line Two play.net play.setup ++ 10 ∷ [])
+    (left_of play.log play.log) _
+    (begun g.W.Output.takes c.args.writer.now play c.log-log.ensures.replies)
+    (c.in_err-send_line.ensures.err (head_line Two play.net play.setup) made))
 
 pub loop-one-init : goal.loop-one-init
 loop-one-init g c =
     let play : Play = c.args.sealed.now in
     let made =
-    IfOk-weaker c.head_line.result _ _ (λ text is. is ∙ ap₂ (λ (n : Network) (s : Setup). head_line Two n s) c.net.ensures c.setup.ensures.setup) c.head_line.ensures.line
+    IfOk-weaker c.head_line.result _ _ (λ text is. is ∙ ap₂ (λ (n : Network) (s : Setup). head_line Two n s)
+    c.net.ensures c.setup.ensures.setup) c.head_line.ensures.line
     in (
       rw c.log-log.ensures.log
-          (sent_more g.W.Output.takes _ _ _ (replay_of play) (head_line Two play.net play.setup ++ 10 ∷ []) (left_of play.log play.log)
-          (begun g.W.Output.takes c.args.writer.now play c.log-log.ensures.replies) (c.in_ok-send_line.ensures.ok (head_line Two play.net play.setup) made)),
+          (sent_more g.W.Output.takes _ _ _ (replay_of play) (head_line Two play.net play.setup ++ 10 ∷ [])
+          (left_of play.log play.log)
+          (begun g.W.Output.takes c.args.writer.now play c.log-log.ensures.replies)
+          (c.in_ok-send_line.ensures.ok (head_line Two play.net play.setup) made)),
       none_read c.log-log.result.now,
     )
 
@@ -58,9 +74,13 @@ returns-in_err-send_line-2-clause-err g c =
     let log : List Kept = c.log-log.result.now in
     let one : Kept = c.one-item.result in
     let made = rw (← same) at c.line_in.ensures.line in
-    let here = at_event g.W.Output.takes c.args.writer.now _ (replay_of play) log c.loop-one.one-index one c.loop-one-test.true c.one-item.is c.loop-one.invariant.0 in
-    fault_is c.from_residual-in_err-send_line-2.result c.in_err-send_line-2.field-0.0 _ c.from_residual-in_err-send_line-2.ensures.1
-    (breaks_at g.W.Output.takes _ _ _ (replay_of play) (kept_line log one ++ 10 ∷ []) (left_of log (drop (c.loop-one.one-index + 1) log)) _ here (c.in_err-send_line-2.ensures.err (kept_line log one) made))
+    let here = at_event g.W.Output.takes c.args.writer.now _ (replay_of play) log c.loop-one.one-index one
+    c.loop-one-test.true c.one-item.is c.loop-one.invariant.0 in
+    fault_is c.from_residual-in_err-send_line-2.result c.in_err-send_line-2.field-0.0 _
+    c.from_residual-in_err-send_line-2.ensures.1
+    (breaks_at g.W.Output.takes _ _ _ (replay_of play) (kept_line log one ++ 10 ∷ [])
+    (left_of log (drop (c.loop-one.one-index + 1) log)) _ here
+    (c.in_err-send_line-2.ensures.err (kept_line log one) made))
 
 pub loop-one-preserved : goal.loop-one-preserved
 loop-one-preserved g c =
@@ -69,9 +89,13 @@ loop-one-preserved g c =
     let log : List Kept = c.log-log.result.now in
     let one : Kept = c.one-item.result in
     let made = rw (← same) at c.line_in.ensures.line in
-    let here = at_event g.W.Output.takes c.args.writer.now _ (replay_of play) log c.loop-one.one-index one c.loop-one-test.true c.one-item.is c.loop-one.invariant.0 in
-    let reads = was_made c.line_in.result _ c.in_ok-send_line-2.ensures.made (rw (← same) at c.line_in.ensures.reads) in (
-      sent_more g.W.Output.takes _ _ _ (replay_of play) (kept_line log one ++ 10 ∷ []) (left_of log (drop (c.loop-one.one-index + 1) log)) here (c.in_ok-send_line-2.ensures.ok (kept_line log one) made),
+    let here = at_event g.W.Output.takes c.args.writer.now _ (replay_of play) log c.loop-one.one-index one
+    c.loop-one-test.true c.one-item.is c.loop-one.invariant.0 in
+    let reads = was_made c.line_in.result _ c.in_ok-send_line-2.ensures.made (rw (← same) at c.line_in.ensures.reads) in
+        (
+      sent_more g.W.Output.takes _ _ _ (replay_of play) (kept_line log one ++ 10 ∷ [])
+          (left_of log (drop (c.loop-one.one-index + 1) log)) here
+          (c.in_ok-send_line-2.ensures.ok (kept_line log one) made),
       one_more log c.loop-one.one-index one c.loop-one-test.true c.one-item.is c.loop-one.invariant.1 reads,
     )
 
@@ -80,22 +104,26 @@ returns-clause-ok g c =
     let play : Play = c.args.sealed.now in
     let log : List Kept = c.log-log.result.now in
     ends_whole g.W.Output.takes c.send_line-2.result _ _ _ (replay_of play) (end_line (length log) ++ 10 ∷ [])
-    (at_end g.W.Output.takes _ _ (replay_of play) log c.loop-one.one-index c.loop-one-test.false c.loop-one.invariant.0) (c.send_line-2.ensures.ok (end_line (length log)) c.end_line.ensures)
+    (at_end g.W.Output.takes _ _ (replay_of play) log c.loop-one.one-index c.loop-one-test.false c.loop-one.invariant.0)
+    (c.send_line-2.ensures.ok (end_line (length log)) c.end_line.ensures)
 
 pub returns-clause-err : goal.returns-clause-err
 returns-clause-err g c =
     let play : Play = c.args.sealed.now in
     let log : List Kept = c.log-log.result.now in
     ends_broken g.W.Output.takes c.send_line-2.result _ _ _ (replay_of play) (end_line (length log) ++ 10 ∷ [])
-    (at_end g.W.Output.takes _ _ (replay_of play) log c.loop-one.one-index c.loop-one-test.false c.loop-one.invariant.0) (c.send_line-2.ensures.err (end_line (length log)) c.end_line.ensures)
+    (at_end g.W.Output.takes _ _ (replay_of play) log c.loop-one.one-index c.loop-one-test.false c.loop-one.invariant.0)
+    (c.send_line-2.ensures.err (end_line (length log)) c.end_line.ensures)
 
 pub returns-clause-read : goal.returns-clause-read
 returns-clause-read g c =
     let play : Play = c.args.sealed.now in
     let log : List Kept = c.log-log.result.now in
-    let network : IsNetwork play.net = subst IsNetwork c.net.ensures (was_made c.head_line.result _ c.in_ok-send_line.ensures.made c.head_line.ensures.network) in
+    let network : IsNetwork play.net = subst IsNetwork c.net.ensures
+    (was_made c.head_line.result _ c.in_ok-send_line.ensures.made c.head_line.ensures.network) in
     let all : AreReadUpTo play.log (length play.log) =
     rw c.log-log.ensures.log at (all_read log c.loop-one.one-index c.loop-one-test.false c.loop-one.invariant.1)
     in
     on_ok c.send_line-2.result _
-    (read_as play network c.setup.ensures.within c.setup.ensures.normal c.log-log.ensures.closed c.log-log.ensures.kept c.log-log.ensures.replies c.log-log.ensures.bound all)
+    (read_as play network c.setup.ensures.within c.setup.ensures.normal c.log-log.ensures.closed c.log-log.ensures.kept
+    c.log-log.ensures.replies c.log-log.ensures.bound all)

@@ -6,4 +6,5 @@ use Rattle.bhs_replay.proofs.ReadBack.{AreReadUpTo}
 use Rattle.bhs_replay.proofs.writing.write_replay.Given as goal
 
 abbrev pub invariant-loop-one : goal.invariant-loop-one
-invariant-loop-one g l = IsSentUpTo g.W.Output.takes l.fn.writer l.writer (replay_of l.sealed) (left_of l.log (drop l.one-index l.log)) × AreReadUpTo l.log l.one-index
+invariant-loop-one g l = IsSentUpTo g.W.Output.takes l.fn.writer l.writer (replay_of l.sealed)
+    (left_of l.log (drop l.one-index l.log)) × AreReadUpTo l.log l.one-index

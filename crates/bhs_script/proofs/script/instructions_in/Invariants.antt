@@ -6,7 +6,8 @@ use Rattle.bhs_script.proofs.script.instructions_in.Given as goal
 
 abbrev pub invariant-loop-rest : goal.invariant-loop-rest
 invariant-loop-rest l =
-    (with_front (map seen l.found.items) (instructions_from l.games (l.number + 1) (rest_lines l.rest)) ≡ instructions_of l.games l.script)
+    (with_front (map seen l.found.items) (instructions_from l.games (l.number + 1)
+    (rest_lines l.rest)) ≡ instructions_of l.games l.script)
     × (l.number + bytes_left l.rest ≤ length l.script + 1)
 
 abbrev pub decreases-loop-rest : goal.decreases-loop-rest

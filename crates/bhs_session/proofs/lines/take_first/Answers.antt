@@ -18,7 +18,8 @@ returns-in-Err g c p line next says =
       (
         taken,
         Stops-step g.W.Output.takes g.P.Port.calls _ start c.args.port.now taken (denied c.in-Err.denial)
-            (denies start line c.in-Err.denial (ap (ask Fresh) says ∙ c.in-Err.ensures.denial) next) c.write_denial.result c.write_denial.ensures.sends,
+            (denies start line c.in-Err.denial (ap (ask Fresh) says ∙ c.in-Err.ensures.denial) next)
+            c.write_denial.result c.write_denial.ensures.sends,
       ),
     )
 
@@ -30,8 +31,10 @@ returns-in-Ok-In g c p line next says =
     let owes = Owes (text_of reply) (answered_by true reply) in
     let asked = rw (c.as_str.ensures, c.in-Ok-In.field-0-is) at c.in-Ok-In.ensures in
     Ends-step g.W.Output.takes g.P.Port.calls _ start c.enter.new.self taken owes
-    (asks start line (Enters c.in-Ok.key) (LetIn (entries.In reply)) c.enter.new.self (ap (ask Fresh) says ∙ c.in-Ok.ensures.key) next asked)
-    (λ _. Ready) c.answer.new.port taken c.answer.result (λ w. c.answer.ensures (record p { taken = taken; written = w }))
+    (asks start line (Enters c.in-Ok.key) (LetIn (entries.In reply)) c.enter.new.self
+    (ap (ask Fresh) says ∙ c.in-Ok.ensures.key) next asked)
+    (λ _. Ready) c.answer.new.port taken c.answer.result
+    (λ w. c.answer.ensures (record p { taken = taken; written = w }))
 
 pub returns-in-Ok-Key : goal.returns-in-Ok-Key
 returns-in-Ok-Key g c p line next says =
@@ -42,7 +45,8 @@ returns-in-Ok-Key g c p line next says =
       (
         taken,
         Stops-step g.W.Output.takes g.P.Port.calls _ start c.enter.new.self taken (denied denials.Key)
-            (asks start line (Enters c.in-Ok.key) (LetIn entries.Key) c.enter.new.self (ap (ask Fresh) says ∙ c.in-Ok.ensures.key) next asked)
+            (asks start line (Enters c.in-Ok.key) (LetIn entries.Key) c.enter.new.self
+            (ap (ask Fresh) says ∙ c.in-Ok.ensures.key) next asked)
             c.write_denial-in-Ok-Key.result c.write_denial-in-Ok-Key.ensures.sends,
       ),
     )
@@ -56,7 +60,8 @@ returns-in-Ok-Taken g c p line next says =
       (
         taken,
         Stops-step g.W.Output.takes g.P.Port.calls _ start c.enter.new.self taken (denied denials.Taken)
-            (asks start line (Enters c.in-Ok.key) (LetIn entries.Taken) c.enter.new.self (ap (ask Fresh) says ∙ c.in-Ok.ensures.key) next asked)
+            (asks start line (Enters c.in-Ok.key) (LetIn entries.Taken) c.enter.new.self
+            (ap (ask Fresh) says ∙ c.in-Ok.ensures.key) next asked)
             c.write_denial-in-Ok-Taken.result c.write_denial-in-Ok-Taken.ensures.sends,
       ),
     )
@@ -70,6 +75,7 @@ returns g c p line next says =
       (
         taken,
         Moves-step g.W.Output.takes g.P.Port.calls start c.enter.new.self taken (Finished Memory)
-            (asks start line (Enters c.in-Ok.key) NoMemory c.enter.new.self (ap (ask Fresh) says ∙ c.in-Ok.ensures.key) next asked),
+            (asks start line (Enters c.in-Ok.key) NoMemory c.enter.new.self
+            (ap (ask Fresh) says ∙ c.in-Ok.ensures.key) next asked),
       ),
     )

@@ -13,7 +13,9 @@ returns-in_default g c p next =
       StopsAtLines-of c.between_lines.result entered Memory c.between_lines.ensures tt,
       (
         p.taken,
-        rw c.between_lines.ensures (Moves-step g.W.Output.takes g.P.Port.calls start c.args.port.now p.taken (stopped (between entered) Memory)
-            (session.lacks start (TakesLines-between entered) (IsNext-some p.read p.taken (seen c.args.line.now) next))),
+        rw c.between_lines.ensures (Moves-step g.W.Output.takes g.P.Port.calls start c.args.port.now p.taken
+            (stopped (between entered) Memory)
+            (session.lacks start (TakesLines-between entered)
+            (IsNext-some p.read p.taken (seen c.args.line.now) next))),
       ),
     )

@@ -10,7 +10,8 @@ use Rattle.bhs_session.proofs.lines.take_lines.Goals as goal
 pub loop-line-init : goal.loop-line-init
 loop-line-init g c p whole =
     let start = record p { output = c.args.writer.now; port = c.args.port.now; phase = between c.args.has_entered } in
-    subst (λ (taken : List Line). Moves g.W.Output.takes g.P.Port.calls start c.args.writer.now c.args.port.now taken (between c.args.has_entered))
+    subst (λ (taken : List Line). Moves g.W.Output.takes g.P.Port.calls start c.args.writer.now c.args.port.now taken
+    (between c.args.has_entered))
     (sym (append-nil p.taken)) (Moves-none g.W.Output.takes g.P.Port.calls start)
 
 pub loop-line-preserved : goal.loop-line-preserved
@@ -22,7 +23,8 @@ loop-line-preserved g c p whole =
     let before = c.loop-line.invariant p whole in
     let next = IsNext-at p.read p.taken found i c.line-item.result c.loop-line-test.true c.line-item.is whole in
     rw (taken-more p.taken found i c.line-item.result c.loop-line-test.true c.line-item.is)
-    (Moves-trans g.W.Output.takes g.P.Port.calls start _ _ c.loop-line.port c.take_line.new.port taken _ (between c.loop-line.entered) Ready before
+    (Moves-trans g.W.Output.takes g.P.Port.calls start _ _ c.loop-line.port c.take_line.new.port taken _
+    (between c.loop-line.entered) Ready before
     (c.in_ok-take_line.ensures (record p { taken = taken; written = p.written ++ before.more }) next))
 
 pub returns-in_err-take_line : goal.returns-in_err-take_line
@@ -36,7 +38,15 @@ returns-in_err-take_line g c p whole =
     let next = IsNext-at p.read p.taken found i c.line-item.result c.loop-line-test.true c.line-item.is whole in
     let after = c.in_err-take_line.ensures (record p { taken = taken; written = p.written ++ before.more }) next in
     let e = err_from_is_err_and c.from_residual.result c.from_residual.ensures.1 in
-    rw (e.1, e.2) (after.0, (after.1.0, Moves-trans g.W.Output.takes g.P.Port.calls start _ _ c.loop-line.port c.take_line.new.port taken after.1.0 (between c.loop-line.entered) (phase_of stop) before after.1.1))
+    rw (e.1, e.2) (
+      after.0,
+      (
+        after.1.0,
+        Moves-trans g.W.Output.takes g.P.Port.calls start _ _ c.loop-line.port
+            c.take_line.new.port taken after.1.0 (between c.loop-line.entered) (phase_of stop) before after.1.1,
+      ),
+    )
 
 pub returns : goal.returns
-returns g c p whole = rw (sym (taken-all p.read p.taken c.args.found.now c.loop-line.line-index c.loop-line-test.false whole)) (c.loop-line.invariant p whole)
+returns g c p whole = rw (sym (taken-all p.read p.taken c.args.found.now c.loop-line.line-index c.loop-line-test.false
+    whole)) (c.loop-line.invariant p whole)

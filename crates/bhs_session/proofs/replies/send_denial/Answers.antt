@@ -15,10 +15,12 @@ pub returns-clause-ok : goal.returns-clause-ok
 returns-clause-ok g c =
     let line : c.as_bytes.result.now ≡ denial_line c.args.denial = c.as_bytes.ensures.value ∙ c.denial_of.ensures in
     let sent = rw line at c.in_ok-send.ensures.ok in
-    on_ok_weaker c.send-2.result (λ more. PutsAll-trans g.W.Output.takes (denial_line c.args.denial) (10 ∷ []) _ _ _ sent more) c.send-2.ensures.ok
+    on_ok_weaker c.send-2.result (λ more. PutsAll-trans g.W.Output.takes (denial_line c.args.denial) (10 ∷ []) _ _ _
+    sent more) c.send-2.ensures.ok
 
 pub returns-clause-err : goal.returns-clause-err
 returns-clause-err g c =
     let line : c.as_bytes.result.now ≡ denial_line c.args.denial = c.as_bytes.ensures.value ∙ c.denial_of.ensures in
     let sent = rw line at c.in_ok-send.ensures.ok in
-    on_err_weaker c.send-2.result (λ part. PutsPart-trans g.W.Output.takes (denial_line c.args.denial) (10 ∷ []) _ _ _ sent part) c.send-2.ensures.err
+    on_err_weaker c.send-2.result (λ part. PutsPart-trans g.W.Output.takes (denial_line c.args.denial) (10 ∷ []) _ _ _
+    sent part) c.send-2.ensures.err

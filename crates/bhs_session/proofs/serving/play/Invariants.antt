@@ -7,6 +7,15 @@ use Rattle.bhs_session.proofs.serving.play.Given as goal
 
 abbrev pub invariant-loop : goal.invariant-loop
 invariant-loop g l = (read : List ℕ) × (written : List ℕ)
-    × Session g.R.Input.gives g.W.Output.takes g.P.Port.calls l.initial.reader (fresh l.initial.writer l.initial.port l.fn.turns) l.reader
-    (record { output = l.writer; port = l.port; turns = l.fn.turns - l.counter; read = read; taken = lines read; written = written; phase = between l.has_entered })
+    × Session g.R.Input.gives g.W.Output.takes g.P.Port.calls l.initial.reader
+    (fresh l.initial.writer l.initial.port l.fn.turns) l.reader
+    (record {
+      output = l.writer;
+      port = l.port;
+      turns = l.fn.turns - l.counter;
+      read = read;
+      taken = lines read;
+      written = written;
+      phase = between l.has_entered;
+    })
     × (l.lines ≡ held_of read)

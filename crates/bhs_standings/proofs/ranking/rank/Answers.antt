@@ -9,6 +9,9 @@ pub loop-place-preserved : goal.loop-place-preserved
 loop-place-preserved c = rw (range_more c.loop-place.place, ← c.loop-place.invariant) c.in_ok-push.ensures.items
 
 pub returns : goal.returns
-returns c = ranking_of c.args.rows.now _ c.sort_by.new.self.items c.loop-place.place (omega arith) c.loop-place.invariant c.sort_by.ensures.permutation
-    (c.in_ok-sort_by.ensures.sorted (precedes c.args.rows.now) (precedes_orders c.args.rows.now) (always_returns_same _ _ _ (λ a r q k. search rules)))
-    (c.sort_by.ensures.stable (precedes c.args.rows.now) (precedes_orders c.args.rows.now) (always_returns_same _ _ _ (λ a r q k. search rules)))
+returns c = ranking_of c.args.rows.now _ c.sort_by.new.self.items c.loop-place.place (omega arith)
+    c.loop-place.invariant c.sort_by.ensures.permutation
+    (c.in_ok-sort_by.ensures.sorted (precedes c.args.rows.now) (precedes_orders c.args.rows.now)
+    (always_returns_same _ _ _ (λ a r q k. search rules)))
+    (c.sort_by.ensures.stable (precedes c.args.rows.now) (precedes_orders c.args.rows.now)
+    (always_returns_same _ _ _ (λ a r q k. search rules)))

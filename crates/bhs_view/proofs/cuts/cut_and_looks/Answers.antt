@@ -21,7 +21,8 @@ returns-then-agent-setup-clause-cut c =
       kept = c.log-log.ensures.kept;
       replies = c.log-log.ensures.replies;
     } in
-    c.new.ensures.items ∙ sym (stranger _ _ _ _ c.args.agent read (subst (λ (setup : Setup). setup.agents ≤ c.args.agent) c.setup-setup.ensures.setup c.if-agent-setup.true))
+    c.new.ensures.items ∙ sym (stranger _ _ _ _ c.args.agent read
+    (subst (λ (setup : Setup). setup.agents ≤ c.args.agent) c.setup-setup.ensures.setup c.if-agent-setup.true))
 
 pub walk_back-requires-clause-sites : goal.walk_back-requires-clause-sites
 walk_back-requires-clause-sites c =
@@ -34,7 +35,8 @@ walk_back-requires-clause-sites c =
       kept = c.log-log.ensures.kept;
       replies = c.log-log.ensures.replies;
     } in
-    ap length c.deref.ensures.value ∙ (known _ _ _ _ c.in_ok-sites.sites.items read c.in_ok-sites.ensures).count ∙ ap length (sym c.log-log.ensures.log)
+    ap length c.deref.ensures.value ∙ (known _ _ _ _ c.in_ok-sites.sites.items read c.in_ok-sites.ensures).count
+    ∙ ap length (sym c.log-log.ensures.log)
 
 pub walk_back-requires-clause-range : goal.walk_back-requires-clause-range
 walk_back-requires-clause-range c =
@@ -48,11 +50,16 @@ walk_back-requires-clause-range c =
       replies = c.log-log.ensures.replies;
     } in
     range_there _ _ _ _ _ _
-    (ap (λ (needed : Needed). length needed.agents) c.add_agent.ensures ∙ length-set c.in_ok-needed.needed.agents c.args.agent true
-    ∙ ap (λ (needed : Needed). length needed.agents) c.in_ok-needed.ensures ∙ length_none c.setup-setup.result.now.agents ∙ ap (λ (setup : Setup). setup.agents) c.setup-setup.ensures.setup)
+    (ap (λ (needed : Needed). length needed.agents) c.add_agent.ensures ∙ length-set c.in_ok-needed.needed.agents
+    c.args.agent true
+    ∙ ap (λ (needed : Needed). length needed.agents) c.in_ok-needed.ensures
+    ∙ length_none c.setup-setup.result.now.agents
+    ∙ ap (λ (setup : Setup). setup.agents) c.setup-setup.ensures.setup)
     (ap (λ (needed : Needed). length needed.nodes) c.add_agent.ensures
-    ∙ ap (λ (needed : Needed). length needed.nodes) c.in_ok-needed.ensures ∙ length_none c.nodes-nodes.result ∙ c.nodes-nodes.ensures.count ∙ ap nodes_of c.net-net.ensures)
-    (ap (λ (log : List Kept). footprints_at log c.deref.result.now) c.log-log.ensures.log ∙ ap (footprints_at c.args.sealed.now.log) c.deref.ensures.value)
+    ∙ ap (λ (needed : Needed). length needed.nodes) c.in_ok-needed.ensures ∙ length_none c.nodes-nodes.result
+    ∙ c.nodes-nodes.ensures.count ∙ ap nodes_of c.net-net.ensures)
+    (ap (λ (log : List Kept). footprints_at log c.deref.result.now) c.log-log.ensures.log
+    ∙ ap (footprints_at c.args.sealed.now.log) c.deref.ensures.value)
     (known _ _ _ _ c.in_ok-sites.sites.items read c.in_ok-sites.ensures).range
 
 pub returns-clause-cut : goal.returns-clause-cut
@@ -66,7 +73,9 @@ returns-clause-cut c =
       kept = c.log-log.ensures.kept;
       replies = c.log-log.ensures.replies;
     } in
-    subst (λ (all : List Footprint). IfOk c.walk_back.result (λ found. found.0.items ≡ places_of (cut c.args.agent all)))
-    (ap (λ (log : List Kept). footprints_at log c.deref.result.now) c.log-log.ensures.log ∙ ap (footprints_at c.args.sealed.now.log) c.deref.ensures.value
+    subst (λ (all : List Footprint). IfOk c.walk_back.result
+    (λ found. found.0.items ≡ places_of (cut c.args.agent all)))
+    (ap (λ (log : List Kept). footprints_at log c.deref.result.now) c.log-log.ensures.log
+    ∙ ap (footprints_at c.args.sealed.now.log) c.deref.ensures.value
     ∙ (known _ _ _ _ c.in_ok-sites.sites.items read c.in_ok-sites.ensures).footprints)
     c.walk_back.ensures.cut

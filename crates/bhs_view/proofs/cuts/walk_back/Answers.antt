@@ -8,27 +8,35 @@ loop-place-init c = record {
   agents = refl;
   nodes = refl;
   looks = omega arith;
-  back = back_at_first c.args.log.now c.args.sites.now c.args.needed c.args.agent _ _ c.requires.sites refl c.new-places.ensures.items c.requires.needed;
+  back = back_at_first c.args.log.now c.args.sites.now c.args.needed c.args.agent _ _ c.requires.sites refl
+      c.new-places.ensures.items c.requires.needed;
 }
 
 pub has-requires : goal.has-requires
 has-requires c =
     rw (c.loop-place.invariant.agents, c.loop-place.invariant.nodes)
-    (there c.args.log.now c.args.sites.now _ _ (c.loop-place.place - 1) c.index-log-place.result c.requires.sites (omega arith) c.index-log-place.is c.requires.range).within
+    (there c.args.log.now c.args.sites.now _ _ (c.loop-place.place - 1) c.index-log-place.result c.requires.sites
+    (omega arith) c.index-log-place.is c.requires.range).within
 
 pub add-requires : goal.add-requires
 add-requires c =
     rw (c.loop-place.invariant.agents, c.loop-place.invariant.nodes)
-    (there c.args.log.now c.args.sites.now _ _ (c.loop-place.place - 1) c.index-log-place.result c.requires.sites (omega arith) c.index-log-place.is c.requires.range).within
+    (there c.args.log.now c.args.sites.now _ _ (c.loop-place.place - 1) c.index-log-place.result c.requires.sites
+    (omega arith) c.index-log-place.is c.requires.range).within
 
 pub loop-place-preserved-in-Continue-1 : goal.loop-place-preserved-in-Continue-1
 loop-place-preserved-in-Continue-1 c = record {
-  agents = ap (λ (needed : Needed). length needed.agents) c.add.ensures ∙ length_marks _ _ ∙ c.loop-place.invariant.agents;
+  agents = ap (λ (needed : Needed). length needed.agents) c.add.ensures ∙ length_marks _ _
+      ∙ c.loop-place.invariant.agents;
   nodes = ap (λ (needed : Needed). length needed.nodes) c.add.ensures ∙ length_marks _ _ ∙ c.loop-place.invariant.nodes;
   looks = omega (arith, c.loop-place.invariant.looks);
-  back = step_chosen c.args.log.now c.args.sites.now c.loop-place.needed _ c.args.agent (c.loop-place.place - 1) c.loop-place.place c.loop-place.places.items _ c.index-log-place.result
-      (rw (c.loop-place.invariant.agents, c.loop-place.invariant.nodes) (there c.args.log.now c.args.sites.now _ _ (c.loop-place.place - 1) c.index-log-place.result c.requires.sites (omega arith) c.index-log-place.is c.requires.range))
-      (omega arith) c.loop-place.invariant.back (sym c.if-has.true ∙ c.has.ensures) c.add.ensures c.in_ok-push.ensures.items;
+  back = step_chosen c.args.log.now c.args.sites.now c.loop-place.needed _ c.args.agent (c.loop-place.place - 1)
+      c.loop-place.place c.loop-place.places.items _ c.index-log-place.result
+      (rw (c.loop-place.invariant.agents, c.loop-place.invariant.nodes)
+      (there c.args.log.now c.args.sites.now _ _ (c.loop-place.place - 1) c.index-log-place.result c.requires.sites
+      (omega arith) c.index-log-place.is c.requires.range))
+      (omega arith) c.loop-place.invariant.back (sym c.if-has.true ∙ c.has.ensures) c.add.ensures
+      c.in_ok-push.ensures.items;
 }
 
 pub loop-place-preserved : goal.loop-place-preserved
@@ -36,7 +44,10 @@ loop-place-preserved c = record {
   agents = c.loop-place.invariant.agents;
   nodes = c.loop-place.invariant.nodes;
   looks = omega (arith, c.loop-place.invariant.looks);
-  back = step_omitted c.args.log.now c.args.sites.now c.loop-place.needed c.args.agent (c.loop-place.place - 1) c.loop-place.place c.loop-place.places.items c.index-log-place.result
-      (rw (c.loop-place.invariant.agents, c.loop-place.invariant.nodes) (there c.args.log.now c.args.sites.now _ _ (c.loop-place.place - 1) c.index-log-place.result c.requires.sites (omega arith) c.index-log-place.is c.requires.range))
+  back = step_omitted c.args.log.now c.args.sites.now c.loop-place.needed c.args.agent (c.loop-place.place - 1)
+      c.loop-place.place c.loop-place.places.items c.index-log-place.result
+      (rw (c.loop-place.invariant.agents, c.loop-place.invariant.nodes)
+      (there c.args.log.now c.args.sites.now _ _ (c.loop-place.place - 1) c.index-log-place.result c.requires.sites
+      (omega arith) c.index-log-place.is c.requires.range))
       (omega arith) c.loop-place.invariant.back (sym c.if-has.false ∙ c.has.ensures);
 }

@@ -20,7 +20,8 @@ unclosed-requires-clause-sites c =
       kept = c.log-log.ensures.kept;
       replies = c.log-log.ensures.replies;
     } in
-    ap length c.deref.ensures.value ∙ (known _ _ _ _ c.in_ok-sites.sites.items read c.in_ok-sites.ensures).count ∙ ap length (sym c.log-log.ensures.log)
+    ap length c.deref.ensures.value ∙ (known _ _ _ _ c.in_ok-sites.sites.items read c.in_ok-sites.ensures).count
+    ∙ ap length (sym c.log-log.ensures.log)
 
 pub unclosed-requires-clause-range : goal.unclosed-requires-clause-range
 unclosed-requires-clause-range c =
@@ -34,9 +35,12 @@ unclosed-requires-clause-range c =
       replies = c.log-log.ensures.replies;
     } in
     range_there _ _ _ _ _ _
-    (ap (λ (needed : Needed). length needed.agents) c.in_ok-needed.ensures ∙ length_none c.setup-setup.result.now.agents ∙ ap (λ (setup : Setup). setup.agents) c.setup-setup.ensures.setup)
-    (ap (λ (needed : Needed). length needed.nodes) c.in_ok-needed.ensures ∙ length_none c.nodes-nodes.result ∙ c.nodes-nodes.ensures.count ∙ ap nodes_of c.net-net.ensures)
-    (ap (λ (log : List Kept). footprints_at log c.deref.result.now) c.log-log.ensures.log ∙ ap (footprints_at c.args.sealed.now.log) c.deref.ensures.value)
+    (ap (λ (needed : Needed). length needed.agents) c.in_ok-needed.ensures ∙ length_none c.setup-setup.result.now.agents
+    ∙ ap (λ (setup : Setup). setup.agents) c.setup-setup.ensures.setup)
+    (ap (λ (needed : Needed). length needed.nodes) c.in_ok-needed.ensures ∙ length_none c.nodes-nodes.result
+    ∙ c.nodes-nodes.ensures.count ∙ ap nodes_of c.net-net.ensures)
+    (ap (λ (log : List Kept). footprints_at log c.deref.result.now) c.log-log.ensures.log
+    ∙ ap (footprints_at c.args.sealed.now.log) c.deref.ensures.value)
     (known _ _ _ _ c.in_ok-sites.sites.items read c.in_ok-sites.ensures).range
 
 pub returns-in-Some-unclosed-clause-fault : goal.returns-in-Some-unclosed-clause-fault
@@ -50,14 +54,18 @@ returns-in-Some-unclosed-clause-fault c =
       kept = c.log-log.ensures.kept;
       replies = c.log-log.ensures.replies;
     } in
-    let are : IsSetOf c.in_ok-set.set.items c.args.places.now (length c.log-log.result.now) = record { count = c.in_ok-set.ensures.length; marks = c.in_ok-set.ensures.marks } in
-    let told = judged_fault c.args.sealed.now c.args.places.now c.log-log.result.now c.in_ok-sites.sites.items c.deref.result.now c.in_ok-set.set.items c.deref-2.result.now c.misplaced.result c.unclosed.result c.log-log.ensures.log c.deref.ensures.value c.deref-2.ensures.value
+    let are : IsSetOf c.in_ok-set.set.items c.args.places.now (length c.log-log.result.now) =
+    record { count = c.in_ok-set.ensures.length; marks = c.in_ok-set.ensures.marks } in
+    let told = judged_fault c.args.sealed.now c.args.places.now c.log-log.result.now c.in_ok-sites.sites.items
+    c.deref.result.now c.in_ok-set.set.items c.deref-2.result.now c.misplaced.result c.unclosed.result
+    c.log-log.ensures.log c.deref.ensures.value c.deref-2.ensures.value
     (known _ _ _ _ c.in_ok-sites.sites.items read c.in_ok-sites.ensures) are c.misplaced.ensures in
     inr (told c.in_default.is c.unclosed.ensures ∙ ap (fault_of None) c.in-Some-unclosed.is)
 
 pub returns-clause-set : goal.returns-clause-set
 returns-clause-set c =
-    let are : IsSetOf c.in_ok-set.set.items c.args.places.now (length c.log-log.result.now) = record { count = c.in_ok-set.ensures.length; marks = c.in_ok-set.ensures.marks } in
+    let are : IsSetOf c.in_ok-set.set.items c.args.places.now (length c.log-log.result.now) =
+    record { count = c.in_ok-set.ensures.length; marks = c.in_ok-set.ensures.marks } in
     set_same c.in_ok-set.set.items c.args.places.now c.args.sealed.now.log (rw c.log-log.ensures.log at are)
 
 pub returns-clause-fit : goal.returns-clause-fit
@@ -71,8 +79,11 @@ returns-clause-fit c =
       kept = c.log-log.ensures.kept;
       replies = c.log-log.ensures.replies;
     } in
-    let are : IsSetOf c.in_ok-set.set.items c.args.places.now (length c.log-log.result.now) = record { count = c.in_ok-set.ensures.length; marks = c.in_ok-set.ensures.marks } in
-    let told = judged_fault c.args.sealed.now c.args.places.now c.log-log.result.now c.in_ok-sites.sites.items c.deref.result.now c.in_ok-set.set.items c.deref-2.result.now c.misplaced.result c.unclosed.result c.log-log.ensures.log c.deref.ensures.value c.deref-2.ensures.value
+    let are : IsSetOf c.in_ok-set.set.items c.args.places.now (length c.log-log.result.now) =
+    record { count = c.in_ok-set.ensures.length; marks = c.in_ok-set.ensures.marks } in
+    let told = judged_fault c.args.sealed.now c.args.places.now c.log-log.result.now c.in_ok-sites.sites.items
+    c.deref.result.now c.in_ok-set.set.items c.deref-2.result.now c.misplaced.result c.unclosed.result
+    c.log-log.ensures.log c.deref.ensures.value c.deref-2.ensures.value
     (known _ _ _ _ c.in_ok-sites.sites.items read c.in_ok-sites.ensures) are c.misplaced.ensures in
     told c.in_default.is c.unclosed.ensures ∙ ap (fault_of None) c.in_default-unclosed.is
 

@@ -12,14 +12,16 @@ loop-line-preserved c =
     record {
       found = ap (λ found. found ++ lines more) c.in_ok-push_line.ensures
           ∙ (append_assoc before _ (lines more)
-          ∙ (ap (λ next. before ++ next) (sym (ap lines is ∙ lines-ended line more c.in-Some.ensures.1)) ∙ c.loop-line.invariant.found));
+          ∙ (ap (λ next. before ++ next) (sym (ap lines is ∙ lines-ended line more c.in-Some.ensures.1))
+          ∙ c.loop-line.invariant.found));
       rest = sym (ap rest is ∙ rest-ended line more) ∙ c.loop-line.invariant.rest;
     }
 
 pub returns-clause-found : goal.returns-clause-found
 returns-clause-found c =
     let before = map seen c.loop-line.found.items in
-    sym (append-nil before) ∙ (ap (λ next. before ++ next) (sym (lines-flat c.loop-line.after.now c.in_default.ensures)) ∙ c.loop-line.invariant.found)
+    sym (append-nil before) ∙ (ap (λ next. before ++ next) (sym (lines-flat c.loop-line.after.now c.in_default.ensures))
+    ∙ c.loop-line.invariant.found)
 
 pub returns-clause-rest : goal.returns-clause-rest
 returns-clause-rest c = sym (rest-flat c.loop-line.after.now c.in_default.ensures) ∙ c.loop-line.invariant.rest

@@ -7,4 +7,5 @@ use Rattle.bhs_wire.proofs.replies.line_of.Goals as goal
 pub returns : goal.returns
 returns c =
     let reply = c.args.reply.now in
-    IfOk-weaker c.to_string.result _ _ (λ text same. same (ap has_float c.in_ok-value_of.ensures ∙ no_float reply) ∙ (ap compact_text c.in_ok-value_of.ensures ∙ compact_text-data_of reply)) c.to_string.ensures.text
+    IfOk-weaker c.to_string.result _ _ (λ text same. same (ap has_float c.in_ok-value_of.ensures ∙ no_float reply)
+    ∙ (ap compact_text c.in_ok-value_of.ensures ∙ compact_text-data_of reply)) c.to_string.ensures.text

@@ -5,4 +5,11 @@ use Rattle.bhs_world.proofs.JudgeLemmas.{all_fit}
 use Rattle.bhs_world.proofs.making.judged.Goals as goal
 
 pub returns-clause-fit : goal.returns-clause-fit
-returns-clause-fit c = (search rules, all_fit _ _ c.nodes.ensures.network.labelled (omega (arith, c.if-setup-nodes.false, c.nodes.ensures.count)) (ap (λ (holes : List ℕ). are_holes_fit (nodes_of c.args.net.now) c.args.setup.now.home [] holes) (sym c.nodes-2.ensures) ∙ sym c.if-not-mark_holes.ensures.fit) (search rules) (search rules) (search rules) (search rules) (search rules) (sym c.if-not-mark_links.ensures.fit))
+returns-clause-fit c = (
+  search rules,
+  all_fit _ _ c.nodes.ensures.network.labelled
+      (omega (arith, c.if-setup-nodes.false, c.nodes.ensures.count))
+      (ap (λ (holes : List ℕ). are_holes_fit (nodes_of c.args.net.now) c.args.setup.now.home [] holes)
+      (sym c.nodes-2.ensures) ∙ sym c.if-not-mark_holes.ensures.fit) (search rules) (search rules) (search rules)
+      (search rules) (search rules) (sym c.if-not-mark_links.ensures.fit),
+)

@@ -6,4 +6,5 @@ use Rattle.bhs_world.proofs.making.mark_holes.Given as goal
 
 abbrev pub invariant-loop-hole : goal.invariant-loop-hole
 invariant-loop-hole l = AreSignsOf l.net (take l.hole-index l.holes) [] l.dooms
-    × (are_holes_fit (nodes_of l.net) l.home [] l.holes ≡ are_holes_fit (nodes_of l.net) l.home (take l.hole-index l.holes) (drop l.hole-index l.holes))
+    × (are_holes_fit (nodes_of l.net) l.home [] l.holes ≡ are_holes_fit (nodes_of l.net) l.home
+    (take l.hole-index l.holes) (drop l.hole-index l.holes))

@@ -5,4 +5,5 @@ use Rattle.bhs_world.proofs.making.mark_links.Given as goal
 
 abbrev pub invariant-loop-end : goal.invariant-loop-end
 invariant-loop-end l = AreSignsOf l.net l.setup.holes (take l.end-index l.setup.dark) l.dooms
-    × (are_links_fit l.net [] l.setup.dark ≡ are_links_fit l.net (take l.end-index l.setup.dark) (drop l.end-index l.setup.dark))
+    × (are_links_fit l.net [] l.setup.dark ≡ are_links_fit l.net (take l.end-index l.setup.dark)
+    (drop l.end-index l.setup.dark))

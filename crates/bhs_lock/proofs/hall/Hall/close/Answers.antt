@@ -2,4 +2,5 @@ use Rattle.bhs_lock.proofs.DrawLemmas.{legal_closed}
 use Rattle.bhs_lock.proofs.hall.Hall.close.Goals as goal
 
 pub invariant_of-self : goal.invariant_of-self
-invariant_of-self c = legal_closed _ _ _ _ c.self.invariant c.apply.ensures.log c.apply.ensures.same (c.log-legal.ensures.kept, c.log-legal.ensures.replies)
+invariant_of-self c = legal_closed _ _ _ _ c.self.invariant c.apply.ensures.log c.apply.ensures.same
+    (c.log-legal.ensures.kept, c.log-legal.ensures.replies)

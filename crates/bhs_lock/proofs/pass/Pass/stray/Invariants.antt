@@ -4,4 +4,5 @@ use Rattle.bhs_lock.specs.Arrivals.{receipt_at}
 use Rattle.bhs_lock.proofs.pass.Pass.stray.Given as goal
 
 abbrev pub invariant-loop-index : goal.invariant-loop-index
-invariant-loop-index l = (k : ℕ) → k < l.index → slice_get (map (receipt_at l.log) l.places) k ≡ slice_get (map Some l.self.arrivals) k
+invariant-loop-index l = (k : ℕ) → k < l.index → slice_get (map (receipt_at l.log) l.places) k ≡ slice_get
+    (map Some l.self.arrivals) k

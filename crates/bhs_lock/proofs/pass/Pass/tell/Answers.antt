@@ -7,16 +7,23 @@ use Rattle.bhs_lock.proofs.pass.Pass.tell.Goals as goal
 pub returns-in_default-place-clause-done : goal.returns-in_default-place-clause-done
 returns-in_default-place-clause-done c =
     let e = c.apply-place.ensures in
-    told_is _ _ _ _ _ _ _ _ _ _ _ c.self.view_is e.reply e.log (sym c.in_default-place.is ∙ e.place) e.same c.in-Some.is c.in_ok-text.ensures c.spoken-reply.ensures
+    told_is _ _ _ _ _ _ _ _ _ _ _ c.self.view_is e.reply e.log (sym c.in_default-place.is ∙ e.place) e.same c.in-Some.is
+    c.in_ok-text.ensures c.spoken-reply.ensures
     (same_lists _ _ _ c.reserve.ensures.items c.reserve-2.ensures.items)
 
 pub returns-clause-done : goal.returns-clause-done
 returns-clause-done c =
     let e = c.apply-place.ensures in
-    told_is _ _ _ _ _ _ _ _ _ _ _ c.self.view_is e.reply e.log (sym c.in-Some-place.is ∙ e.place) e.same c.in-Some.is c.in_ok-text.ensures c.spoken-reply.ensures
-    (gain_is c.args.play.now c.apply-place.new.self _ _ _ _ _ _ _ _ _ _ _ _ c.reserve.ensures.items c.reserve-2.ensures.items e.reply c.in-Some.is c.in_ok-text.ensures c.spoken-reply.ensures c.spoken.ensures c.push_reserved-2.ensures.items c.push_reserved.ensures.items)
+    told_is _ _ _ _ _ _ _ _ _ _ _ c.self.view_is e.reply e.log (sym c.in-Some-place.is ∙ e.place) e.same c.in-Some.is
+    c.in_ok-text.ensures c.spoken-reply.ensures
+    (gain_is c.args.play.now c.apply-place.new.self _ _ _ _ _ _ _ _ _ _ _ _ c.reserve.ensures.items
+    c.reserve-2.ensures.items e.reply c.in-Some.is c.in_ok-text.ensures c.spoken-reply.ensures c.spoken.ensures
+    c.push_reserved-2.ensures.items c.push_reserved.ensures.items)
 
 pub invariant_of-self-2 : goal.invariant_of-self-2
 invariant_of-self-2 c =
-    ordered_more c.args.self.now _ _ _ _ _ _ _ _ _ _ _ _ _ _ _ _ _ c.self.invariant (ap (λ (pass : Passed). pass.receipts) c.self.view_is) c.requires (sym c.in-Some-place.is ∙ c.apply-place.ensures.place)
-    c.reserve.ensures.items c.reserve-2.ensures.items c.spoken-reply.ensures c.spoken.ensures c.is_end.ensures c.push_reserved-2.ensures.items c.push_reserved.ensures.items
+    ordered_more c.args.self.now _ _ _ _ _ _ _ _ _ _ _ _ _ _ _ _ _ c.self.invariant
+    (ap (λ (pass : Passed). pass.receipts) c.self.view_is) c.requires
+    (sym c.in-Some-place.is ∙ c.apply-place.ensures.place)
+    c.reserve.ensures.items c.reserve-2.ensures.items c.spoken-reply.ensures c.spoken.ensures c.is_end.ensures
+    c.push_reserved-2.ensures.items c.push_reserved.ensures.items

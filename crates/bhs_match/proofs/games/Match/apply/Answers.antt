@@ -10,24 +10,31 @@ overflow_cast-place c = let small = log_small _ _ _ _ c.self.invariant.0 in omeg
 
 pub settle-requires : goal.settle-requires
 settle-requires c =
-    let at_hand = ready _ _ _ _ _ _ _ _ _ c.self.invariant.0 c.deref.ensures.value c.step-mark.ensures.stands c.step-mark.ensures.same c.keeps-is_kept.ensures c.if-not-is_kept.false in
+    let at_hand = ready _ _ _ _ _ _ _ _ _ c.self.invariant.0 c.deref.ensures.value c.step-mark.ensures.stands
+    c.step-mark.ensures.same c.keeps-is_kept.ensures c.if-not-is_kept.false in
     record {
       room = λ outside inside.
-          let few = at_hand.pool_room (sym c.link_by-was.ensures ∙ outside) (subst (λ link. IsSome link) c.link_by-now.ensures inside) in
+          let few = at_hand.pool_room (sym c.link_by-was.ensures ∙ outside)
+          (subst (λ link. IsSome link) c.link_by-now.ensures inside) in
           omega (arith, c.self.inside.pool.ok, c.self.invariant.1.pool);
     }
 
 pub note-requires : goal.note-requires
-note-requires c = (ready _ _ _ _ _ _ _ _ _ c.self.invariant.0 c.deref.ensures.value c.step-mark.ensures.stands c.step-mark.ensures.same c.keeps-is_kept.ensures c.if-not-is_kept.false).news_room
+note-requires c = (ready _ _ _ _ _ _ _ _ _ c.self.invariant.0 c.deref.ensures.value c.step-mark.ensures.stands
+    c.step-mark.ensures.same c.keeps-is_kept.ensures c.if-not-is_kept.false).news_room
 
 pub push_reserved-requires : goal.push_reserved-requires
 push_reserved-requires c =
-    let few = (ready _ _ _ _ _ _ _ _ _ c.self.invariant.0 c.deref.ensures.value c.step-mark.ensures.stands c.step-mark.ensures.same c.keeps-is_kept.ensures c.if-not-is_kept.false).log_room in
+    let few = (ready _ _ _ _ _ _ _ _ _ c.self.invariant.0 c.deref.ensures.value c.step-mark.ensures.stands
+    c.step-mark.ensures.same c.keeps-is_kept.ensures c.if-not-is_kept.false).log_room in
     omega (arith, c.self.inside.log.ok, c.self.invariant.1.log)
 
 pub invariant_of-self-2 : goal.invariant_of-self-2
 invariant_of-self-2 c =
-    let at_hand = ready _ _ _ _ _ _ _ _ _ c.self.invariant.0 c.deref.ensures.value c.step-mark.ensures.stands c.step-mark.ensures.same c.keeps-is_kept.ensures c.if-not-is_kept.false in (
-      in_order_after _ _ _ _ _ _ _ _ _ _ _ _ _ at_hand c.link_by-was.ensures c.link_by-now.ensures (omega (arith, c.self.inside.log.ok)) c.push_reserved.ensures.items c.settle.ensures.items c.note.ensures,
-      has_room_after _ _ _ _ _ _ c.step-mark.ensures.same.1 c.push_reserved.ensures.capacity c.settle.ensures.capacity c.self.invariant.1,
+    let at_hand = ready _ _ _ _ _ _ _ _ _ c.self.invariant.0 c.deref.ensures.value c.step-mark.ensures.stands
+    c.step-mark.ensures.same c.keeps-is_kept.ensures c.if-not-is_kept.false in (
+      in_order_after _ _ _ _ _ _ _ _ _ _ _ _ _ at_hand c.link_by-was.ensures c.link_by-now.ensures
+          (omega (arith, c.self.inside.log.ok)) c.push_reserved.ensures.items c.settle.ensures.items c.note.ensures,
+      has_room_after _ _ _ _ _ _ c.step-mark.ensures.same.1 c.push_reserved.ensures.capacity c.settle.ensures.capacity
+          c.self.invariant.1,
     )

@@ -8,4 +8,5 @@ use Rattle.bhs_match.proofs.games.Match.is_away.Goals as goal
 pub returns : goal.returns
 returns c =
     subst (λ (play : Play). c.is_some.result ≡ is_bound ((state_of play).position c.args.agent)) c.self.view_is
-    (c.is_some.ensures ∙ ap (λ link. is_some link) c.link.ensures ∙ away_same c.self.inside.world _ c.args.agent c.self.invariant.0.stands)
+    (c.is_some.ensures ∙ ap (λ link. is_some link) c.link.ensures ∙ away_same c.self.inside.world _ c.args.agent
+    c.self.invariant.0.stands)

@@ -11,4 +11,5 @@ returns-clause-heard c =
 
 pub returns-clause-bound : goal.returns-clause-bound
 returns-clause-bound c =
-    subst (λ (play : Play). length play.log ≤ most_kept play.setup.agents play.setup.quota) c.self.view_is (log_few _ _ _ _ c.self.invariant.0)
+    subst (λ (play : Play). length play.log ≤ most_kept play.setup.agents play.setup.quota) c.self.view_is
+    (log_few _ _ _ _ c.self.invariant.0)

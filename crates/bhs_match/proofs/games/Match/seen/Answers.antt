@@ -6,6 +6,9 @@ use Rattle.bhs_match.proofs.games.Match.seen.Goals as goal
 
 pub returns-in-Some : goal.returns-in-Some
 returns-in-Some c =
-    subst (λ (play : Play). c.text_at.result.now ≡ shown_at (world_in play) (state_of play) ((state_of play).position c.args.agent)) c.self.view_is
-    (c.text_at.ensures ∙ ap (λ log. text_at log c.last.result) c.deref.ensures.value ∙ ap (text_at c.self.inside.log.items) c.last.ensures.kept
-    ∙ shown_same c.self.inside.world _ c.args.agent _ c.self.invariant.0.stands (sym (rw c.in-Some.is at c.node_seen.ensures.node)))
+    subst (λ (play : Play). c.text_at.result.now ≡ shown_at (world_in play) (state_of play)
+    ((state_of play).position c.args.agent)) c.self.view_is
+    (c.text_at.ensures ∙ ap (λ log. text_at log c.last.result) c.deref.ensures.value
+    ∙ ap (text_at c.self.inside.log.items) c.last.ensures.kept
+    ∙ shown_same c.self.inside.world _ c.args.agent _ c.self.invariant.0.stands
+    (sym (rw c.in-Some.is at c.node_seen.ensures.node)))

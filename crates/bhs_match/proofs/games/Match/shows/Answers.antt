@@ -7,5 +7,6 @@ use Rattle.bhs_match.proofs.games.Match.shows.Goals as goal
 
 pub returns : goal.returns
 returns c =
-    subst (λ (play : Play). c.shows.result ≡ is_of_board_if (reply (world_in play) (state_of play) (Tell c.args.agent c.args.command.now))) c.self.view_is
+    subst (λ (play : Play). c.shows.result ≡ is_of_board_if
+    (reply (world_in play) (state_of play) (Tell c.args.agent c.args.command.now))) c.self.view_is
     (c.shows.ensures c.self.inside.log.items c.self.invariant.0.stands)

@@ -18,9 +18,14 @@ returns-clause-node c =
     let same : length (network_of rows) ≡ length rows = length-map rows (λ (r : Vec End Global). r.items) in
     let from : c.from.result ≡ c.args.v = c.from.ensures in
     omega arith) in
-    let row : row_of (network_of rows) c.from.result ≡ c.index.result.now.items = row_of-network_of rows c.from.result c.index.result.now at c.index.ensures in
-    let degree : degree_of (network_of rows) c.from.result ≡ length c.index.result.now.items = ap (λ (r : List End). length r) row in
-    let same_degree : degree_of (network_of rows) c.from.result ≡ degree_of net c.args.v = ap (λ (n : Network). degree_of n c.from.result) shown ∙ ap (λ v. degree_of net v) c.from.ensures in
-    let has : c.from-2.result < length c.index.result.now.items = (let p : c.from-2.result ≡ c.args.p = c.from-2.ensures in omega arith) in
+    let row : row_of (network_of rows) c.from.result ≡ c.index.result.now.items =
+    row_of-network_of rows c.from.result c.index.result.now at c.index.ensures in
+    let degree : degree_of (network_of rows) c.from.result ≡ length c.index.result.now.items =
+    ap (λ (r : List End). length r) row in
+    let same_degree : degree_of (network_of rows) c.from.result ≡ degree_of net c.args.v =
+    ap (λ (n : Network). degree_of n c.from.result) shown ∙ ap (λ v. degree_of net v) c.from.ensures in
+    let has : c.from-2.result < length c.index.result.now.items =
+    (let p : c.from-2.result ≡ c.args.p = c.from-2.ensures in omega arith) in
     subst (λ (n : Network). c.index-2.result.now.0 < nodes_of n) shown
-    (far_node rows c.from.result c.from-2.result c.index.result.now c.index-2.result.now c.self.invariant.0.labelled at c.index.ensures has c.index-2.ensures)
+    (far_node rows c.from.result c.from-2.result c.index.result.now c.index-2.result.now c.self.invariant.0.labelled at
+    c.index.ensures has c.index-2.ensures)

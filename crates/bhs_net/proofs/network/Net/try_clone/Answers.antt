@@ -7,4 +7,11 @@ loop-row-preserved c =
     let rows = c.deref-row-items.result.now in
     let i = c.loop-row.row-index in
     let more = take-network_of rows i c.row-item.result c.loop-row-test.true c.row-item.is in
-    rw (c.in_ok-push.ensures.items, map-append, more, c.in_ok-from_slice.ensures.items, c.loop-row.invariant, c.deref.ensures.value)
+    rw (
+      c.in_ok-push.ensures.items,
+      map-append,
+      more,
+      c.in_ok-from_slice.ensures.items,
+      c.loop-row.invariant,
+      c.deref.ensures.value,
+    )

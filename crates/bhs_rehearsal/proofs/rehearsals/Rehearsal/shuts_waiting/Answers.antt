@@ -13,9 +13,13 @@ invariant_of-self c =
     let game = c.args.game in
     let ready = c.index-ready.result.now in
     let new = c.shut_waiting.new.connections in
-    let shut : new ≡ shut_in game (game_of ready) inside.connections.items = c.shut_waiting.ensures ∙ ap (λ (all : List Connection). shut_in game (game_of ready) all) c.deref_mut.ensures.value in
-    let len : length inside.connections.items ≡ inside.connections.len = ap (λ (all : List Connection). length all) (sym c.deref_mut.ensures.value) ∙ c.deref_mut.ensures.len in
-    still_seated (length inside.ready.items) game (game_of ready) inside.connections.items (with_items inside.connections new).items (all_shut inside.connections new game (game_of ready) shut len) c.self.invariant
+    let shut : new ≡ shut_in game (game_of ready) inside.connections.items = c.shut_waiting.ensures
+    ∙ ap (λ (all : List Connection). shut_in game (game_of ready) all) c.deref_mut.ensures.value in
+    let len : length inside.connections.items ≡ inside.connections.len =
+    ap (λ (all : List Connection). length all) (sym c.deref_mut.ensures.value) ∙ c.deref_mut.ensures.len in
+    still_seated (length inside.ready.items) game (game_of ready) inside.connections.items
+    (with_items inside.connections new).items (all_shut inside.connections new game (game_of ready) shut len)
+    c.self.invariant
 
 pub returns : goal.returns
 returns c =
@@ -23,10 +27,17 @@ returns c =
     let game = c.args.game in
     let ready = c.index-ready.result.now in
     let new = c.shut_waiting.new.connections in
-    let shut : new ≡ shut_in game (game_of ready) inside.connections.items = c.shut_waiting.ensures ∙ ap (λ (all : List Connection). shut_in game (game_of ready) all) c.deref_mut.ensures.value in
-    let len : length inside.connections.items ≡ inside.connections.len = ap (λ (all : List Connection). length all) (sym c.deref_mut.ensures.value) ∙ c.deref_mut.ensures.len in
-    let read = game_read inside.ready.items inside.keys inside.connections.items game ready (game_within inside.ready.items inside.keys inside.connections.items inside.has_failed c.args.self.now game c.self.view_is c.requires) c.index-ready.ensures in
-    subst (λ (old : Rehearsing). rehearsing inside.ready.items inside.keys (with_items inside.connections new).items inside.has_failed
-    ≡ on_stage old (record old.stage { connections = shut_in game (game_at old.stage game) old.stage.connections })) c.self.view_is
+    let shut : new ≡ shut_in game (game_of ready) inside.connections.items = c.shut_waiting.ensures
+    ∙ ap (λ (all : List Connection). shut_in game (game_of ready) all) c.deref_mut.ensures.value in
+    let len : length inside.connections.items ≡ inside.connections.len =
+    ap (λ (all : List Connection). length all) (sym c.deref_mut.ensures.value) ∙ c.deref_mut.ensures.len in
+    let read = game_read inside.ready.items inside.keys inside.connections.items game ready
+    (game_within inside.ready.items inside.keys inside.connections.items inside.has_failed c.args.self.now game
+    c.self.view_is c.requires) c.index-ready.ensures in
+    subst (λ (old : Rehearsing). rehearsing inside.ready.items inside.keys (with_items inside.connections new).items
+    inside.has_failed
+    ≡ on_stage old (record old.stage { connections = shut_in game (game_at old.stage game) old.stage.connections }))
+    c.self.view_is
     (ap (λ (all : List Connection). rehearsing inside.ready.items inside.keys all inside.has_failed)
-    (all_shut inside.connections new game (game_of ready) shut len ∙ ap (λ (one : Game). shut_in game one inside.connections.items) (sym read)))
+    (all_shut inside.connections new game (game_of ready) shut len
+    ∙ ap (λ (one : Game). shut_in game one inside.connections.items) (sym read)))

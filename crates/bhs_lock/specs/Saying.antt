@@ -7,13 +7,15 @@ use Rattle.bhs_lock.specs.Settling.{has_pass}
 
 -- each pass of the agent has this command at this index
 abbrev pub AllSay : (agent index : ℕ) → Heard → List Passed → Type 0
-AllSay agent index entry passes = AllByRecursion (λ pass. pass.agent ≡ agent → slice_get (receipted pass.receipts pass.commands) index ≡ Some entry) passes
+AllSay agent index entry passes = AllByRecursion (λ pass. pass.agent ≡ agent
+    → slice_get (receipted pass.receipts pass.commands) index ≡ Some entry) passes
 
 -- some pass of the agent has not
 abbrev pub AnyOther : (agent index : ℕ) → Heard → List Passed → Type 0
 AnyOther agent index entry [] = ⊥
 AnyOther agent index entry (pass ∷ passes) =
-    ((pass.agent ≡ agent) × (slice_get (receipted pass.receipts pass.commands) index ≢ Some entry)) ⊎ AnyOther agent index entry passes
+    ((pass.agent ≡ agent) × (slice_get (receipted pass.receipts pass.commands) index ≢ Some entry))
+    ⊎ AnyOther agent index entry passes
 
 -- whether the agent has a pass, and each has this command at this index
 abbrev pub IsSaid : Bool → List Passed → (agent index : ℕ) → Heard → Type 0

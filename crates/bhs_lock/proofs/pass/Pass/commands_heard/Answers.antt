@@ -2,7 +2,7 @@ use Rattle.std.proofs.Common.{length, sym, ap, ◌∙◌}
 use Rattle.bhs_lock.specs.Passes.{Passed}
 use Rattle.bhs_lock.specs.Comparing.{receipted}
 use Rattle.bhs_lock.proofs.CompareLemmas.{receipted_length}
-use Rattle.bhs_lock.proofs.pass.Pass.told.Goals as goal
+use Rattle.bhs_lock.proofs.pass.Pass.commands_heard.Goals as goal
 
 pub returns : goal.returns
 returns c =
