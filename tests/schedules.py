@@ -1,7 +1,7 @@
 """Plays agents against the stand-in model under schedules that a seed chooses, in one process.
 
-Each agent is a thread, and one thread runs at a time. What comes next is chosen by chance: an agent is answered, an agent
-on a link arrives, or one that sleeps wakes. So agents meet orders of events that a server would show them seldom.
+Each agent is a thread, and one thread runs at a time. What comes next is chosen by chance: an agent is answered, an
+agent on a link arrives, or one that sleeps wakes. So agents meet orders of events that a server would show them seldom.
 """
 import random
 import threading

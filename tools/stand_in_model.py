@@ -1,7 +1,7 @@
-"""The rules of a match in Python, after docs/MODEL.md and apart from the proved code: for trying agents without a build.
+"""The rules of a match in Python, after docs/MODEL.md and apart from the proved code, to try agents without a build.
 
-Nothing is proved of it, and no result of a contest rests on it. Commands are the objects that clients send, replies those
-that they are sent, and a match's log is a list of the objects that stand in a replay.
+Nothing is proved of it, and no result of a contest rests on it. Commands are the objects that clients send, replies
+those that they are sent, and a match's log is a list of the objects that stand in a replay.
 """
 import json
 from typing import Any, Dict, List, NamedTuple, Optional, Set, Tuple
