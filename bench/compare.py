@@ -4,30 +4,27 @@
     python3 bench/compare.py PROGRAM OTHER
 
 Makes tournaments, networks and scripts by a seeded generator, and runs both programs on each of them in turn, seven
-times. Prints for each input the median time of both, the time of PROGRAM divided by that of OTHER, and the peak memory of
-both. The peak is what the system said last before the end, asked every half millisecond. The tournaments are of version 1,
-so that older builds take them too. Both programs must print the same bytes; an input on which they do not is told, and the
-exit status is then 1. Nothing is written outside a temporary folder.
+times. Prints for each input the median time of both, the time of PROGRAM divided by that of OTHER, and the peak memory
+of both. The tournaments are of version 1, so that older builds take them too. Both programs must print the same bytes;
+an input on which they do not is told, and the exit status is then 1. Nothing is written outside a temporary folder.
 """
 import pathlib
 import statistics
-import subprocess
 import sys
 import tempfile
-import time
+from typing import Iterable, Iterator, List, Tuple
 
 import rehearse
+from inputs import MAX_SCRIPT, key, network, peak_of, run, torus, tournament
 
 ROUNDS = 7
-PAUSE = 0.0005
 BOARD = 1000
 
+Pair = Tuple[int, int]
+Input = Tuple[str, List[str], pathlib.Path]
 
-def network(nodes, links):
-    return f"version = 1\nnodes = {nodes}\nlinks = {[list(link) for link in links]}\n"
 
-
-def by_ports(nodes, pairs):
+def by_ports(nodes: int, pairs: Iterable[Pair]) -> str:
     """The links between these pairs of nodes: a node's ports are numbered in the order in which its pairs come."""
     used = [0] * nodes
     links = []
@@ -38,12 +35,12 @@ def by_ports(nodes, pairs):
     return network(nodes, links)
 
 
-def complete(nodes):
+def complete(nodes: int) -> str:
     return by_ports(nodes, [(one, two) for one in range(nodes) for two in range(one + 1, nodes)])
 
 
-def sparse(nodes):
-    """A torus of 16 columns."""
+def sparse(nodes: int) -> str:
+    """A torus of 16 columns, its ports in the order in which its links come."""
     rows, columns = nodes // 16, 16
     pairs = []
     for row in range(rows):
@@ -54,7 +51,7 @@ def sparse(nodes):
     return by_ports(nodes, pairs)
 
 
-def worst_dense(nodes):
+def worst_dense(nodes: int) -> str:
     """All but two nodes are linked each to each, and two more hang on the last two of them."""
     pairs = [(one, two) for one in range(nodes - 2) for two in range(one + 1, nodes - 2)]
     last, other = nodes - 4, nodes - 3
@@ -62,36 +59,25 @@ def worst_dense(nodes):
     return by_ports(nodes, pairs)
 
 
-def tournament(name, matches, agents, board):
-    parts = [f'version = 1\nseed = "{"0" * 64}"\n']
-    for game in range(matches):
-        keys = ", ".join(f'"{rehearse.key(game, agent)}"' for agent in range(agents))
-        parts.append(
-            f'[[match]]\nteam = "team-{game}"\nnetwork = "{name}"\nhome = 0\nhole = "none"\n'
-            f"quota = 1000\nboard = {board}\nkeys = [{keys}]\n"
-        )
-    return "".join(parts)
-
-
-def filled(lines):
+def filled(lines: Iterable[str]) -> str:
     """These lines, as long as a script may be."""
     text, size = [], 0
     for line in lines:
         size += len(line) + 1
-        if size > rehearse.MAX_SCRIPT:
+        if size > MAX_SCRIPT:
             break
         text.append(line)
     return "\n".join(text) + "\n"
 
 
-def entries(matches, agents):
+def entries(matches: int, agents: int) -> List[str]:
     return [
-        '%d {"do":"enter","key":"%s"}' % (game * agents + agent, rehearse.key(game, agent))
+        '%d {"do":"enter","key":"%s"}' % (game * agents + agent, key(game, agent))
         for game in range(matches) for agent in range(agents)
     ]
 
 
-def moves():
+def moves() -> Iterator[str]:
     """Agents that depart and arrive, each in its turn: 64 matches of 4 agents."""
     yield from entries(64, 4)
     step = 0
@@ -102,7 +88,7 @@ def moves():
             yield "draw %d 0" % (conn // 4)
 
 
-def texts():
+def texts() -> Iterator[str]:
     """Agents that write the longest texts and look at them, in one match of 16."""
     yield from entries(1, 16)
     put = "x" * BOARD
@@ -114,17 +100,17 @@ def texts():
         before, put = put, ("y" if put[0] == "x" else "x") * BOARD
 
 
-def made(folder):
+def made(folder: pathlib.Path) -> List[Input]:
     """Writes the inputs, and answers for each its title, words and what stands on standard input."""
     inputs = []
-    (folder / "torus.toml").write_text(rehearse.torus())
+    (folder / "torus.toml").write_text(torus(rehearse.SIDE, rehearse.SIDE))
     scripts = [
-        ("lines by chance", 64, 4, 64, rehearse.script(rehearse.MAX_SCRIPT)[0]),
+        ("lines by chance", 64, 4, 64, rehearse.script(MAX_SCRIPT)[0]),
         ("moves", 64, 4, 64, filled(moves())),
         ("longest texts", 1, 16, BOARD, filled(texts())),
     ]
     for place, (title, matches, agents, board, text) in enumerate(scripts):
-        (folder / f"t{place}.toml").write_text(tournament("torus.toml", matches, agents, board))
+        (folder / f"t{place}.toml").write_text(tournament("torus.toml", matches, agents, board, 1))
         source = folder / f"script{place}"
         source.write_text(text)
         inputs.append((f"rehearse: {title}, {text.count(chr(10))} lines", ["rehearse", f"t{place}.toml"], source))
@@ -133,35 +119,13 @@ def made(folder):
         for nodes in (128, 256):
             name = f"{shape.__name__}{nodes}"
             (folder / f"{name}.toml").write_text(shape(nodes))
-            (folder / f"of-{name}.toml").write_text(tournament(f"{name}.toml", 1, 2, 8))
+            (folder / f"of-{name}.toml").write_text(tournament(f"{name}.toml", 1, 2, 8, 1))
             title = f"check: {shape.__name__.replace('_', ' ')} network of {nodes} nodes"
             inputs.append((title, ["check", f"of-{name}.toml"], folder / "empty"))
     return inputs
 
 
-def run(program, words, source, folder):
-    """How long one run takes, and what it prints."""
-    with open(source, "rb") as given:
-        start = time.perf_counter()
-        ran = subprocess.run([program, *words], stdin=given, stdout=subprocess.PIPE, cwd=folder, check=True)
-        return time.perf_counter() - start, ran.stdout
-
-
-def peak_of(program, words, source, folder):
-    """The most memory, in KiB, that one run held, as far as it was seen."""
-    peak = 0
-    with open(source, "rb") as given:
-        child = subprocess.Popen([program, *words], stdin=given, stdout=subprocess.DEVNULL, cwd=folder)
-        status = pathlib.Path(f"/proc/{child.pid}/status")
-        while child.poll() is None:
-            for line in status.read_text().splitlines():
-                if line.startswith("VmHWM:"):
-                    peak = max(peak, int(line.split()[1]))
-            time.sleep(PAUSE)
-    return peak
-
-
-def main():
+def main() -> int:
     words = sys.argv[1:]
     if len(words) != 2 or any(word in ("-h", "--help") for word in words):
         sys.exit(__doc__.strip())

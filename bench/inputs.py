@@ -1,0 +1,87 @@
+"""What the benchmarks share: networks and tournaments as texts, and how long and how large one run of a program is."""
+import pathlib
+import subprocess
+import time
+from typing import Callable, Iterable, List, Sequence, Tuple
+
+MAX_SCRIPT = 1_048_576
+MAX_QUOTA = 1000
+MAX_AGENTS = 64
+MAX_BOARD = 4096
+PAUSE = 0.0005
+
+Link = Tuple[int, int, int, int]
+
+
+def network(nodes: int, links: Iterable[Sequence[int]]) -> str:
+    """A network file."""
+    return f"version = 1\nnodes = {nodes}\nlinks = {[list(link) for link in links]}\n"
+
+
+def torus_links(rows: int, columns: int) -> List[Link]:
+    """The links of a torus: ports 0 east, 1 west, 2 south, 3 north."""
+    links = []
+    for node in range(rows * columns):
+        row, column = divmod(node, columns)
+        links.append((node, 0, row * columns + (column + 1) % columns, 1))
+        links.append((node, 2, (row + 1) % rows * columns + column, 3))
+    return links
+
+
+def torus(rows: int, columns: int) -> str:
+    return network(rows * columns, torus_links(rows, columns))
+
+
+def key(game: int, agent: int) -> str:
+    return f"k{game}-{agent}"
+
+
+def tournament(name: str, matches: int, agents: int, board: int, version: int = 2) -> str:
+    """A tournament of practice matches on one network, each of its own team, with the largest quota."""
+    hole = "holes = []" if version == 2 else 'hole = "none"'
+    parts = [f'version = {version}\nseed = "{"0" * 64}"\n']
+    for game in range(matches):
+        keys = ", ".join(f'"{key(game, agent)}"' for agent in range(agents))
+        parts.append(
+            f'[[match]]\nteam = "team-{game}"\nnetwork = "{name}"\nhome = 0\n{hole}\n'
+            f"quota = {MAX_QUOTA}\nboard = {board}\nkeys = [{keys}]\n"
+        )
+    return "".join(parts)
+
+
+def run(program: str, words: Sequence[str], source: pathlib.Path, folder: pathlib.Path) -> Tuple[float, bytes]:
+    """How long one run takes, and what it prints."""
+    with open(source, "rb") as given:
+        start = time.perf_counter()
+        ran = subprocess.run([program, *words], stdin=given, stdout=subprocess.PIPE, cwd=folder, check=True)
+        return time.perf_counter() - start, ran.stdout
+
+
+def seconds_of(program: str, words: Sequence[str], source: pathlib.Path, folder: pathlib.Path) -> float:
+    """How long one run takes that prints to nobody."""
+    with open(source, "rb") as given:
+        start = time.perf_counter()
+        subprocess.run([program, *words], stdin=given, stdout=subprocess.DEVNULL, cwd=folder, check=True)
+        return time.perf_counter() - start
+
+
+def peak_of(program: str, words: Sequence[str], source: pathlib.Path, folder: pathlib.Path) -> int:
+    """The most memory, in KiB, that one run held: what the system said last before the end, asked every half
+    millisecond."""
+    peak = 0
+    with open(source, "rb") as given:
+        child = subprocess.Popen([program, *words], stdin=given, stdout=subprocess.DEVNULL, cwd=folder)
+        status = pathlib.Path(f"/proc/{child.pid}/status")
+        while child.poll() is None:
+            for line in status.read_text().splitlines():
+                if line.startswith("VmHWM:"):
+                    peak = max(peak, int(line.split()[1]))
+            time.sleep(PAUSE)
+    if child.returncode != 0:
+        raise subprocess.CalledProcessError(child.returncode, [program, *words])
+    return peak
+
+
+def median_of(rounds: int, measure: Callable[[], float]) -> float:
+    """The median of so many measurements."""
+    return sorted(measure() for _ in range(rounds))[rounds // 2]

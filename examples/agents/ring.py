@@ -1,0 +1,172 @@
+#!/usr/bin/env python3
+"""Searches a ring with two agents that know its number of nodes.
+
+    python3 ring.py HOST PORT KEY NODES
+
+Start it twice, with the keys of both agents. The search is the one by cautious walk and division of what is left of
+S. Dobrev, P. Flocchini, G. Prencipe and N. Santoro, "Mobile search for a black hole in an anonymous ring"
+(Algorithmica 48, 2007).
+
+One agent explores to the right of the home base, which is by its port 0, the other to the left, and each is to explore
+half of what is left. It goes on cautiously: it writes `going` on the whiteboard, goes on to the next node, comes back,
+and writes `safe`. So the other agent can follow it over links that are safe, to its last safe node. Who has explored
+its half does so, divides what is left anew, and writes there how far it has come: `told 5`, to the fifth node of its
+side. The other reads that when it comes back; if it does not come back, the next division has a smaller half for it.
+When one node is left, that is the black hole. No agent waits for the other, and nothing is decided by time.
+
+A whiteboard holds what is known of the links to its right and left, as `right safe, left told 5`; 32 bytes suffice.
+"""
+import sys
+from typing import Optional
+
+from client import Agent, Here, MatchOver, Spent, Swap
+
+RIGHT, LEFT = 0, 1
+SIDES = ("right", "left")
+
+
+def field(board: str, side: int) -> str:
+    """What a whiteboard says of the link on this side: `new`, `going`, `safe`, `told N` or `hole`."""
+    return board.split(", ")[side].partition(" ")[2] if board else "new"
+
+
+def with_field(board: str, side: int, value: str) -> str:
+    """The text of a whiteboard that says this of the link on this side, and of the other what it said."""
+    return ", ".join(f"{SIDES[it]} {value if it == side else field(board, it)}" for it in (RIGHT, LEFT))
+
+
+class Walker:
+    """An agent on a ring, who knows which of the two ports of its node is to the right.
+
+    It takes that from the way that it came, so the labels need not agree around the ring.
+    """
+
+    def __init__(self, agent: Agent, here: Here) -> None:
+        self._agent = agent
+        self._here = here
+        self._going: Optional[int] = None
+        self.board = here.board
+
+    def _port(self, side: int) -> int:
+        if self._going is None or self._here.came is None:
+            return side
+        return 1 - self._here.came if side == self._going else self._here.came
+
+    def walk(self, side: int, steps: int = 1) -> None:
+        for _ in range(steps):
+            self._here = self._agent.depart(self._port(side))
+            self._going = side
+            self.board = self._here.board
+
+    def swap(self, put: str) -> bool:
+        """Writes on the whiteboard, unless somebody wrote there since it was read; then reads it again."""
+        swap: Swap = self._agent.write(self.board, put)
+        self.board = swap.board
+        return swap.written
+
+    def accuse(self, side: int) -> None:
+        self._agent.accuse(self._port(side))
+
+
+class Search:
+    """The search by one agent: how many nodes of its side and of the other it knows to be safe, and how far it is to
+    explore. Both halves are counted from the home base."""
+
+    def __init__(self, walker: Walker, nodes: int) -> None:
+        self.walker = walker
+        self.nodes = nodes
+        self.side = RIGHT
+        self.mine = 0
+        self.theirs = 0
+        self.target = 0
+
+    def run(self) -> None:
+        """Searches until the agent has accused."""
+        if self.walker.board or not self.walker.swap(with_field("", RIGHT, "going")):
+            self.side = LEFT
+        left = self.nodes - 1
+        self.target = (left + 1) // 2 if self.side == RIGHT else left // 2
+        while True:
+            if not self.explore():
+                return
+            if self.left() == 1:
+                return self.walker.accuse(self.side)
+            if not self.divide():
+                return
+
+    def left(self) -> int:
+        """How many nodes are left, as far as the agent knows."""
+        return self.nodes - 1 - self.mine - self.theirs
+
+    def mark(self, value: str) -> bool:
+        """Writes this of the link ahead, and takes what the other wrote there; answers whether it is not the hole."""
+        walker = self.walker
+        while True:
+            found = field(walker.board, self.side)
+            if found == "hole":
+                return False
+            if found.startswith("told"):
+                self.theirs = int(found.split()[1])
+                self.target = self.mine + (self.left() + 1) // 2
+            if found == value or walker.swap(with_field(walker.board, self.side, value)):
+                return True
+
+    def explore(self) -> bool:
+        """Explores the agent's half from its last safe node on; answers whether it is still searching."""
+        walker, side = self.walker, self.side
+        while self.mine < self.target:
+            if not self.mark("going"):
+                walker.accuse(side)
+                return False
+            walker.walk(side)
+            walker.walk(1 - side)
+            self.mark("safe")
+            self.mine += 1
+            walker.walk(side)
+        return True
+
+    def divide(self) -> bool:
+        """Goes to the last safe node of the other side, and divides what is left; answers whether there is more than
+        one node. Else that is the black hole, and the agent accuses the link to it."""
+        walker, other = self.walker, 1 - self.side
+        walker.walk(other, self.mine)
+        self.theirs = 0
+        while True:
+            if field(walker.board, other) == "safe":
+                walker.walk(other)
+                self.theirs += 1
+                continue
+            last = self.left() == 1
+            if walker.swap(with_field(walker.board, other, "hole" if last else f"told {self.mine}")):
+                break
+        if last:
+            walker.accuse(other)
+            return False
+        self.target = self.mine + self.left() // 2
+        walker.walk(self.side, self.theirs + self.mine)
+        return True
+
+
+def search(agent: Agent, key: str, nodes: int) -> None:
+    """Enters, searches and accuses."""
+    try:
+        Search(Walker(agent, agent.enter(key)), nodes).run()
+    except Spent:
+        agent.leave()
+
+
+def main() -> None:
+    if len(sys.argv) != 5:
+        sys.exit(__doc__.strip())
+    host, port, key, nodes = sys.argv[1:]
+    agent = Agent.connect(host, int(port))
+    try:
+        search(agent, key, int(nodes))
+    except MatchOver:
+        print(f"{key}: the match ended before the search did")
+    finally:
+        agent.close()
+
+
+if __name__ == "__main__":
+    main()

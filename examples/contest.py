@@ -1,0 +1,136 @@
+#!/usr/bin/env python3
+"""Plays a contest on this machine: the server, four teams of the sample agents, and the table.
+
+    python3 examples/contest.py [--keep FOLDER] [--pages FOLDER]
+
+Starts `./arena serve` on examples/contest.toml, and then the agents of each team as programs of their own, as teams
+would do. Waits for the server to end, and prints its table and which teams solved their networks. All of them must:
+else the exit status is 1. Files go to a temporary folder; --keep has the replays of the matches written to a folder,
+--pages also a page of each (tools/replay_page.py). ARENA in the environment names another program than ./arena, as
+ARENA="python3 tools/stand_in_server.py" to try it without the build.
+"""
+import argparse
+import os
+import pathlib
+import shlex
+import socket
+import subprocess
+import sys
+import tempfile
+from typing import Dict, List
+
+TOP = pathlib.Path(__file__).resolve().parent.parent
+AGENTS = TOP / "examples" / "agents"
+TOURNAMENT = "examples/contest.toml"
+TURNS = 3000
+PAUSE = 2
+PATIENCE = 20
+RING = ["8"]
+CUBE = ["16", "32"]
+
+
+def command_of(agent: str, key: str, port: int, folder: pathlib.Path) -> List[str]:
+    """The command line of the agent with this key: by the name of its program."""
+    if agent == "ring.c":
+        return [str(folder / "ring"), str(port), key, *RING]
+    facts = RING if agent == "ring.py" else CUBE
+    return [sys.executable, str(AGENTS / agent), "127.0.0.1", str(port), key, *facts]
+
+
+TEAMS: Dict[str, List[str]] = {
+    "red": ["ring.py"] * 2,
+    "blue": ["ring.c"] * 2,
+    "violet": ["ring.py", "ring.c"],
+    "green": ["map.py"] * 5,
+}
+
+
+def free_port() -> int:
+    """A port on which nobody listens."""
+    with socket.create_server(("127.0.0.1", 0)) as listener:
+        return listener.getsockname()[1]
+
+
+def arena() -> List[str]:
+    """The command that the words of the server follow."""
+    return shlex.split(os.environ.get("ARENA", str(TOP / "arena")))
+
+
+def build(folder: pathlib.Path) -> None:
+    """Builds the agent that is written in C."""
+    source = str(AGENTS / "ring.c")
+    subprocess.run(["cc", "-O2", "-Wall", "-Wextra", "-o", str(folder / "ring"), source], check=True)
+
+
+def start_server(port: int, replays: str) -> subprocess.Popen:
+    sessions = sum(len(agents) for agents in TEAMS.values())
+    words = ["serve", TOURNAMENT, "--port", port, "--sessions", sessions, "--turns", TURNS, "--pause", PAUSE]
+    command = [*arena(), *map(str, words), "--replay", replays]
+    server = subprocess.Popen(command, cwd=TOP, stdout=subprocess.PIPE, text=True)
+    line = server.stdout.readline()
+    if line != f"listening {port}\n":
+        raise SystemExit(f"contest: the server did not start: {line}")
+    return server
+
+
+def play(folder: pathlib.Path, replays: str) -> str:
+    """Plays the contest, and answers the server's table."""
+    build(folder)
+    port = free_port()
+    server = start_server(port, replays)
+    agents = [
+        subprocess.Popen(command_of(agent, f"{team}-{number}", port, folder), stderr=subprocess.DEVNULL,
+                         stdout=subprocess.DEVNULL)
+        for team, programs in TEAMS.items() for number, agent in enumerate(programs)
+    ]
+    try:
+        printed, _ = server.communicate(timeout=PATIENCE)
+    except subprocess.TimeoutExpired:
+        raise SystemExit(f"contest: the server did not end within {PATIENCE} seconds") from None
+    finally:
+        for child in [server, *agents]:
+            if child.poll() is None:
+                child.kill()
+            child.wait()
+    if server.returncode != 0:
+        raise SystemExit(f"contest: the server ended with status {server.returncode}")
+    return printed
+
+
+def outcomes(table: str) -> Dict[str, str]:
+    """Each team's outcome, by the lines of the table."""
+    rows = [line.split() for line in table.splitlines()[1:]]
+    return {row[1]: " ".join(row[2:-2]) for row in rows}
+
+
+def write_pages(replays: str, folder: pathlib.Path) -> None:
+    """Writes a page of each match."""
+    for number, team in enumerate(TEAMS):
+        page = folder / f"{team}.html"
+        tool = [sys.executable, str(TOP / "tools" / "replay_page.py"), f"{replays}{number}.jsonl"]
+        subprocess.run([*tool, "--out", str(page)], check=True)
+        print(f"{team}'s match: {page}")
+
+
+def main() -> int:
+    parser = argparse.ArgumentParser(description=__doc__, formatter_class=argparse.RawDescriptionHelpFormatter)
+    parser.add_argument("--keep", metavar="FOLDER", type=pathlib.Path, help="write the replays there")
+    parser.add_argument("--pages", metavar="FOLDER", type=pathlib.Path, help="write a page of each match there")
+    words = parser.parse_args()
+    with tempfile.TemporaryDirectory() as name:
+        kept = words.keep or words.pages or pathlib.Path(name)
+        kept.mkdir(parents=True, exist_ok=True)
+        replays = str(kept.resolve() / "match")
+        table = play(pathlib.Path(name), replays)
+        print(table, end="", flush=True)
+        found = outcomes(table)
+        failed = [team for team in TEAMS if found.get(team) != "solved"]
+        for team in TEAMS:
+            print(f"{team} solved its network" if team not in failed else f"{team} did not solve its network")
+        if words.pages:
+            write_pages(replays, words.pages)
+    return 1 if failed else 0
+
+
+if __name__ == "__main__":
+    sys.exit(main())

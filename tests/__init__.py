@@ -1,0 +1,7 @@
+"""Tests of the Python of tools/, bench/ and examples/: `python3 -m unittest` at the top of the repository."""
+import pathlib
+import sys
+
+TOP = pathlib.Path(__file__).resolve().parent.parent
+for folder in ("tools", "bench", "examples", "examples/agents"):
+    sys.path.insert(0, str(TOP / folder))

@@ -1,0 +1,110 @@
+"""The client and the search in C over sockets, served by the stand-in."""
+import pathlib
+import shutil
+import socket
+import subprocess
+import sys
+import tempfile
+import unittest
+from typing import List
+
+import client
+from client import Agent, Here, Swap
+from tests import TOP
+
+TOURNAMENT = """version = 2
+seed = "00"
+
+[[match]]
+team = "red"
+network = "{network}"
+home = 0
+holes = {holes}
+quota = {quota}
+board = 64
+keys = ["ka", "kb"]
+"""
+
+
+class Served(unittest.TestCase):
+    """A server of one match."""
+
+    def setUp(self) -> None:
+        folder = tempfile.TemporaryDirectory()
+        self.addCleanup(folder.cleanup)
+        self.folder = pathlib.Path(folder.name)
+
+    def serve(self, network: str, holes: List[int], quota: int, sessions: int, turns: int = 300) -> int:
+        """Starts a server, and answers its port."""
+        tournament = self.folder / "t.toml"
+        tournament.write_text(TOURNAMENT.format(network=TOP / "examples" / network, holes=holes, quota=quota))
+        with socket.create_server(("127.0.0.1", 0)) as listener:
+            port = listener.getsockname()[1]
+        words = ["serve", tournament, "--port", port, "--sessions", sessions, "--turns", turns, "--pause", 1]
+        command = [sys.executable, TOP / "tools/stand_in_server.py", *words, "--replay", self.folder / "match"]
+        self.server = subprocess.Popen([str(word) for word in command], stdout=subprocess.PIPE, text=True)
+        self.addCleanup(self.server.wait)
+        self.addCleanup(self.server.stdout.close)
+        self.addCleanup(self.server.kill)
+        self.assertEqual(self.server.stdout.readline(), f"listening {port}\n")
+        return port
+
+    def connect(self, port: int) -> Agent:
+        agent = Agent.connect("127.0.0.1", port)
+        self.addCleanup(agent.close)
+        return agent
+
+
+class Clients(Served):
+    def test_each_call_and_each_refusal(self) -> None:
+        port = self.serve("triangle.toml", [], 7, 5)
+        agent = self.connect(port)
+        self.assertEqual(agent.enter("ka"), Here(2, None, ""))
+        self.assertRaises(client.EnteredTwice, agent.enter, "ka")
+        self.assertEqual(agent.write("", "\u20ac"), Swap(True, "\u20ac"))
+        self.assertEqual(agent.write("", "b"), Swap(False, "\u20ac"))
+        self.assertRaises(client.TooLong, agent.write, "\u20ac", "b" * 65)
+        self.assertRaises(client.NoSuchPort, agent.depart, 2)
+        self.assertEqual(agent.depart(0), Here(2, 0, ""))
+        self.assertEqual(agent.depart(0), Here(2, 0, "\u20ac"))
+        self.assertEqual(agent.look(), Here(2, 0, "\u20ac"))
+        self.assertRaises(client.Spent, agent.look)
+        agent.leave()
+        self.assertRaises(client.Disconnected, agent.look)
+        self.assertRaises(client.UnknownKey, self.connect(port).enter, "zz")
+        self.assertRaises(client.KeyTaken, self.connect(port).enter, "ka")
+        self.assertRaises(client.NotEntered, self.connect(port).look)
+        other = self.connect(port)
+        other.enter("kb")
+        self.assertEqual(self.server_ends_after(other), "silent")
+
+    def server_ends_after(self, agent: Agent) -> str:
+        """Accuses nobody, leaves, and answers the outcome."""
+        agent.leave()
+        return self.server.stdout.read().splitlines()[1].split()[2]
+
+    def test_a_lost_agent_waits_until_the_match_is_over(self) -> None:
+        agent = self.connect(self.serve("triangle.toml", [1], 7, 1, turns=20))
+        agent.enter("ka")
+        self.assertRaises(client.MatchOver, agent.depart, 0)
+
+
+@unittest.skipUnless(shutil.which("cc"), "no C compiler")
+class SearchInC(Served):
+    def test_agents_in_c_solve_a_ring_by_themselves_and_with_python(self) -> None:
+        program = str(self.folder / "ring")
+        source = str(TOP / "examples/agents/ring.c")
+        subprocess.run(["cc", "-O2", "-Wall", "-Wextra", "-Werror", "-o", program, source], check=True)
+        python = [sys.executable, str(TOP / "examples/agents/ring.py"), "127.0.0.1"]
+        for hole, commands in ((1, [[program], [program]]), (4, [[program], python]), (7, [python, [program]])):
+            with self.subTest(hole=hole):
+                port = str(self.serve("ring8.toml", [hole], 300, 2, turns=700))
+                agents = [subprocess.Popen([*command, port, key, "8"], stdout=subprocess.DEVNULL, stderr=subprocess.DEVNULL)
+                          for command, key in zip(commands, ("ka", "kb"))]
+                self.assertEqual(self.server.stdout.read().splitlines()[1].split()[1:3], ["red", "solved"])
+                for agent in agents:
+                    agent.wait()
+
+
+if __name__ == "__main__":
+    unittest.main()

@@ -1,0 +1,120 @@
+"""The stand-in model: worked rows on the triangle, and the replays that the benchmarks write."""
+import io
+import json
+import unittest
+from typing import Iterator
+
+import inputs
+import replays
+from stand_in_model import Match, Setup, command_of, judge, outcome_of
+
+TRIANGLE = [(0, 0, 1, 0), (1, 1, 2, 0), (2, 1, 0, 1)]
+ENTER, LOOK, LEAVE = ({"do": word} for word in ("enter", "look", "leave"))
+
+
+def depart(port: int) -> dict:
+    return {"do": "depart", "port": port}
+
+
+def accuse(port: int) -> dict:
+    return {"do": "accuse", "port": port}
+
+
+class Model(unittest.TestCase):
+    def triangle(self, holes=(2,), dark=()) -> Match:
+        return Match(Setup(3, TRIANGLE, 0, list(holes), 2, 10, 8, list(dark)))
+
+    def test_a_guess_is_written_as_its_replay(self) -> None:
+        match = self.triangle()
+        match.tell(0, ENTER)
+        match.tell(0, accuse(1))
+        match.close()
+        self.assertEqual(judge(match), ("guess 1", 0, 0))
+        self.assertEqual(match.replay().splitlines(), [
+            '{"agents":2,"board":8,"dark":[],"holes":[2],"home":0,"links":[[0,0,1,0],[0,1,2,1],[1,1,2,0]],"nodes":3,'
+            '"quota":10,"replay":2}',
+            '{"agent":0,"do":"enter","reply":{"board":"","from":null,"ok":"here","ports":2}}',
+            '{"agent":0,"do":"accuse","port":1,"reply":{"ok":"noted"}}',
+            '{"do":"close","reply":null}',
+            '{"end":3}',
+        ])
+
+    def test_verdicts(self) -> None:
+        for commands, outcome in (([], "silent"), ([accuse(1)], "solved"), ([accuse(0)], "wrong")):
+            match = self.triangle()
+            match.tell(0, ENTER)
+            match.tell(0, depart(0))
+            match.deliver(0)
+            for command in commands:
+                match.tell(0, command)
+            match.close()
+            self.assertEqual(outcome_of(match), outcome)
+
+    def test_a_dark_link_destroys_and_is_accused(self) -> None:
+        match = self.triangle(holes=(), dark=[(0, 1)])
+        match.tell(0, ENTER)
+        match.tell(0, depart(1))
+        match.deliver(0)
+        match.tell(1, ENTER)
+        for port in (0, 1):
+            match.tell(1, depart(port))
+            match.deliver(1)
+        match.tell(1, accuse(1))
+        match.close()
+        self.assertEqual(judge(match), ("solved", 3, 1))
+
+    def test_refusals_in_order(self) -> None:
+        match = self.triangle()
+        told = [match.tell(0, command) for command in (LOOK, ENTER, ENTER, depart(0), LOOK, LEAVE, LOOK)]
+        whys = [reply.get("no") or reply["ok"] for reply in told]
+        self.assertEqual(whys, ["outside", "here", "twice", "gone", "away", "bye", "ended"])
+
+    def test_lines(self) -> None:
+        for line, do in (('{"do":"look","x":1}', "look"), ('{"do":"depart","port":1.0}', "bad"), ("[]", "bad"),
+                         ('{"do":"depart","port":true}', "bad"), ('{"do":"enter"}', "bad"), ("{", "bad")):
+            self.assertEqual(command_of(line)["do"], do)
+
+
+class LargeReplays(unittest.TestCase):
+    """What bench/replays.py writes are replays: each event is kept, with its reply."""
+
+    def plays(self, kind: replays.Kind, commands: int) -> None:
+        out = io.StringIO()
+        count = replays.write_replay(out, kind.hole(commands), kind.events(commands))
+        lines = [json.loads(line) for line in out.getvalue().splitlines()]
+        head = lines[0]
+        match = Match(Setup(head["nodes"], head["links"], head["home"], head["holes"], head["agents"], head["quota"],
+                            head["board"]))
+        for event in lines[1:-1]:
+            self.play(match, event)
+        self.assertEqual(match.replay(), out.getvalue())
+        self.assertEqual(judge(match), ("silent", kind.moves(commands), kind.lost))
+        self.assertEqual(count, len(match.log))
+
+    def play(self, match: Match, event: dict) -> None:
+        if event["do"] == "close":
+            match.close()
+        elif event["do"] == "deliver":
+            match.deliver(event["agent"])
+        else:
+            match.tell(event["agent"], {name: event[name] for name in event if name not in ("agent", "reply")})
+
+    def test_each_kind(self) -> None:
+        for kind in replays.KINDS:
+            with self.subTest(kind=kind.title):
+                self.plays(kind, 3)
+
+    def test_the_largest_log(self) -> None:
+        count = sum(1 for _ in replays.moves(inputs.MAX_QUOTA)) + 1
+        self.assertEqual(count, inputs.MAX_AGENTS * (2 * inputs.MAX_QUOTA + 2) + 1)
+        self.assertEqual(count, 128_129)
+
+    def test_the_longest_line(self) -> None:
+        lines: Iterator[dict] = replays.long_lines(1)
+        write = next(event for event in lines if event["do"] == "write")
+        sent = {name: write[name] for name in ("do", "expect", "put")}
+        self.assertEqual(len(replays.spelled(sent)), replays.MAX_LINE)
+
+
+if __name__ == "__main__":
+    unittest.main()

@@ -1,0 +1,224 @@
+"""The rules of a match in Python, after docs/MODEL.md and apart from the proved code, to try agents without a build.
+
+Nothing is proved of it, and no result of a contest rests on it. Commands are the objects that clients send, replies
+those that they are sent, and a match's log is a list of the objects that stand in a replay.
+"""
+import json
+from typing import Any, Dict, List, NamedTuple, Optional, Set, Tuple
+
+Object = Dict[str, Any]
+Place = Tuple[int, int]
+
+BAD: Object = {"do": "bad"}
+OVER: Object = {"ok": "over"}
+GONE: Object = {"ok": "gone"}
+BYE: Object = {"ok": "bye"}
+NOTED: Object = {"ok": "noted"}
+OUTSIDE, PRESENT, AWAY, ENDED = "outside", "present", "away", "ended"
+
+
+def spelled(value: Any) -> str:
+    """JSON as the arena spells it: keys in order, no spaces, characters past ASCII as they are."""
+    return json.dumps(value, sort_keys=True, separators=(",", ":"), ensure_ascii=False)
+
+
+def command_of(line: str) -> Object:
+    """The command that a client's line is."""
+    try:
+        given = json.loads(line)
+    except (ValueError, RecursionError):
+        return BAD
+    do = given.get("do") if isinstance(given, dict) else None
+    shapes: Dict[Any, Dict[str, type]] = {
+        "enter": {"key": str}, "look": {}, "write": {"expect": str, "put": str}, "depart": {"port": int},
+        "accuse": {"port": int}, "leave": {},
+    }
+    shape = shapes.get(do) if isinstance(do, str) else None
+    if shape is None or any(type(given.get(name)) is not kind for name, kind in shape.items()):
+        return BAD
+    if "port" in shape and not 0 <= given["port"] <= 65_535:
+        return BAD
+    return {"do": do, **{name: given[name] for name in shape}}
+
+
+class Setup(NamedTuple):
+    """A match before it begins. Each link is (node, port, node, port), each dark link (node, port) of either end."""
+
+    nodes: int
+    links: List[Tuple[int, int, int, int]]
+    home: int
+    holes: List[int]
+    agents: int
+    quota: int
+    board: int
+    dark: List[Place] = []
+
+
+class AgentState:
+    """Where one agent is, and what it has used."""
+
+    def __init__(self) -> None:
+        self.standing = OUTSIDE
+        self.used = 0
+        self.node = 0
+        self.port: Optional[int] = None
+        self.came: Optional[int] = None
+        self.lost = False
+
+
+class Match:
+    """A match: commands are told, agents on links are delivered, and in the end it is closed."""
+
+    def __init__(self, setup: Setup) -> None:
+        self.setup = setup
+        self.far: List[Dict[int, Place]] = [{} for _ in range(setup.nodes)]
+        for v, p, w, q in setup.links:
+            self.far[v][p] = (w, q)
+            self.far[w][q] = (v, p)
+        self.dark = {place for v, p in setup.dark for place in ((v, p), self.far[v][p])}
+        self.boards = [""] * setup.nodes
+        self.agents = [AgentState() for _ in range(setup.agents)]
+        self.pool: List[int] = []
+        self.closed = False
+        self.log: List[Object] = []
+        self.accused: List[Place] = []
+        self.reached: Set[int] = set()
+
+    def _here(self, agent: AgentState) -> Object:
+        board = self.boards[agent.node]
+        return {"ok": "here", "ports": len(self.far[agent.node]), "from": agent.came, "board": board}
+
+    def _refusal(self, agent: AgentState, do: str) -> Optional[str]:
+        """Why a command is not heard."""
+        if agent.standing == OUTSIDE:
+            return None if do == "enter" else "outside"
+        if do == "enter":
+            return "twice"
+        if agent.standing == ENDED:
+            return "ended"
+        return "spent" if agent.used == self.setup.quota and do != "leave" else None
+
+    def tell(self, number: int, command: Object) -> Object:
+        """The reply to a command, which stands in the log if it is heard."""
+        agent = self.agents[number]
+        if self.closed:
+            return OVER
+        why = self._refusal(agent, command["do"])
+        if why:
+            return {"no": why}
+        if command["do"] not in ("enter", "leave"):
+            agent.used += 1
+        reply = self._heard(number, agent, command)
+        self.log.append({"agent": number, "reply": reply, **{k: v for k, v in command.items() if k != "key"}})
+        return reply
+
+    def _heard(self, number: int, agent: AgentState, command: Object) -> Object:
+        do = command["do"]
+        if do == "enter":
+            agent.standing, agent.node = PRESENT, self.setup.home
+            return self._here(agent)
+        if do == "leave":
+            if agent.standing == AWAY:
+                self.pool.remove(number)
+            agent.standing = ENDED
+            return BYE
+        if agent.standing == AWAY:
+            return {"no": "away"}
+        if do == "bad":
+            return {"no": "line"}
+        if do == "look":
+            return self._here(agent)
+        if do == "write":
+            return self._write(agent.node, command["expect"], command["put"])
+        if command["port"] not in self.far[agent.node]:
+            return {"no": "port"}
+        agent.port = command["port"]
+        if do == "accuse":
+            agent.standing = ENDED
+            self.accused.append((agent.node, agent.port))
+            return NOTED
+        agent.standing = AWAY
+        self.pool.append(number)
+        return GONE
+
+    def _write(self, node: int, expect: str, put: str) -> Object:
+        if len(put.encode()) > self.setup.board:
+            return {"no": "long"}
+        if self.boards[node] != expect:
+            return {"ok": "changed", "board": self.boards[node]}
+        self.boards[node] = put
+        return {"ok": "written"}
+
+    def doomed(self, node: int, port: int) -> bool:
+        """Whether who is delivered over this link from this end is destroyed."""
+        return (node, port) in self.dark or self.far[node][port][0] in self.setup.holes
+
+    def deliver(self, number: int) -> Optional[Object]:
+        """Lets an agent arrive; the reply to it, or None where there is none."""
+        agent = self.agents[number]
+        if self.closed or agent.standing != AWAY:
+            return None
+        if self.doomed(agent.node, agent.port):
+            if not agent.lost:
+                self.log.append({"agent": number, "do": "deliver", "reply": None})
+            agent.lost = True
+            return None
+        self.pool.remove(number)
+        agent.standing = PRESENT
+        agent.node, agent.came = self.far[agent.node][agent.port]
+        self.reached.add(agent.node)
+        reply = self._here(agent)
+        self.log.append({"agent": number, "do": "deliver", "reply": reply})
+        return reply
+
+    def close(self) -> None:
+        if not self.closed:
+            self.log.append({"do": "close", "reply": None})
+        self.closed = True
+
+    def head(self) -> Object:
+        """The head of the match's replay."""
+        setup = self.setup
+        links = [[v, p, w, q] if v < w else [w, q, v, p] for v, p, w, q in setup.links]
+        dark = [min([v, p], list(self.far[v][p])) for v, p in setup.dark]
+        return {
+            "replay": 2, "agents": setup.agents, "board": setup.board, "quota": setup.quota, "home": setup.home,
+            "holes": sorted(setup.holes), "dark": sorted(dark), "nodes": setup.nodes, "links": sorted(links),
+        }
+
+    def replay(self) -> str:
+        """The text of the match's replay."""
+        lines = [self.head(), *self.log, {"end": len(self.log)}]
+        return "".join(spelled(line) + "\n" for line in lines)
+
+
+class Verdict(NamedTuple):
+    """What a match came to: the outcome as `judge` prints it, the moves that were made, the agents lost."""
+
+    outcome: str
+    moves: int
+    lost: int
+
+
+def judge(match: Match) -> Verdict:
+    """The verdict on a match that has ended."""
+    moves = sum(event["do"] == "depart" and event["reply"] == GONE for event in match.log)
+    return Verdict(outcome_of(match), moves, sum(agent.lost for agent in match.agents))
+
+
+def outcome_of(match: Match) -> str:
+    """The first rule that holds."""
+    setup, accused = match.setup, match.accused
+    if any(not match.doomed(v, p) for v, p in accused):
+        return "wrong"
+    links = set(accused) | {match.far[v][p] for v, p in accused}
+    named = {match.far[v][p][0] for v, p in accused}
+    if not accused or not named.issuperset(setup.holes) or not links.issuperset(match.dark):
+        return "silent"
+    if any(agent.standing == PRESENT for agent in match.agents):
+        return "unfinished"
+    spared = match.reached | {setup.home, *setup.holes}
+    left = [v for v in range(setup.nodes) if v not in spared]
+    if left and any(place not in match.dark for place in accused):
+        return f"guess {left[0]}"
+    return "solved"

@@ -1,0 +1,186 @@
+#!/usr/bin/env python3
+"""A stand-in for `arena serve`, for authors of agents who do not want to build the program. It needs Python 3.11.
+
+    tools/stand_in_server.py serve T --port N --sessions S --turns K --pause MS --replay P
+
+takes the words of `arena serve` and does what it does: it listens on 127.0.0.1, prints `listening N`, serves S
+sessions on the matches of tournament T, lets an agent on a link arrive by chance K times with MS milliseconds between,
+closes the matches, writes their replays to P0.jsonl, P1.jsonl and so on, and prints a table. It is not the arena:
+nothing of it is proved, it judges no contest, and its deliveries are other ones for the same seed.
+"""
+import argparse
+import pathlib
+import random
+import socket
+import sys
+import threading
+import time
+import tomllib
+from typing import Any, Dict, List, Tuple
+
+from stand_in_model import BYE, GONE, NOTED, OVER, Match, Object, Setup, Verdict, command_of, judge, spelled
+
+MAX_LINE = 65_536
+RANKS = ["solved", "guess", "unfinished", "silent", "wrong"]
+
+
+class Game:
+    """One match under its lock, with its held links and the arrivals that were not told yet."""
+
+    def __init__(self, row: Dict[str, Any], setup: Setup, seed: str) -> None:
+        self.team = row["team"]
+        self.match = Match(setup)
+        self.held = {(node, port) for node, port in row.get("held", [])}
+        self.chance = random.Random(seed)
+        self.changed = threading.Condition()
+        self.arrivals: Dict[int, Object] = {}
+
+    def tell(self, agent: int, command: Object) -> Object:
+        """The reply to a command; one that departs is answered twice, and waits for the second by `arrival`."""
+        with self.changed:
+            return self.match.tell(agent, command)
+
+    def arrival(self, agent: int) -> Object:
+        with self.changed:
+            self.changed.wait_for(lambda: agent in self.arrivals or self.match.closed)
+            return self.arrivals.pop(agent, OVER)
+
+    def turn(self) -> None:
+        """Lets an agent by chance arrive, if its link is not held."""
+        with self.changed:
+            if not self.match.pool:
+                return
+            number = self.chance.choice(self.match.pool)
+            agent = self.match.agents[number]
+            reply = None if (agent.node, agent.port) in self.held else self.match.deliver(number)
+            if reply:
+                self.arrivals[number] = reply
+                self.changed.notify_all()
+
+    def deal(self, turns: int, pause: float) -> None:
+        for _ in range(turns):
+            time.sleep(pause)
+            self.turn()
+        with self.changed:
+            self.match.close()
+            self.changed.notify_all()
+
+
+class Session:
+    """One connection of a client."""
+
+    def __init__(self, connection: socket.socket, keys: Dict[str, Tuple[Game, int]], taken: set) -> None:
+        self.connection = connection
+        self.reader = connection.makefile("rb")
+        self.keys = keys
+        self.taken = taken
+
+    def lines(self) -> Any:
+        """The client's lines; one that is too long, or is not UTF-8, is none that means a command."""
+        for line in self.reader:
+            if not line.endswith(b"\n"):
+                return
+            if line.strip(b" \t\r\n"):
+                yield line[:-1].decode("utf-8", "replace") if len(line) <= MAX_LINE + 1 else ""
+
+    def say(self, reply: Object) -> None:
+        self.connection.sendall(spelled(reply).encode() + b"\n")
+
+    def serve(self) -> None:
+        try:
+            lines = self.lines()
+            seat = self.seat(next(lines, None))
+            if seat:
+                self.play(*seat, lines)
+        except OSError:
+            pass
+        finally:
+            self.connection.close()
+
+    def seat(self, line: Any) -> Any:
+        """The match and agent of the first line, or None where the client is denied."""
+        if line is None:
+            return None
+        command = command_of(line)
+        if command["do"] != "enter":
+            self.say({"no": "enter"})
+            return None
+        seat = self.keys.get(command["key"])
+        if seat is None or command["key"] in self.taken:
+            self.say({"no": "taken" if seat else "key"})
+            return None
+        self.taken.add(command["key"])
+        return seat
+
+    def play(self, game: Game, agent: int, lines: Any) -> None:
+        reply = game.tell(agent, {"do": "enter"})
+        try:
+            self.say(reply)
+            while reply not in (BYE, NOTED, OVER):
+                line = next(lines, None)
+                if line is None:
+                    return
+                reply = game.tell(agent, command_of(line))
+                self.say(reply)
+                if reply == GONE:
+                    reply = game.arrival(agent)
+                    self.say(reply)
+        finally:
+            game.tell(agent, {"do": "leave"})
+
+
+def games_of(path: str) -> Tuple[List[Game], Dict[str, Tuple[Game, int]]]:
+    """The matches of a tournament file and the seats of its keys. The files must be right: ask `arena check`."""
+    tournament = tomllib.loads(pathlib.Path(path).read_text())
+    games, keys = [], {}
+    for number, row in enumerate(tournament["match"]):
+        network = tomllib.loads(pathlib.Path(row["network"]).read_text())
+        holes = row["holes"] if "holes" in row else [row["hole"]] if row["hole"] != "none" else []
+        setup = Setup(network["nodes"], [tuple(link) for link in network["links"]], row["home"], holes,
+                      len(row["keys"]), row["quota"], row["board"], [tuple(place) for place in row.get("dark", [])])
+        game = Game(row, setup, f"{tournament['seed']} {number}")
+        games.append(game)
+        keys.update({key: (game, agent) for agent, key in enumerate(row["keys"])})
+    return games, keys
+
+
+def table(rows: List[Tuple[str, Verdict]]) -> str:
+    """The table of teams and verdicts, best first."""
+    ranked = sorted(rows, key=lambda row: (RANKS.index(row[1].outcome.split()[0]), row[1].moves, row[1].lost, row[0]))
+    lines = [("#", "team", "outcome", "moves", "lost")]
+    lines += [(str(place), team, *map(str, verdict)) for place, (team, verdict) in enumerate(ranked, 1)]
+    return "".join(f"{a:>3} {b:<16} {c:<10} {d:>6} {e:>4}\n" for a, b, c, d, e in lines)
+
+
+def serve(words: argparse.Namespace) -> None:
+    games, keys = games_of(words.tournament)
+    taken: set = set()
+    with socket.create_server(("127.0.0.1", words.port), backlog=words.sessions) as listener:
+        print(f"listening {words.port}", flush=True)
+        threads = [threading.Thread(target=game.deal, args=(words.turns, words.pause / 1000)) for game in games]
+        for thread in threads:
+            thread.start()
+        for _ in range(words.sessions):
+            connection, _ = listener.accept()
+            connection.setsockopt(socket.IPPROTO_TCP, socket.TCP_NODELAY, 1)
+            threads.append(threading.Thread(target=Session(connection, keys, taken).serve))
+            threads[-1].start()
+        for thread in threads:
+            thread.join()
+    for number, game in enumerate(games):
+        pathlib.Path(f"{words.replay}{number}.jsonl").write_text(game.match.replay(), encoding="utf-8")
+    print(table([(game.team, judge(game.match)) for game in games]), end="")
+
+
+def main() -> None:
+    parser = argparse.ArgumentParser(description=__doc__, formatter_class=argparse.RawDescriptionHelpFormatter)
+    words = parser.add_subparsers(required=True).add_parser("serve")
+    words.add_argument("tournament")
+    for option in ("port", "sessions", "turns", "pause"):
+        words.add_argument(f"--{option}", type=int, required=True)
+    words.add_argument("--replay", required=True)
+    serve(parser.parse_args())
+
+
+if __name__ == "__main__":
+    sys.exit(main())
