@@ -1,2 +1,4 @@
 mod WordLemmas
 mod AnswerLemmas
+mod NumberLemmas
+mod FoundLemmas

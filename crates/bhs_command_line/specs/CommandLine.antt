@@ -1,16 +1,22 @@
 -- The command line of the program, and what its words give.
-use Rattle.std.specs.Prelude.{◌≡◌, ◌⊎◌, ◌==◌, IsTrue, Bool, true, false, not, List, [], ◌∷◌, Option}
-use Rattle.std.specs.Prelude.{Some, None, codes, if◌then◌else◌, option_and_then, unwrap_or}
-use Rattle.std.specs.List.{list_any}
+use Rattle.std.specs.Prelude.{◌≡◌, ◌⊎◌, ◌==◌, ◌&&◌, ◌^◌, IsTrue, Bool, true, false, not, ℕ, nat_lt}
+use Rattle.std.specs.Prelude.{List, [], ◌∷◌, ◌++◌, Option, length}
+use Rattle.std.specs.Prelude.{Some, None, codes, if◌then◌else◌, option_and_then, option_map, unwrap_or}
+use Rattle.std.specs.List.{list_all, list_any, before_first, after_first, position_or_len}
 use Rattle.std.specs.Str.{bytes_eq}
-use Rattle.clap.specs.Words.{App, Kinds, Row, Rule, Shape, Text, fault_of, first_of, new_app, new_rule, subcommand_of}
-use Rattle.clap.specs.Words.{with_subcommand}
+use Rattle.std.specs.Char.{is_ascii_digit}
+use Rattle.std.specs.Str.Parse.{digits_value}
+use Rattle.clap.specs.Words.{App, Kinds, Row, Rule, Shape, Text, all_of, fault_of, first_of, new_app, new_rule}
+use Rattle.clap.specs.Words.{subcommand_of, with_subcommand}
 use Rattle.clap.specs.Simple.{new_shape, on_top}
 use Rattle.clap.specs.Walk.{is_empty}
+use Rattle.clap.specs.declared.builder.action.ArgAction.TheVariants.{Append}
 use Rattle.clap.specs.declared.error.kind.ErrorKind.{ErrorKind}
 use Rattle.clap.specs.declared.error.kind.ErrorKind.TheVariants.{DisplayHelp, DisplayVersion}
-use Rattle.bhs_command_line.specs.declared.Order.{Order}
-use Rattle.bhs_command_line.specs.declared.Order.TheVariants.{Rehearse, Check}
+use Rattle.bhs_files.specs.Shapes.{is_team}
+use Rattle.bhs_command_line.specs.declared.orders.Order.{Order}
+use Rattle.bhs_command_line.specs.declared.orders.Order.TheVariants.{Rehearse, Check, Judge, Table, Explain, Twin}
+use Rattle.bhs_command_line.specs.declared.orders.Entry.{Entry}
 use Rattle.bhs_command_line.specs.declared.Parsed.{Parsed}
 use Rattle.bhs_command_line.specs.declared.Parsed.TheVariants.{Ordered, Shown, Refused}
 
@@ -24,24 +30,47 @@ program name = on_top (λ s. record s {
   subcommand_required = true;
 }) (new_app name)
 
--- the one word of its own that `rehearse` may take
-abbrev pub tournament_if_any : Rule
-tournament_if_any = record (new_rule (codes "tournament")) { value_names = 1 }
+-- a word that a command may take, and one that it must have
+abbrev pub may_have : (id : Text) → Rule
+may_have id = record (new_rule id) { value_names = 1 }
 
--- a command that takes the name of a tournament's file, or none
+abbrev pub must_have : (id : Text) → Rule
+must_have id = record (new_rule id) { required = true; value_names = 1 }
+
+-- a command with these words
+abbrev pub command : (name : Text) → List Rule → Shape
+command name rules = record (new_shape name) { rules = rules }
+
+-- the option `--replay` with a word of its own
+abbrev pub replay_option : Rule
+replay_option = record (new_rule (codes "prefix")) { long = Some (codes "replay"); value_names = 1 }
+
+-- one word or more
+abbrev pub entry_words : Rule
+entry_words = record (new_rule (codes "entry")) { required = true; action = Some Append; value_names = 1 }
+
 abbrev pub rehearse : Shape
-rehearse = record (new_shape (codes "rehearse")) { rules = tournament_if_any ∷ [] }
+rehearse = command (codes "rehearse") (may_have (codes "tournament") ∷ replay_option ∷ [])
 
--- the one word of its own that `check` takes, and must have
-abbrev pub tournament : Rule
-tournament = record (new_rule (codes "tournament")) { required = true; value_names = 1 }
-
--- a command that takes the name of a tournament's file
 abbrev pub check : Shape
-check = record (new_shape (codes "check")) { rules = tournament ∷ [] }
+check = command (codes "check") (must_have (codes "tournament") ∷ [])
+
+abbrev pub judge : Shape
+judge = command (codes "judge") (must_have (codes "replay") ∷ [])
+
+abbrev pub table : Shape
+table = command (codes "table") (entry_words ∷ [])
+
+abbrev pub explain : Shape
+explain = command (codes "explain") (must_have (codes "replay") ∷ must_have (codes "agent") ∷ [])
+
+abbrev pub twin : Shape
+twin = command (codes "twin") (must_have (codes "replay") ∷ must_have (codes "node") ∷ [])
 
 abbrev pub arena : App
-arena = with_subcommand (with_subcommand (program (codes "arena")) rehearse) check
+arena =
+    with_subcommand (with_subcommand (with_subcommand (with_subcommand (with_subcommand (with_subcommand
+    (program (codes "arena")) rehearse) check) judge) table) explain) twin
 
 -- ---- what clap makes of the words that stand after the program's name
 
@@ -53,40 +82,88 @@ faults words = fault_of arena words
 abbrev pub command_in : List Text → Option (Text × List Row)
 command_in words = subcommand_of arena words
 
+-- ---- what a word says
+
+-- the number of 16 bits that a word spells in decimal digits; zeros may stand in front
+abbrev pub number_in : Text → Option ℕ
+number_in word =
+    if list_all is_ascii_digit word && (not (is_empty word) && nat_lt (digits_value 10 word) (2 ^ 16))
+    then Some (digits_value 10 word) else None
+
+-- the character `=`
+abbrev pub is_equals : ℕ → Bool
+is_equals byte = byte == 61
+
+-- the team and the name of its replay that a word TEAM=REPLAY says; it is split at its first `=`
+abbrev pub entry_in : Text → Option Entry
+entry_in word =
+    if nat_lt (position_or_len is_equals word) (length word) && is_team (before_first is_equals word)
+    then Some (record { team = before_first is_equals word; replay = after_first is_equals word }) else None
+
+-- the entries that words say; None where one of them says none
+abbrev pub entries_in : List Text → Option (List Entry)
+entries_in [] = Some []
+entries_in (word ∷ words) =
+    option_and_then (λ entry. option_map (λ entries. entry ∷ entries) (entries_in words)) (entry_in word)
+
 -- ---- orders
 
--- the tournament that the words of `check` name; clap refuses words that name none
-abbrev pub tournament_in : List Row → Text
-tournament_in rows = unwrap_or (first_of (codes "tournament") rows) []
+-- the word that a command must have, and all its words; clap refuses a command without them
+abbrev pub text_in : (id : Text) → List Row → Text
+text_in id rows = unwrap_or (first_of id rows) []
+
+abbrev pub texts_in : (id : Text) → List Row → List Text
+texts_in id rows = unwrap_or (all_of id rows) []
 
 -- the order that a command gives
 abbrev pub order_by : Text × List Row → Option Order
-order_by command =
-    if bytes_eq command.0 (codes "rehearse") then Some (Rehearse (first_of (codes "tournament") command.1))
-    else (if bytes_eq command.0 (codes "check") then Some (Check (tournament_in command.1)) else None)
+order_by (name, rows) =
+    if bytes_eq name (codes "rehearse")
+    then Some (Rehearse (first_of (codes "tournament") rows) (first_of (codes "prefix") rows))
+    else (if bytes_eq name (codes "check") then Some (Check (text_in (codes "tournament") rows))
+    else (if bytes_eq name (codes "judge") then Some (Judge (text_in (codes "replay") rows))
+    else (if bytes_eq name (codes "table") then option_map Table (entries_in (texts_in (codes "entry") rows))
+    else (if bytes_eq name (codes "explain")
+    then option_map (Explain (text_in (codes "replay") rows)) (number_in (text_in (codes "agent") rows))
+    else (if bytes_eq name (codes "twin")
+    then option_map (Twin (text_in (codes "replay") rows)) (number_in (text_in (codes "node") rows))
+    else None)))))
 
 -- the order that the words give, and None where they give none
 abbrev pub order_in : List Text → Option Order
 order_in words =
     if is_empty (faults words) then option_and_then order_by (command_in words) else None
 
--- the words that order a rehearsal of the built-in tournament: the command alone, or with the mark `--` that
--- ends the options
-abbrev pub Rehearses : List Text → Type 0
-Rehearses words = (words ≡ codes "rehearse" ∷ []) ⊎ (words ≡ codes "rehearse" ∷ codes "--" ∷ [])
+-- ---- the plainest words of each order
 
 -- the word begins with a hyphen, as an option does
 abbrev pub is_dashed : Text → Bool
 is_dashed [] = false
 is_dashed (byte ∷ bytes) = byte == 45
 
--- the words that order a rehearsal of a tournament, or a check of it, whose name begins with no hyphen: the command and
--- the name
-abbrev pub RehearsesOn : List Text → (name : Text) → Type 0
-RehearsesOn words name = (is_dashed name ≡ false) × (words ≡ codes "rehearse" ∷ name ∷ [])
+-- a name that begins with no hyphen
+abbrev pub IsName : Text → Type 0
+IsName name = is_dashed name ≡ false
 
-abbrev pub ChecksAlone : List Text → (name : Text) → Type 0
-ChecksAlone words name = (is_dashed name ≡ false) × (words ≡ codes "check" ∷ name ∷ [])
+-- The words give this order: the command and its own words, none of which begins with a hyphen, and the option last. A
+-- command alone may have the mark `--` that ends the options.
+abbrev pub Says : List Text → Order → Type 0
+Says words (Rehearse None None) = (words ≡ codes "rehearse" ∷ []) ⊎ (words ≡ codes "rehearse" ∷ codes "--" ∷ [])
+Says words (Rehearse (Some name) None) = IsName name × (words ≡ codes "rehearse" ∷ name ∷ [])
+Says words (Rehearse None (Some prefix)) =
+    IsName prefix × (words ≡ codes "rehearse" ∷ codes "--replay" ∷ prefix ∷ [])
+Says words (Rehearse (Some name) (Some prefix)) =
+    IsName name × IsName prefix × (words ≡ codes "rehearse" ∷ name ∷ codes "--replay" ∷ prefix ∷ [])
+Says words (Check name) = IsName name × (words ≡ codes "check" ∷ name ∷ [])
+Says words (Judge replay) = IsName replay × (words ≡ codes "judge" ∷ replay ∷ [])
+Says words (Table entries) =
+    (word : Text) × IsName word × (entries_in (word ∷ []) ≡ Some entries) × (words ≡ codes "table" ∷ word ∷ [])
+Says words (Explain replay agent) =
+    (word : Text) × IsName replay × IsName word × (number_in word ≡ Some agent)
+    × (words ≡ codes "explain" ∷ replay ∷ word ∷ [])
+Says words (Twin replay node) =
+    (word : Text) × IsName replay × IsName word × (number_in word ≡ Some node)
+    × (words ≡ codes "twin" ∷ replay ∷ word ∷ [])
 
 -- ---- answers
 
@@ -97,8 +174,15 @@ is_asked DisplayVersion = true
 is_asked _ = false
 
 -- some fault of the words is more than a question for help
+abbrev pub AreFaulty : List Text → Type 0
+AreFaulty words = IsTrue (list_any (λ kind. not (is_asked kind)) (faults words))
+
+-- the words are a use of the command line, and one of them is no number, or no entry of a table
+abbrev pub AreUnfit : List Text → Type 0
+AreUnfit words = (faults words ≡ []) × (order_in words ≡ None)
+
 abbrev pub AreRefused : List Text → Type 0
-AreRefused words = IsTrue (list_any (λ kind. not (is_asked kind)) (faults words))
+AreRefused words = AreFaulty words ⊎ AreUnfit words
 
 -- the words get this answer
 abbrev pub Parses : List Text → Parsed → Type 0
@@ -106,11 +190,19 @@ Parses words (Ordered order) = order_in words ≡ Some order
 Parses words (Shown text) = IsTrue (list_any is_asked (faults words))
 Parses words (Refused text) = AreRefused words
 
+-- the words that ask for help after these
+abbrev pub AskAfter : List Text → List Text → Type 0
+AskAfter before words = (words ≡ before ++ codes "--help" ∷ []) ⊎ (words ≡ before ++ codes "-h" ∷ [])
+
 -- the words that ask for help and do nothing else
 abbrev pub AsksHelp : List Text → Type 0
-AsksHelp words = ((words ≡ codes "--help" ∷ []) ⊎ (words ≡ codes "-h" ∷ []))
-    ⊎ (((words ≡ codes "rehearse" ∷ codes "--help" ∷ []) ⊎ (words ≡ codes "rehearse" ∷ codes "-h" ∷ []))
-    ⊎ ((words ≡ codes "check" ∷ codes "--help" ∷ []) ⊎ (words ≡ codes "check" ∷ codes "-h" ∷ [])))
+AsksHelp words = AskAfter [] words
+    ⊎ (AskAfter (codes "rehearse" ∷ []) words
+    ⊎ (AskAfter (codes "check" ∷ []) words
+    ⊎ (AskAfter (codes "judge" ∷ []) words
+    ⊎ (AskAfter (codes "table" ∷ []) words
+    ⊎ (AskAfter (codes "explain" ∷ []) words
+    ⊎ AskAfter (codes "twin" ∷ []) words)))))
 
 abbrev pub is_shown : Parsed → Bool
 is_shown (Shown text) = true

@@ -9,6 +9,7 @@ mod limits;
 mod lines;
 mod matches;
 mod model;
+mod programs;
 mod rehearsals;
 mod rows;
 mod sessions;

@@ -3,3 +3,4 @@ pub mod TriangleLemmas
 pub mod TextLemmas
 pub mod SummaryLemmas
 pub mod ExitLemmas
+pub mod ReportLemmas

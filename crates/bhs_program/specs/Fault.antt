@@ -8,9 +8,15 @@ use Rattle.bhs_files.specs.declared.faults.FileFault.{FileFault}
 use Rattle.bhs_files.specs.declared.faults.FileFault.TheVariants as files
 use Rattle.bhs_script.specs.declared.faults.ScriptFault.{ScriptFault}
 use Rattle.bhs_script.specs.declared.faults.ScriptFault.TheVariants as scripts
+use Rattle.bhs_replay.specs.declared.faults.ReplayFault.{ReplayFault}
+use Rattle.bhs_replay.specs.declared.faults.ReplayFault.TheVariants as replays
+use Rattle.bhs_replay.specs.declared.faults.WritingFault.{WritingFault}
+use Rattle.bhs_replay.specs.declared.faults.WritingFault.TheVariants as writing
+use Rattle.bhs_view.specs.declared.twins.TwinFault.{TwinFault}
+use Rattle.bhs_view.specs.declared.twins.TwinFault.TheVariants as twins
 use Rattle.bhs_program.specs.declared.faults.Fault.{Fault}
-use Rattle.bhs_program.specs.declared.faults.Fault.TheVariants.{Read, Text, Turns, Line, File, Write, Memory}
-use Rattle.bhs_program.specs.declared.statuses.TheConstants.{DONE, REFUSED_WORDS, REFUSED_TEXT, NO_MEMORY, FAILED_STREAM}
+use Rattle.bhs_program.specs.declared.faults.Fault.TheVariants.{Read, Text, Turns, Line, File, Replay, Twin, Write, Memory}
+use Rattle.bhs_program.specs.declared.statuses.TheConstants as statuses
 
 -- an error of opening or reading
 abbrev pub of_kind : ErrorKind → Fault
@@ -34,15 +40,40 @@ abbrev pub of_script : ScriptFault → Fault
 of_script (scripts.Line line) = Line line
 of_script scripts.Memory = Memory
 
+-- a fault of a replay
+abbrev pub of_replay : ReplayFault → Fault
+of_replay replays.Read = Read
+of_replay replays.Memory = Memory
+of_replay replays.Turns = Turns
+of_replay fault = Replay fault
+
+-- why a replay was not written whole
+abbrev pub of_writing : WritingFault → Fault
+of_writing writing.Write = Write
+of_writing writing.Memory = Memory
+
+-- why there is no twin
+abbrev pub of_twin : TwinFault → Fault
+of_twin twins.Memory = Memory
+of_twin fault = Twin fault
+
+-- the exit status of a text that is no replay: it is not spelled as one, or its events are those of no match
+abbrev pub replay_status : ReplayFault → ℕ
+replay_status (replays.Event line) = statuses.REFUSED_MATCH
+replay_status (replays.Differs line) = statuses.REFUSED_MATCH
+replay_status fault = statuses.REFUSED_TEXT
+
 -- the exit status of a fault
 abbrev pub status : Fault → ℕ
-status Read = FAILED_STREAM
-status Text = REFUSED_TEXT
-status Turns = FAILED_STREAM
-status (Line line) = REFUSED_TEXT
-status (File fault) = REFUSED_TEXT
-status Write = FAILED_STREAM
-status Memory = NO_MEMORY
+status Read = statuses.FAILED_STREAM
+status Text = statuses.REFUSED_TEXT
+status Turns = statuses.FAILED_STREAM
+status (Line line) = statuses.REFUSED_TEXT
+status (File fault) = statuses.REFUSED_TEXT
+status (Replay fault) = replay_status fault
+status (Twin fault) = statuses.REFUSED_MATCH
+status Write = statuses.FAILED_STREAM
+status Memory = statuses.NO_MEMORY
 
 -- the exit status of some fault
 abbrev pub IsOfFault : ℕ → Type 0
@@ -50,4 +81,4 @@ IsOfFault code = (fault : Fault) × (code ≡ status fault)
 
 -- an exit status of the program: all was done, the words are refused, or a fault came
 abbrev pub IsStatus : ℕ → Type 0
-IsStatus code = (code ≡ DONE) ⊎ ((code ≡ REFUSED_WORDS) ⊎ IsOfFault code)
+IsStatus code = (code ≡ statuses.DONE) ⊎ ((code ≡ statuses.REFUSED_WORDS) ⊎ IsOfFault code)

@@ -1,4 +1,4 @@
--- The playing of a script that a fault ends.
+-- A text that goes out piece by piece, as the answers of a script or the lines of a replay, and that a fault ends.
 use Rattle.std.specs.Prelude.{ℕ, List}
 use Rattle.bhs_stream.specs.Streams.{Taken}
 use Rattle.bhs_stream.specs.Sending.{Puts, PutsPart}

@@ -1,5 +1,6 @@
 -- What a rehearsal does to its input and its output, call by call.
-use Rattle.std.specs.Prelude.{◌≡◌, ℕ, ◌⊎◌, Bool, true, false, List, length, map, Result, Ok, Err}
+use Rattle.std.specs.Prelude.{◌≡◌, ℕ, ◌⊎◌, Bool, true, false, List, length, map, Option, Some, None, IsSome, Result, Ok, Err}
+use Rattle.std.specs.List.{AllByRecursion}
 use Rattle.bhs_model.specs.declared.limits.TheConstants.{MAX_TEXT}
 use Rattle.bhs_stream.specs.Streams.{Chunk, End, Taken}
 use Rattle.bhs_stream.specs.Reading.{Closes}
@@ -9,14 +10,16 @@ use Rattle.bhs_stream.specs.declared.reading.ReadFault.{ReadFault}
 use Rattle.bhs_stream.specs.declared.reading.ReadFault.TheVariants as reads
 use Rattle.bhs_lineup.specs.declared.lineups.Lineup.{Lineup}
 use Rattle.bhs_lineup.specs.Lineups.{Contest, contest}
-use Rattle.bhs_rehearsal.specs.Games.{Game}
+use Rattle.bhs_rehearsal.specs.Games.{Game, state_of}
 use Rattle.bhs_rehearsal.specs.Stages.{Stage, Instruction, begun, stands_after}
 use Rattle.bhs_rehearsal.specs.Rehearsing.{game_of}
+use Rattle.bhs_replay.specs.Replay.{replay}
+use Rattle.bhs_replay.specs.declared.heads.Version.TheVariants.{Two}
 use Rattle.bhs_script.specs.declared.instructions.TheConstants.{CONNECTIONS}
 use Rattle.bhs_script.specs.Script.{instructions_of}
 use Rattle.bhs_script.specs.Transcript.{transcript}
 use Rattle.bhs_program.specs.declared.faults.Fault.{Fault}
-use Rattle.bhs_program.specs.declared.faults.Fault.TheVariants.{Read, Text, Line, File, Write, Memory, Turns}
+use Rattle.bhs_program.specs.declared.faults.Fault.TheVariants.{Read, Text, Line, File, Replay, Twin, Write, Memory, Turns}
 use Rattle.bhs_program.specs.declared.statuses.TheConstants.{DONE}
 use Rattle.bhs_program.specs.Fault.{status}
 use Rattle.bhs_program.specs.Playing.{StopsPlaying}
@@ -70,6 +73,8 @@ module _ {I O : Type 0} (gives : I → Chunk → I → Type 0) (takes : O → Li
   Stops stage input input' output output' (Line line) =
       (script : List ℕ) × HasRead input input' script × (instructions_on stage script ≡ Err line) × (output' ≡ output)
   Stops stage input input' output output' (File fault) = ⊥
+  Stops stage input input' output output' (Replay fault) = ⊥
+  Stops stage input input' output output' (Twin fault) = ⊥
   Stops stage input input' output output' Write = PlaysUntil Write stage input input' output output'
   Stops stage input input' output output' Memory =
       StopsReading input input' output output' reads.Memory
@@ -89,10 +94,29 @@ module _ {I O : Type 0} (gives : I → Chunk → I → Type 0) (takes : O → Li
       Stops stage input input' output output' fault
       ⊎ ((fault ≡ Write) × PlaysOut flushes false stage input input' output output')
 
-  -- what the exit status of a rehearsal says
-  pub data Rehearses (flushes : O → Bool → O → Type 0) (stage : Stage) (input input' : I) (output output' : O) (code : ℕ) : Type 0 where
-    -- the whole script was played, and all that it sends was passed on
-    done : code ≡ DONE → PlaysOut flushes true stage input input' output output' → Rehearses flushes stage input input' output output' code
-    -- this fault ended it
-    ends : (fault : Fault) → code ≡ status fault → EndsBy flushes stage input input' output output' fault
-        → Rehearses flushes stage input input' output output' code
+-- some file took the whole replay of a match that has ended
+abbrev pub IsFiled : {P : Type 0} → (P → List ℕ → Taken → P → Type 0) → Game → Type 0
+IsFiled {P} files game =
+    (state_of game).closed ≡ true → (old new : P) × PutsAll files old (replay Two game.net game.setup game.log) new
+
+-- where replays were asked for, those of all matches that have ended
+abbrev pub AreFiled : {P : Type 0} → (P → List ℕ → Taken → P → Type 0) → Option (List ℕ) → List Game → Type 0
+AreFiled files None games = Unit {0}
+AreFiled files (Some prefix) games = AllByRecursion (IsFiled files) games
+
+-- what the exit status of a rehearsal says
+pub data Rehearses {P I O : Type 0} (files : P → List ℕ → Taken → P → Type 0) (gives : I → Chunk → I → Type 0)
+    (takes : O → List ℕ → Taken → O → Type 0) (turns : ℕ) (flushes : O → Bool → O → Type 0)
+    (prefix : Option (List ℕ)) (stage : Stage) (input input' : I) (output output' : O) (code : ℕ) : Type 0 where
+  -- the whole script was played, all that it sends was passed on, and then the replays were written
+  done : (out : PlaysOut gives takes turns flushes true stage input input' output output') → code ≡ DONE
+      → AreFiled files prefix out.games
+      → Rehearses files gives takes turns flushes prefix stage input input' output output' code
+  -- all was passed on, and then a replay was not written
+  unfiled : (fault : Fault) → code ≡ status fault → IsSome prefix
+      → PlaysOut gives takes turns flushes true stage input input' output output'
+      → Rehearses files gives takes turns flushes prefix stage input input' output output' code
+  -- this fault ended the rehearsal
+  ends : (fault : Fault) → code ≡ status fault
+      → EndsBy gives takes turns flushes stage input input' output output' fault
+      → Rehearses files gives takes turns flushes prefix stage input input' output output' code

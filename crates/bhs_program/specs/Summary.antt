@@ -38,3 +38,9 @@ pub record IsAssembled (lineup : Lineup) : Type 0 where
   pub networks : List Network
   pub read : All IsRead networks
   pub made : contest_in plan networks ≡ Ok (contest lineup)
+
+-- the text says what the matches of some tournament are
+pub record IsSummary (text : List ℕ) : Type 0 where
+  pub lineup : Lineup
+  pub assembled : IsAssembled lineup
+  pub said : text ≡ summary_from 0 lineup.ready.items

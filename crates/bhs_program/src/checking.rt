@@ -1,21 +1,18 @@
 //! Reading a tournament and its networks, and saying what its matches are.
 
-ghost use Rattle.std.specs.Prelude.{◌≡◌, ◌⊎◌, ℕ, List, IfOk, IfErr, Ok, length, map};
+ghost use Rattle.std.specs.Prelude.{◌≡◌, ℕ, List, IfOk, IfErr, Ok, length, map};
 ghost use Rattle.std.specs.List.{All};
 ghost use Rattle.bhs_files.specs.Names.{first_seen};
 ghost use Rattle.bhs_files.specs.Tournaments.{plan, tournament_in};
 ghost use Rattle.bhs_program.specs.Fault.{IsOfFault};
-ghost use Rattle.bhs_program.specs.Program.{Checks};
-ghost use Rattle.bhs_program.specs.Showing.{Prints};
-ghost use Rattle.bhs_program.specs.Summary.{IsAssembled, IsRead, summary_from};
-ghost use Rattle.bhs_program.specs.declared.statuses.TheConstants.{NO_MEMORY};
+ghost use Rattle.bhs_program.specs.Showing.{Prints, Reports};
+ghost use Rattle.bhs_program.specs.Summary.{IsAssembled, IsRead, IsSummary};
 
 use crate::faults::{Fault, report};
-use crate::showing::show;
-use crate::statuses::DONE;
+use crate::showing::show_made;
 use crate::summaries::summary;
 use bhs_files::{Tournament, assemble, read_network, read_tournament};
-use bhs_lineup::{Lineup, Ready};
+use bhs_lineup::Lineup;
 use bhs_model::{MAX_TEXT, MAX_TURNS};
 use bhs_net::Net;
 use bhs_stream::{Output, read_text};
@@ -41,10 +38,10 @@ pub fn check<F: Files, W: Output, E: Write>(
     writer: &mut W,
     errors: &mut E,
 ) -> u8
-    ensures { Checks W.takes W.flushes writer.old writer.new result }
+    ensures { Reports (Prints W.takes W.flushes) IsSummary writer.old writer.new result }
 {
     match lineup_of(alloc, files, name, errors) {
-        Ok(lineup) => print(alloc, &lineup.ready, writer, errors),
+        Ok(lineup) => show_made(summary(alloc, &lineup.ready), writer, errors),
         Err(status) => status,
     }
 }
@@ -128,17 +125,4 @@ fn networks_of<'a, F: Files>(
         }
     }
     Ok(networks)
-}
-
-fn print<W: Output, E: Write>(alloc: Global, ready: &[Ready], writer: &mut W, errors: &mut E) -> u8
-    ensures { Prints W.takes W.flushes (summary_from 0 ready.now) writer.old writer.new result
-        ⊎ ((result ≡ NO_MEMORY) × (writer.new ≡ writer.old)) }
-{
-    let Ok(text) = summary(alloc, ready) else {
-        return report("output", Fault::Memory, errors);
-    };
-    match show(text.as_str(), writer) {
-        Ok(()) => DONE,
-        Err(_) => report("output", Fault::Write, errors),
-    }
 }

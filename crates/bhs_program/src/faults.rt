@@ -1,14 +1,16 @@
 ghost use Rattle.std.specs.Prelude.{◌≡◌};
 ghost use Rattle.bhs_program.specs.declared.faults.Fault.TheVariants as faults;
 ghost use Rattle.std.specs.IoError.{error_kind};
-ghost use Rattle.bhs_program.specs.Fault.{of_file, of_kind, of_read, of_script, status};
+ghost use Rattle.bhs_program.specs.Fault.{of_file, of_kind, of_read, of_replay, of_script, of_twin, of_writing, replay_status, status};
 
 use crate::names::Shown;
-use crate::statuses::{FAILED_STREAM, NO_MEMORY, REFUSED_TEXT};
+use crate::statuses::{FAILED_STREAM, NO_MEMORY, REFUSED_MATCH, REFUSED_TEXT};
 use bhs_files::FileFault;
 use bhs_net::Memory;
+use bhs_replay::{ReplayFault, WritingFault};
 use bhs_script::ScriptFault;
 use bhs_stream::{ReadFault, WriteFault};
+use bhs_view::TwinFault;
 use std::io;
 use std::io::{ErrorKind, Write};
 use thiserror::Error;
@@ -31,6 +33,12 @@ pub enum Fault {
     /// A file, or what the files say together, is refused.
     #[error("{0}")]
     File(FileFault),
+    /// A file is no replay.
+    #[error("{0}")]
+    Replay(ReplayFault),
+    /// The match has no such twin.
+    #[error("{0}")]
+    Twin(TwinFault),
     /// A write failed.
     #[error("write")]
     Write,
@@ -46,9 +54,21 @@ impl Fault {
     {
         match self {
             Fault::Text | Fault::Line { .. } | Fault::File(_) => REFUSED_TEXT,
+            Fault::Replay(fault) => replay_status(fault),
+            Fault::Twin(_) => REFUSED_MATCH,
             Fault::Memory => NO_MEMORY,
             Fault::Read | Fault::Turns | Fault::Write => FAILED_STREAM,
         }
+    }
+}
+
+// A text that is not spelled as a replay, or one whose events are those of no match.
+fn replay_status(fault: ReplayFault) -> u8
+    ensures { result ≡ replay_status fault }
+{
+    match fault {
+        ReplayFault::Event { .. } | ReplayFault::Differs { .. } => REFUSED_MATCH,
+        _ => REFUSED_TEXT,
     }
 }
 
@@ -120,6 +140,41 @@ impl From<ScriptFault> for Fault {
         match script {
             ScriptFault::Line { line } => Fault::Line { line },
             ScriptFault::Memory => Fault::Memory,
+        }
+    }
+}
+
+impl From<ReplayFault> for Fault {
+    ghost from_gives = { λ replay fault. fault ≡ of_replay replay };
+
+    fn from(replay: ReplayFault) -> Fault {
+        match replay {
+            ReplayFault::Read => Fault::Read,
+            ReplayFault::Memory => Fault::Memory,
+            ReplayFault::Turns => Fault::Turns,
+            _ => Fault::Replay(replay),
+        }
+    }
+}
+
+impl From<WritingFault> for Fault {
+    ghost from_gives = { λ writing fault. fault ≡ of_writing writing };
+
+    fn from(writing: WritingFault) -> Fault {
+        match writing {
+            WritingFault::Write => Fault::Write,
+            WritingFault::Memory => Fault::Memory,
+        }
+    }
+}
+
+impl From<TwinFault> for Fault {
+    ghost from_gives = { λ twin fault. fault ≡ of_twin twin };
+
+    fn from(twin: TwinFault) -> Fault {
+        match twin {
+            TwinFault::Memory => Fault::Memory,
+            _ => Fault::Twin(twin),
         }
     }
 }

@@ -1,17 +1,24 @@
-//! What the program does with the words that it is given: it rehearses the matches of a tournament by a script, and
-//! checks the files of one.
+//! What the program does with the words that it is given: it rehearses the matches of a tournament by a script, checks
+//! the files of one, and says what came of the matches of replays, and why.
 #![tactic(auto)]
 
 mod built_in_tournament;
 mod checking;
+mod explaining;
 mod faults;
+mod judging;
+mod lines;
 mod names;
 mod orders;
 mod playing;
 mod rehearsing;
+mod replays;
 mod showing;
+mod staging;
 mod statuses;
 mod summaries;
+mod tabling;
+mod twinning;
 mod words;
 
 pub use built_in_tournament::built_in;
@@ -19,5 +26,5 @@ pub use checking::check;
 pub use faults::{Fault, report};
 pub use orders::run;
 pub use rehearsing::rehearse;
-pub use statuses::{DONE, FAILED_STREAM, NO_MEMORY, REFUSED_TEXT, REFUSED_WORDS};
+pub use statuses::{DONE, FAILED_STREAM, NO_MEMORY, REFUSED_MATCH, REFUSED_TEXT, REFUSED_WORDS};
 pub use words::words_of;

@@ -1,8 +1,13 @@
-ghost use Rattle.std.specs.Prelude.{OnOk, OnErr, true, false, ◌⊎◌};
+ghost use Rattle.std.specs.Prelude.{◌≡◌, IfOk, OnOk, OnErr, true, false, ◌⊎◌, string_bytes};
 ghost use Rattle.bhs_stream.specs.Sending.{PutsPart};
-ghost use Rattle.bhs_program.specs.Showing.{Shows};
+ghost use Rattle.bhs_program.specs.Showing.{Prints, Shows};
+ghost use Rattle.bhs_program.specs.declared.statuses.TheConstants.{NO_MEMORY};
 
+use crate::faults::{Fault, report};
+use crate::statuses::DONE;
+use bhs_net::Memory;
 use bhs_stream::{Output, WriteFault, finish, send};
+use std::io::Write;
 
 /// Writes a text, and sees that all of it is out.
 pub(crate) fn show<W: Output>(text: &str, writer: &mut W) -> Result<(), WriteFault>
@@ -12,4 +17,22 @@ pub(crate) fn show<W: Output>(text: &str, writer: &mut W) -> Result<(), WriteFau
 {
     send(writer, text.as_bytes())?;
     finish(writer)
+}
+
+/// Shows a text, if there was memory to make it, and answers the exit status.
+pub(crate) fn show_made<W: Output, E: Write>(
+    made: Result<String, Memory>,
+    writer: &mut W,
+    errors: &mut E,
+) -> u8
+    ensures shown { IfOk made (λ text. Prints W.takes W.flushes (string_bytes text) writer.old writer.new result) }
+    ensures lacks { OnErr made ((result ≡ NO_MEMORY) × (writer.new ≡ writer.old)) }
+{
+    let Ok(text) = made else {
+        return report("output", Fault::Memory, errors);
+    };
+    match show(text.as_str(), writer) {
+        Ok(()) => DONE,
+        Err(_) => report("output", Fault::Write, errors),
+    }
 }

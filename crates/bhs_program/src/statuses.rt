@@ -7,6 +7,9 @@ pub const REFUSED_WORDS: u8 = 2;
 /// The exit status where a script or a file was refused.
 pub const REFUSED_TEXT: u8 = 3;
 
+/// The exit status where the events of a replay are those of no match, or a match has no such twin.
+pub const REFUSED_MATCH: u8 = 4;
+
 /// The exit status where memory ran out.
 pub const NO_MEMORY: u8 = 5;
 

@@ -1,6 +1,7 @@
 use bhs_command_line::{Order, Parsed, order_of};
 use bhs_model::Text;
-use std::alloc::AllocError;
+use std::alloc::Global;
+use std::fmt::Write;
 use std::test::Fail;
 
 // The short help of the program.
@@ -12,96 +13,132 @@ Usage: arena <COMMAND>
 Commands:
   rehearse  Plays the script on standard input on a tournament
   check     Reads a tournament and its networks, and says what its matches are
+  judge     Says the verdict on the match of a replay
+  table     Prints the table of teams, by the replays of their matches
+  explain   Prints the causal past of an agent: why it saw what it saw
+  twin      Writes the replay of a twin: a black hole elsewhere, and nobody could tell
   help      Print this message or the help of the given subcommand(s)
 
 Options:
   -h, --help  Print help (see more with '--help')
 ";
 
+// `WORDS => ORDER`. `''` stands for an empty word, `-` for what an order does without.
+const ORDERS: &str = "\
+rehearse => rehearse - -
+rehearse -- => rehearse - -
+rehearse cup.toml => rehearse cup.toml -
+rehearse -- -cup.toml => rehearse -cup.toml -
+rehearse --replay out/p => rehearse - out/p
+rehearse --replay=p => rehearse - p
+rehearse cup.toml --replay p => rehearse cup.toml p
+rehearse --replay p cup.toml => rehearse cup.toml p
+check cup.toml => check cup.toml
+check cups/cup.toml -- => check cups/cup.toml
+check -- -cup.toml => check -cup.toml
+check - => check -
+check '' => check ''
+check help => check help
+judge cup0.jsonl => judge cup0.jsonl
+judge -- -cup0.jsonl => judge -cup0.jsonl
+table red=cup0.jsonl => table red cup0.jsonl
+table red=a=b.jsonl blue= 0-9=c => table red a=b.jsonl blue '' 0-9 c
+table abcdefghijklmnop=a => table abcdefghijklmnop a
+explain cup0.jsonl 7 => explain cup0.jsonl 7
+explain cup0.jsonl 00000065535 => explain cup0.jsonl 65535
+twin cup0.jsonl 0 => twin cup0.jsonl 0
+twin -- -cup0.jsonl 03 => twin -cup0.jsonl 3
+";
+
+fn shown(text: &Text) -> &str {
+    let text = text.as_str();
+    if text.is_empty() { "''" } else { text }
+}
+
+fn shown_if_any(text: &Option<Text>) -> &str {
+    match text {
+        Some(text) => shown(text),
+        None => "-",
+    }
+}
+
+/// An order as a line.
+fn line_of(alloc: Global, order: &Order) -> Result<String, Fail> {
+    let mut line = String::new(alloc);
+    match order {
+        Order::Rehearse { tournament, prefix } => {
+            let tournament = shown_if_any(tournament);
+            let prefix = shown_if_any(prefix);
+            write!(line, "rehearse {tournament} {prefix}")?;
+        }
+        Order::Check { tournament } => write!(line, "check {}", shown(tournament))?,
+        Order::Judge { replay } => write!(line, "judge {}", shown(replay))?,
+        Order::Table { entries } => {
+            line.push_str("table")?;
+            for entry in entries.all() {
+                write!(line, " {} {}", shown(&entry.team), shown(&entry.replay))?;
+            }
+        }
+        Order::Explain { replay, agent } => write!(line, "explain {} {agent}", shown(replay))?,
+        Order::Twin { replay, node } => write!(line, "twin {} {node}", shown(replay))?,
+    }
+    Ok(line)
+}
+
+fn word_of(word: &str) -> &str {
+    if word == "''" { "" } else { word }
+}
+
 #[test]
-fn orders(rt: HostRuntime) -> Result<(), AllocError> {
-    for words in [["rehearse"].as_slice(), ["rehearse", "--"].as_slice()] {
-        let answer = order_of(rt.alloc(), words)?;
-        assert_eq!(rt;
-            answer,
-            Parsed::Ordered(Order::Rehearse { tournament: None }),
-            "at {words:?}"
-        );
+fn orders(rt: HostRuntime) -> Result<(), Fail> {
+    let alloc = rt.alloc();
+    for row in ORDERS.lines() {
+        let (words, wanted) = row.split_once(" => ").ok_or("a row")?;
+        let words: Vec<&str> = words.split(' ').map(word_of).collect(alloc)?;
+        let Parsed::Ordered(order) = order_of(alloc, words.as_slice())? else {
+            return Err(Fail::from("no order"));
+        };
+        let line = line_of(alloc, &order)?;
+        assert_eq!(rt; line.as_str(), wanted);
     }
     Ok(())
 }
 
 #[test]
-fn orders_a_rehearsal_of_a_file(rt: HostRuntime) -> Result<(), AllocError> {
-    for (words, name) in [
-        (["rehearse", "cup.toml"].as_slice(), "cup.toml"),
-        (["rehearse", "--", "-cup.toml"].as_slice(), "-cup.toml"),
-    ] {
-        let tournament = Some(Text::from(String::from_str(rt.alloc(), name)?));
-        let answer = order_of(rt.alloc(), words)?;
-        assert_eq!(rt;
-            answer,
-            Parsed::Ordered(Order::Rehearse { tournament }),
-            "at {words:?}"
-        );
-    }
-    Ok(())
-}
-
-#[test]
-fn orders_a_check(rt: HostRuntime) -> Result<(), AllocError> {
-    for (words, name) in [
-        (["check", "cup.toml"].as_slice(), "cup.toml"),
-        (["check", "cups/cup.toml", "--"].as_slice(), "cups/cup.toml"),
-        (["check", "--", "-cup.toml"].as_slice(), "-cup.toml"),
-        (["check", "-"].as_slice(), "-"),
-        (["check", ""].as_slice(), ""),
-        (["check", "help"].as_slice(), "help"),
-    ] {
-        let tournament = Text::from(String::from_str(rt.alloc(), name)?);
-        let answer = order_of(rt.alloc(), words)?;
-        assert_eq!(rt;
-            answer,
-            Parsed::Ordered(Order::Check { tournament }),
-            "at {words:?}"
-        );
-    }
-    Ok(())
-}
-
-#[test]
-fn takes_words_of_the_process(rt: HostRuntime) -> Result<(), AllocError> {
+fn takes_words_of_the_process(rt: HostRuntime) -> Result<(), Fail> {
     let alloc = rt.alloc();
     let words = vec![in alloc; String::from_str(alloc, "rehearse")?]?;
-    let answer = order_of(alloc, words.as_slice())?;
-    assert_eq!(rt;
-        answer,
-        Parsed::Ordered(Order::Rehearse { tournament: None })
-    );
+    let Parsed::Ordered(order) = order_of(alloc, words.as_slice())? else {
+        return Err(Fail::from("no order"));
+    };
+    let line = line_of(alloc, &order)?;
+    assert_eq!(rt; line.as_str(), "rehearse - -");
     Ok(())
 }
 
 #[test]
-fn shows_short_help(rt: HostRuntime) -> Result<(), AllocError> {
+fn shows_short_help(rt: HostRuntime) -> Result<(), Fail> {
     let short = "\
 Plays the script on standard input on a tournament
 
-Usage: arena rehearse [TOURNAMENT]
+Usage: arena rehearse [OPTIONS] [TOURNAMENT]
 
 Arguments:
   [TOURNAMENT]  The tournament's file, as a path from the working directory; without it the built-in one
 
 Options:
-  -h, --help  Print help (see more with '--help')
+      --replay <PREFIX>  Writes the replay of each match M that has ended to the file PREFIXM.jsonl
+  -h, --help             Print help (see more with '--help')
 ";
     for (words, want) in [
         (["-h"].as_slice(), HELP),
         (["-hx"].as_slice(), HELP),
         (["rehearse", "-h"].as_slice(), short),
     ] {
-        let text = String::from_str(rt.alloc(), want)?;
-        let answer = order_of(rt.alloc(), words)?;
-        assert_eq!(rt; answer, Parsed::Shown { text }, "at {words:?}");
+        let Parsed::Shown { text } = order_of(rt.alloc(), words)? else {
+            return Err(Fail::from("no help"));
+        };
+        assert_eq!(rt; text.as_str(), want, "at {words:?}");
     }
     Ok(())
 }
@@ -110,7 +147,7 @@ Options:
 fn shows_long_help(rt: HostRuntime) -> Result<(), Fail> {
     let model = "An agent is a stream of JSON lines, and is told no more than\nthis model allows.";
     let program = "\n\nUsage: arena <COMMAND>\n";
-    let command = "\n\nUsage: arena rehearse [TOURNAMENT]\n";
+    let command = "\n\nUsage: arena rehearse [OPTIONS] [TOURNAMENT]\n";
     let script = "  printf '%s\\n' \\
     '0 {\"do\":\"enter\",\"key\":\"ka\"}' \\
     '0 {\"do\":\"depart\",\"port\":0}' \\
@@ -151,7 +188,7 @@ fn shows_long_help(rt: HostRuntime) -> Result<(), Fail> {
 const HELP_LINE: &str = "\n  -h, --help\n          Print help (see a summary with '-h')\n";
 
 #[test]
-fn refuses(rt: HostRuntime) -> Result<(), AllocError> {
+fn refuses(rt: HostRuntime) -> Result<(), Fail> {
     let none: [&str; 0] = [];
     let misspelt = "\
 error: unrecognized subcommand 'reherse'
@@ -165,7 +202,7 @@ For more information, try '--help'.
     let extra = "\
 error: unexpected argument 'extra' found
 
-Usage: arena rehearse [TOURNAMENT]
+Usage: arena rehearse [OPTIONS] [TOURNAMENT]
 
 For more information, try '--help'.
 ";
@@ -205,8 +242,26 @@ Usage: arena <COMMAND>
 
 For more information, try '--help'.
 ";
+    let number = "\
+error: invalid value '+7' for '<AGENT>': it is no number from 0 to 65535
+
+For more information, try '--help'.
+";
+    let large = "\
+error: invalid value '65536' for '<NODE>': it is no number from 0 to 65535
+
+For more information, try '--help'.
+";
+    let entry = "\
+error: invalid value 'Red=a' for '<TEAM=REPLAY>...': a team is 1 to 16 of a to z, 0 to 9 and -, and = follows it
+
+For more information, try '--help'.
+";
     for (words, want) in [
         (none.as_slice(), HELP),
+        (["explain", "cup0.jsonl", "+7"].as_slice(), number),
+        (["twin", "cup0.jsonl", "65536"].as_slice(), large),
+        (["table", "red=a", "Red=a", "x"].as_slice(), entry),
         (["--"].as_slice(), HELP),
         (["reherse"].as_slice(), misspelt),
         (["rehearse", "cup.toml", "extra"].as_slice(), extra),
@@ -218,9 +273,10 @@ For more information, try '--help'.
         (["--version"].as_slice(), version),
         (["help", "nope"].as_slice(), unknown_help),
     ] {
-        let text = String::from_str(rt.alloc(), want)?;
-        let answer = order_of(rt.alloc(), words)?;
-        assert_eq!(rt; answer, Parsed::Refused { text }, "at {words:?}");
+        let Parsed::Refused { text } = order_of(rt.alloc(), words)? else {
+            return Err(Fail::from("not refused"));
+        };
+        assert_eq!(rt; text.as_str(), want, "at {words:?}");
     }
     Ok(())
 }

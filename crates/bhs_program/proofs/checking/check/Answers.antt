@@ -1,13 +1,15 @@
-use Rattle.std.proofs.Common.{inl, inr, refl}
-use Rattle.bhs_program.specs.Program.{prints, stops}
-use Rattle.bhs_program.specs.declared.faults.Fault.TheVariants.{Memory}
+use Rattle.std.proofs.Common.{refl, string_bytes}
+use Rattle.std.proofs.lemmas.Result.{IfOk-weaker}
+use Rattle.bhs_program.specs.Showing.{stops}
+use Rattle.bhs_program.specs.Summary.{IsSummary}
+use Rattle.bhs_program.proofs.ReportLemmas.{reported}
 use Rattle.bhs_program.proofs.checking.check.Goals as goal
 
 pub returns-in-Ok : goal.returns-in-Ok
-returns-in-Ok g c = elim (rw c.deref.ensures.value at c.print.ensures) [
-  | inl printed ↦ prints c.in-Ok.lineup c.in-Ok.ensures.made printed
-  | inr (is, kept) ↦ stops Memory is kept
-]
+returns-in-Ok g c =
+    reported g.W.Output.takes g.W.Output.flushes IsSummary string_bytes _ _ _ c.summary.result
+    (IfOk-weaker c.summary.result _ _ (λ text is. record { lineup = c.in-Ok.lineup; assembled = c.in-Ok.ensures.made; said = rw c.deref.ensures.value at is }) c.summary.ensures)
+    c.show_made.ensures.shown c.show_made.ensures.lacks
 
 pub returns-in-Err : goal.returns-in-Err
 returns-in-Err g c = let (fault, is) = c.in-Err.ensures.fault in stops fault is refl

@@ -1,0 +1,257 @@
+//! The texts of the help.
+
+pub(crate) const ARENA: &str = "A contest server for black hole search by mobile agents";
+
+pub(crate) const ARENA_AT_LENGTH: &str = "\
+A contest server for black hole search by mobile agents.
+
+Agents explore an anonymous network. Its nodes have no names: at a node an agent
+sees how many ports there are, by which of them it came, and what is written on
+the whiteboard. One node is a black hole. It destroys every agent that arrives,
+and leaves no trace. An agent is a stream of JSON lines, and is told no more than
+this model allows.
+
+The program rehearses: it plays the lines of many clients that stand in a script,
+and writes the replay of each match. It judges replays, ranks teams by them, and
+says of a match why an agent saw what it saw. It also reads the files of a
+tournament, and says what is wrong with them.";
+
+pub(crate) const REHEARSE: &str = "Plays the script on standard input on a tournament";
+
+pub(crate) const REHEARSE_AT_LENGTH: &str = "\
+Plays the script on standard input on the matches of a tournament: the file that
+is named, or the built-in one. That has one match on the triangle, whose nodes 0,
+1 and 2 have two ports each. Its two agents have the keys ka and kb, enter at
+node 0 and may say 10 commands more. Node 2 is the black hole. A whiteboard holds
+8 bytes.
+
+Each line of the script is one of these:
+
+  N REST        The client of connection N sends the line REST. N is 0 to 255
+  hex N DIGITS  It sends the bytes that the hexadecimal digits give
+  end N         Its input ends
+  draw G W      A delivery is drawn in match G. W is any word from 0 to 4294967295
+  close G       Match G is ended
+
+Empty lines and lines that begin with # are skipped.
+
+What REST may be, the first of a client being its enter:
+
+  {\"do\":\"enter\",\"key\":\"ka\"}   Enters the network with the key ka
+  {\"do\":\"look\"}               Looks again at the node
+  {\"do\":\"write\",\"expect\":\"\",\"put\":\"a\"}
+                              Writes a on a whiteboard that shows nothing
+  {\"do\":\"depart\",\"port\":0}    Departs by port 0 of the node
+  {\"do\":\"accuse\",\"port\":1}    Says that port 1 leads to the black hole, and ends
+  {\"do\":\"leave\"}              Ends
+
+Each line that the client of connection N is sent is printed as `N LINE`. While its
+agent is on a link its lines wait.
+
+With --replay each match M that the script has ended is written to the file
+PREFIXM.jsonl, once all lines are printed. A file that stands there is replaced.
+Where one cannot be written, the others still are.";
+
+pub(crate) const REHEARSE_EXAMPLE: &str = "\
+Example:
+
+  printf '%s\\n' \\
+    '0 {\"do\":\"enter\",\"key\":\"ka\"}' \\
+    '0 {\"do\":\"depart\",\"port\":0}' \\
+    'draw 0 0' | arena rehearse
+
+prints
+
+  0 {\"board\":\"\",\"from\":null,\"ok\":\"here\",\"ports\":2}
+  0 {\"ok\":\"gone\"}
+  0 {\"board\":\"\",\"from\":0,\"ok\":\"here\",\"ports\":2}
+
+Exit status:
+
+  0  The script was played, and each replay was written
+  2  The command line was refused
+  3  The script or a file was refused, and nothing was played
+  5  Memory ran out
+  6  Reading or writing failed";
+
+pub(crate) const CHECK: &str = "Reads a tournament and its networks, and says what its matches are";
+
+pub(crate) const CHECK_AT_LENGTH: &str = "\
+Reads a tournament's file and the files of the networks that it names, and
+prints a line for each match: its number, its team, and how many nodes, links
+and agents there are. What is wrong with a file is told on standard error, as
+`FILE: FAULT`, and the first fault is the only one.
+
+A tournament's file is TOML:
+
+  version = 2
+  seed = \"00..\"            64 hexadecimal digits
+
+  [[match]]                 one for each match, 1 to 64
+  team = \"red\"              1 to 16 of a to z, 0 to 9 and -
+  network = \"tri.toml\"      a file, as a path from the working directory
+  home = 0                  the node where the agents enter
+  holes = [2]               the black holes; [] in a practice match
+  dark = []                 dark links, each by [node, port] of one end
+  quota = 10                how many commands an agent may say, 1 to 1000
+  board = 8                 how many bytes a whiteboard holds, 0 to 4096
+  keys = [\"ka\", \"kb\"]       a key for each agent, 1 to 64; none stands twice
+  held = []                 links [node, port] over which no agent arrives
+
+A network's file is TOML too. A link [v, p, w, q] joins port p of node v and
+port q of node w:
+
+  version = 1
+  nodes = 3
+  links = [[0,0,1,0],[1,1,2,0],[2,1,0,1]]
+
+The ports of a node are 0 to its degree less 1. Two nodes are joined by one link
+at most, and the network stays connected without any one node.";
+
+pub(crate) const CHECK_EXAMPLE: &str = "\
+Example:
+
+  arena check cup.toml
+
+prints, where cup.toml and tri.toml are the files above,
+
+  match 0 red nodes 3 links 3 agents 2
+
+Exit status:
+
+  0  The tournament can be played
+  2  The command line was refused
+  3  A file was refused
+  5  Memory ran out
+  6  Reading or writing failed";
+
+pub(crate) const JUDGE: &str = "Says the verdict on the match of a replay";
+
+pub(crate) const JUDGE_AT_LENGTH: &str = "\
+Reads a replay, and prints the verdict on its match: the outcome, how many moves
+the agents made, and how many agents were lost.
+
+  solved      The accusations are right, and leave no black hole or dark link out
+  guess V     They are right, but no agent arrived at node V, which could as well
+              be the black hole
+  unfinished  An agent was at a node when the match was closed
+  silent      Nobody accused, or some black hole or dark link was not accused
+  wrong       A link was accused that leads to no black hole and is not dark
+
+A replay is read line by line, and the first line that is wrong is told on
+standard error, as `FILE: FAULT`:
+
+  head       The first line is no head of a replay
+  line N     Line N is no line of a replay
+  event N    The event of line N could not come there
+  differs N  The event of line N was answered otherwise
+  end        The replay ends too early, or goes on behind its end";
+
+pub(crate) const JUDGE_EXAMPLE: &str = "\
+Example:
+
+  arena judge cup0.jsonl
+
+prints, of a match in which one agent accused from its home base,
+
+  guess 1 moves 0 lost 0
+
+Exit status:
+
+  0  The verdict was printed
+  2  The command line was refused
+  3  The file is no replay: head, line or end
+  4  The replay is not of a match: event or differs
+  5  Memory ran out
+  6  Reading or writing failed";
+
+pub(crate) const TABLE: &str = "Prints the table of teams, by the replays of their matches";
+
+pub(crate) const TABLE_AT_LENGTH: &str = "\
+Reads the replays that the words name, one after the other, judges each, and
+prints the table of the teams: the best first, by the outcome, then by fewer
+moves, then by fewer lost agents, then by the team's name. `arena judge --help`
+says what the outcomes are. A team is 1 to 16 of a to z, 0 to 9 and -.";
+
+pub(crate) const TABLE_EXAMPLE: &str = "\
+Example:
+
+  arena table blue=blue0.jsonl red=red0.jsonl
+
+prints
+
+    # team             outcome     moves lost
+    1 red              solved          1    0
+    2 blue             guess 1         0    0
+
+Exit status:
+
+  0  The table was printed
+  2  The command line was refused
+  3  A file is no replay: head, line or end
+  4  A replay is not of a match: event or differs
+  5  Memory ran out
+  6  Reading or writing failed";
+
+pub(crate) const EXPLAIN: &str = "Prints the causal past of an agent: why it saw what it saw";
+
+pub(crate) const EXPLAIN_AT_LENGTH: &str = "\
+Reads a replay, and prints each event of the match that the agent could know of,
+as `PLACE LINE`: the event's place in the match, from 0, and its line of the
+replay. These are the agent's own events, what it read on whiteboards, what those
+who wrote there had seen, and so on. Played alone they are answered as they were.
+Of a number that no agent has, nothing is printed.";
+
+pub(crate) const EXPLAIN_EXAMPLE: &str = "\
+Example:
+
+  arena explain cup0.jsonl 0
+
+prints, of a match in which agent 0 accused from its home base,
+
+  0 {\"agent\":0,\"do\":\"enter\",\"reply\":{\"board\":\"\",\"from\":null,\"ok\":\"here\",\"ports\":2}}
+  1 {\"agent\":0,\"do\":\"accuse\",\"port\":1,\"reply\":{\"ok\":\"noted\"}}
+
+Exit status:
+
+  0  The past was printed
+  2  The command line was refused
+  3  The file is no replay: head, line or end
+  4  The replay is not of a match: event or differs
+  5  Memory ran out
+  6  Reading or writing failed";
+
+pub(crate) const TWIN: &str =
+    "Writes the replay of a twin: a black hole elsewhere, and nobody could tell";
+
+pub(crate) const TWIN_AT_LENGTH: &str = "\
+Reads a replay, and prints the replay of its twin: the same match, but the black
+hole that was accused first is none, and this node is one. In the twin each agent
+saw what it saw in the match. There is such a twin of each node where no agent
+arrived, so a guess is refuted by it: `arena judge` says `wrong` of the twin.
+
+Why there is no twin is told on standard error, as `twin: FAULT`:
+
+  node       There is no such node
+  home       The node is the home base
+  same       It is a black hole already
+  reached K  An agent arrived there, first at place K";
+
+pub(crate) const TWIN_EXAMPLE: &str = "\
+Example:
+
+  arena twin cup0.jsonl 1 > twin0.jsonl
+  arena judge twin0.jsonl
+
+prints, where `arena judge cup0.jsonl` prints guess 1 moves 0 lost 0,
+
+  wrong moves 0 lost 0
+
+Exit status:
+
+  0  The twin was written
+  2  The command line was refused
+  3  The file is no replay: head, line or end
+  4  The replay is not of a match: event or differs; or there is no such twin
+  5  Memory ran out
+  6  Reading or writing failed";

@@ -1,0 +1,86 @@
+//! What the program may be told to do.
+
+ghost use Rattle.std.specs.Prelude.{◌≡◌};
+
+use bhs_model::Text;
+use std::marker::Model;
+
+/// What the program is to do.
+#[derive(Debug, Drop)]
+pub enum Order {
+    /// Plays the script on standard input on the tournament of this file; None is the built-in one. Where there is a
+    /// prefix, the replays of the matches that have ended are then written to files whose names begin with it.
+    Rehearse {
+        tournament: Option<Text>,
+        prefix: Option<Text>,
+    },
+    /// Reads the tournament file of this name and the networks that it names, and says what its matches are.
+    Check {
+        tournament: Text,
+    },
+    /// Says the verdict on the match of the replay of this name.
+    Judge {
+        replay: Text,
+    },
+    /// Prints the table of these teams, by the verdicts on the matches of their replays.
+    Table {
+        entries: Entries,
+    },
+    /// Prints the causal past of this agent in the match of the replay.
+    Explain {
+        replay: Text,
+        agent: u16,
+    },
+    /// Writes the replay of the twin of the match whose black hole is this node.
+    Twin {
+        replay: Text,
+        node: u16,
+    },
+}
+
+/// A team of a table, with the name of the replay of its match.
+#[derive(Debug, Drop)]
+pub struct Entry {
+    pub team: Text,
+    pub replay: Text,
+}
+
+/// The teams of a table. Contracts see them as a list.
+#[derive(Debug, Drop)]
+pub struct Entries {
+    all: Vec<Entry>,
+}
+
+impl Model for Entries {
+    ghost use Rattle.std.specs.Prelude.{List};
+    ghost use Rattle.bhs_command_line.specs.declared.orders.Entry.{Entry};
+
+    ghost Value = { List Entry };
+
+    ghost view = { λ entries. entries.all.items };
+}
+
+impl Entries {
+    /// The entries, in the order of the words.
+    pub fn all(&self) -> &[Entry]
+        ensures { result.now ≡ self.now }
+    {
+        &self.all
+    }
+
+    /// The entries, given back. Takes no memory.
+    pub fn into_all(self) -> Vec<Entry>
+        ensures { result.items ≡ self }
+    {
+        let Entries { all } = self;
+        all
+    }
+}
+
+impl From<Vec<Entry>> for Entries {
+    ghost from_gives = { λ all entries. entries ≡ all.items };
+
+    fn from(all: Vec<Entry>) -> Entries {
+        Entries { all }
+    }
+}

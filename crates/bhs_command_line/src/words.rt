@@ -1,0 +1,65 @@
+//! What a word of a command says beyond its text.
+
+ghost use Rattle.std.specs.Prelude.{◌≡◌, IfOk, map};
+ghost use Rattle.std.specs.Char.{is_ascii_digit};
+ghost use Rattle.std.specs.List.{list_all};
+ghost use Rattle.bhs_command_line.specs.CommandLine.{number_in, entry_in, entries_in};
+
+use crate::orders::{Entries, Entry};
+use bhs_files::is_team;
+use bhs_model::Text;
+use std::alloc::{AllocError, Global};
+
+/// The number of 16 bits that a word spells in decimal digits. Zeros may stand in front.
+pub(crate) fn number_in(word: &str) -> Option<u16>
+    ensures { result ≡ number_in word.now }
+{
+    if is_digits(word) {
+        word.parse().ok()
+    } else {
+        None
+    }
+}
+
+fn is_digits(word: &str) -> bool
+    ensures { result ≡ list_all is_ascii_digit word.now }
+{
+    word.as_bytes().iter().all(|byte| byte.is_ascii_digit())
+}
+
+/// The team and the name of its replay that a word `TEAM=REPLAY` says.
+pub(crate) fn entry_in(alloc: Global, word: &str) -> Result<Option<Entry>, AllocError>
+    ensures { IfOk result (λ entry. entry ≡ entry_in word.now) }
+{
+    let Some((team, replay)) = word.split_once('=') else {
+        return Ok(None);
+    };
+    if !is_team(team) {
+        return Ok(None);
+    }
+    Ok(Some(Entry {
+        team: text(alloc, team)?,
+        replay: text(alloc, replay)?,
+    }))
+}
+
+/// The entries that words say; None where one of them says none.
+pub(crate) fn entries_in(alloc: Global, words: &[&str]) -> Result<Option<Entries>, AllocError>
+    ensures { IfOk result (λ entries. entries ≡ entries_in (map (λ word. word.now) words.now)) }
+{
+    let mut entries = Vec::new(alloc);
+    for word in words {
+        match entry_in(alloc, word)? {
+            Some(entry) => entries.push(entry)?,
+            None => return Ok(None),
+        }
+    }
+    Ok(Some(Entries::from(entries)))
+}
+
+/// A copy of a text.
+pub(crate) fn text(alloc: Global, text: &str) -> Result<Text, AllocError>
+    ensures { IfOk result (λ copy. copy ≡ text.now) }
+{
+    Ok(Text::from(String::from_str(alloc, text)?))
+}
