@@ -2,17 +2,11 @@
 
 mod command_lines;
 mod cuts;
-mod draws;
 mod examples;
 mod files;
 mod limits;
-mod lines;
-mod matches;
-mod model;
 mod programs;
 mod rehearsals;
 mod rows;
 mod sessions;
-mod sessions_on_matches;
 mod streams;
-mod triangle;

@@ -1,0 +1,6 @@
+mod draws;
+mod lines;
+mod matches;
+mod model;
+mod sessions_on_matches;
+mod triangle;
