@@ -6,6 +6,7 @@ import sys
 
 TOP = pathlib.Path(__file__).resolve().parent.parent
 TEST = TOP / "crates/bhs_main/src/tests/examples.rt"
+TEAMS = "red=examples/first0.jsonl blue=examples/guess0.jsonl green=examples/triangle0.jsonl"
 NETWORKS = ["ring8", "hypercube16", "torus25", "triangle"]
 
 HEAD = """//! The files of `examples/`, written by `tools/example_tests.py`: change those files, and run it again.
@@ -13,6 +14,7 @@ HEAD = """//! The files of `examples/`, written by `tools/example_tests.py`: cha
 use bhs_program::run;
 use std::alloc::Global;
 use std::fs;
+use std::io::Read;
 use std::process::Abort;
 use std::rt::Files;
 use std::test::Fail;
@@ -20,7 +22,12 @@ use std::test::Fail;
 const FILES: [(&str, &str); %d] = [
 %s];
 
-const RUNS: [(&[&str], &str, &str); 3] = [
+/// The words, the script, and what is printed, or told where there is a fault, with the exit status 4.
+const RUNS: [(&[&str], &str, &str, &str); %d] = [
+%s];
+
+/// What the runs write.
+const REPLAYS: [(&str, &str); %d] = [
 %s];
 
 fn prints<R: Abort + Files>(
@@ -29,6 +36,7 @@ fn prints<R: Abort + Files>(
     words: &[&str],
     script: &str,
     printed: &str,
+    told: &str,
 ) -> Result<(), Fail> {
     let mut output = Vec::new(alloc);
     let mut errors = Vec::new(alloc);
@@ -40,9 +48,9 @@ fn prints<R: Abort + Files>(
         &mut output,
         &mut errors,
     );
-    assert_eq!(rt; errors.as_slice(), b"".as_slice());
+    assert_eq!(rt; errors.as_slice(), told.as_bytes());
     assert_eq!(rt; output.as_slice(), printed.as_bytes());
-    assert_eq!(rt; status, 0);
+    assert_eq!(rt; status, if told.is_empty() { 0 } else { 4 });
     Ok(())
 }
 
@@ -52,12 +60,36 @@ fn examples_print_what_they_should(rt: HostRuntime) -> Result<(), Fail> {
     for (name, text) in FILES {
         fs::write(&rt, name, text)?;
     }
-    for (words, script, printed) in RUNS {
-        prints(&rt, rt.alloc(), words, script, printed)?;
+    for (words, script, printed, told) in RUNS {
+        prints(&rt, rt.alloc(), words, script, printed, told)?;
+    }
+    for (name, text) in REPLAYS {
+        let mut written = Vec::new(rt.alloc());
+        fs::open(&rt, name)?.read_to_end(&mut written)?;
+        assert_eq!(rt; written.as_slice(), text.as_bytes(), "{name}");
     }
     Ok(())
 }
 """
+
+# The words, the script, what is printed (a file or the text itself), and what is told.
+RUNS = [
+    ("check examples/first.toml", None, "first.checked", ""),
+    ("rehearse examples/first.toml --replay examples/first", "first.script", "first.printed", ""),
+    ("rehearse --replay examples/guess", "guess.script", "guess.printed", ""),
+    ("rehearse --replay examples/triangle", "triangle.script", "triangle.printed", ""),
+    ("judge examples/first0.jsonl", None, "solved moves 13 lost 1\\n", ""),
+    ("judge examples/guess0.jsonl", None, "guess 1 moves 0 lost 0\\n", ""),
+    ("judge examples/triangle0.jsonl", None, "silent moves 1 lost 0\\n", ""),
+    (f"table {TEAMS}", None, "table.printed", ""),
+    ("explain examples/first0.jsonl 1", None, "first.explained", ""),
+    ("twin examples/first0.jsonl 5", None, "", "twin: same\\n"),
+    ("twin examples/first0.jsonl 6", None, "", "twin: reached 20\\n"),
+    ("twin examples/guess0.jsonl 1", None, "guess.twin", ""),
+    ("judge examples/guess.twin", None, "wrong moves 0 lost 0\\n", ""),
+]
+REPLAYS = ["first0.jsonl", "guess0.jsonl", "triangle0.jsonl"]
+SUFFIXES = (".checked", ".printed", ".explained", ".twin")
 
 
 def text_of(name):
@@ -66,17 +98,23 @@ def text_of(name):
     return f'r#"{text}"#'
 
 
+def word_list(words):
+    """The words as a list in the layout of rt fmt."""
+    short = ", ".join(words)
+    return f"[{short}]" if len(short) <= 60 else "[\n" + "".join(f"            {word},\n" for word in words) + "        ]"
+
+
 def main():
-    names = ["first.toml"] + [f"{name}.toml" for name in NETWORKS]
+    names = ["first.toml"] + [f"{name}.toml" for name in NETWORKS] + ["guess.twin"]
     files = "".join(f'    (\n        "examples/{name}",\n        {text_of(name)},\n    ),\n' for name in names)
     runs = ""
-    for words, script, printed in [
-        ('&["check", "examples/first.toml"]', '""', text_of("first.checked")),
-        ('&["rehearse", "examples/first.toml"]', text_of("first.script"), text_of("first.printed")),
-        ('&["rehearse"]', text_of("triangle.script"), text_of("triangle.printed")),
-    ]:
-        runs += f"    (\n        {words},\n        {script},\n        {printed},\n    ),\n"
-    test = HEAD % (len(names), files, runs)
+    for words, script, printed, told in RUNS:
+        listed = word_list([f'"{word}"' for word in words.split()])
+        script = text_of(script) if script else '""'
+        printed = text_of(printed) if printed.endswith(SUFFIXES) else f'"{printed}"'
+        runs += f'    (\n        &{listed},\n        {script},\n        {printed},\n        "{told}",\n    ),\n'
+    replays = "".join(f'    (\n        "examples/{name}",\n        {text_of(name)},\n    ),\n' for name in REPLAYS)
+    test = HEAD % (len(names), files, len(RUNS), runs, len(REPLAYS), replays)
     if "--check" in sys.argv[1:]:
         if not TEST.exists() or TEST.read_text() != test:
             sys.exit("examples.rt is not what tools/example_tests.py writes")

@@ -3,11 +3,12 @@
 use bhs_program::run;
 use std::alloc::Global;
 use std::fs;
+use std::io::Read;
 use std::process::Abort;
 use std::rt::Files;
 use std::test::Fail;
 
-const FILES: [(&str, &str); 5] = [
+const FILES: [(&str, &str); 6] = [
     (
         "examples/first.toml",
         r#"# A first tournament: four matches of three teams. The names of the networks are paths from the root of the repository.
@@ -120,9 +121,19 @@ links = [
 ]
 "#,
     ),
+    (
+        "examples/guess.twin",
+        r#"{"agents":2,"board":8,"dark":[],"holes":[1],"home":0,"links":[[0,0,1,0],[0,1,2,1],[1,1,2,0]],"nodes":3,"quota":10,"replay":2}
+{"agent":0,"do":"enter","reply":{"board":"","from":null,"ok":"here","ports":2}}
+{"agent":0,"do":"accuse","port":1,"reply":{"ok":"noted"}}
+{"do":"close","reply":null}
+{"end":3}
+"#,
+    ),
 ];
 
-const RUNS: [(&[&str], &str, &str); 3] = [
+/// The words, the script, and what is printed, or told where there is a fault, with the exit status 4.
+const RUNS: [(&[&str], &str, &str, &str); 13] = [
     (
         &["check", "examples/first.toml"],
         "",
@@ -131,9 +142,15 @@ match 1 blue nodes 16 links 32 agents 3
 match 2 green nodes 25 links 50 agents 3
 match 3 red nodes 3 links 3 agents 2
 "#,
+        "",
     ),
     (
-        &["rehearse", "examples/first.toml"],
+        &[
+            "rehearse",
+            "examples/first.toml",
+            "--replay",
+            "examples/first",
+        ],
         r#"# Two agents search the ring of 8 nodes, match 0 of first.toml. They know the rules of the ring: port 0 leads on, port 1 back.
 # Agent a has connection 0, agent b connection 1. At each node an agent writes by which port it goes on.
 # 
@@ -216,16 +233,195 @@ close 0
 1 {"ok":"noted"}
 0 {"ok":"over"}
 "#,
+        "",
     ),
     (
-        &["rehearse"],
+        &["rehearse", "--replay", "examples/guess"],
+        r#"# One agent on the built-in triangle accuses port 1 of its home base, which leads to node 2, without a move.
+0 {"do":"enter","key":"ka"}
+0 {"do":"accuse","port":1}
+close 0
+"#,
+        r#"0 {"board":"","from":null,"ok":"here","ports":2}
+0 {"ok":"noted"}
+"#,
+        "",
+    ),
+    (
+        &["rehearse", "--replay", "examples/triangle"],
         r#"0 {"do":"enter","key":"ka"}
 0 {"do":"depart","port":0}
 draw 0 0
+close 0
 "#,
         r#"0 {"board":"","from":null,"ok":"here","ports":2}
 0 {"ok":"gone"}
 0 {"board":"","from":0,"ok":"here","ports":2}
+"#,
+        "",
+    ),
+    (
+        &["judge", "examples/first0.jsonl"],
+        "",
+        "solved moves 13 lost 1\n",
+        "",
+    ),
+    (
+        &["judge", "examples/guess0.jsonl"],
+        "",
+        "guess 1 moves 0 lost 0\n",
+        "",
+    ),
+    (
+        &["judge", "examples/triangle0.jsonl"],
+        "",
+        "silent moves 1 lost 0\n",
+        "",
+    ),
+    (
+        &[
+            "table",
+            "red=examples/first0.jsonl",
+            "blue=examples/guess0.jsonl",
+            "green=examples/triangle0.jsonl",
+        ],
+        "",
+        r#"  # team             outcome     moves lost
+  1 red              solved         13    1
+  2 blue             guess 1         0    0
+  3 green            silent          1    0
+"#,
+        "",
+    ),
+    (
+        &["explain", "examples/first0.jsonl", "1"],
+        "",
+        r#"0 {"agent":0,"do":"enter","reply":{"board":"","from":null,"ok":"here","ports":2}}
+1 {"agent":1,"do":"enter","reply":{"board":"","from":null,"ok":"here","ports":2}}
+2 {"agent":0,"do":"write","expect":"","put":"a 0","reply":{"ok":"written"}}
+3 {"agent":0,"do":"depart","port":0,"reply":{"ok":"gone"}}
+4 {"agent":0,"do":"deliver","reply":{"board":"","from":1,"ok":"here","ports":2}}
+5 {"agent":0,"do":"write","expect":"","put":"a 0","reply":{"ok":"written"}}
+6 {"agent":0,"do":"depart","port":0,"reply":{"ok":"gone"}}
+7 {"agent":0,"do":"deliver","reply":{"board":"","from":1,"ok":"here","ports":2}}
+8 {"agent":0,"do":"write","expect":"","put":"a 0","reply":{"ok":"written"}}
+9 {"agent":0,"do":"depart","port":0,"reply":{"ok":"gone"}}
+10 {"agent":0,"do":"deliver","reply":{"board":"","from":1,"ok":"here","ports":2}}
+11 {"agent":0,"do":"write","expect":"","put":"a 0","reply":{"ok":"written"}}
+12 {"agent":0,"do":"depart","port":0,"reply":{"ok":"gone"}}
+13 {"agent":0,"do":"deliver","reply":{"board":"","from":1,"ok":"here","ports":2}}
+14 {"agent":0,"do":"write","expect":"","put":"a 0","reply":{"ok":"written"}}
+17 {"agent":1,"do":"depart","port":1,"reply":{"ok":"gone"}}
+18 {"agent":1,"do":"deliver","reply":{"board":"","from":0,"ok":"here","ports":2}}
+19 {"agent":1,"do":"depart","port":1,"reply":{"ok":"gone"}}
+20 {"agent":1,"do":"deliver","reply":{"board":"","from":0,"ok":"here","ports":2}}
+21 {"agent":1,"do":"depart","port":0,"reply":{"ok":"gone"}}
+22 {"agent":1,"do":"deliver","reply":{"board":"","from":1,"ok":"here","ports":2}}
+23 {"agent":1,"do":"depart","port":0,"reply":{"ok":"gone"}}
+24 {"agent":1,"do":"deliver","reply":{"board":"a 0","from":1,"ok":"here","ports":2}}
+25 {"agent":1,"do":"depart","port":0,"reply":{"ok":"gone"}}
+26 {"agent":1,"do":"deliver","reply":{"board":"a 0","from":1,"ok":"here","ports":2}}
+27 {"agent":1,"do":"depart","port":0,"reply":{"ok":"gone"}}
+28 {"agent":1,"do":"deliver","reply":{"board":"a 0","from":1,"ok":"here","ports":2}}
+29 {"agent":1,"do":"depart","port":0,"reply":{"ok":"gone"}}
+30 {"agent":1,"do":"deliver","reply":{"board":"a 0","from":1,"ok":"here","ports":2}}
+31 {"agent":1,"do":"depart","port":0,"reply":{"ok":"gone"}}
+32 {"agent":1,"do":"deliver","reply":{"board":"a 0","from":1,"ok":"here","ports":2}}
+33 {"agent":1,"do":"accuse","port":0,"reply":{"ok":"noted"}}
+"#,
+        "",
+    ),
+    (
+        &["twin", "examples/first0.jsonl", "5"],
+        "",
+        "",
+        "twin: same\n",
+    ),
+    (
+        &["twin", "examples/first0.jsonl", "6"],
+        "",
+        "",
+        "twin: reached 20\n",
+    ),
+    (
+        &["twin", "examples/guess0.jsonl", "1"],
+        "",
+        r#"{"agents":2,"board":8,"dark":[],"holes":[1],"home":0,"links":[[0,0,1,0],[0,1,2,1],[1,1,2,0]],"nodes":3,"quota":10,"replay":2}
+{"agent":0,"do":"enter","reply":{"board":"","from":null,"ok":"here","ports":2}}
+{"agent":0,"do":"accuse","port":1,"reply":{"ok":"noted"}}
+{"do":"close","reply":null}
+{"end":3}
+"#,
+        "",
+    ),
+    (
+        &["judge", "examples/guess.twin"],
+        "",
+        "wrong moves 0 lost 0\n",
+        "",
+    ),
+];
+
+/// What the runs write.
+const REPLAYS: [(&str, &str); 3] = [
+    (
+        "examples/first0.jsonl",
+        r#"{"agents":2,"board":64,"dark":[],"holes":[5],"home":0,"links":[[0,0,1,1],[0,1,7,0],[1,0,2,1],[2,0,3,1],[3,0,4,1],[4,0,5,1],[5,0,6,1],[6,0,7,1]],"nodes":8,"quota":100,"replay":2}
+{"agent":0,"do":"enter","reply":{"board":"","from":null,"ok":"here","ports":2}}
+{"agent":1,"do":"enter","reply":{"board":"","from":null,"ok":"here","ports":2}}
+{"agent":0,"do":"write","expect":"","put":"a 0","reply":{"ok":"written"}}
+{"agent":0,"do":"depart","port":0,"reply":{"ok":"gone"}}
+{"agent":0,"do":"deliver","reply":{"board":"","from":1,"ok":"here","ports":2}}
+{"agent":0,"do":"write","expect":"","put":"a 0","reply":{"ok":"written"}}
+{"agent":0,"do":"depart","port":0,"reply":{"ok":"gone"}}
+{"agent":0,"do":"deliver","reply":{"board":"","from":1,"ok":"here","ports":2}}
+{"agent":0,"do":"write","expect":"","put":"a 0","reply":{"ok":"written"}}
+{"agent":0,"do":"depart","port":0,"reply":{"ok":"gone"}}
+{"agent":0,"do":"deliver","reply":{"board":"","from":1,"ok":"here","ports":2}}
+{"agent":0,"do":"write","expect":"","put":"a 0","reply":{"ok":"written"}}
+{"agent":0,"do":"depart","port":0,"reply":{"ok":"gone"}}
+{"agent":0,"do":"deliver","reply":{"board":"","from":1,"ok":"here","ports":2}}
+{"agent":0,"do":"write","expect":"","put":"a 0","reply":{"ok":"written"}}
+{"agent":0,"do":"depart","port":0,"reply":{"ok":"gone"}}
+{"agent":0,"do":"deliver","reply":null}
+{"agent":1,"do":"depart","port":1,"reply":{"ok":"gone"}}
+{"agent":1,"do":"deliver","reply":{"board":"","from":0,"ok":"here","ports":2}}
+{"agent":1,"do":"depart","port":1,"reply":{"ok":"gone"}}
+{"agent":1,"do":"deliver","reply":{"board":"","from":0,"ok":"here","ports":2}}
+{"agent":1,"do":"depart","port":0,"reply":{"ok":"gone"}}
+{"agent":1,"do":"deliver","reply":{"board":"","from":1,"ok":"here","ports":2}}
+{"agent":1,"do":"depart","port":0,"reply":{"ok":"gone"}}
+{"agent":1,"do":"deliver","reply":{"board":"a 0","from":1,"ok":"here","ports":2}}
+{"agent":1,"do":"depart","port":0,"reply":{"ok":"gone"}}
+{"agent":1,"do":"deliver","reply":{"board":"a 0","from":1,"ok":"here","ports":2}}
+{"agent":1,"do":"depart","port":0,"reply":{"ok":"gone"}}
+{"agent":1,"do":"deliver","reply":{"board":"a 0","from":1,"ok":"here","ports":2}}
+{"agent":1,"do":"depart","port":0,"reply":{"ok":"gone"}}
+{"agent":1,"do":"deliver","reply":{"board":"a 0","from":1,"ok":"here","ports":2}}
+{"agent":1,"do":"depart","port":0,"reply":{"ok":"gone"}}
+{"agent":1,"do":"deliver","reply":{"board":"a 0","from":1,"ok":"here","ports":2}}
+{"agent":1,"do":"accuse","port":0,"reply":{"ok":"noted"}}
+{"do":"close","reply":null}
+{"end":35}
+"#,
+    ),
+    (
+        "examples/guess0.jsonl",
+        r#"{"agents":2,"board":8,"dark":[],"holes":[2],"home":0,"links":[[0,0,1,0],[0,1,2,1],[1,1,2,0]],"nodes":3,"quota":10,"replay":2}
+{"agent":0,"do":"enter","reply":{"board":"","from":null,"ok":"here","ports":2}}
+{"agent":0,"do":"accuse","port":1,"reply":{"ok":"noted"}}
+{"do":"close","reply":null}
+{"end":3}
+"#,
+    ),
+    (
+        "examples/triangle0.jsonl",
+        r#"{"agents":2,"board":8,"dark":[],"holes":[2],"home":0,"links":[[0,0,1,0],[0,1,2,1],[1,1,2,0]],"nodes":3,"quota":10,"replay":2}
+{"agent":0,"do":"enter","reply":{"board":"","from":null,"ok":"here","ports":2}}
+{"agent":0,"do":"depart","port":0,"reply":{"ok":"gone"}}
+{"agent":0,"do":"deliver","reply":{"board":"","from":0,"ok":"here","ports":2}}
+{"do":"close","reply":null}
+{"end":4}
 "#,
     ),
 ];
@@ -236,6 +432,7 @@ fn prints<R: Abort + Files>(
     words: &[&str],
     script: &str,
     printed: &str,
+    told: &str,
 ) -> Result<(), Fail> {
     let mut output = Vec::new(alloc);
     let mut errors = Vec::new(alloc);
@@ -247,9 +444,9 @@ fn prints<R: Abort + Files>(
         &mut output,
         &mut errors,
     );
-    assert_eq!(rt; errors.as_slice(), b"".as_slice());
+    assert_eq!(rt; errors.as_slice(), told.as_bytes());
     assert_eq!(rt; output.as_slice(), printed.as_bytes());
-    assert_eq!(rt; status, 0);
+    assert_eq!(rt; status, if told.is_empty() { 0 } else { 4 });
     Ok(())
 }
 
@@ -259,8 +456,13 @@ fn examples_print_what_they_should(rt: HostRuntime) -> Result<(), Fail> {
     for (name, text) in FILES {
         fs::write(&rt, name, text)?;
     }
-    for (words, script, printed) in RUNS {
-        prints(&rt, rt.alloc(), words, script, printed)?;
+    for (words, script, printed, told) in RUNS {
+        prints(&rt, rt.alloc(), words, script, printed, told)?;
+    }
+    for (name, text) in REPLAYS {
+        let mut written = Vec::new(rt.alloc());
+        fs::open(&rt, name)?.read_to_end(&mut written)?;
+        assert_eq!(rt; written.as_slice(), text.as_bytes(), "{name}");
     }
     Ok(())
 }
