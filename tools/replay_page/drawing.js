@@ -14,7 +14,7 @@ function draw(parent, name, attributes, text) {
 const between = (a, b, part) => [a[0] + (b[0] - a[0]) * part, a[1] + (b[1] - a[1]) * part];
 function ahead(a, b, far) {
   const length = Math.hypot(b[0] - a[0], b[1] - a[1]) || 1;
-  return between(a, b, Math.min(far / length, 0.45));
+  return between(a, b, Math.min(far / length, 0.7));
 }
 function mark(layer, [x, y], number, lost) {
   draw(layer, "circle", { cx: x, cy: y, r: 10, class: lost ? "lost" : "agent" });
@@ -31,11 +31,13 @@ function flag(layer, from, to, number) {
 class Whole {
   constructor(figure, match) {
     this.match = match;
-    const side = Math.max(420, Math.min(1500, Math.sqrt(match.nodes) * 125));
+    const side = Math.max(440, Math.min(1500, Math.sqrt(match.nodes) * 135));
     const wide = 92, high = 48;
-    this.spots = data.spots.map(([x, y]) => [wide + x / 1000 * (side - 2 * wide), high + y / 1000 * (side - 2 * high)]);
-    this.svg = draw(figure, "svg", { viewBox: `0 0 ${side} ${side}`, role: "img", "aria-label": "the network" });
-    this.svg.style.minWidth = Math.min(side, 1500) / 2.2 + "px";
+    const inner = side - 2 * high;
+    this.spots = data.spots.map(([x, y]) => [wide + x / 1000 * inner, high + y / 1000 * inner]);
+    const box = `0 0 ${inner + 2 * wide} ${side}`;
+    this.svg = draw(figure, "svg", { viewBox: box, role: "img", "aria-label": "the network" });
+    this.svg.style.minWidth = side / 2.2 + "px";
     this.still();
     this.layer = draw(this.svg, "g", {});
   }
@@ -101,6 +103,7 @@ class Eyes {
     const label = { role: "img", "aria-label": "what the agent has met" };
     this.svg = draw(figure, "svg", label);
     this.svg.style.minWidth = Math.min(this.width, WIDEST) / 1.4 + "px";
+    this.svg.style.maxWidth = this.width * 1.5 + "px";
     this.frame(EDGE, DOWN);
     if (this.met.nodes.length) return;
     draw(this.svg, "text", { x: this.width / 2, y: 40, class: "name" }, "this agent never entered");
@@ -121,8 +124,8 @@ class Eyes {
   toward(node, port, place) {
     const to = node.to[port];
     if (to && Math.max(to.born, node.born) < place) return this.spot(to);
-    const [x, y] = this.spot(node), turn = (port + 0.5) / node.ports * 2 * Math.PI;
-    return [x + Math.cos(turn) * 62, y - Math.sin(turn) * 34];
+    const [x, y] = this.spot(node), turn = Math.PI * (0.85 - 0.7 * (port + 0.5) / node.ports);
+    return [x + Math.cos(turn) * 56, y - Math.sin(turn) * 44];
   }
   show(place) {
     const { met, svg } = this;
@@ -157,7 +160,7 @@ class Eyes {
     draw(this.svg, "circle", { cx: x, cy: y, r: NODE, class: "node" });
     if (node.id === 0) {
       draw(this.svg, "circle", { cx: x, cy: y, r: NODE + 4, class: "node", "fill-opacity": 0 });
-      draw(this.svg, "text", { x: x - 24, y: y - NODE - 8, class: "beside" }, "home");
+      draw(this.svg, "text", { x: x - 46, y: y - NODE + 4, class: "beside" }, "home");
     }
     if (text) draw(this.svg, "text", { x, y: y + NODE + 14, class: "board" }, excerpt(text));
   }
