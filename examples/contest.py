@@ -25,6 +25,8 @@ TOURNAMENT = "examples/contest.toml"
 TURNS = 3000
 PAUSE = 2
 PATIENCE = 20
+# pages are laid out by a package of Debian, which another Python does not see
+DEBIANS_PYTHON = "/usr/bin/python3"
 RING = ["8"]
 CUBE = ["16", "32"]
 
@@ -107,7 +109,7 @@ def write_pages(replays: str, folder: pathlib.Path) -> None:
     """Writes a page of each match."""
     for number, team in enumerate(TEAMS):
         page = folder / f"{team}.html"
-        tool = [sys.executable, str(TOP / "tools" / "replay_page.py"), f"{replays}{number}.jsonl"]
+        tool = [DEBIANS_PYTHON, str(TOP / "tools" / "replay_page.py"), f"{replays}{number}.jsonl"]
         subprocess.run([*tool, "--out", str(page)], check=True)
         print(f"{team}'s match: {page}")
 

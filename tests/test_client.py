@@ -99,7 +99,8 @@ class SearchInC(Served):
         for hole, commands in ((1, [[program], [program]]), (4, [[program], python]), (7, [python, [program]])):
             with self.subTest(hole=hole):
                 port = str(self.serve("ring8.toml", [hole], 300, 2, turns=700))
-                agents = [subprocess.Popen([*command, port, key, "8"], stdout=subprocess.DEVNULL, stderr=subprocess.DEVNULL)
+                quiet = {"stdout": subprocess.DEVNULL, "stderr": subprocess.DEVNULL}
+                agents = [subprocess.Popen([*command, port, key, "8"], **quiet)
                           for command, key in zip(commands, ("ka", "kb"))]
                 self.assertEqual(self.server.stdout.read().splitlines()[1].split()[1:3], ["red", "solved"])
                 for agent in agents:

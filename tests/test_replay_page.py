@@ -56,7 +56,8 @@ class Pages(unittest.TestCase):
 
     def written(self, *words: str) -> int:
         errors = io.StringIO()
-        with mock.patch.object(sys, "argv", ["replay_page", str(self.replay), *words]), contextlib.redirect_stderr(errors):
+        given = mock.patch.object(sys, "argv", ["replay_page", str(self.replay), *words])
+        with given, contextlib.redirect_stderr(errors):
             status = replay_page.main()
         self.errors = errors.getvalue()
         return status

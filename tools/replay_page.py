@@ -27,7 +27,8 @@ import tempfile
 from typing import Any, Dict, Iterable, List, Tuple
 
 TOP = pathlib.Path(__file__).resolve().parent.parent
-TEMPLATE = TOP / "tools" / "replay_page.html"
+PARTS = TOP / "tools" / "replay_page"
+SCRIPTS = ("match.js", "met.js", "texts.js", "drawing.js", "page.js")
 SCALE = 1000
 SEED = 4
 LETTERS = {
@@ -181,9 +182,17 @@ def data_of(replay: str, twin: Any) -> Dict[str, Any]:
 
 def page_of(data: Dict[str, Any]) -> str:
     """The page. No text of the replay can end the element that it stands in, as `<` is written as its number."""
-    written = json.dumps(data, separators=(",", ":")).replace("<", "\\u003c")
-    parts = {"{{title}}": html.escape(data["name"]), "{{data}}": written}
-    return re.sub("{{title}}|{{data}}", lambda found: parts[found[0]], TEMPLATE.read_text(encoding="utf-8"))
+    parts = {
+        "{{title}}": html.escape(data["name"]),
+        "{{style}}": part("page.css"),
+        "{{script}}": "".join(map(part, SCRIPTS)),
+        "{{data}}": json.dumps(data, separators=(",", ":")).replace("<", "\\u003c"),
+    }
+    return re.sub("|".join(parts), lambda found: parts[found[0]], part("page.html"))
+
+
+def part(name: str) -> str:
+    return (PARTS / name).read_text(encoding="utf-8")
 
 
 def main() -> int:

@@ -1,4 +1,4 @@
-"""Opens pages of matches in headless Chromium and compares what they show with the replays. tools/test_pages.sh runs it.
+"""Opens pages of matches in headless Chromium and compares them with the replays. tools/test_pages.sh runs it.
 
 Steps each page to its end, compares each step's line with the replay and the last with `arena judge`, looks through the
 eyes of agents, and finds no error in the console. Screenshots go to the folder that is given.
@@ -25,11 +25,14 @@ from tests import test_agents  # noqa: E402
 
 WIDE, PHONE = (1200, 1000), (390, 844)
 SECONDS_TO_OPEN = 10
-SECONDS_OF_A_STEP = 0.1
+MILLISECONDS_OF_A_STEP = 50
 HOSTILE = [
-    "</script><script>document.title='broken'</script>", "<b>bold</b> & \"quotes\" 'more' {{title}} {{data}}",
-    "right \u202eto left\u202c \u05e9\u05dc\u05d5\u05dd", "nul \u0000 bell \u0007 delete \u007f next \u0085 line \u2028 end",
-    "zero\u200bwidth \ufeff \U000e0041 \ud83d\ude00".encode("utf-16", "surrogatepass").decode("utf-16"), "\\u{202e} ${1} `x`",
+    "</script><script>document.title='broken'</script>",
+    "<b>bold</b> & \"quotes\" 'more' {{title}} {{data}}",
+    "right \u202eto left\u202c \u05e9\u05dc\u05d5\u05dd",
+    "nul \u0000 bell \u0007 delete \u007f next \u0085 line \u2028 end",
+    "zero\u200bwidth \ufeff \U000e0041 \U0001f600",
+    "\\u{202e} ${1} `x`",
 ]
 
 
@@ -213,14 +216,15 @@ def largest(browser: Browser) -> None:
     browser.open(page)
     opened = time.monotonic()
     chance = random.Random(1)
-    slowest = browser.driver.execute_script(
-        "let most = 0; for (const to of arguments[0]) { const begun = performance.now(); go(to);"
-        " most = Math.max(most, performance.now() - begun); } return most / 1000",
-        [chance.randrange(last) for last in [128_129] * 100] + list(range(5000, 5100)))
-    print(f"largest: {page.stat().st_size} bytes, written in {written - begun:.1f} s, opened in {opened - written:.1f} s, "
-          f"the slowest of 200 steps {slowest:.3f} s")
+    places = [chance.randrange(128_129) for _ in range(100)] + list(range(5000, 5100))
+    times = sorted(browser.driver.execute_script(
+        "return arguments[0].map((to) => { const at = performance.now(); go(to); return performance.now() - at; })",
+        places))
+    print(f"largest: {page.stat().st_size} bytes, written in {written - begun:.1f} s, "
+          f"opened in {opened - written:.1f} s; 200 steps, half of them far: median {times[100]:.1f} ms, "
+          f"at most {times[-1]:.1f} ms")
     browser.check(opened - written < SECONDS_TO_OPEN, "largest: it opens slowly")
-    browser.check(slowest < SECONDS_OF_A_STEP, "largest: it steps slowly")
+    browser.check(times[100] < MILLISECONDS_OF_A_STEP, "largest: it steps slowly")
     browser.picture("largest")
     browser.look(3)
     browser.picture("largest-eyes")

@@ -1,0 +1,167 @@
+// Drawing: the whole match, and what an agent has met.
+const SVG = "http://www.w3.org/2000/svg";
+const LABELS = 700, NODE = 15;
+// of what an agent has met: how far nodes stand apart, the margin, and how much is shown at once
+const ACROSS = 168, DOWN = 84, EDGE = 92, WIDEST = 1400, HIGHEST = 900;
+
+function draw(parent, name, attributes, text) {
+  const element = document.createElementNS(SVG, name);
+  for (const key in attributes) element.setAttribute(key, attributes[key]);
+  if (text !== undefined) element.textContent = text;
+  parent.append(element);
+  return element;
+}
+const between = (a, b, part) => [a[0] + (b[0] - a[0]) * part, a[1] + (b[1] - a[1]) * part];
+function ahead(a, b, far) {
+  const length = Math.hypot(b[0] - a[0], b[1] - a[1]) || 1;
+  return between(a, b, Math.min(far / length, 0.7));
+}
+function mark(layer, [x, y], number, lost) {
+  draw(layer, "circle", { cx: x, cy: y, r: 10, class: lost ? "lost" : "agent" });
+  draw(layer, "text", { x, y: y + 4, class: lost ? "lostnumber" : "number" }, number);
+  if (lost) draw(layer, "text", { x, y: y + 23, class: "word" }, "lost");
+}
+// an accusation stands beside its link, near the accuser's end
+function flag(layer, from, to, number) {
+  const [x, y] = ahead(from, to, NODE + 30), length = Math.hypot(to[0] - from[0], to[1] - from[1]) || 1;
+  const side = [(from[1] - to[1]) / length * 17, (to[0] - from[0]) / length * 17];
+  draw(layer, "text", { x: x + side[0], y: y + side[1] + 4, class: "flag" }, "\u2691" + number);
+}
+
+class Whole {
+  constructor(figure, match) {
+    this.match = match;
+    const side = Math.max(440, Math.min(1500, Math.sqrt(match.nodes) * 135));
+    const wide = 92, high = 48;
+    const inner = side - 2 * high;
+    this.spots = data.spots.map(([x, y]) => [wide + x / 1000 * inner, high + y / 1000 * inner]);
+    const box = `0 0 ${inner + 2 * wide} ${side}`;
+    this.svg = draw(figure, "svg", { viewBox: box, role: "img", "aria-label": "the network" });
+    this.svg.style.minWidth = side / 2.2 + "px";
+    this.still();
+    this.layer = draw(this.svg, "g", {});
+  }
+  still() {
+    const { match, spots, svg } = this;
+    const paths = { link: "", "link dark": "" };
+    for (const [v, p, w] of match.links) {
+      const kind = match.darkEnds.has(v + "." + p) ? "link dark" : "link";
+      paths[kind] += `M${spots[v].map(Math.round)}L${spots[w].map(Math.round)}`;
+    }
+    for (const kind in paths) if (paths[kind]) draw(svg, "path", { d: paths[kind], class: kind });
+    if (match.links.length * 2 <= LABELS) {
+      for (const [v, p, w, q] of match.links) for (const [from, port, to] of [[v, p, w], [w, q, v]]) {
+        const [x, y] = ahead(spots[from], spots[to], NODE + 11);
+        draw(svg, "text", { x: x + 6, y: y + 4, class: "port" }, port);
+      }
+    }
+    spots.forEach(([x, y], node) => this.node(node, x, y));
+  }
+  node(node, x, y) {
+    const hole = this.match.holes.includes(node), home = this.match.home === node;
+    if (hole) draw(this.svg, "rect", { x: x - NODE, y: y - NODE, width: 2 * NODE, height: 2 * NODE, class: "hole" });
+    else draw(this.svg, "circle", { cx: x, cy: y, r: NODE, class: "node" });
+    if (home) draw(this.svg, "circle", { cx: x, cy: y, r: NODE + 4, class: "node", "fill-opacity": 0 });
+    draw(this.svg, "text", { x, y: y + 5, class: hole ? "name inhole" : "name" }, node);
+    if (hole || home) draw(this.svg, "text", { x, y: y - NODE - 9, class: "beside" }, hole ? "black hole" : "home");
+  }
+  spotOf(agent, beside) {
+    const { spots, match } = this;
+    const at = spots[agent.node];
+    if (agent.standing !== "away") {
+      const turn = Math.PI / 4 + beside * 0.9;
+      return [at[0] + Math.cos(turn) * (NODE + 9), at[1] - Math.sin(turn) * (NODE + 9)];
+    }
+    return between(at, spots[match.far[agent.node][agent.port][0]], agent.lost ? 0.62 : 0.42);
+  }
+  show(place) {
+    const state = this.match.at(place), many = new Map();
+    this.layer.replaceChildren();
+    state.boards.forEach((text, node) => {
+      const [x, y] = this.spots[node];
+      if (text) draw(this.layer, "text", { x, y: y + NODE + 14, class: "board" }, excerpt(text));
+    });
+    state.agents.forEach((agent, number) => {
+      if (agent.standing === "accused") {
+        flag(this.layer, this.spots[agent.node], this.spots[this.match.far[agent.node][agent.port][0]], number);
+      }
+      if (agent.standing !== "present" && agent.standing !== "away") return;
+      const key = agent.node + (agent.standing === "away" ? "." + agent.port : "");
+      const beside = many.get(key) || 0;
+      many.set(key, beside + 1);
+      const [x, y] = this.spotOf(agent, beside);
+      mark(this.layer, agent.standing === "away" ? [x + beside * 8, y + beside * 8] : [x, y], number, agent.lost);
+    });
+  }
+}
+
+class Eyes {
+  constructor(figure, match, agent) {
+    this.met = metOf(match, agent);
+    this.width = Math.max(2 * EDGE + 160, this.met.depth * ACROSS + 2 * EDGE);
+    this.height = this.met.rows * DOWN + 40;
+    const label = { role: "img", "aria-label": "what the agent has met" };
+    this.svg = draw(figure, "svg", label);
+    this.svg.style.minWidth = Math.min(this.width, WIDEST) / 1.4 + "px";
+    this.svg.style.maxWidth = this.width * 1.5 + "px";
+    this.frame(EDGE, DOWN);
+    if (this.met.nodes.length) return;
+    draw(this.svg, "text", { x: this.width / 2, y: 40, class: "name" }, "this agent never entered");
+  }
+  // shows all, or, where that is much, what is around this spot
+  frame(x, y) {
+    const wide = Math.min(this.width, WIDEST), high = Math.min(this.height, HIGHEST);
+    this.left = Math.max(0, Math.min(this.width - wide, x - wide / 2));
+    this.top = Math.max(0, Math.min(this.height - high, y - high / 2));
+    this.svg.setAttribute("viewBox", [this.left, this.top, wide, high].map(Math.round).join(" "));
+  }
+  isInFrame(node) {
+    const [x, y] = this.spot(node);
+    return Math.abs(x - this.left - WIDEST / 2) < WIDEST && Math.abs(y - this.top - HIGHEST / 2) < HIGHEST;
+  }
+  spot(node) { return [EDGE + node.depth * ACROSS, 44 + node.row * DOWN]; }
+  // where the link at a port of a node leads in the picture: to a node that was met, or into the open
+  toward(node, port, place) {
+    const to = node.to[port];
+    if (to && Math.max(to.born, node.born) < place) return this.spot(to);
+    const [x, y] = this.spot(node), turn = Math.PI * (0.85 - 0.7 * (port + 0.5) / node.ports);
+    return [x + Math.cos(turn) * 56, y - Math.sin(turn) * 44];
+  }
+  show(place) {
+    const { met, svg } = this;
+    const step = met.steps[met.made(place) - 1];
+    if (met.nodes.length) svg.replaceChildren();
+    if (!step) return;
+    this.frame(...this.spot(step.link ? step.link[0] : step.spot));
+    const seen = met.nodes.filter((node) => node.born < place && this.isInFrame(node));
+    for (const node of seen) this.links(node, place);
+    for (const node of seen) this.node(node, place);
+    if (step.flag) {
+      flag(svg, this.spot(step.flag[0]), this.toward(step.flag[0], step.flag[1], place), met.agent);
+    } else if (!step.ended && step.link) {
+      const [node, port] = step.link;
+      mark(svg, between(this.spot(node), this.toward(node, port, place), 0.6), met.agent, false);
+    } else if (!step.ended) {
+      const [x, y] = this.spot(step.spot);
+      mark(svg, [x + 18, y - 18], met.agent, false);
+    }
+  }
+  links(node, place) {
+    const at = this.spot(node);
+    for (let port = 0; port < node.ports; port++) {
+      const to = this.toward(node, port, place);
+      draw(this.svg, "path", { d: `M${at}L${to}`, class: "link" });
+      const [x, y] = ahead(at, to, NODE + 12);
+      draw(this.svg, "text", { x, y: y - 3, class: "port" }, port);
+    }
+  }
+  node(node, place) {
+    const [x, y] = this.spot(node), text = this.met.text(node, place);
+    draw(this.svg, "circle", { cx: x, cy: y, r: NODE, class: "node" });
+    if (node.id === 0) {
+      draw(this.svg, "circle", { cx: x, cy: y, r: NODE + 4, class: "node", "fill-opacity": 0 });
+      draw(this.svg, "text", { x: x - 46, y: y - NODE + 4, class: "beside" }, "home");
+    }
+    if (text) draw(this.svg, "text", { x, y: y + NODE + 14, class: "board" }, excerpt(text));
+  }
+}
