@@ -62,15 +62,19 @@ abbrev pub Plays : (Passed → Reply → Passed → Type 0) → (old : Seated) �
 Plays does old reply new = PlaysBy old.played where
   PlaysBy : Option Played → Type 0
   PlaysBy None = (reply ≡ Over) × (new ≡ old)
-  PlaysBy (Some played) = (pass : Passed) × does played.pass reply pass × (new ≡ record old { played = Some (record played { pass = pass }) })
+  PlaysBy (Some played) =
+      (pass : Passed) × does played.pass reply pass
+      × (new ≡ record old { played = Some (record played { pass = pass }) })
 
 -- What a port is asked and answers. What is not listed never comes.
 abbrev pub Calls : Seated → Asked → Heard → Seated → Type 0
 Calls old (Enters key) (LetIn Key) new = (new ≡ old) × IsUnknown old.keys old.games key
-Calls old (Enters key) (LetIn Taken) new = (new ≡ old) × ((game : ℕ) × ((agent : ℕ) × IsKeyOf old.keys old.games key game agent))
+Calls old (Enters key) (LetIn Taken) new =
+    (new ≡ old) × ((game : ℕ) × ((agent : ℕ) × IsKeyOf old.keys old.games key game agent))
 Calls old (Enters key) (LetIn (In reply)) new = IsLetIn old key reply new
 Calls old (Enters key) NoMemory new = IsLeftOut old key new
-Calls old (Tells command) (Answers reply) new = Plays (λ pass said pass'. IsToldBy pass command said pass') old reply new
+Calls old (Tells command) (Answers reply) new =
+    Plays (λ pass said pass'. IsToldBy pass command said pass') old reply new
 Calls old (Tells command) NoMemory new = new ≡ old
 Calls old News (Answers reply) new = Plays IsNews old reply new
 Calls old News NoMemory new = new ≡ old

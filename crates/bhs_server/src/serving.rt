@@ -38,9 +38,9 @@ pub struct Served {
     pub ended: Vec<Ended>,
 }
 
-/// Serves a contest. It accepts so many connections, and serves each on a thread of its own; each match has a thread that
-/// takes its turns at this pace and then closes it. Once all threads have ended, each match is settled with the passes of
-/// its sessions.
+/// Serves a contest. It accepts so many connections, and serves each on a thread of its own; each match has a thread
+/// that takes its turns at this pace and then closes it. Once all threads have ended, each match is settled with the
+/// passes of its sessions.
 ///
 /// An accept that fails is a session that ended with `ReadFault`. A session whose thread cannot be started ended with
 /// `Memory`; a match whose thread cannot be started is closed.

@@ -8,7 +8,10 @@ use crate::{Served, run_server};
 use bhs_lock::Open;
 use bhs_match::Sealed;
 use bhs_session::Ended;
-use clients::{ACCUSE, BYE, COME, Client, DEPART, DEPART_TO_THE_HOLE, GONE, HERE, LEAVE, LOOK};
+use clients::{
+    ACCUSE, BYE, COME, Client, DEPART, DEPART_TO_THE_HOLE, GONE, HERE, LEAVE, LOOK, NOTED, OVER,
+    STRANGE, TAKEN, UNKNOWN,
+};
 use contests::{Patience, contest};
 use gates::Turnstile;
 use std::alloc::Global;
@@ -128,7 +131,7 @@ fn sessions_end_by_each_cause(rt: HostRuntime) -> Result<(), Fail> {
         || each_ending(&client, &pace, alloc),
     );
     let expected = format!(in alloc;
-        "{HERE}{BYE}{HERE}{{\"ok\":\"noted\"}}\n{{\"no\":\"key\"}}\n{{\"no\":\"taken\"}}\n{{\"no\":\"enter\"}}\n{HERE}{HERE}{HERE}{GONE}{{\"ok\":\"over\"}}\n"
+        "{HERE}{BYE}{HERE}{NOTED}{UNKNOWN}{TAKEN}{STRANGE}{HERE}{HERE}{HERE}{GONE}{OVER}"
     )?;
     assert_eq!(rt; heard?.as_str(), expected.as_str());
     let Served { sealed, ended } = served?;
@@ -194,8 +197,8 @@ fn sixty_four_sessions_play_eight_matches(rt: HostRuntime) -> Result<(), Fail> {
     Ok(())
 }
 
-/// What clients hear that come one after the other: one that says nothing, one with a key of nobody, one that enters and
-/// leaves, and one with its key.
+/// What clients hear that come one after the other: one that says nothing, one with a key of nobody, one that enters
+/// and leaves, and one with its key.
 fn four_visits<R: Net<Listener = TcpListener, Stream = TcpStream> + Clock>(
     client: &Client<'_, R>,
     pace: &Patience<'_, R>,
@@ -221,7 +224,7 @@ fn four_come_one_after_the_other(rt: HostRuntime) -> Result<(), Fail> {
         || run_server(&rt, alloc, &listener, ready, 4, &pace, &Open),
         || four_visits(&client, &pace, alloc),
     );
-    let expected = format!(in alloc; "{{\"no\":\"key\"}}\n{HERE}{BYE}{{\"no\":\"taken\"}}\n")?;
+    let expected = format!(in alloc; "{UNKNOWN}{HERE}{BYE}{TAKEN}")?;
     assert_eq!(rt; heard?.as_str(), expected.as_str());
     let Served { sealed, ended } = served?;
     let causes = [Ended::InputEnded, Ended::Denied, Ended::Bye, Ended::Denied];
@@ -263,5 +266,18 @@ fn a_client_is_gone_at_once(rt: HostRuntime) -> Result<(), Fail> {
     ];
     assert!(rt; ended.iter().all(|ended| causes.contains(ended)));
     assert_eq!(rt; sealed.len(), 1);
+    Ok(())
+}
+
+#[test]
+fn an_accept_that_fails_is_a_session(rt: HostRuntime) -> Result<(), Fail> {
+    let alloc = rt.alloc();
+    let listener = listener(&rt)?;
+    listener.set_nonblocking(true)?;
+    let pace = Patience::new(&rt, 0, 0);
+    let ready = contest(alloc, 2, 1)?;
+    let Served { sealed, ended } = run_server(&rt, alloc, &listener, ready, 2, &pace, &Open)?;
+    assert_eq!(rt; ended.as_slice(), [Ended::ReadFault; 2].as_slice());
+    assert_eq!(rt; lengths(alloc, &sealed)?.as_slice(), [1, 1].as_slice());
     Ok(())
 }

@@ -31,7 +31,8 @@ pub fn attend<I: Input, O: Output, R: Wait, G: Gate>(
     keys: &Keys,
     gate: &G,
 ) -> Visit
-    ensures { (last : Seated) × (last.played ≡ result.played) × Serves I.gives O.takes Calls reader.old reader.new writer.old writer.new
+    ensures { (last : Seated) × (last.played ≡ result.played) ×
+        Serves I.gives O.takes Calls reader.old reader.new writer.old writer.new
         (record { keys = keys.now; games = length cells.now; played = None })
         last TURNS (Finished result.ended) }
 {

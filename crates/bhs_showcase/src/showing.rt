@@ -1,4 +1,4 @@
-ghost use Rattle.std.specs.Prelude.{◌≡◌, ◌↔◌, ◌≤◌, None, Some, IfOk, IfSome, IfNone, OnErr, length, slice_get, MatchOption};
+ghost use Rattle.std.specs.Prelude.{◌≡◌, None, Some, IfOk, IfSome, IfNone, OnErr, length, slice_get};
 ghost use Rattle.bhs_showcase.specs.Shown.{IsOf, IsShown, Shows};
 
 use crate::notes::ShowNote;
@@ -58,9 +58,9 @@ impl Showcase {
         Some(ShowNote { note: cell.note() })
     }
 
-    /// Shows a verdict on a match, unless one is shown already. The note is of that match, if there is one, and has seen
-    /// what is shown then. A verdict of no match, and one for which there is no memory, is not shown, and the note is as
-    /// it was.
+    /// Shows a verdict on a match, unless one is shown already. The note is of that match, if there is one, and has
+    /// seen what is shown then. A verdict of no match, and one for which there is no memory, is not shown, and the note
+    /// is as it was.
     pub fn show(&self, game: u32, verdict: Verdict, note: &mut ShowNote) -> Result<Show, Memory>
         requires { IsOf self.now game note.old }
         ensures shown { IfOk result (λ show. Shows (slice_get self.now game) verdict note.old show note.new) }

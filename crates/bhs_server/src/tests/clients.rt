@@ -19,6 +19,17 @@ pub(super) const GONE: &str = "{\"ok\":\"gone\"}\n";
 
 pub(super) const BYE: &str = "{\"ok\":\"bye\"}\n";
 
+pub(super) const NOTED: &str = "{\"ok\":\"noted\"}\n";
+
+pub(super) const OVER: &str = "{\"ok\":\"over\"}\n";
+
+/// To a key of nobody, to one that was used before, and to a first line that is no enter.
+pub(super) const UNKNOWN: &str = "{\"no\":\"key\"}\n";
+
+pub(super) const TAKEN: &str = "{\"no\":\"taken\"}\n";
+
+pub(super) const STRANGE: &str = "{\"no\":\"enter\"}\n";
+
 /// The answers of a home base without anything on its whiteboard, and after an arrival by the link with label 0.
 pub(super) const HERE: &str = "{\"board\":\"\",\"from\":null,\"ok\":\"here\",\"ports\":2}\n";
 

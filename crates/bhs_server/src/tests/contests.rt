@@ -32,8 +32,8 @@ const TRIANGLE: [Link; 3] = [
     },
 ];
 
-/// So many matches on the triangle, with black hole 2. The key of an agent is `k`, the number of its match, a hyphen and
-/// its number.
+/// So many matches on the triangle, with black hole 2. The key of an agent is `k`, the number of its match, a hyphen
+/// and its number.
 pub(super) fn contest(alloc: Global, games: u32, agents: u16) -> Result<Contest, Fail> {
     let mut cells = Vec::new(alloc);
     let mut dealers = Vec::new(alloc);
