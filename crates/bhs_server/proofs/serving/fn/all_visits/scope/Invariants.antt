@@ -1,0 +1,8 @@
+use Rattle.std.proofs.Common.{◌≡◌, length, []}
+use Rattle.bhs_server.proofs.serving.fn.all_visits.scope.Given as goal
+
+abbrev pub invariant-loop-game : goal.invariant-loop-game
+invariant-loop-game g l = l.handles.items ≡ []
+
+abbrev pub invariant-loop : goal.invariant-loop
+invariant-loop g l = length l.handles.items ≡ l.counter

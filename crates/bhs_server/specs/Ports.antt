@@ -1,0 +1,81 @@
+-- What a session asks of the match of its agent, where threads share the match, and what it hears.
+use Rattle.std.specs.Prelude.{ℕ, ◌≡◌, ◌≤◌, ◌<◌, Option, Some, None, List}
+use Rattle.bhs_model.specs.declared.commands.Command.{Command}
+use Rattle.bhs_model.specs.declared.commands.Command.TheVariants.{Enter}
+use Rattle.bhs_model.specs.declared.replies.Reply.{Reply}
+use Rattle.bhs_model.specs.declared.replies.Reply.TheVariants.{Over}
+use Rattle.bhs_session.specs.declared.port.Entered.TheVariants.{Key, Taken, In}
+use Rattle.bhs_session.specs.Port.{Asked, Enters, Tells, News, Heard, LetIn, Answers, NoMemory}
+use Rattle.bhs_lineup.specs.KeyTable.{Seat, seat_at}
+use Rattle.bhs_lock.specs.Passes.{Passed}
+use Rattle.bhs_lock.specs.Unclaimed.{IsFresh}
+use Rattle.bhs_lock.specs.Recording.{IsSubmitted}
+use Rattle.bhs_lock.specs.Cells.{IsNews}
+use Rattle.bhs_server.specs.declared.ports.Played.{Played}
+
+-- the keys, how many matches there are, and the agent that is played, once there is one
+pub record Seated : Type 0 where
+  pub keys : List Seat
+  pub games : ℕ
+  pub played : Option Played
+
+-- the key lets in no agent, or one of no match
+abbrev pub IsUnknown : (keys : List Seat) → (games : ℕ) → (key : List ℕ) → Type 0
+IsUnknown keys games key = LetsInNone (seat_at key keys) where
+  LetsInNone : Option (ℕ × ℕ) → Type 0
+  LetsInNone None = Unit {0}
+  LetsInNone (Some seat) = games ≤ seat.0
+
+-- the key lets in this agent of this match
+pub record IsKeyOf (keys : List Seat) (games : ℕ) (key : List ℕ) (game agent : ℕ) : Type 0 where
+  pub seat : seat_at key keys ≡ Some (game, agent)
+  pub there : game < games
+
+-- the pass of a key's agent was claimed: it had been told nothing
+pub record IsClaimed (old : Seated) (key : List ℕ) (game : ℕ) (fresh : Passed) : Type 0 where
+  pub agent : ℕ
+  pub known : IsKeyOf old.keys old.games key game agent
+  pub is_fresh : IsFresh agent fresh
+
+-- a command was told for this pass, and answered so
+abbrev pub IsToldBy : Passed → Command → Reply → Passed → Type 0
+IsToldBy pass command reply pass' = (place : Option ℕ) × IsSubmitted pass command place reply pass'
+
+-- the pass of a key's agent was claimed, told Enter, and is played from now on
+pub record IsLetIn (old : Seated) (key : List ℕ) (reply : Reply) (new : Seated) : Type 0 where
+  pub game : ℕ
+  pub fresh : Passed
+  pub claimed : IsClaimed old key game fresh
+  pub pass : Passed
+  pub told : IsToldBy fresh Enter reply pass
+  pub plays : new ≡ record old { played = Some (record { game = game; pass = pass }) }
+
+-- the pass of a key's agent was claimed, and there was no memory to tell it anything
+pub record IsLeftOut (old : Seated) (key : List ℕ) (new : Seated) : Type 0 where
+  pub game : ℕ
+  pub fresh : Passed
+  pub claimed : IsClaimed old key game fresh
+  pub plays : new ≡ record old { played = Some (record { game = game; pass = fresh }) }
+
+-- the agent's pass comes from one to the other; without an agent the match is over, and nothing changes
+abbrev pub Plays : (Passed → Reply → Passed → Type 0) → (old : Seated) → Reply → (new : Seated) → Type 0
+Plays does old reply new = PlaysBy old.played where
+  PlaysBy : Option Played → Type 0
+  PlaysBy None = (reply ≡ Over) × (new ≡ old)
+  PlaysBy (Some played) =
+      (pass : Passed) × does played.pass reply pass
+      × (new ≡ record old { played = Some (record played { pass = pass }) })
+
+-- What a port is asked and answers. What is not listed never comes.
+abbrev pub Calls : Seated → Asked → Heard → Seated → Type 0
+Calls old (Enters key) (LetIn Key) new = (new ≡ old) × IsUnknown old.keys old.games key
+Calls old (Enters key) (LetIn Taken) new =
+    (new ≡ old) × ((game : ℕ) × ((agent : ℕ) × IsKeyOf old.keys old.games key game agent))
+Calls old (Enters key) (LetIn (In reply)) new = IsLetIn old key reply new
+Calls old (Enters key) NoMemory new = IsLeftOut old key new
+Calls old (Tells command) (Answers reply) new =
+    Plays (λ pass said pass'. IsToldBy pass command said pass') old reply new
+Calls old (Tells command) NoMemory new = new ≡ old
+Calls old News (Answers reply) new = Plays IsNews old reply new
+Calls old News NoMemory new = new ≡ old
+Calls old asked heard new = ⊥

@@ -1,0 +1,18 @@
+//! A contest over TCP: one thread for each session, and one for the deliveries of each match.
+#![tactic(auto)]
+
+mod dealing;
+mod pacing;
+mod ports;
+mod serving;
+mod settling;
+mod visits;
+
+pub use dealing::deal;
+pub use pacing::{Pace, Step};
+pub use ports::{CellPort, Played};
+pub use serving::{Contest, Served, ServerFault, run_server};
+pub use visits::{TURNS, Visit, attend};
+
+#[cfg(test)]
+mod tests;

@@ -1,0 +1,108 @@
+ghost use Rattle.std.specs.Prelude.{◌≡◌, None, length};
+
+use bhs_lineup::Keys;
+use bhs_lock::{Cell, Gate, Pass};
+use bhs_model::{Command, Reply};
+use bhs_net::Memory;
+use bhs_session::{Entered, Port};
+use std::marker::Model;
+use std::sync::Wait;
+
+/// The agent that a session plays: the number of its match, and its pass.
+#[derive(Debug, Drop)]
+pub struct Played {
+    pub game: u32,
+    pub pass: Pass,
+}
+
+/// Where a session plays an agent of matches that threads share.
+#[derive(Drop)]
+pub struct CellPort<'a, R, G> {
+    rt: &'a R,
+    gate: &'a G,
+    cells: &'a [Cell],
+    keys: &'a Keys,
+    played: Option<Played>,
+}
+
+// Contracts see a port as the keys, the number of matches, and the agent that is played, once there is one.
+impl<'a, R, G> Model for CellPort<'a, R, G> {
+    ghost use Rattle.std.specs.Prelude.{length};
+    ghost use Rattle.bhs_server.specs.Ports.{Seated};
+
+    ghost Value = { Seated };
+
+    ghost view = { λ port. record { keys = port.keys.now; games = length port.cells.now; played = port.played } };
+}
+
+impl<'a, R: Wait, G: Gate> CellPort<'a, R, G> {
+    /// A port at which nobody has entered.
+    pub fn new(rt: &'a R, gate: &'a G, cells: &'a [Cell], keys: &'a Keys) -> CellPort<'a, R, G>
+        ensures { result ≡ record { keys = keys.now; games = length cells.now; played = None } }
+    {
+        CellPort {
+            rt,
+            gate,
+            cells,
+            keys,
+            played: None,
+        }
+    }
+
+    /// The agent that was played, if one has entered.
+    pub fn into_played(self) -> Option<Played>
+        ensures { result ≡ self.entry.played }
+    {
+        let CellPort {
+            rt: _,
+            gate: _,
+            cells: _,
+            keys: _,
+            played,
+        } = self;
+        played
+    }
+}
+
+impl<R: Wait, G: Gate> Port for CellPort<'_, R, G> {
+    ghost use Rattle.bhs_server.specs.Ports.{Calls};
+
+    ghost calls = { Calls };
+
+    fn enter(&mut self, key: &str) -> Result<Entered, Memory> {
+        let Some((game, agent)) = self.keys.find(key) else {
+            return Ok(Entered::Key);
+        };
+        let Some(cell) = self.cells.get(game as usize) else {
+            return Ok(Entered::Key);
+        };
+        let Some(pass) = cell.claim(self.rt, agent) else {
+            return Ok(Entered::Taken);
+        };
+        let mut played = Played { game, pass };
+        let answer = cell.submit(self.rt, self.gate, &mut played.pass, Command::Enter);
+        self.played = Some(played);
+        Ok(Entered::In(answer?.reply))
+    }
+
+    fn tell(&mut self, command: Command) -> Result<Reply, Memory> {
+        let Some(Played { game, pass }) = &mut self.played else {
+            return Ok(Reply::Over);
+        };
+        let Some(cell) = self.cells.get(*game as usize) else {
+            return Ok(Reply::Over);
+        };
+        let answer = cell.submit(self.rt, self.gate, pass, command)?;
+        Ok(answer.reply)
+    }
+
+    fn news(&mut self) -> Result<Reply, Memory> {
+        let Some(Played { game, pass }) = &mut self.played else {
+            return Ok(Reply::Over);
+        };
+        let Some(cell) = self.cells.get(*game as usize) else {
+            return Ok(Reply::Over);
+        };
+        cell.news(self.rt, pass)
+    }
+}

@@ -1,0 +1,128 @@
+use crate::{Contest, Pace, Step};
+use bhs_deal::{Dealer, Held};
+use bhs_lineup::Keys;
+use bhs_lock::Cell;
+use bhs_match::Match;
+use bhs_model::{DarkLinks, Holes, Setup};
+use bhs_net::{Link, Net};
+use std::alloc::Global;
+use std::sync::atomic::{AtomicBool, AtomicU32, Ordering};
+use std::test::Fail;
+use std::thread;
+use std::time::{Clock, Duration};
+
+const TRIANGLE: [Link; 3] = [
+    Link {
+        v: 0,
+        p: 0,
+        w: 1,
+        q: 0,
+    },
+    Link {
+        v: 1,
+        p: 1,
+        w: 2,
+        q: 0,
+    },
+    Link {
+        v: 2,
+        p: 1,
+        w: 0,
+        q: 1,
+    },
+];
+
+/// So many matches on the triangle, with black hole 2. The key of an agent is `k`, the number of its match, a hyphen
+/// and its number.
+pub(super) fn contest(alloc: Global, games: u32, agents: u16) -> Result<Contest, Fail> {
+    let mut cells = Vec::new(alloc);
+    let mut dealers = Vec::new(alloc);
+    let mut keys = Keys::new(alloc);
+    for game in 0..games {
+        cells.push(cell(alloc, game, agents)?)?;
+        dealers.push(Dealer::new([0; 32], u64::from(game)))?;
+        for agent in 0..agents {
+            keys.insert(format!(in alloc; "k{game}-{agent}")?, (game, agent))?;
+        }
+    }
+    Ok(Contest {
+        cells,
+        dealers,
+        keys,
+    })
+}
+
+fn cell(alloc: Global, game: u32, agents: u16) -> Result<Cell, Fail> {
+    let net = Net::try_new(alloc, 3, &TRIANGLE)?;
+    let held = Held::new(alloc, &net, &[])?;
+    let setup = Setup {
+        home: 0,
+        holes: Holes::from(vec![in alloc; 2]?),
+        dark: DarkLinks::from(Vec::new(alloc)),
+        agents,
+        quota: 10,
+        board: 8,
+    };
+    let play = Match::new(alloc, net, setup)?;
+    Ok(Cell::new(alloc, game, play, held)?)
+}
+
+/// Takes turns once so many clients have come far enough, and closes the matches once more of them have.
+#[derive(Drop)]
+pub(super) struct Patience<'a, C> {
+    clock: &'a C,
+    begins: u32,
+    ends: u32,
+    reached: AtomicU32,
+    gave_up: AtomicBool,
+}
+
+impl<'a, C: Clock> Patience<'a, C> {
+    pub(super) fn new(clock: &'a C, begins: u32, ends: u32) -> Patience<'a, C> {
+        Patience {
+            clock,
+            begins,
+            ends,
+            reached: AtomicU32::new(0),
+            gave_up: AtomicBool::new(false),
+        }
+    }
+
+    /// A client has come far enough.
+    pub(super) fn reach(&self) {
+        self.reached.fetch_add(1, Ordering::SeqCst);
+    }
+
+    /// Whether a client took longer than ten thousand sleeps of a millisecond.
+    pub(super) fn gave_up(&self) -> bool {
+        self.gave_up.load(Ordering::SeqCst)
+    }
+
+    fn waits_for(&self, clients: u32) {
+        for _ in 0..10_000 {
+            if self.reached.load(Ordering::SeqCst) >= clients {
+                return;
+            }
+            thread::sleep(self.clock, Duration::from_millis(1));
+        }
+        self.gave_up.store(true, Ordering::SeqCst);
+    }
+}
+
+/// How many turns are taken before a close at least.
+const TURNS: u32 = 100;
+
+impl<C: Clock> Pace for Patience<'_, C> {
+    fn next(&self, _game: u32, turn: u32) -> Step {
+        self.waits_for(self.begins);
+        if turn >= TURNS && self.reached.load(Ordering::SeqCst) >= self.ends {
+            return Step::Close;
+        }
+        if turn >= 10_000 {
+            self.gave_up.store(true, Ordering::SeqCst);
+            return Step::Close;
+        }
+        thread::sleep(self.clock, Duration::from_millis(1));
+        Step::Turn
+    }
+}

@@ -1,0 +1,45 @@
+ghost use Rattle.std.specs.Prelude.{◌≡◌, None, length};
+ghost use Rattle.bhs_session.specs.Phase.{Finished};
+ghost use Rattle.bhs_session.specs.Session.{Serves};
+ghost use Rattle.bhs_server.specs.Ports.{Calls, Seated};
+
+use crate::ports::{CellPort, Played};
+use bhs_lineup::Keys;
+use bhs_lock::{Cell, Gate};
+use bhs_session::{Ended, serve};
+use bhs_stream::{Input, Output};
+use std::alloc::Global;
+use std::sync::Wait;
+
+/// How often a session may read.
+pub const TURNS: u32 = 16_777_216;
+
+/// A session that has ended: how, and the agent that it played, if it was let in.
+#[derive(Debug, Drop)]
+pub struct Visit {
+    pub ended: Ended,
+    pub played: Option<Played>,
+}
+
+/// Serves one client to its end, on the match of the agent that its key lets in.
+pub fn attend<I: Input, O: Output, R: Wait, G: Gate>(
+    rt: &R,
+    alloc: Global,
+    reader: &mut I,
+    writer: &mut O,
+    cells: &[Cell],
+    keys: &Keys,
+    gate: &G,
+) -> Visit
+    ensures { (last : Seated) × (last.played ≡ result.played) ×
+        Serves I.gives O.takes Calls reader.old reader.new writer.old writer.new
+        (record { keys = keys.now; games = length cells.now; played = None })
+        last TURNS (Finished result.ended) }
+{
+    let mut port = CellPort::new(rt, gate, cells, keys);
+    let ended = serve(alloc, reader, writer, &mut port, TURNS);
+    Visit {
+        ended,
+        played: port.into_played(),
+    }
+}
