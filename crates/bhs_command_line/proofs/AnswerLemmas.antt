@@ -1,5 +1,7 @@
 -- What an error tells, and which answer the words get.
-use Rattle.std.proofs.Common.{◌≡◌, ◌≢◌, ◌⊎◌, ◌↔◌, ◌∙◌, ◌||◌, IsTrue, ap, subst, sym, refl, inl, inr, not, true≢false, ℕ, Bool, true, false, List, [], ◌∷◌, Option, Some, None, Result, Ok, Err, IfOk, arith, is_some, eqb-true, length, suc}
+use Rattle.std.proofs.Common.{◌≡◌, ◌≢◌, ◌⊎◌, ◌↔◌, ◌∙◌, ◌||◌, IsTrue, ap, subst, sym, refl, inl, inr, not, true≢false, ℕ}
+use Rattle.std.proofs.Common.{Bool, true, false, List, [], ◌∷◌, Option, Some, None, Result, Ok, Err, IfOk, arith}
+use Rattle.std.proofs.Common.{is_some, eqb-true, length, suc}
 use Rattle.std.specs.Prelude.{IsErr, if◌then◌else◌, option_and_then}
 use Rattle.std.specs.List.{list_any}
 use Rattle.clap.specs.Words.{App, Row, Text, fault_of, is_simple, is_simple_and_free, subcommand_of}
@@ -7,11 +9,13 @@ use Rattle.clap.specs.Walk.{is_empty}
 use Rattle.clap.specs.Kinds.{IsAmong, Kinds}
 use Rattle.clap.specs.declared.error.kind.ErrorKind.{ErrorKind}
 use Rattle.clap.specs.declared.error.kind.ErrorKind.TheVariants.{DisplayHelp, DisplayVersion, OutOfMemory}
-use Rattle.bhs_command_line.specs.CommandLine.{Parses, AsksHelp, AreRefused, Says, Explains, is_refused, is_shown, arena, command_in, faults, is_asked, order_by, order_in}
+use Rattle.bhs_command_line.specs.CommandLine.{Parses, AsksHelp, AreRefused, Says, Explains, is_refused, is_shown}
+use Rattle.bhs_command_line.specs.CommandLine.{arena, command_in, faults, is_asked, order_by, order_in}
 use Rattle.bhs_command_line.specs.declared.Parsed.{Parsed}
 use Rattle.bhs_command_line.specs.declared.Parsed.TheVariants.{Ordered, Refused, Shown}
 use Rattle.bhs_command_line.specs.declared.orders.Order.{Order}
-use Rattle.bhs_command_line.proofs.WordLemmas.{arena_is_free, arena_is_simple, help_fault, kind≢none, no_word_fault, says_gives}
+use Rattle.bhs_command_line.proofs.WordLemmas.{arena_is_free, arena_is_simple, help_fault, kind≢none, no_word_fault}
+use Rattle.bhs_command_line.proofs.WordLemmas.{says_gives}
 
 asked_kind : (kind : ErrorKind) → is_asked kind ≡ true → (kind ≡ DisplayHelp) ⊎ (kind ≡ DisplayVersion)
 asked_kind DisplayHelp e = inl refl
@@ -27,24 +31,28 @@ mistake_told kind other = go (is_asked kind) refl
     go true e = absurd (elim (asked_kind kind e) [ inl h ↦ other.0 h | inr h ↦ other.1 h ])
 
 -- another one asks for help or the version
-pub asked_told : (kind : ErrorKind) (stderr : Bool) → IsTrue stderr ↔ ((kind ≢ DisplayHelp) × (kind ≢ DisplayVersion)) → stderr ≡ false → is_asked kind ≡ true
+pub asked_told : (kind : ErrorKind) (stderr : Bool) → IsTrue stderr ↔ ((kind ≢ DisplayHelp) × (kind ≢ DisplayVersion))
+    → stderr ≡ false → is_asked kind ≡ true
 asked_told kind stderr says not_stderr = go (is_asked kind) refl
   where
     go : (b : Bool) → is_asked kind ≡ b → b ≡ true
     go true e = refl
     go false e =
-        let differs : (other : ErrorKind) → is_asked other ≡ true → kind ≢ other = λ other asks same. true≢false (sym asks ∙ ap is_asked (sym same) ∙ e) in
+        let differs : (other : ErrorKind) → is_asked other ≡ true → kind ≢ other =
+        λ other asks same. true≢false (sym asks ∙ ap is_asked (sym same) ∙ e) in
         absurd (true≢false (sym (says.1 (differs DisplayHelp refl, differs DisplayVersion refl)) ∙ not_stderr))
 
 -- a test that one of the kinds passes
-pub some_passes : (test : ErrorKind → Bool) (kind : ErrorKind) (kinds : Kinds) → IsAmong kind kinds → test kind ≡ true → list_any test kinds ≡ true
+pub some_passes : (test : ErrorKind → Bool) (kind : ErrorKind) (kinds : Kinds) → IsAmong kind kinds → test kind ≡ true
+    → list_any test kinds ≡ true
 some_passes test kind [] among passes = absurd among
 some_passes test kind (k ∷ ks) (inl same) passes = or_first (test k) (list_any test ks) (ap test (sym same) ∙ passes)
   where
     or_first : (a b : Bool) → a ≡ true → (a || b) ≡ true
     or_first true b e = refl
     or_first false b e = absurd (true≢false (sym e))
-some_passes test kind (k ∷ ks) (inr among) passes = or_second (test k) (list_any test ks) (some_passes test kind ks among passes)
+some_passes test kind (k ∷ ks) (inr among) passes =
+    or_second (test k) (list_any test ks) (some_passes test kind ks among passes)
   where
     or_second : (a b : Bool) → b ≡ true → (a || b) ≡ true
     or_second true b e = refl
@@ -53,12 +61,14 @@ some_passes test kind (k ∷ ks) (inr among) passes = or_second (test k) (list_a
 -- ---- the answers that the words get
 
 -- the words get the answer that tells their error
-pub error_answered : {E : Type 0} (r : Result Parsed E) (kind : ErrorKind) (words : List Text) → (kind ≡ OutOfMemory) ⊎ IsAmong kind (faults words)
+pub error_answered : {E : Type 0} (r : Result Parsed E) (kind : ErrorKind) (words : List Text) → (kind ≡ OutOfMemory)
+    ⊎ IsAmong kind (faults words)
     → IfOk r (Explains kind) → (kind ≡ OutOfMemory → IsErr r) → IfOk r (Parses words)
 error_answered (Err x) kind words has tells memory = tt
 error_answered (Ok answer) kind words (inl out) tells memory = absurd (true≢false (sym (memory out)))
 error_answered (Ok (Ordered order)) kind words (inr among) tells memory = absurd tells
-error_answered (Ok (Shown text)) kind words (inr among) tells memory = some_passes is_asked kind (faults words) among tells
+error_answered (Ok (Shown text)) kind words (inr among) tells memory =
+    some_passes is_asked kind (faults words) among tells
 error_answered (Ok (Refused text)) kind words (inr among) tells memory =
     inl (some_passes (λ k. not (is_asked k)) kind (faults words) among (ap not tells))
 
@@ -76,7 +86,8 @@ ordered_taken words order e = none_empty (faults words) (go (is_empty (faults wo
 
 -- words that are refused have a fault, or give no order
 refused_none : (words : List Text) → AreRefused words → faults words ≡ [] → order_in words ≡ None
-refused_none words (inl faulty) none = absurd (true≢false (sym faulty ∙ ap (list_any (λ kind. not (is_asked kind))) none))
+refused_none words (inl faulty) none = absurd
+    (true≢false (sym faulty ∙ ap (list_any (λ kind. not (is_asked kind))) none))
 refused_none words (inr unfit) none = unfit.1
 
 some≢none : (order : Order) → (let one : Option Order = Some order in one ≡ None) → ⊥
@@ -86,28 +97,37 @@ some≢none order e = true≢false (ap is_some e)
 says_order : (words : List Text) (order : Order) → Says words order → order_in words ≡ Some order
 says_order words order says =
     let gives = says_gives words order says in
-    ap (λ (kinds : Kinds). if is_empty kinds then option_and_then order_by (command_in words) else None) gives.0 ∙ gives.1
+    ap (λ (kinds : Kinds). if is_empty kinds then option_and_then order_by (command_in words) else None)
+    gives.0 ∙ gives.1
 
-pub plainly_answered : (words : List Text) (answer : Parsed) → Parses words answer → (order : Order) → Says words order → answer ≡ Ordered order
+pub plainly_answered : (words : List Text) (answer : Parsed) → Parses words answer → (order : Order) → Says words order
+    → answer ≡ Ordered order
 plainly_answered words (Ordered other) e order says = ap order_or_this (sym e ∙ says_order words order says)
   where
     order_or_this : Option Order → Parsed
     order_or_this None = Ordered order
     order_or_this (Some one) = Ordered one
-plainly_answered words (Shown text) e order says = absurd (true≢false (sym e ∙ ap (list_any is_asked) (says_gives words order says).0))
+plainly_answered words (Shown text) e order says =
+    absurd (true≢false (sym e ∙ ap (list_any is_asked) (says_gives words order says).0))
 plainly_answered words (Refused text) e order says =
     absurd (some≢none order (sym (says_order words order says) ∙ refused_none words e (says_gives words order says).0))
 
 -- words that ask for help alone are shown it
-pub help_answered : (words : List Text) (answer : Parsed) → Parses words answer → AsksHelp words → is_shown answer ≡ true
-help_answered words (Ordered order) e asks = absurd (kind≢none _ _ (sym (help_fault words asks) ∙ ordered_taken words order e))
+pub help_answered : (words : List Text) (answer : Parsed) → Parses words answer → AsksHelp words
+    → is_shown answer ≡ true
+help_answered words (Ordered order) e asks = absurd
+    (kind≢none _ _ (sym (help_fault words asks) ∙ ordered_taken words order e))
 help_answered words (Shown text) e asks = refl
-help_answered words (Refused text) (inl e) asks = absurd (true≢false (sym e ∙ ap (list_any (λ kind. not (is_asked kind))) (help_fault words asks)))
+help_answered words (Refused text) (inl e) asks =
+    absurd (true≢false (sym e ∙ ap (list_any (λ kind. not (is_asked kind))) (help_fault words asks)))
 help_answered words (Refused text) (inr e) asks = absurd (kind≢none _ _ (sym (help_fault words asks) ∙ e.0))
 
-pub no_word_answered : (words : List Text) (answer : Parsed) → Parses words answer → words ≡ [] → is_refused answer ≡ true
-no_word_answered words (Ordered order) e none = absurd (kind≢none _ _ (sym (no_word_fault words none) ∙ ordered_taken words order e))
-no_word_answered words (Shown text) e none = absurd (true≢false (sym e ∙ ap (list_any is_asked) (no_word_fault words none)))
+pub no_word_answered : (words : List Text) (answer : Parsed) → Parses words answer → words ≡ []
+    → is_refused answer ≡ true
+no_word_answered words (Ordered order) e none =
+    absurd (kind≢none _ _ (sym (no_word_fault words none) ∙ ordered_taken words order e))
+no_word_answered words (Shown text) e none = absurd
+    (true≢false (sym e ∙ ap (list_any is_asked) (no_word_fault words none)))
 no_word_answered words (Refused text) e none = refl
 
 -- what the contract says of an answer beside `Parses`
@@ -125,7 +145,8 @@ plainly words answer e = record {
 
 pub all_plainly : {E : Type 0} (r : Result Parsed E) (words : List Text) → IfOk r (Parses words)
     → IfOk r (λ answer. (order : Order) → Says words order → answer ≡ Ordered order)
-    × IfOk r (λ answer. AsksHelp words → is_shown answer ≡ true) × IfOk r (λ answer. words ≡ [] → is_refused answer ≡ true)
+    × IfOk r (λ answer. AsksHelp words → is_shown answer ≡ true)
+    × IfOk r (λ answer. words ≡ [] → is_refused answer ≡ true)
 all_plainly (Ok answer) words answers = let p = plainly words answer answers in (p.plain, p.help, p.no_word)
 all_plainly (Err x) words answers = (tt, tt, tt)
 
@@ -138,15 +159,23 @@ module _ (a : App) (is : a ≡ arena) (words : List Text) where
   free_here = ap is_simple_and_free is ∙ arena_is_free
 
   -- clap's matches give the order of the words, or none
-  pub order_same : (rows : Option (Text × List Row)) (order : Option Order) → fault_of a words ≡ [] → rows ≡ subcommand_of a words
+  pub order_same : (rows : Option (Text × List Row)) (order : Option Order) → fault_of a words ≡ []
+      → rows ≡ subcommand_of a words
       → option_and_then order_by rows ≡ order → order_in words ≡ order
   order_same rows order none same given =
       sym (ap (option_and_then order_by) (same ∙ ap (λ (b : App). subcommand_of b words) is)
-      ∙ ap (λ (kinds : Kinds). if is_empty kinds then option_and_then order_by (command_in words) else None) (sym none ∙ ap (λ (b : App). fault_of b words) is))
+      ∙ ap (λ (kinds : Kinds). if is_empty kinds then option_and_then order_by (command_in words) else None)
+      (sym none ∙ ap (λ (b : App). fault_of b words) is))
       ∙ given
 
-  pub refused_here : (rows : Option (Text × List Row)) → fault_of a words ≡ [] → rows ≡ subcommand_of a words → option_and_then order_by rows ≡ None → AreRefused words
-  refused_here rows none same given = inr (ap (λ (b : App). fault_of b words) (sym is) ∙ none, order_same rows None none same given)
+  pub refused_here : (rows : Option (Text × List Row)) → fault_of a words ≡ [] → rows ≡ subcommand_of a words
+      → option_and_then order_by rows ≡ None → AreRefused words
+  refused_here rows none same given = inr (
+    ap (λ (b : App). fault_of b words) (sym is)
+        ∙ none,
+    order_same rows None none same given,
+  )
 
-  pub kind_here : (kind : ErrorKind) → (kind ≡ OutOfMemory) ⊎ IsAmong kind (fault_of a words) → (kind ≡ OutOfMemory) ⊎ IsAmong kind (faults words)
+  pub kind_here : (kind : ErrorKind) → (kind ≡ OutOfMemory) ⊎ IsAmong kind (fault_of a words) → (kind ≡ OutOfMemory)
+      ⊎ IsAmong kind (faults words)
   kind_here kind has = subst (λ (b : App). (kind ≡ OutOfMemory) ⊎ IsAmong kind (fault_of b words)) is has

@@ -1,5 +1,6 @@
 -- What is read of clap's matches, by their rows, and the entries of a table.
-use Rattle.std.proofs.Common.{◌≡◌, ◌∙◌, ap, sym, refl, ℕ, ◌+◌, ◌<◌, List, [], ◌∷◌, ◌++◌, length, drop, get_or, map, Option, Some, None, append_assoc}
+use Rattle.std.proofs.Common.{◌≡◌, ◌∙◌, ap, sym, refl, ℕ, ◌+◌, ◌<◌, List, [], ◌∷◌, ◌++◌, length, drop, get_or, map}
+use Rattle.std.proofs.Common.{Option, Some, None, append_assoc}
 use Rattle.std.specs.Prelude.{option_and_then, option_map, unwrap_or}
 use Rattle.std.specs.Borrow.{Bor}
 use Rattle.std.proofs.lemmas.List.{drop_more}
@@ -10,15 +11,18 @@ use Rattle.bhs_command_line.specs.CommandLine.{entries_in, entry_in, text_in, te
 use Rattle.bhs_command_line.specs.declared.orders.Entry.{Entry}
 
 -- the text of what is borrowed, or none
-unwrapped : (o : Option (Bor Text)) (d : Bor Text) → d.now ≡ [] → (unwrap_or o d).now ≡ unwrap_or (option_map (λ s. s.now) o) []
+unwrapped : (o : Option (Bor Text)) (d : Bor Text) → d.now ≡ []
+    → (unwrap_or o d).now ≡ unwrap_or (option_map (λ s. s.now) o) []
 unwrapped None d is = is
 unwrapped (Some s) d is = refl
 
 -- the text that clap found
-pub text_found : (found : Found) (id : Text) (o : Option (Bor Text)) (name d : Bor Text) → option_map (λ s. s.now) o ≡ first_value found id
+pub text_found : (found : Found) (id : Text) (o : Option (Bor Text)) (name d : Bor Text)
+    → option_map (λ s. s.now) o ≡ first_value found id
     → d.now ≡ [] → name ≡ unwrap_or o d → name.now ≡ text_in id (rows_of found)
 text_found found id o name d is none same =
-    ap (λ (b : Bor Text). b.now) same ∙ unwrapped o d none ∙ ap (λ (text : Option Text). unwrap_or text []) (is ∙ first_value-rows found id)
+    ap (λ (b : Bor Text). b.now) same ∙ unwrapped o d none ∙ ap (λ (text : Option Text). unwrap_or text [])
+    (is ∙ first_value-rows found id)
 
 -- what is read of the words so far, in front of what the others say
 abbrev pub joined : List Entry → Option (List Entry) → Option (List Entry)
@@ -38,28 +42,36 @@ module _ (words : List (Bor Text)) (place : ℕ) (d : Bor Text) (within : place 
       ap (λ (rest : List (Bor Text)). entries_in (map (λ one. one.now) rest)) (drop_more words place d within)
       ∙ ap (λ (one : Option Entry). then_entry one (entries_in (texts_from (place + 1) words))) (sym is)
 
-  module _ (done : List Entry) (so_far : joined done (entries_in (texts_from place words)) ≡ entries_in (texts_from 0 words)) where
+  module _ (done : List Entry) (so_far : joined done (entries_in (texts_from place words)) ≡ entries_in
+      (texts_from 0 words)) where
     -- a word that is no entry
     pub no_entry : found ≡ None → (let none : Option (List Entry) = None in none ≡ entries_in (texts_from 0 words))
     no_entry none =
         sym (ap (λ (one : Option Entry). joined done (then_entry one (entries_in (texts_from (place + 1) words)))) none)
         ∙ (sym (ap (joined done) next_entry) ∙ so_far)
 
-    pushed : (entry : Entry) (rest : Option (List Entry)) → joined (done ++ entry ∷ []) rest ≡ joined done (option_map (λ entries. entry ∷ entries) rest)
+    pushed : (entry : Entry) (rest : Option (List Entry)) → joined (done ++ entry ∷ []) rest ≡ joined done
+        (option_map (λ entries. entry ∷ entries) rest)
     pushed entry None = refl
     pushed entry (Some entries) = ap Some (append_assoc done (entry ∷ []) entries)
 
     -- a word that is one
-    pub one_entry : (entry : Entry) → found ≡ Some entry → joined (done ++ entry ∷ []) (entries_in (texts_from (place + 1) words)) ≡ entries_in (texts_from 0 words)
+    pub one_entry : (entry : Entry) → found ≡ Some entry
+        → joined (done ++ entry ∷ []) (entries_in (texts_from (place + 1) words)) ≡ entries_in (texts_from 0 words)
     one_entry entry some =
         pushed entry (entries_in (texts_from (place + 1) words))
-        ∙ (sym (ap (λ (one : Option Entry). joined done (then_entry one (entries_in (texts_from (place + 1) words)))) some)
+        ∙ (sym (ap (λ (one : Option Entry). joined done (then_entry one (entries_in (texts_from (place + 1) words))))
+        some)
         ∙ (sym (ap (joined done) next_entry) ∙ so_far))
 
 -- the texts that clap found
-pub texts_found : (found : Found) (id : Text) (texts : Bor (List (Bor Text))) → option_map (λ (s : Bor (List (Bor Text))). map (λ v. v.now) s.now) (Some texts) ≡ option_map raw_values (matched_of found id)
+pub texts_found : (found : Found) (id : Text) (texts : Bor (List (Bor Text)))
+    → option_map (λ (s : Bor (List (Bor Text))). map (λ v. v.now) s.now) (Some texts) ≡ option_map raw_values
+    (matched_of found id)
     → map (λ v. v.now) texts.now ≡ texts_in id (rows_of found)
 texts_found found id texts is = ap (λ (all : Option (List Text)). unwrap_or all []) (is ∙ raw_values-rows found id)
 
-pub no_texts_found : (found : Found) (id : Text) → (let none : Option (List Text) = None in none ≡ option_map raw_values (matched_of found id)) → (let none : List Text = [] in none ≡ texts_in id (rows_of found))
+pub no_texts_found : (found : Found) (id : Text)
+    → (let none : Option (List Text) = None in none ≡ option_map raw_values (matched_of found id))
+    → (let none : List Text = [] in none ≡ texts_in id (rows_of found))
 no_texts_found found id is = ap (λ (all : Option (List Text)). unwrap_or all []) (is ∙ raw_values-rows found id)

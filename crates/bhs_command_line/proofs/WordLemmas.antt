@@ -1,5 +1,6 @@
 -- Which words the command line takes.
-use Rattle.std.proofs.Common.{◌≡◌, ◌∙◌, ap, subst, sym, refl, inl, inr, true≢false, Bool, true, false, ℕ, codes, List, [], ◌∷◌, ◌++◌, Option, Some, None}
+use Rattle.std.proofs.Common.{◌≡◌, ◌∙◌, ap, subst, sym, refl, inl, inr, true≢false, Bool, true, false, ℕ, codes, List}
+use Rattle.std.proofs.Common.{[], ◌∷◌, ◌++◌, Option, Some, None}
 use Rattle.std.specs.Prelude.{option_and_then, option_map}
 use Rattle.clap.specs.Words.{Text}
 use Rattle.clap.specs.Simple.{is_simple}
@@ -8,7 +9,8 @@ use Rattle.clap.specs.Faults.{is_simple_and_free}
 use Rattle.clap.specs.declared.error.kind.ErrorKind.{ErrorKind}
 use Rattle.clap.specs.declared.error.kind.ErrorKind.TheVariants.{DisplayHelp, DisplayHelpOnMissingArgumentOrSubcommand}
 use Rattle.clap.proofs.OnLiterals.{clap_on_literals}
-use Rattle.bhs_command_line.specs.CommandLine.{AsksHelp, AskAfter, Says, arena, command_in, faults, is_dashed, number_in, entries_in, order_by}
+use Rattle.bhs_command_line.specs.CommandLine.{AsksHelp, AskAfter, Says, arena, command_in, faults, is_dashed}
+use Rattle.bhs_command_line.specs.CommandLine.{number_in, entries_in, order_by}
 use Rattle.bhs_command_line.specs.declared.orders.Order.{Order}
 use Rattle.bhs_command_line.specs.declared.orders.Order.TheVariants.{Check, Explain, Judge, Rehearse, Table, Twin}
 use Rattle.bhs_command_line.specs.declared.orders.Entry.{Entry}
@@ -34,7 +36,8 @@ arena_is_free = refl
 
 -- words that ask for help after these, where both forms do
 asked_after : (before words : List Text) → AskAfter before words
-    → (faults (before ++ codes "--help" ∷ []) ≡ DisplayHelp ∷ []) × (faults (before ++ codes "-h" ∷ []) ≡ DisplayHelp ∷ [])
+    → (faults (before ++ codes "--help" ∷ []) ≡ DisplayHelp ∷ [])
+    × (faults (before ++ codes "-h" ∷ []) ≡ DisplayHelp ∷ [])
     → faults words ≡ DisplayHelp ∷ []
 asked_after before words (inl is) both = ap faults is ∙ both.0
 asked_after before words (inr is) both = ap faults is ∙ both.1
@@ -51,7 +54,8 @@ help_fault words (inr (inr (inr (inr (inr (inr asks)))))) = asked_after (codes "
 
 pub no_word_fault : (words : List Text) → words ≡ [] → faults words ≡ DisplayHelpOnMissingArgumentOrSubcommand ∷ []
 unfolding clap_on_literals
-no_word_fault words is = subst (λ (ws : List Text). faults ws ≡ DisplayHelpOnMissingArgumentOrSubcommand ∷ []) (sym is) refl
+no_word_fault words is = subst (λ (ws : List Text). faults ws ≡ DisplayHelpOnMissingArgumentOrSubcommand ∷ []) (sym is)
+    refl
 
 -- ---- the plainest words
 
@@ -59,16 +63,19 @@ no_word_fault words is = subst (λ (ws : List Text). faults ws ≡ DisplayHelpOn
 abbrev Gives : List Text → Order → Type 0
 Gives words order = (faults words ≡ []) × (option_and_then order_by (command_in words) ≡ Some order)
 
-rehearse_alone : Gives (codes "rehearse" ∷ []) (Rehearse None None) × Gives (codes "rehearse" ∷ codes "--" ∷ []) (Rehearse None None)
+rehearse_alone : Gives (codes "rehearse" ∷ []) (Rehearse None None) × Gives (codes "rehearse" ∷ codes "--" ∷ [])
+    (Rehearse None None)
 unfolding clap_on_literals
 rehearse_alone = ((refl, refl), (refl, refl))
 
-rehearse_named : (name : Text) → is_dashed name ≡ false → Gives (codes "rehearse" ∷ name ∷ []) (Rehearse (Some name) None)
+rehearse_named : (name : Text) → is_dashed name ≡ false
+    → Gives (codes "rehearse" ∷ name ∷ []) (Rehearse (Some name) None)
 unfolding clap_on_literals
 rehearse_named [] e = (refl, refl)
 rehearse_named (b ∷ bs) e = (simp e, simp e)
 
-rehearse_written : (prefix : Text) → is_dashed prefix ≡ false → Gives (codes "rehearse" ∷ codes "--replay" ∷ prefix ∷ []) (Rehearse None (Some prefix))
+rehearse_written : (prefix : Text) → is_dashed prefix ≡ false
+    → Gives (codes "rehearse" ∷ codes "--replay" ∷ prefix ∷ []) (Rehearse None (Some prefix))
 unfolding clap_on_literals
 rehearse_written [] e = (refl, refl)
 rehearse_written (b ∷ bs) e = (simp e, simp e)
@@ -92,13 +99,17 @@ judge_named [] e = (refl, refl)
 judge_named (b ∷ bs) e = (simp e, simp e)
 
 table_found : (word : Text) → is_dashed word ≡ false
-    → (faults (codes "table" ∷ word ∷ []) ≡ []) × (option_and_then order_by (command_in (codes "table" ∷ word ∷ [])) ≡ option_map Table (entries_in (word ∷ [])))
+    → (faults (codes "table" ∷ word ∷ []) ≡ [])
+    × (option_and_then order_by (command_in (codes "table" ∷ word ∷ [])) ≡ option_map Table
+    (entries_in (word ∷ [])))
 unfolding clap_on_literals
 table_found [] e = (refl, refl)
 table_found (b ∷ bs) e = (simp e, simp e)
 
 explain_found : (replay word : Text) → is_dashed replay ≡ false → is_dashed word ≡ false
-    → (faults (codes "explain" ∷ replay ∷ word ∷ []) ≡ []) × (option_and_then order_by (command_in (codes "explain" ∷ replay ∷ word ∷ [])) ≡ option_map (Explain replay) (number_in word))
+    → (faults (codes "explain" ∷ replay ∷ word ∷ []) ≡ [])
+    × (option_and_then order_by (command_in (codes "explain" ∷ replay ∷ word ∷ [])) ≡ option_map (Explain replay)
+    (number_in word))
 unfolding clap_on_literals
 explain_found [] [] e f = (refl, refl)
 explain_found [] (c ∷ cs) e f = (simp f, simp f)
@@ -106,7 +117,9 @@ explain_found (b ∷ bs) [] e f = (simp e, simp e)
 explain_found (b ∷ bs) (c ∷ cs) e f = (simp (e, f), simp (e, f))
 
 twin_found : (replay word : Text) → is_dashed replay ≡ false → is_dashed word ≡ false
-    → (faults (codes "twin" ∷ replay ∷ word ∷ []) ≡ []) × (option_and_then order_by (command_in (codes "twin" ∷ replay ∷ word ∷ [])) ≡ option_map (Twin replay) (number_in word))
+    → (faults (codes "twin" ∷ replay ∷ word ∷ []) ≡ [])
+    × (option_and_then order_by (command_in (codes "twin" ∷ replay ∷ word ∷ [])) ≡ option_map (Twin replay)
+    (number_in word))
 unfolding clap_on_literals
 twin_found [] [] e f = (refl, refl)
 twin_found [] (c ∷ cs) e f = (simp f, simp f)
@@ -121,7 +134,8 @@ says_gives words (Rehearse None None) (inl is) = here words _ _ is rehearse_alon
 says_gives words (Rehearse None None) (inr is) = here words _ _ is rehearse_alone.1
 says_gives words (Rehearse (Some name) None) (plain, is) = here words _ _ is (rehearse_named name plain)
 says_gives words (Rehearse None (Some prefix)) (plain, is) = here words _ _ is (rehearse_written prefix plain)
-says_gives words (Rehearse (Some name) (Some prefix)) (plain, also, is) = here words _ _ is (rehearse_both name prefix plain also)
+says_gives words (Rehearse (Some name) (Some prefix)) (plain, also, is) =
+    here words _ _ is (rehearse_both name prefix plain also)
 says_gives words (Check name) (plain, is) = here words _ _ is (check_named name plain)
 says_gives words (Judge replay) (plain, is) = here words _ _ is (judge_named replay plain)
 says_gives words (Table entries) (word, plain, says, is) =

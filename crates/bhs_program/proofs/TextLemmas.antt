@@ -1,5 +1,6 @@
 -- What the texts of the built-in tournament say, by computing.
-use Rattle.std.proofs.Common.{◌≡◌, inl, inr, ℕ, List, [], ◌∷◌, ◌∙◌, map, length, refl, sym, ap, Result, Ok, Err, IfOk, IfErr, MatchResult}
+use Rattle.std.proofs.Common.{◌≡◌, inl, inr, ℕ, List, [], ◌∷◌, ◌∙◌, map, length, refl, sym, ap, Result, Ok, Err, IfOk}
+use Rattle.std.proofs.Common.{IfErr, MatchResult}
 use Rattle.std.proofs.lemmas.Simd.{map-map}
 use Rattle.toml.proofs.OnLiterals.{toml_on_literals}
 use Rattle.hex.proofs.OnLiterals.{hex_on_literals}
@@ -32,19 +33,22 @@ tournament_assembled = refl
 
 -- a network that these links make, or no memory
 is_triangle_or : (r : Result Network FileFault) (listing : Result Listing FileFault) → listing ≡ Ok (3, links)
-    → IfOk r (IsNetworkOf listing) → IfErr r (RefusesFile listing) → MatchResult r (λ net. net ≡ triangle) (λ fault. fault ≡ faults.Memory)
+    → IfOk r (IsNetworkOf listing) → IfErr r (RefusesFile listing)
+    → MatchResult r (λ net. net ≡ triangle) (λ fault. fault ≡ faults.Memory)
 is_triangle_or (Ok net) listing is made refused = is_triangle net (rw is at made)
 is_triangle_or (Err fault) listing is made refused = elim (rw is at refused) [
   | inl memory ↦ memory
   | inr first ↦ absurd (no_fault first.0 first.2.holds)
 ]
 
-pub network_is : (r : Result Network FileFault) → IfOk r (IsNetworkOf (listing_in NETWORK.now)) → IfErr r (RefusesFile (listing_in NETWORK.now))
+pub network_is : (r : Result Network FileFault) → IfOk r (IsNetworkOf (listing_in NETWORK.now))
+    → IfErr r (RefusesFile (listing_in NETWORK.now))
     → MatchResult r (λ net. net ≡ triangle) (λ fault. fault ≡ faults.Memory)
 network_is r made refused = is_triangle_or r (listing_in NETWORK.now) network_listed made refused
 
 -- what is read without a fault is given, or there is no memory
-pub given_or : {X Y : Type 0} (view : X → Y) (r : Result X FileFault) (reading : Result Y FileFault) (y : Y) → reading ≡ Ok y → GivesUnlessMemory view r reading
+pub given_or : {X Y : Type 0} (view : X → Y) (r : Result X FileFault) (reading : Result Y FileFault) (y : Y)
+    → reading ≡ Ok y → GivesUnlessMemory view r reading
     → MatchResult r (λ x. view x ≡ y) (λ fault. fault ≡ faults.Memory)
 given_or view (Ok x) reading y is gives = let same : Ok (view x) ≡ Ok y = sym gives ∙ is in cc
 given_or view (Err faults.Memory) reading y is gives = refl
@@ -57,12 +61,15 @@ given_or view (Err (faults.Setup game fault)) reading y is gives = cc
 given_or view (Err (faults.KeyTwice game agent)) reading y is gives = cc
 given_or view (Err (faults.Held game index)) reading y is gives = cc
 
-pub tournament_is : (r : Result Tournament FileFault) → GivesUnlessMemory tournaments.plan r (tournament_in TOURNAMENT.now)
+pub tournament_is : (r : Result Tournament FileFault)
+    → GivesUnlessMemory tournaments.plan r (tournament_in TOURNAMENT.now)
     → MatchResult r (λ tournament. tournaments.plan tournament ≡ plan) (λ fault. fault ≡ faults.Memory)
 tournament_is r gives = given_or tournaments.plan r (tournament_in TOURNAMENT.now) plan tournament_planned gives
 
 -- it names one network
-pub one_name : (tournament : Tournament) → tournaments.plan tournament ≡ plan → 1 ≡ length (first_seen (map (λ fixture. fixture.network) tournament.matches.items))
+pub one_name : (tournament : Tournament) → tournaments.plan tournament ≡ plan
+    → 1 ≡ length (first_seen (map (λ fixture. fixture.network) tournament.matches.items))
 one_name tournament is =
     sym (ap (λ (names : List (List ℕ)). length (first_seen names))
-    (sym (map-map (λ (p : tournaments.Planned). p.network) tournaments.planned tournament.matches.items) ∙ ap (λ (p : tournaments.Plan). map (λ (one : tournaments.Planned). one.network) p.matches) is))
+    (sym (map-map (λ (p : tournaments.Planned). p.network) tournaments.planned tournament.matches.items)
+    ∙ ap (λ (p : tournaments.Plan). map (λ (one : tournaments.Planned). one.network) p.matches) is))

@@ -1,7 +1,9 @@
 -- The links of the triangle have no fault, and make the network that `triangle` says.
-use Rattle.std.proofs.Common.{◌≡◌, ℕ, zero, suc, ◌<◌, ◌≤◌, ◌⊎◌, inl, inr, List, [], ◌∷◌, length, slice_index_or, refl, ap, subst, arith, lit<, lit≤}
+use Rattle.std.proofs.Common.{◌≡◌, ℕ, zero, suc, ◌<◌, ◌≤◌, ◌⊎◌, inl, inr, List, [], ◌∷◌, length, slice_index_or, refl}
+use Rattle.std.proofs.Common.{ap, subst, arith, lit<, lit≤}
 use Rattle.bhs_net.specs.declared.faults.NetFault.{NetFault}
-use Rattle.bhs_net.specs.declared.faults.NetFault.TheVariants.{Nodes, Node, Loop, Double, PortTwice, PortGap, Apart, CutNode, Memory}
+use Rattle.bhs_net.specs.declared.faults.NetFault.TheVariants.{Nodes, Node, Loop, Double, PortTwice, PortGap, Apart}
+use Rattle.bhs_net.specs.declared.faults.NetFault.TheVariants.{CutNode, Memory}
 use Rattle.bhs_net.specs.declared.links.Link.{Link}
 use Rattle.bhs_net.specs.Links.{End, link_at, HasEnd, SameNodes, SharesEnd, IsListed, AreJoined, AreLinked}
 use Rattle.bhs_net.specs.Network.{Network, row_of, degree_of, far_of, Makes}
@@ -9,7 +11,8 @@ use Rattle.bhs_net.specs.Faults.{IsStray, IsLoop, IsDouble, IsPortTwice, IsGap, 
 use Rattle.bhs_program.specs.BuiltIn.{triangle}
 
 abbrev pub links : List Link
-links = record { v = 0; p = 0; w = 1; q = 0 } ∷ record { v = 1; p = 1; w = 2; q = 0 } ∷ record { v = 2; p = 1; w = 0; q = 1 } ∷ []
+links = record { v = 0; p = 0; w = 1; q = 0 } ∷ record { v = 1; p = 1; w = 2; q = 0 } ∷ record
+    { v = 2; p = 1; w = 0; q = 1 } ∷ []
 
 -- a place of the list is one of three
 at_place : (P : ℕ → Type 0) → P 0 → P 1 → P 2 → (place : ℕ) → place < 3 → P place
@@ -28,7 +31,8 @@ no_stray place stray =
 
 pub no_loop : (place : ℕ) → ¬ IsLoop links place
 no_loop place loop =
-    at_place (λ (n : ℕ). (link_at links n).v ≡ (link_at links n).w → ⊥) (λ e. omega arith) (λ e. omega arith) (λ e. omega arith) place loop.0 loop.1
+    at_place (λ (n : ℕ). (link_at links n).v ≡ (link_at links n).w → ⊥) (λ e. omega arith) (λ e. omega arith)
+    (λ e. omega arith) place loop.0 loop.1
 
 -- no two of the links join the same nodes
 no_pair : (early late : ℕ) → late < 3 → early < late → SameNodes (link_at links early) (link_at links late) → ⊥
@@ -53,18 +57,30 @@ differ a b c d not_both same = not_both (ap (λ (end : End). end.0) same) (ap (�
 no_shared : (early late : ℕ) → late < 3 → early < late → SharesEnd (link_at links early) (link_at links late) → ⊥
 no_shared zero zero within before shared = omega arith
 no_shared zero (suc zero) within before shared = elim shared [
-  | inl near ↦ elim near [ inl e ↦ differ 0 0 1 1 (λ p q. omega arith) e | inr e ↦ differ 1 0 1 1 (λ p q. omega arith) e ]
+  | inl near ↦ elim near [
+    | inl e ↦ differ 0 0 1 1 (λ p q. omega arith) e
+    | inr e ↦ differ 1 0 1 1
+        (λ p q. omega arith) e
+  ]
   | inr far ↦ elim far [ inl e ↦ differ 0 0 2 0 (λ p q. omega arith) e | inr e ↦ differ 1 0 2 0 (λ p q. omega arith) e ]
 ]
 no_shared zero (suc (suc zero)) within before shared = elim shared [
-  | inl near ↦ elim near [ inl e ↦ differ 0 0 2 1 (λ p q. omega arith) e | inr e ↦ differ 1 0 2 1 (λ p q. omega arith) e ]
+  | inl near ↦ elim near [
+    | inl e ↦ differ 0 0 2 1 (λ p q. omega arith) e
+    | inr e ↦ differ 1 0 2 1
+        (λ p q. omega arith) e
+  ]
   | inr far ↦ elim far [ inl e ↦ differ 0 0 0 1 (λ p q. omega arith) e | inr e ↦ differ 1 0 0 1 (λ p q. omega arith) e ]
 ]
 no_shared zero (suc (suc (suc more))) within before shared = omega arith
 no_shared (suc zero) zero within before shared = omega arith
 no_shared (suc zero) (suc zero) within before shared = omega arith
 no_shared (suc zero) (suc (suc zero)) within before shared = elim shared [
-  | inl near ↦ elim near [ inl e ↦ differ 1 1 2 1 (λ p q. omega arith) e | inr e ↦ differ 2 0 2 1 (λ p q. omega arith) e ]
+  | inl near ↦ elim near [
+    | inl e ↦ differ 1 1 2 1 (λ p q. omega arith) e
+    | inr e ↦ differ 2 0 2 1
+        (λ p q. omega arith) e
+  ]
   | inr far ↦ elim far [ inl e ↦ differ 1 1 0 1 (λ p q. omega arith) e | inr e ↦ differ 2 0 0 1 (λ p q. omega arith) e ]
 ]
 no_shared (suc zero) (suc (suc (suc more))) within before shared = omega arith
@@ -74,7 +90,8 @@ pub no_port_twice : (place : ℕ) → ¬ IsPortTwice links place
 no_port_twice place twice = no_shared twice.1.0 place twice.0 twice.1.1 twice.1.2
 
 -- the ends that are listed: ports 0 and 1 of the nodes 0, 1 and 2
-low : (a b node port : ℕ) → a ≤ 2 → b ≤ 1 → (let one : End = (a, b) in let two : End = (node, port) in one ≡ two) → (node ≤ 2) × (port ≤ 1)
+low : (a b node port : ℕ) → a ≤ 2 → b ≤ 1 → (let one : End = (a, b) in let two : End = (node, port) in one ≡ two)
+    → (node ≤ 2) × (port ≤ 1)
 low a b node port node_low port_low same =
     let n : a ≡ node = ap (λ (end : End). end.0) same in
     let p : b ≡ port = ap (λ (end : End). end.1) same in
@@ -141,13 +158,15 @@ no_fault (CutNode node) holds = no_cut node holds
 no_fault Memory holds = holds
 
 -- a list is its elements
-list_of_two : (xs : List End) (d a b : End) → length xs ≡ 2 → slice_index_or xs 0 d ≡ a → slice_index_or xs 1 d ≡ b → xs ≡ a ∷ b ∷ []
+list_of_two : (xs : List End) (d a b : End) → length xs ≡ 2 → slice_index_or xs 0 d ≡ a → slice_index_or xs 1 d ≡ b
+    → xs ≡ a ∷ b ∷ []
 list_of_two [] d a b two first second = absurd (omega arith)
 list_of_two (x ∷ []) d a b two first second = absurd (omega arith)
 list_of_two (x ∷ y ∷ []) d a b two first second = rw (first, second) refl
 list_of_two (x ∷ y ∷ z ∷ more) d a b two first second = absurd (omega arith)
 
-list_of_three : (xs : Network) (d a b c : List End) → length xs ≡ 3 → slice_index_or xs 0 d ≡ a → slice_index_or xs 1 d ≡ b → slice_index_or xs 2 d ≡ c → xs ≡ a ∷ b ∷ c ∷ []
+list_of_three : (xs : Network) (d a b c : List End) → length xs ≡ 3 → slice_index_or xs 0 d ≡ a
+    → slice_index_or xs 1 d ≡ b → slice_index_or xs 2 d ≡ c → xs ≡ a ∷ b ∷ c ∷ []
 list_of_three [] d a b c three first second third = absurd (omega arith)
 list_of_three (x ∷ []) d a b c three first second third = absurd (omega arith)
 list_of_three (x ∷ y ∷ []) d a b c three first second third = absurd (omega arith)
@@ -166,7 +185,9 @@ exactly_two (suc (suc (suc more))) above below = let bad : 2 ≤ 1 = below (omeg
 
 two_ports : (net : Network) (node : ℕ) → Makes 3 links net → 1 < degree_of net node → degree_of net node ≡ 2
 two_ports net node lists second =
-    let no_third : 2 < degree_of net node → 2 ≤ 1 = λ third. (listed_low node 2 (listed_from_joined (node, 2) (far_of net node 2) (lists.made_of.all node 2 third))).1 in
+    let no_third : 2 < degree_of net node → 2 ≤ 1 =
+    λ third. (listed_low node 2 (listed_from_joined (node, 2) (far_of net node 2)
+    (lists.made_of.all node 2 third))).1 in
     exactly_two (degree_of net node) second no_third
 
 pub is_triangle : (net : Network) → Makes 3 links net → net ≡ triangle
@@ -174,6 +195,9 @@ is_triangle net lists =
     let near = lists.made_of.near in
     let far = lists.made_of.far in
     list_of_three net [] _ _ _ lists.size
-    (list_of_two (row_of net 0) (0, 0) (1, 0) (2, 1) (two_ports net 0 lists (far 2 (lit< tt)).0) (near 0 (lit< tt)).1 (far 2 (lit< tt)).1)
-    (list_of_two (row_of net 1) (0, 0) (0, 0) (2, 0) (two_ports net 1 lists (near 1 (lit< tt)).0) (far 0 (lit< tt)).1 (near 1 (lit< tt)).1)
-    (list_of_two (row_of net 2) (0, 0) (1, 1) (0, 1) (two_ports net 2 lists (near 2 (lit< tt)).0) (far 1 (lit< tt)).1 (near 2 (lit< tt)).1)
+    (list_of_two (row_of net 0) (0, 0) (1, 0) (2, 1) (two_ports net 0 lists (far 2 (lit< tt)).0) (near 0 (lit< tt)).1
+    (far 2 (lit< tt)).1)
+    (list_of_two (row_of net 1) (0, 0) (0, 0) (2, 0) (two_ports net 1 lists (near 1 (lit< tt)).0) (far 0 (lit< tt)).1
+    (near 1 (lit< tt)).1)
+    (list_of_two (row_of net 2) (0, 0) (1, 1) (0, 1) (two_ports net 2 lists (near 2 (lit< tt)).0) (far 1 (lit< tt)).1
+    (near 2 (lit< tt)).1)

@@ -1,5 +1,6 @@
 -- What a rehearsal does to its input and its output, call by call.
-use Rattle.std.specs.Prelude.{◌≡◌, ℕ, ◌⊎◌, Bool, true, false, List, length, map, Option, Some, None, IsSome, Result, Ok, Err}
+use Rattle.std.specs.Prelude.{◌≡◌, ℕ, ◌⊎◌, Bool, true, false, List, length, map, Option, Some, None, IsSome, Result, Ok}
+use Rattle.std.specs.Prelude.{Err}
 use Rattle.std.specs.List.{AllByRecursion}
 use Rattle.bhs_model.specs.declared.limits.TheConstants.{MAX_TEXT}
 use Rattle.bhs_stream.specs.Streams.{Chunk, End, Taken}
@@ -19,7 +20,8 @@ use Rattle.bhs_script.specs.declared.instructions.TheConstants.{CONNECTIONS}
 use Rattle.bhs_script.specs.Script.{instructions_of}
 use Rattle.bhs_script.specs.Transcript.{transcript}
 use Rattle.bhs_program.specs.declared.faults.Fault.{Fault}
-use Rattle.bhs_program.specs.declared.faults.Fault.TheVariants.{Read, Text, Line, File, Replay, Twin, Write, Memory, Turns}
+use Rattle.bhs_program.specs.declared.faults.Fault.TheVariants.{Read, Text, Line, File, Replay, Twin, Write, Memory}
+use Rattle.bhs_program.specs.declared.faults.Fault.TheVariants.{Turns}
 use Rattle.bhs_program.specs.declared.statuses.TheConstants.{DONE}
 use Rattle.bhs_program.specs.Fault.{status}
 use Rattle.bhs_program.specs.Playing.{StopsPlaying}
@@ -82,14 +84,16 @@ module _ {I O : Type 0} (gives : I → Chunk → I → Type 0) (takes : O → Li
       ⊎ PlaysUntil Memory stage input input' output output')
 
   -- the whole script was played, and whether what was held back was passed on
-  pub record PlaysOut (flushes : O → Bool → O → Type 0) (is_out : Bool) (stage : Stage) (input input' : I) (output output' : O) : Type 0 where
+  pub record PlaysOut (flushes : O → Bool → O → Type 0) (is_out : Bool) (stage : Stage) (input input' : I)
+      (output output' : O) : Type 0 where
     pub held : O
     pub games : List Game
     pub plays : Plays stage input input' output held games
     pub flushed : flushes held is_out output'
 
   -- a fault ended the rehearsal: the playing stopped by it, or all was played and not passed on
-  abbrev pub EndsBy : (flushes : O → Bool → O → Type 0) → Stage → (input input' : I) → (output output' : O) → Fault → Type 0
+  abbrev pub EndsBy : (flushes : O → Bool → O → Type 0) → Stage → (input input' : I) → (output output' : O)
+      → Fault → Type 0
   EndsBy flushes stage input input' output output' fault =
       Stops stage input input' output output' fault
       ⊎ ((fault ≡ Write) × PlaysOut flushes false stage input input' output output')

@@ -99,7 +99,8 @@ fn networks_of<'a, F: Files>(
     own: &'a str,
     tournament: &'a Tournament,
 ) -> Result<Vec<Net>, Blamed<'a>>
-    ensures count { IfOk result (λ networks. length networks.items ≡ length (first_seen (map (λ fixture. fixture.network) tournament.now.matches.items))) }
+    ensures count { IfOk result (λ networks. length networks.items
+        ≡ length (first_seen (map (λ fixture. fixture.network) tournament.now.matches.items))) }
     ensures read { IfOk result (λ networks. All IsRead networks.items) }
 {
     let mut networks = Vec::new(alloc);

@@ -21,9 +21,12 @@ pub fn play<W: Output>(
     script: Vec<Instruction>,
     writer: &mut W,
 ) -> Result<Vec<Ready>, Fault>
-    ensures printed { OnOk result (PutsAll W.takes writer.old (transcript rehearsal.stage (map seen script.items)) writer.new) }
-    ensures played { IfOk result (λ ready. map game_of ready.items ≡ (stands_after rehearsal.stage (map seen script.items)).games) }
-    ensures stopped { IfErr result (StopsPlaying W.takes (transcript rehearsal.stage (map seen script.items)) writer.old writer.new) }
+    ensures printed { OnOk result (PutsAll W.takes writer.old
+        (transcript rehearsal.stage (map seen script.items)) writer.new) }
+    ensures played { IfOk result (λ ready. map game_of ready.items
+        ≡ (stands_after rehearsal.stage (map seen script.items)).games) }
+    ensures stopped { IfErr result (StopsPlaying W.takes (transcript rehearsal.stage (map seen script.items))
+        writer.old writer.new) }
 {
     let mut buffer = Vec::new(alloc);
     for instruction in script {

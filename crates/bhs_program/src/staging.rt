@@ -78,7 +78,8 @@ fn rehearse_out<R: Input, W: Output>(
 ) -> Result<Vec<Ready>, Fault>
     ensures played { IfOk result (λ ready. (out : PlaysOut R.gives W.takes MAX_TURNS W.flushes true (opening lineup)
         reader.old reader.new writer.old writer.new) × (out.games ≡ map game_of ready.items)) }
-    ensures ended { IfErr result (EndsBy R.gives W.takes MAX_TURNS W.flushes (opening lineup) reader.old reader.new writer.old writer.new) }
+    ensures ended { IfErr result (EndsBy R.gives W.takes MAX_TURNS W.flushes (opening lineup) reader.old reader.new
+        writer.old writer.new) }
 {
     let ready = rehearse(alloc, lineup, reader, writer, MAX_TURNS)?;
     finish(writer)?;

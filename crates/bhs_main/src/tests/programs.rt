@@ -1,9 +1,9 @@
 //! The programs over replays, as rows of text.
 //!
-//! A row has a title and steps. A step begins with one of these lines: `$ WORDS` runs the program; `= NAME` reads a file;
-//! `@ NAME` writes one; `% NAME` writes what the last run printed to a file; `/ NAME` makes a folder. Then come the lines
-//! `>` of the script or of the file that is written, `<` of what is printed or stands in the file, `!` of what is told as
-//! a fault, and `?` the exit status, which is else 0. Rows are parted by empty lines.
+//! A row has a title and steps. A step begins with one of these lines: `$ WORDS` runs the program; `= NAME` reads a
+//! file; `@ NAME` writes one; `% NAME` writes what the last run printed to a file; `/ NAME` makes a folder. Then come
+//! the lines `>` of the script or of the file that is written, `<` of what is printed or stands in the file, `!` of
+//! what is told as a fault, and `?` the exit status, which is else 0. Rows are parted by empty lines.
 
 use bhs_program::run;
 use std::alloc::Global;
@@ -364,8 +364,8 @@ $ judge none0.jsonl
 ? 6
 "#;
 
-// What each program over a replay tells of a text that is none: the title, and the lines of the text. The first line that
-// begins with `!` is the fault, and `?` the exit status.
+// What each program over a replay tells of a text that is none: the title, and the lines of the text. The first line
+// that begins with `!` is the fault, and `?` the exit status.
 const REFUSED: &str = r#"Nothing.
 ! head
 ? 3

@@ -1,7 +1,7 @@
 //! Runs of the program, as rows of text.
 //!
-//! A row has a title and these lines: `>` of the script, `<` of what is printed, `!` of what is told as a fault. Where a
-//! fault is told the status is 3, else 0. After `$` stand the words after the program's name; without them they are
+//! A row has a title and these lines: `>` of the script, `<` of what is printed, `!` of what is told as a fault. Where
+//! a fault is told the status is 3, else 0. After `$` stand the words after the program's name; without them they are
 //! `rehearse`. Rows are parted by empty lines.
 
 use super::files::{CUP, CUP_OF_VERSION_1, TRIANGLE};

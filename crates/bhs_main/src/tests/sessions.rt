@@ -1,9 +1,10 @@
 //! Whole sessions over memory, as rows of text, with a port that answers from a list.
 //!
-//! A row has a title and these lines: `>` of the client, `~` its last bytes without a line feed, `=` the port's answers,
-//! `<` what is written, `~<` the last bytes of it without a line feed, `?` what the port is asked, `!` how the session
-//! ends. After `#` stands that the read behind the last byte fails, how many turns there are, or how many bytes go out
-//! before writing fails. `␠`, `␉` and `␍` stand for a space, a tab and a carriage return. Rows are parted by empty lines.
+//! A row has a title and these lines: `>` of the client, `~` its last bytes without a line feed, `=` the port's
+//! answers, `<` what is written, `~<` the last bytes of it without a line feed, `?` what the port is asked, `!` how the
+//! session ends. After `#` stands that the read behind the last byte fails, how many turns there are, or how many bytes
+//! go out before writing fails. `␠`, `␉` and `␍` stand for a space, a tab and a carriage return. Rows are parted by
+//! empty lines.
 
 use super::streams::{Narrow, Pieces};
 use bhs_model::{Command, MAX_LINE, Reply, Text};

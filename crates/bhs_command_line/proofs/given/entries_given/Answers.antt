@@ -9,9 +9,11 @@ use Rattle.bhs_command_line.proofs.given.entries_given.Goals as goal
 pub returns-in-Some : goal.returns-in-Some
 returns-in-Some c =
     IfOk-weaker c.entries_in.result _ _
-    (λ entries is. is ∙ ap entries_in (texts_found (found_of c.args.words.now) (codes "entry") c.in-Some.texts (rw c.in-Some.is at c.get_strs.ensures))) c.entries_in.ensures
+    (λ entries is. is ∙ ap entries_in (texts_found (found_of c.args.words.now) (codes "entry") c.in-Some.texts
+    (rw c.in-Some.is at c.get_strs.ensures))) c.entries_in.ensures
 
 pub returns-in-None : goal.returns-in-None
 returns-in-None c =
     IfOk-weaker c.entries_in-in-None.result _ _
-    (λ entries is. is ∙ ap entries_in (no_texts_found (found_of c.args.words.now) (codes "entry") (rw c.in-None.is at c.get_strs.ensures))) c.entries_in-in-None.ensures
+    (λ entries is. is ∙ ap entries_in (no_texts_found (found_of c.args.words.now) (codes "entry")
+    (rw c.in-None.is at c.get_strs.ensures))) c.entries_in-in-None.ensures

@@ -7,4 +7,5 @@ use Rattle.bhs_command_line.proofs.given.number_given.Goals as goal
 pub returns : goal.returns
 returns c =
     c.number_in.ensures
-    ∙ ap number_in (text_found (found_of c.args.words.now) c.args.id.now c.get_str.result c.unwrap_or.result _ c.get_str.ensures refl c.unwrap_or.ensures)
+    ∙ ap number_in (text_found (found_of c.args.words.now) c.args.id.now c.get_str.result c.unwrap_or.result _
+    c.get_str.ensures refl c.unwrap_or.ensures)

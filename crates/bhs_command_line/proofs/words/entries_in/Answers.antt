@@ -6,9 +6,12 @@ use Rattle.bhs_command_line.proofs.words.entries_in.Goals as goal
 
 pub returns-in-None : goal.returns-in-None
 returns-in-None c =
-    no_entry c.args.words.now c.loop-word.word-index _ c.loop-word-test.true c.in_ok-entry.field-0 c.in_ok-entry.ensures c.loop-word.entries.items c.loop-word.invariant c.in-None.is
+    no_entry c.args.words.now c.loop-word.word-index _ c.loop-word-test.true c.in_ok-entry.field-0 c.in_ok-entry.ensures
+    c.loop-word.entries.items c.loop-word.invariant c.in-None.is
 
 pub loop-word-preserved : goal.loop-word-preserved
 loop-word-preserved c =
-    ap (λ (done : List Entry). joined done (entries_in (texts_from (c.loop-word.word-index + 1) c.args.words.now))) c.in_ok-push-in-Some.ensures.items
-    ∙ one_entry c.args.words.now c.loop-word.word-index _ c.loop-word-test.true c.in_ok-entry.field-0 c.in_ok-entry.ensures c.loop-word.entries.items c.loop-word.invariant c.in-Some.entry c.in-Some.is
+    ap (λ (done : List Entry). joined done (entries_in (texts_from (c.loop-word.word-index + 1) c.args.words.now)))
+    c.in_ok-push-in-Some.ensures.items
+    ∙ one_entry c.args.words.now c.loop-word.word-index _ c.loop-word-test.true c.in_ok-entry.field-0
+    c.in_ok-entry.ensures c.loop-word.entries.items c.loop-word.invariant c.in-Some.entry c.in-Some.is

@@ -8,7 +8,9 @@ use Rattle.bhs_program.proofs.checking.check.Goals as goal
 pub returns-in-Ok : goal.returns-in-Ok
 returns-in-Ok g c =
     reported g.W.Output.takes g.W.Output.flushes IsSummary string_bytes _ _ _ c.summary.result
-    (IfOk-weaker c.summary.result _ _ (λ text is. record { lineup = c.in-Ok.lineup; assembled = c.in-Ok.ensures.made; said = rw c.deref.ensures.value at is }) c.summary.ensures)
+    (IfOk-weaker c.summary.result _ _ (λ text is. record
+    { lineup = c.in-Ok.lineup; assembled = c.in-Ok.ensures.made; said = rw c.deref.ensures.value at is })
+    c.summary.ensures)
     c.show_made.ensures.shown c.show_made.ensures.lacks
 
 pub returns-in-Err : goal.returns-in-Err

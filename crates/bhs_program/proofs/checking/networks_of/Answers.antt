@@ -8,8 +8,21 @@ returns-clause-count g c =
     let same = ap (λ (keys : List (Bor (List ℕ))). length keys) c.as_slice-name-items.ensures.keys in
     let seen = ap (λ (names : List (List ℕ)). length names) c.in-Ok.ensures.exact in
     let count = length_of_map (λ (name : Bor (List ℕ)). name.now) c.in-Ok.names.keys in
-    omega (arith, same, seen, count, c.loop-name-test.false, c.loop-name.invariant.0, c.loop-name.invariant.1, c.loop-name.networks.ok.0)
+    omega (
+      arith,
+      same,
+      seen,
+      count,
+      c.loop-name-test.false,
+      c.loop-name.invariant.0,
+      c.loop-name.invariant.1,
+      c.loop-name.networks.ok.0,
+    )
 
 pub loop-name-preserved : goal.loop-name-preserved
-loop-name-preserved g c =
-    (search rules, search rules, all_read _ c.loop-name.networks.items c.push.new.self.items c.in-Ok-network_of.network c.push.ensures.items c.loop-name.invariant.2 c.in-Ok-network_of.ensures)
+loop-name-preserved g c = (
+  search rules,
+  search rules,
+  all_read _ c.loop-name.networks.items c.push.new.self.items c.in-Ok-network_of.network
+      c.push.ensures.items c.loop-name.invariant.2 c.in-Ok-network_of.ensures,
+)

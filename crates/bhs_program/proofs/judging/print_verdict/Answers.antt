@@ -8,7 +8,9 @@ use Rattle.bhs_program.proofs.judging.print_verdict.Goals as goal
 pub returns-in-Ok : goal.returns-in-Ok
 returns-in-Ok g c =
     reported g.W.Output.takes g.W.Output.flushes IsJudgement string_bytes _ _ _ c.verdict_line.result
-    (IfOk-weaker c.verdict_line.result _ _ (λ text is. record { play = c.in-Ok.sealed; replayed = c.in-Ok.ensures.read; said = rw c.judge.ensures at is }) c.verdict_line.ensures)
+    (IfOk-weaker c.verdict_line.result _ _ (λ text is. record
+    { play = c.in-Ok.sealed; replayed = c.in-Ok.ensures.read; said = rw c.judge.ensures at is })
+    c.verdict_line.ensures)
     c.show_made.ensures.shown c.show_made.ensures.lacks
 
 pub returns-in-Err : goal.returns-in-Err

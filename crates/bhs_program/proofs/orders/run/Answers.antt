@@ -6,7 +6,8 @@ use Rattle.bhs_program.proofs.ExitLemmas.{status_of_run}
 use Rattle.bhs_program.proofs.orders.run.Goals as goal
 
 pub returns-in-Ok-Ordered-clause-runs : goal.returns-in-Ok-Ordered-clause-runs
-returns-in-Ok-Ordered-clause-runs g c = obeys c.in-Ok-Ordered.order (rw c.in-Ok-Ordered.field-0-is at c.in-Ok-Ordered.ensures.answers) c.obey.ensures
+returns-in-Ok-Ordered-clause-runs g c = obeys c.in-Ok-Ordered.order
+    (rw c.in-Ok-Ordered.field-0-is at c.in-Ok-Ordered.ensures.answers) c.obey.ensures
 
 pub returns-in-Ok-Ordered-clause-status : goal.returns-in-Ok-Ordered-clause-status
 returns-in-Ok-Ordered-clause-status g c = status_of_run _ _ _ _ _ _ _ _ _ _ (returns-in-Ok-Ordered-clause-runs g c)

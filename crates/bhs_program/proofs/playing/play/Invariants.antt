@@ -11,4 +11,5 @@ invariant-loop-instruction g l =
     let left = map seen (into_iter_items l.instruction-iterator) in
     let script = map seen l.fn.script.items in
     (stands_after l.rehearsal.stage left ≡ stands_after l.fn.rehearsal.stage script)
-    × IsSentUpTo g.W.Output.takes l.fn.writer l.writer (transcript l.fn.rehearsal.stage script) (transcript l.rehearsal.stage left)
+    × IsSentUpTo g.W.Output.takes l.fn.writer l.writer (transcript l.fn.rehearsal.stage script)
+    (transcript l.rehearsal.stage left)

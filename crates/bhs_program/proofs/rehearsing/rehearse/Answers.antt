@@ -11,13 +11,17 @@ returns-clause-played g c =
     let stage = opening c.args.lineup in
     let instructions = map seen c.in_ok-instructions.instructions.items in
     let same : c.in_ok-rehearsal.rehearsal.stage ≡ stage = ap (λ (r : Rehearsing). r.stage) c.in_ok-rehearsal.ensures in
-    let counted : c.len.result ≡ length c.args.lineup.ready.items = omega (arith, c.len.ensures, c.args.lineup.ready.ok.0) in
-    let means : Means g.R.Input.gives g.W.Output.takes c.args.turns stage c.args.reader.now c.read_text.new.reader instructions = record {
+    let counted : c.len.result ≡ length c.args.lineup.ready.items =
+    omega (arith, c.len.ensures, c.args.lineup.ready.ok.0) in
+    let means : Means g.R.Input.gives g.W.Output.takes c.args.turns stage c.args.reader.now c.read_text.new.reader
+    instructions = record {
       script = c.in_ok-script.script.items;
       read = c.in_ok-script.ensures.text;
-      meant = rw (length-map c.args.lineup.ready.items game_of) (rw (c.deref.ensures.value, counted) at c.in_ok-instructions.ensures);
+      meant = rw (length-map c.args.lineup.ready.items game_of)
+          (rw (c.deref.ensures.value, counted) at c.in_ok-instructions.ensures);
     } in
-    plays_all g.R.Input.gives g.W.Output.takes c.args.turns stage _ _ _ _ instructions means (λ ready. map game_of ready.items) c.play.result
+    plays_all g.R.Input.gives g.W.Output.takes c.args.turns stage _ _ _ _ instructions means
+    (λ ready. map game_of ready.items) c.play.result
     (rw same at c.play.ensures.printed) (rw same at c.play.ensures.played)
 
 pub returns-clause-stopped : goal.returns-clause-stopped
@@ -25,10 +29,14 @@ returns-clause-stopped g c =
     let stage = opening c.args.lineup in
     let instructions = map seen c.in_ok-instructions.instructions.items in
     let same : c.in_ok-rehearsal.rehearsal.stage ≡ stage = ap (λ (r : Rehearsing). r.stage) c.in_ok-rehearsal.ensures in
-    let counted : c.len.result ≡ length c.args.lineup.ready.items = omega (arith, c.len.ensures, c.args.lineup.ready.ok.0) in
-    let means : Means g.R.Input.gives g.W.Output.takes c.args.turns stage c.args.reader.now c.read_text.new.reader instructions = record {
+    let counted : c.len.result ≡ length c.args.lineup.ready.items =
+    omega (arith, c.len.ensures, c.args.lineup.ready.ok.0) in
+    let means : Means g.R.Input.gives g.W.Output.takes c.args.turns stage c.args.reader.now c.read_text.new.reader
+    instructions = record {
       script = c.in_ok-script.script.items;
       read = c.in_ok-script.ensures.text;
-      meant = rw (length-map c.args.lineup.ready.items game_of) (rw (c.deref.ensures.value, counted) at c.in_ok-instructions.ensures);
+      meant = rw (length-map c.args.lineup.ready.items game_of)
+          (rw (c.deref.ensures.value, counted) at c.in_ok-instructions.ensures);
     } in
-    stops_all g.R.Input.gives g.W.Output.takes c.args.turns stage _ _ _ _ instructions means c.play.result (rw same at c.play.ensures.stopped)
+    stops_all g.R.Input.gives g.W.Output.takes c.args.turns stage _ _ _ _ instructions means c.play.result
+    (rw same at c.play.ensures.stopped)

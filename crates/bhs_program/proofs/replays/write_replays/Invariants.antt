@@ -11,6 +11,7 @@ use Rattle.bhs_program.proofs.replays.write_replays.Given as goal
 abbrev pub invariant-loop-one : goal.invariant-loop-one
 invariant-loop-one g l = record {
   status : (l.status ≡ DONE) ⊎ IsOfFault l.status;
-  filed : l.status ≡ DONE → AllByRecursion (IsFiled (known_takes g.F.File.Write.contents)) (map game_of (into_iter_items l.one-iterator))
+  filed : l.status ≡ DONE → AllByRecursion (IsFiled (known_takes g.F.File.Write.contents))
+      (map game_of (into_iter_items l.one-iterator))
       → AllByRecursion (IsFiled (known_takes g.F.File.Write.contents)) (map game_of l.fn.ready.items);
 }

@@ -9,13 +9,16 @@ use Rattle.bhs_program.proofs.staging.rehearse_named.Goals as goal
 pub returns-in-Ok : goal.returns-in-Ok
 returns-in-Ok g c =
     rw c.in-None.is (does
-    (subst (λ (contest : Contest). Rehearses (known_takes g.F.File.Write.contents) g.R.Input.gives g.W.Output.takes MAX_TURNS g.W.Output.flushes c.args.prefix
-    (opening_of contest) c.args.reader.now c.rehearse_whole.new.reader c.args.writer.now c.rehearse_whole.new.writer c.rehearse_whole.result) c.in-Ok.ensures
+    (subst (λ (contest : Contest). Rehearses (known_takes g.F.File.Write.contents) g.R.Input.gives g.W.Output.takes
+    MAX_TURNS g.W.Output.flushes c.args.prefix
+    (opening_of contest) c.args.reader.now c.rehearse_whole.new.reader c.args.writer.now c.rehearse_whole.new.writer
+    c.rehearse_whole.result) c.in-Ok.ensures
     c.rehearse_whole.ensures))
 
 pub returns-in-Ok-lineup_of : goal.returns-in-Ok-lineup_of
 returns-in-Ok-lineup_of g c =
-    rw c.in-Some.is (does (rehearses_on c.in-Ok-lineup_of.lineup c.in-Ok-lineup_of.ensures.made c.rehearse_whole-in-Ok-lineup_of.ensures))
+    rw c.in-Some.is (does (rehearses_on c.in-Ok-lineup_of.lineup c.in-Ok-lineup_of.ensures.made
+    c.rehearse_whole-in-Ok-lineup_of.ensures))
 
 pub returns-in-Err-lineup_of : goal.returns-in-Err-lineup_of
 returns-in-Err-lineup_of g c =
