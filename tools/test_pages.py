@@ -166,6 +166,8 @@ def matches(browser: Browser, name: str, replay: str) -> None:
     browser.press(Keys.HOME)
     browser.check(browser.text("count").startswith("event 0 "), f"{name}: Home leads to {browser.text('count')}")
     browser.look(1)
+    browser.press("n")
+    browser.check(browser.text("past").startswith("\u25cf"), f"{name}: N leads to {browser.text('past')}")
     browser.press(Keys.END)
     browser.picture(f"{name}-eyes")
     browser.size(PHONE, dark=True)
@@ -201,6 +203,9 @@ def twins(browser: Browser) -> None:
     browser.picture("twin-eyes")
     browser.look(-1)
     browser.picture("twin-whole")
+    browser.size(PHONE)
+    browser.look(1)
+    browser.picture("twin-phone")
     browser.console("twin")
 
 
