@@ -4,7 +4,9 @@ ghost use Rattle.std.specs.Prelude.{◌≡◌, codes, IfOk, Some, option_map, op
 ghost use Rattle.serde_json.specs.View.{view, items_view};
 ghost use Rattle.bhs_wire.specs.First.{port_at};
 ghost use Rattle.serde_json.specs.Find.{get, as_array};
-ghost use Rattle.bhs_replay.specs.HeadReading.{head_says, says_in, says_as, says_with, version_in, setup_in, setup_with, holes_in, dark_in, each, list_at, number_in, item_at, pair_in, link_in};
+ghost use Rattle.bhs_replay.specs.HeadReading.{head_says, says_in, says_as, says_with, version_in, setup_in};
+ghost use Rattle.bhs_replay.specs.HeadReading.{setup_with, holes_in, dark_in, each, list_at, number_in, item_at};
+ghost use Rattle.bhs_replay.specs.HeadReading.{pair_in, link_in};
 ghost use Rattle.bhs_replay.specs.HeadSeen.{seen};
 
 use crate::heads::Version;
@@ -155,7 +157,8 @@ fn links_in(alloc: Global, value: &Value) -> Result<Option<Vec<Link>>, Memory>
 }
 
 fn list_of<'v>(value: &'v Value, key: &str) -> Option<&'v [Value]>
-    ensures { option_map (λ items. items_view items.now) result ≡ option_and_then as_array (get key.now (view value.now)) }
+    ensures { option_map (λ items. items_view items.now) result
+        ≡ option_and_then as_array (get key.now (view value.now)) }
 {
     let items = value.get(key)?.as_array()?;
     Some(items.as_slice())

@@ -1,8 +1,10 @@
-ghost use Rattle.std.specs.Prelude.{◌≡◌, ◌<◌, ◌++◌, ◌∷◌, [], length, slice_get, codes, Some, IfSome, IfOk, OnOk, string_bytes, decimal};
+ghost use Rattle.std.specs.Prelude.{◌≡◌, ◌<◌, ◌++◌, ◌∷◌, [], length, slice_get, codes, Some, IfSome, IfOk, OnOk};
+ghost use Rattle.std.specs.Prelude.{string_bytes, decimal};
 ghost use Rattle.json.specs.Token.{key};
 ghost use Rattle.bhs_model.specs.Marks.{read_if};
 ghost use Rattle.bhs_replay.specs.EventLine.{event_line};
-ghost use Rattle.bhs_replay.specs.EventTokens.{happening_tokens, command_tokens, reply_tokens, label_token, answer_tokens, word_tokens};
+ghost use Rattle.bhs_replay.specs.EventTokens.{happening_tokens, command_tokens, reply_tokens, label_token};
+ghost use Rattle.bhs_replay.specs.EventTokens.{answer_tokens, word_tokens};
 ghost use Rattle.bhs_replay.specs.Spelling.{CommandFits, EventFits, LabelFits, ReplyFits, ReadsBack};
 
 use crate::tokens::{write_number, write_text};

@@ -46,20 +46,21 @@ fn started(alloc: Global, says: Says) -> Result<Option<Match>, Memory>
     let net = match Net::try_new(alloc, nodes, &links) {
         Ok(net) => net,
         Err(fault) => {
-            unless_memory_for_net(fault)?;
+            refused_network(fault)?;
             return Ok(None);
         }
     };
     match Match::new(alloc, net, setup) {
         Ok(game) => Ok(Some(game)),
         Err(fault) => {
-            unless_memory(fault)?;
+            refused_setup(fault)?;
             Ok(None)
         }
     }
 }
 
-fn unless_memory_for_net(fault: NetFault) -> Result<(), Memory>
+/// That a network was refused, unless memory ran out.
+fn refused_network(fault: NetFault) -> Result<(), Memory>
     ensures { OnOk result (fault ≢ NetFault.Memory) }
 {
     match fault {
@@ -68,7 +69,8 @@ fn unless_memory_for_net(fault: NetFault) -> Result<(), Memory>
     }
 }
 
-fn unless_memory(fault: SetupFault) -> Result<(), Memory>
+/// That a setup was refused, unless memory ran out.
+fn refused_setup(fault: SetupFault) -> Result<(), Memory>
     ensures { OnOk result (fault ≢ SetupFault.Memory) }
 {
     match fault {

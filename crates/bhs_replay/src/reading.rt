@@ -1,7 +1,9 @@
 ghost use Rattle.std.specs.Prelude.{◌≡◌, Some, codes, option_map, string_bytes, IfOk};
 ghost use Rattle.serde_json.specs.View.{view};
 ghost use Rattle.bhs_wire.specs.First.{text_at, port_at};
-ghost use Rattle.bhs_replay.specs.Spelling.{spelled, spelled_in, event_in, event_by, agents_by, command_by, answer_in, reply_in, ok_by, refusal_in, here_in, changed_in, why_by, write_in, may_stand, if_spelled};
+ghost use Rattle.bhs_replay.specs.Spelling.{spelled, spelled_in, event_in, event_by, agents_by, command_by, answer_in};
+ghost use Rattle.bhs_replay.specs.Spelling.{reply_in, ok_by, refusal_in, here_in, changed_in, why_by, write_in};
+ghost use Rattle.bhs_replay.specs.Spelling.{may_stand, if_spelled};
 
 use crate::lines::line_of;
 use bhs_model::{Command, Event, Reply, Text, Why};

@@ -4,7 +4,8 @@ ghost use Rattle.std.specs.Prelude.{◌≡◌, ◌<◌, ◌⊎◌, ◌+◌, true
 ghost use Rattle.std.specs.List.{list_all};
 ghost use Rattle.bhs_model.specs.Marks.{events_of};
 ghost use Rattle.bhs_replay.specs.declared.faults.ReplayFault.TheVariants.{Memory as NoMemory};
-ghost use Rattle.bhs_replay.specs.Stages.{Wrong, after_line, after_event, after_other, is_plain, starts_plain, is_digit, is_end_line};
+ghost use Rattle.bhs_replay.specs.Stages.{Wrong, after_line, after_event, after_other, is_plain, starts_plain};
+ghost use Rattle.bhs_replay.specs.Stages.{is_digit, is_end_line};
 ghost use Rattle.bhs_replay.specs.Reading.{stage_of};
 
 use crate::faults::ReplayFault;

@@ -26,7 +26,8 @@ pub fn write_replay<W: Output>(
     ensures err { IfErr result (λ fault. Breaks W.takes writer.old (replay_of sealed.now) fault writer.new) }
 
     // What was written is read as this match.
-    ensures read { OnOk result (Comes (replay_of sealed.now) (Ends sealed.now.net sealed.now.setup (events_of sealed.now.log))) }
+    ensures read { OnOk result (Comes (replay_of sealed.now)
+        (Ends sealed.now.net sealed.now.setup (events_of sealed.now.log))) }
 {
     let log = sealed.log();
     send_line(
