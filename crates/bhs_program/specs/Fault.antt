@@ -15,7 +15,8 @@ use Rattle.bhs_replay.specs.declared.faults.WritingFault.TheVariants as writing
 use Rattle.bhs_view.specs.declared.twins.TwinFault.{TwinFault}
 use Rattle.bhs_view.specs.declared.twins.TwinFault.TheVariants as twins
 use Rattle.bhs_program.specs.declared.faults.Fault.{Fault}
-use Rattle.bhs_program.specs.declared.faults.Fault.TheVariants.{Read, Text, Turns, Line, File, Replay, Twin, Write, Memory}
+use Rattle.bhs_program.specs.declared.faults.Fault.TheVariants.{Read, Text, Turns, Line, File, Replay, Twin}
+use Rattle.bhs_program.specs.declared.faults.Fault.TheVariants.{Write, Memory}
 use Rattle.bhs_program.specs.declared.statuses.TheConstants as statuses
 
 -- an error of opening or reading

@@ -1,5 +1,6 @@
 -- What a rehearsal does to its input and its output, call by call.
-use Rattle.std.specs.Prelude.{◌≡◌, ℕ, ◌⊎◌, Bool, true, false, List, length, map, Option, Some, None, IsSome, Result, Ok, Err}
+use Rattle.std.specs.Prelude.{◌≡◌, ℕ, ◌⊎◌, Bool, true, false, List, length, map}
+use Rattle.std.specs.Prelude.{Option, Some, None, IsSome, Result, Ok, Err}
 use Rattle.std.specs.List.{AllByRecursion}
 use Rattle.bhs_model.specs.declared.limits.TheConstants.{MAX_TEXT}
 use Rattle.bhs_stream.specs.Streams.{Chunk, End, Taken}
@@ -19,7 +20,8 @@ use Rattle.bhs_script.specs.declared.instructions.TheConstants.{CONNECTIONS}
 use Rattle.bhs_script.specs.Script.{instructions_of}
 use Rattle.bhs_script.specs.Transcript.{transcript}
 use Rattle.bhs_program.specs.declared.faults.Fault.{Fault}
-use Rattle.bhs_program.specs.declared.faults.Fault.TheVariants.{Read, Text, Line, File, Replay, Twin, Write, Memory, Turns}
+use Rattle.bhs_program.specs.declared.faults.Fault.TheVariants.{Read, Text, Line, File, Replay, Twin}
+use Rattle.bhs_program.specs.declared.faults.Fault.TheVariants.{Write, Memory, Turns}
 use Rattle.bhs_program.specs.declared.statuses.TheConstants.{DONE}
 use Rattle.bhs_program.specs.Fault.{status}
 use Rattle.bhs_program.specs.Playing.{StopsPlaying}

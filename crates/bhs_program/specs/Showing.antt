@@ -35,6 +35,8 @@ module _ {O : Type 0} (takes : O → List ℕ → Taken → O → Type 0) (flush
     kept_back : code ≡ status Write → Shows text false output output' → PrintsByLine text output output' code
 
 -- A report was to be printed, and is one of these texts; or a fault came before, and nothing was written.
-pub data Reports {O : Type 0} (Printing : List ℕ → O → O → ℕ → Type 0) (IsReport : List ℕ → Type 0) (output output' : O) (code : ℕ) : Type 0 where
-  prints : (text : List ℕ) → IsReport text → Printing text output output' code → Reports Printing IsReport output output' code
+pub data Reports {O : Type 0} (Printing : List ℕ → O → O → ℕ → Type 0) (IsReport : List ℕ → Type 0)
+    (output output' : O) (code : ℕ) : Type 0 where
+  prints : (text : List ℕ) → IsReport text → Printing text output output' code
+      → Reports Printing IsReport output output' code
   stops : (fault : Fault) → code ≡ status fault → output' ≡ output → Reports Printing IsReport output output' code

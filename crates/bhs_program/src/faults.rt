@@ -1,7 +1,8 @@
 ghost use Rattle.std.specs.Prelude.{◌≡◌};
 ghost use Rattle.bhs_program.specs.declared.faults.Fault.TheVariants as faults;
 ghost use Rattle.std.specs.IoError.{error_kind};
-ghost use Rattle.bhs_program.specs.Fault.{of_file, of_kind, of_read, of_replay, of_script, of_twin, of_writing, replay_status, status};
+ghost use Rattle.bhs_program.specs.Fault.{of_file, of_kind, of_read, of_replay, of_script, of_twin, of_writing};
+ghost use Rattle.bhs_program.specs.Fault.{replay_status, status};
 
 use crate::names::Shown;
 use crate::statuses::{FAILED_STREAM, NO_MEMORY, REFUSED_MATCH, REFUSED_TEXT};

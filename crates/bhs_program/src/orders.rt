@@ -33,7 +33,8 @@ pub fn run<S: AsStr, F: Files, R: Input, W: Output, E: Write>(
     writer: &mut W,
     errors: &mut E,
 ) -> u8
-    ensures runs { Runs (known_takes F.File.contents) R.gives W.takes W.flushes (map S.text words.now) reader.old reader.new writer.old writer.new result }
+    ensures runs { Runs (known_takes F.File.contents) R.gives W.takes W.flushes (map S.text words.now)
+        reader.old reader.new writer.old writer.new result }
     ensures status { IsStatus result }
 {
     match order_of(alloc, words) {
@@ -58,7 +59,8 @@ fn obey<F: Files, R: Input, W: Output, E: Write>(
     writer: &mut W,
     errors: &mut E,
 ) -> u8
-    ensures { Obeys (known_takes F.File.contents) R.gives W.takes W.flushes order reader.old reader.new writer.old writer.new result }
+    ensures { Obeys (known_takes F.File.contents) R.gives W.takes W.flushes order
+        reader.old reader.new writer.old writer.new result }
 {
     match order {
         Order::Rehearse { tournament, prefix } => {

@@ -109,7 +109,8 @@ fn file_name(alloc: Global, prefix: &str, number: usize) -> Result<String, Memor
 
 // Writes a replay to a new file of this name.
 fn write_file<F: Files>(alloc: Global, files: &F, name: &str, sealed: &Sealed) -> Result<(), Fault>
-    ensures { OnOk result ((old : F.File) × (new : F.File) × PutsAll (known_takes F.File.contents) old (replay_of sealed.now) new) }
+    ensures { OnOk result ((old : F.File) × (new : F.File)
+        × PutsAll (known_takes F.File.contents) old (replay_of sealed.now) new) }
 {
     let mut file = match fs::create(files, name) {
         Ok(file) => file,
