@@ -1,4 +1,4 @@
-use Rattle.std.proofs.Common.{rules, ◌≡◌, ◌∷◌, ◌++◌, [], ◌∙◌, ap, length}
+use Rattle.std.proofs.Common.{◌≡◌, ◌++◌, ◌∙◌, ap, length}
 use Rattle.bhs_server.proofs.SealLemmas.{AreSealed-length, next_sealed}
 use Rattle.bhs_server.proofs.settling.settle_all.Goals as goal
 
