@@ -125,7 +125,7 @@ counts_more log heard place one agent command index counts inside is told within
           get_or-set_at heard agent other (index + 1) 0 e.1 within ∙ ap (λ (n : ℕ). n + 1) same ∙ sym more
       | inr e ↦
           let none : command_by other one.event ≡ None = ap (command_by other) told
-              ∙ cond-false (other == agent) _ _ e.0 in
+          ∙ cond-false (other == agent) _ _ e.0 in
           get_or-set_other heard agent other (index + 1) 0 e.1 ∙ counts other
           ∙ sym (not_told log other place one inside is none)
     ]
