@@ -1,5 +1,5 @@
 -- What an error tells, and which answer the words get.
-use Rattle.std.proofs.Common.{◌≡◌, ◌≢◌, ◌⊎◌, ◌↔◌, ◌∙◌, ◌||◌, IsTrue, ap, subst, sym, refl, inl, inr, not, true≢false, ℕ, Bool, true, false, List, [], ◌∷◌, Option, Some, None, Result, Ok, Err, IfOk, arith, is_some, eqb-true, length, suc}
+use Rattle.std.proofs.Common.{◌≡◌, ◌≢◌, ◌⊎◌, ◌↔◌, ◌∙◌, ◌||◌, IsTrue, ap, subst, sym, refl, inl, inr, not, true≢false, Bool, true, false, List, [], ◌∷◌, Option, Some, None, Result, Ok, Err, IfOk, arith, is_some, eqb-true, length, suc}
 use Rattle.std.specs.Prelude.{IsErr, if◌then◌else◌, option_and_then}
 use Rattle.std.specs.List.{list_any}
 use Rattle.clap.specs.Words.{App, Row, Text, fault_of, is_simple, is_simple_and_free, subcommand_of}

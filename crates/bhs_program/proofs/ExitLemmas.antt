@@ -1,12 +1,12 @@
 -- The exit statuses of what the program does.
-use Rattle.std.proofs.Common.{◌≡◌, inl, inr, ℕ, List, Option, None, Some, Bool}
+use Rattle.std.proofs.Common.{inl, inr, ℕ, List, Option, None, Some, Bool}
 use Rattle.bhs_stream.specs.Streams.{Chunk, Taken}
 use Rattle.bhs_rehearsal.specs.Stages.{Stage}
 use Rattle.bhs_command_line.specs.declared.orders.Order.{Order}
 use Rattle.bhs_command_line.specs.declared.orders.Order.TheVariants as order
 use Rattle.bhs_program.specs.declared.faults.Fault.TheVariants.{Write, Memory, Twin}
 use Rattle.bhs_program.specs.Fault.{IsStatus}
-use Rattle.bhs_program.specs.Program.{Does, HasNoTwin, Obeys, does, lacks_memory, RehearsesNamed, rehearses_on, refuses_file, Runs, obeys, helps, refuses_words, lacks_room}
+use Rattle.bhs_program.specs.Program.{Does, Obeys, does, lacks_memory, RehearsesNamed, rehearses_on, refuses_file, Runs, obeys, helps, refuses_words, lacks_room}
 use Rattle.bhs_program.specs.Rehearsal.{Rehearses, done, unfiled, ends}
 use Rattle.bhs_program.specs.Showing.{Prints, all, part, held_back, PrintsByLine, whole, cut_off, kept_back, Reports, prints, stops}
 

@@ -1,5 +1,5 @@
 -- Reports that are made, and that are printed line by line.
-use Rattle.std.proofs.Common.{◌≡◌, ◌⊎◌, inl, inr, refl, ℕ, List, [], ◌∷◌, ◌++◌, ◌+◌, ◌<◌, Bool, true, false, true≢false, sym, subst, ◌∙◌, is_ok, length, drop, take, get_or, OnOk, OnErr, IfOk, IfErr, Result, Ok, Err, Option, Some, ap, arith}
+use Rattle.std.proofs.Common.{◌≡◌, ◌⊎◌, inl, inr, refl, ℕ, List, [], ◌∷◌, ◌++◌, ◌+◌, ◌<◌, Bool, true, false, true≢false, sym, subst, ◌∙◌, is_ok, length, drop, take, get_or, OnOk, OnErr, IfOk, Result, Ok, Err, Some, ap, arith}
 use Rattle.std.specs.Prelude.{if◌then◌else◌}
 use Rattle.std.specs.Result.{is_err}
 use Rattle.std.proofs.lemmas.List.{drop_more, take_more}
