@@ -8,7 +8,6 @@ use Rattle.bhs_lineup.specs.declared.lineups.Lineup.{Lineup}
 use Rattle.bhs_view.specs.Twins.{twin_fault}
 use Rattle.bhs_view.specs.declared.twins.TwinFault.{TwinFault}
 use Rattle.bhs_command_line.specs.CommandLine.{AreRefused, faults, is_asked, order_in}
-use Rattle.bhs_command_line.specs.declared.orders.Entry.{Entry}
 use Rattle.bhs_command_line.specs.declared.orders.Order.{Order}
 use Rattle.bhs_command_line.specs.declared.orders.Order.TheVariants as order
 use Rattle.bhs_program.specs.BuiltIn.{built_in}

@@ -1,5 +1,5 @@
 -- What the order to check a tournament prints.
-use Rattle.std.specs.Prelude.{◌≡◌, ℕ, ◌+◌, ◌/◌, List, [], ◌∷◌, ◌++◌, codes, decimal, Option, Ok}
+use Rattle.std.specs.Prelude.{◌≡◌, ℕ, ◌+◌, ◌/◌, List, [], ◌∷◌, ◌++◌, codes, decimal, Ok}
 use Rattle.std.specs.List.{All}
 use Rattle.bhs_net.specs.Network.{Network, nodes_of, ports_of}
 use Rattle.bhs_lineup.specs.declared.lineups.Ready.{Ready}

@@ -1,4 +1,4 @@
-use Rattle.std.proofs.Common.{Some, None, map}
+use Rattle.std.proofs.Common.{Some, map}
 use Rattle.bhs_command_line.specs.declared.Parsed.TheVariants.{Ordered, Refused}
 use Rattle.bhs_command_line.proofs.AnswerLemmas.{all_plainly, error_answered, free_here, kind_here, order_same, plainly}
 use Rattle.bhs_command_line.proofs.AnswerLemmas.{refused_here, simple_here}
