@@ -2,5 +2,6 @@ mod draws;
 mod lines;
 mod matches;
 mod model;
+mod pasts;
 mod sessions_on_matches;
 mod triangle;
