@@ -157,21 +157,21 @@ def steps(browser: Browser, name: str, replay: str) -> None:
     browser.check(browser.text("verdict") == f"Verdict: {judged(browser, name)}.", f"{name}: {browser.text('verdict')}")
 
 
-def matches(browser: Browser, name: str, replay: str) -> None:
-    """One page: all steps, then pictures of the whole and through the eyes of agent 1."""
+def matches(browser: Browser, name: str, replay: str, agent: int = 1) -> None:
+    """One page: all steps, then pictures of the whole and through the eyes of an agent that plays."""
     browser.size(WIDE)
     browser.open(page_of(browser, name, replay))
     steps(browser, name, replay)
     browser.picture(f"{name}-end")
     browser.press(Keys.HOME)
     browser.check(browser.text("count").startswith("event 0 "), f"{name}: Home leads to {browser.text('count')}")
-    browser.look(1)
+    browser.look(agent)
     browser.press("n")
     browser.check(browser.text("past").startswith("\u25cf"), f"{name}: N leads to {browser.text('past')}")
     browser.press(Keys.END)
     browser.picture(f"{name}-eyes")
     browser.size(PHONE, dark=True)
-    browser.look(1)
+    browser.look(agent)
     browser.picture(f"{name}-phone-eyes")
     browser.look(-1)
     browser.picture(f"{name}-phone")
@@ -257,6 +257,8 @@ def main() -> int:
             matches(browser, "cube", cube_replay())
             matches(browser, "dark", dark_replay())
             matches(browser, "hostile", hostile_replay())
+            for example in ("first0", "guess0", "triangle0"):
+                matches(browser, example, (TOP / "examples" / f"{example}.jsonl").read_text(encoding="utf-8"), agent=0)
             twins(browser)
             largest(browser)
             refused(browser)
