@@ -96,7 +96,7 @@ fn event(alloc: Global, words: &mut Dealer) -> Result<Event, Fail> {
 
 /// A match that has ended.
 fn played(alloc: Global, words: &mut Dealer) -> Result<Sealed, Fail> {
-    let nodes = 3 + below(words, 6);
+    let nodes = below(words, 6).saturating_add(3);
     let has_chord = nodes > 3 && below(words, 2) == 0;
     let net = network(alloc, nodes, has_chord)?;
     let setup = setup(alloc, words, nodes)?;
@@ -144,7 +144,7 @@ fn is_past_told(alloc: Global, whole: &Sealed, agent: u16) -> Result<bool, Fail>
         .iter()
         .filter(|kept| agent_of(&kept.event) == Some(agent))
         .count();
-    let mut own_told = 0;
+    let mut own_told: usize = 0;
     let part = restrict(alloc, whole, &past)?;
     for (index, place) in past.iter().enumerate() {
         let place = *place as usize;
@@ -153,7 +153,7 @@ fn is_past_told(alloc: Global, whole: &Sealed, agent: u16) -> Result<bool, Fail>
             return Ok(false);
         }
         if event.and_then(agent_of) == Some(agent) {
-            own_told += 1;
+            own_told = own_told.saturating_add(1);
         }
     }
     Ok(own_told == own)
