@@ -39,7 +39,7 @@ class Inputs(unittest.TestCase):
             seconds, printed = inputs.run("cat", [], folder / "in", folder)
             self.assertEqual(printed, b"text")
             self.assertGreater(seconds, 0)
-            self.assertGreater(inputs.peak_of("sleep", ["0.05"], folder / "in", folder), 100)
+            self.assertGreater(inputs.peak_of("sleep", ["0.5"], folder / "in", folder), 100)
 
 
 class Words(unittest.TestCase):
