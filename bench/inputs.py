@@ -65,18 +65,24 @@ def seconds_of(program: str, words: Sequence[str], source: pathlib.Path, folder:
         return time.perf_counter() - start
 
 
-def peak_of(program: str, words: Sequence[str], source: pathlib.Path, folder: pathlib.Path) -> int:
-    """The most memory, in KiB, that one run held: what the system said last before the end, asked every half
-    millisecond."""
+def peak_of_child(child: subprocess.Popen) -> int:
+    """The most memory, in KiB, that a program holds until it ends: what the system said last before that, asked every
+    half millisecond. What the system says afterwards counts the memory of the one that started it as well."""
     peak = 0
+    status = pathlib.Path(f"/proc/{child.pid}/status")
+    while child.poll() is None:
+        for line in status.read_text().splitlines():
+            if line.startswith("VmHWM:"):
+                peak = max(peak, int(line.split()[1]))
+        time.sleep(PAUSE)
+    return peak
+
+
+def peak_of(program: str, words: Sequence[str], source: pathlib.Path, folder: pathlib.Path) -> int:
+    """The most memory, in KiB, that one run held."""
     with open(source, "rb") as given:
         child = subprocess.Popen([program, *words], stdin=given, stdout=subprocess.DEVNULL, cwd=folder)
-        status = pathlib.Path(f"/proc/{child.pid}/status")
-        while child.poll() is None:
-            for line in status.read_text().splitlines():
-                if line.startswith("VmHWM:"):
-                    peak = max(peak, int(line.split()[1]))
-            time.sleep(PAUSE)
+        peak = peak_of_child(child)
     if child.returncode != 0:
         raise subprocess.CalledProcessError(child.returncode, [program, *words])
     return peak

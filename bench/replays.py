@@ -17,7 +17,6 @@ one more run and the size of the replay; then how the whole replay compares with
 takes about ten times as long. What `judge` says is compared with what the replay was made to give. Nothing is written
 outside a temporary folder, which takes up to 1 GB.
 """
-import json
 import pathlib
 import subprocess
 import sys
@@ -27,6 +26,10 @@ from typing import Any, Callable, Dict, Iterator, List, NamedTuple, Optional, Te
 from inputs import MAX_AGENTS, MAX_BOARD, MAX_QUOTA, median_of, peak_of, seconds_of, torus_links
 
 TOP = pathlib.Path(__file__).resolve().parent.parent
+sys.path.insert(0, str(TOP / "tools"))
+
+from stand_in_model import spelled  # noqa: E402
+
 PROGRAM = TOP / "crates" / "bhs_main" / "out" / "bhs_main"
 SIDE = 16
 NODES = SIDE * SIDE
@@ -37,11 +40,6 @@ MAX_LINE = 65_536
 RUNS = 3
 
 Event = Dict[str, Any]
-
-
-def spelled(value: Any) -> str:
-    """JSON as a replay spells it: keys in order, no spaces, characters past ASCII as they are."""
-    return json.dumps(value, sort_keys=True, separators=(",", ":"), ensure_ascii=False)
 
 
 def here(came: Optional[int], board: str) -> Event:

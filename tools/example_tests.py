@@ -1,12 +1,15 @@
 #!/usr/bin/env python3
 """Writes crates/bhs_main/src/tests/examples.rt, which plays the files of examples/: tests run where no file of the
-repository lies, so their texts stand in the test. With --check it writes nothing, and fails where the file is not current."""
+repository lies, so their texts stand in the test. With --check it writes nothing, and fails where the file is not
+current."""
 import pathlib
+import re
 import sys
 
 TOP = pathlib.Path(__file__).resolve().parent.parent
 TEST = TOP / "crates/bhs_main/src/tests/examples.rt"
 TEAMS = "red=examples/first0.jsonl blue=examples/guess0.jsonl green=examples/triangle0.jsonl"
+LONGEST, WIDTH = 120, 108
 NETWORKS = ["ring8", "hypercube16", "torus25", "triangle"]
 
 HEAD = """//! The files of `examples/`, written by `tools/example_tests.py`: change those files, and run it again.
@@ -92,16 +95,33 @@ REPLAYS = ["first0.jsonl", "guess0.jsonl", "triangle0.jsonl"]
 SUFFIXES = (".checked", ".printed", ".explained", ".twin")
 
 
+def broken(line):
+    """A line of a text in quotes, broken behind commas where it is long."""
+    pieces = [""]
+    for part in re.findall("[^,]*,?", line):
+        if len(pieces[-1]) + len(part) > WIDTH:
+            assert not part.startswith(" "), line
+            pieces.append("")
+        pieces[-1] += part
+    return "\\\n    ".join(pieces)
+
+
 def text_of(name):
+    """The text of a file, raw where its lines are short."""
     text = (TOP / "examples" / name).read_text()
-    assert '"#' not in text, name
-    return f'r#"{text}"#'
+    if all(len(line) <= LONGEST for line in text.splitlines()) and len(text.partition("\n")[0]) <= WIDTH:
+        assert '"#' not in text, name
+        return f'r#"{text}"#'
+    escaped = text.replace("\\", "\\\\").replace('"', '\\"')
+    return '"' + "\n".join(broken(line) for line in escaped.split("\n")) + '"'
 
 
 def word_list(words):
     """The words as a list in the layout of rt fmt."""
     short = ", ".join(words)
-    return f"[{short}]" if len(short) <= 60 else "[\n" + "".join(f"            {word},\n" for word in words) + "        ]"
+    if len(short) <= 60:
+        return f"[{short}]"
+    return "[\n" + "".join(f"            {word},\n" for word in words) + "        ]"
 
 
 def main():

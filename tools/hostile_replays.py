@@ -6,12 +6,11 @@
 PROGRAM is the built program, ./arena where none is named. Each text has BYTES bytes, 1 GiB where none are named, and
 comes through a pipe, so no file is written. For each a line is printed: the fault and the status, the seconds, the peak
 memory, and both again for a text of a quarter of the size. The exit status is 1 where a fault is another than it should
-be, where time grows much faster than the text, or where memory is more than three times the longest line and 32 MiB.
+be, where time grows much faster than the text, or where memory is more than three times the longest line and 4 MiB.
 
 A replay's lines have no limit of length, so the program holds one line, and while that grows its first half once more.
 """
 import argparse
-import os
 import pathlib
 import subprocess
 import sys
@@ -20,6 +19,10 @@ import time
 from typing import BinaryIO, Iterator, List, NamedTuple, Tuple
 
 TOP = pathlib.Path(__file__).resolve().parent.parent
+sys.path.insert(0, str(TOP / "bench"))
+
+from inputs import peak_of_child  # noqa: E402
+
 MIB = 1024 * 1024
 HEAD = (b'{"agents":2,"board":8,"dark":[],"holes":[2],"home":0,"links":[[0,0,1,0],[0,1,2,1],[1,1,2,0]],'
         b'"nodes":3,"quota":10,"replay":2}\n')
@@ -88,12 +91,12 @@ def run(program: List[str], case: Case, size: int) -> Run:
                              stderr=subprocess.PIPE)
     writer = threading.Thread(target=feed, args=(child.stdin, case, size))
     writer.start()
-    told = child.stderr.read().decode(errors="replace").strip()
-    _, status, usage = os.wait4(child.pid, 0)
-    child.returncode = os.waitstatus_to_exitcode(status)
+    peak = peak_of_child(child) / 1024
+    seconds = time.monotonic() - begin
     writer.join()
-    child.stderr.close()
-    return Run(told.partition(": ")[2], child.returncode, time.monotonic() - begin, usage.ru_maxrss / 1024)
+    with child.stderr:
+        told = child.stderr.read().decode(errors="replace").strip()
+    return Run(told.partition(": ")[2], child.returncode, seconds, peak)
 
 
 def faults_of(case: Case, size: int, whole: Run, part: Run) -> List[str]:
@@ -102,7 +105,7 @@ def faults_of(case: Case, size: int, whole: Run, part: Run) -> List[str]:
     for one in (whole, part):
         if (one.fault, one.status) != (case.fault, case.status):
             found.append(f"`{one.fault}` with status {one.status} for `{case.fault}` with status {case.status}")
-    bound = 32 + (3 * size / MIB if case.is_line else 0)
+    bound = 4 + (3 * size / MIB if case.is_line else 0)
     if whole.peak > bound:
         found.append(f"{whole.peak:.0f} MiB, more than {bound:.0f}")
     if whole.seconds > 8 * part.seconds + 1:

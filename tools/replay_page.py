@@ -86,7 +86,8 @@ def read(lines: Iterable[str]) -> Dict[str, Any]:
         event = json.loads(row)
         if "do" in event:
             codes.append(code_of(event, texts))
-    return {"head": head, "texts": list(texts.numbers), "events": ",".join(codes)}
+    words = {letter: word for word, letter in LETTERS.items()}
+    return {"head": head, "texts": list(texts.numbers), "events": ",".join(codes), "words": words}
 
 
 def runs(places: Iterable[int]) -> List[List[int]]:

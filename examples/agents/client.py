@@ -10,7 +10,8 @@ Each call sends one line and reads its answer. An answer that refuses is an exce
 """
 import json
 import socket
-from typing import Any, Dict, NamedTuple, Optional
+import sys
+from typing import Any, Callable, Dict, NamedTuple, Optional
 
 
 class Refused(Exception):
@@ -177,3 +178,19 @@ class Agent:
     @staticmethod
     def _here(answer: Dict[str, Any]) -> Here:
         return Here(answer["ports"], answer["from"], answer["board"])
+
+
+def play(usage: str, search: Callable[..., None], numbers: int) -> None:
+    """Plays one agent by the words HOST PORT KEY and this many whole numbers, which its search takes behind the agent
+    and the key. Other words are answered with the usage."""
+    words = sys.argv[1:]
+    if len(words) != 3 + numbers:
+        sys.exit(usage.strip())
+    host, port, key = words[:3]
+    agent = Agent.connect(host, int(port))
+    try:
+        search(agent, key, *map(int, words[3:]))
+    except MatchOver:
+        print(f"{key}: the match ended before the search did")
+    finally:
+        agent.close()

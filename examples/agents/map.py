@@ -22,12 +22,11 @@ lead to the black hole, or two of the ports are the ends of one slow link.
 An agent that finds no port to claim waits: then another agent is on a link that is safe, and will be back. It looks at
 the map from time to time, which uses its quota; nothing is decided by how long it waits.
 """
-import sys
 import time
 from collections import deque
 from typing import Callable, Dict, List, NamedTuple, Optional, Tuple
 
-from client import Agent, Here, MatchOver, Spent, TooLong
+from client import Agent, Here, Spent, TooLong, play
 
 UNTRIED, CLAIMED, ACCUSED = "?", "!", "x"
 HOME = "home"
@@ -205,22 +204,10 @@ def search(agent: Agent, key: str, nodes: int, links: int, sleep: Callable[[floa
         Searcher(agent, agent.enter(key), sleep).run(nodes, links)
     except Spent:
         agent.leave()
-
-
-def main() -> None:
-    if len(sys.argv) != 6:
-        sys.exit(__doc__.strip())
-    host, port, key, nodes, links = sys.argv[1:]
-    agent = Agent.connect(host, int(port))
-    try:
-        search(agent, key, int(nodes), int(links))
-    except MatchOver:
-        print(f"{key}: the match ended before the search did")
     except TooLong:
         print(f"{key}: the whiteboard at the home base is too small for a map of this network")
-    finally:
-        agent.close()
+        agent.leave()
 
 
 if __name__ == "__main__":
-    main()
+    play(__doc__, search, 2)

@@ -16,10 +16,9 @@ When one node is left, that is the black hole. No agent waits for the other, and
 
 A whiteboard holds what is known of the links to its right and left, as `right safe, left told 5`; 32 bytes suffice.
 """
-import sys
 from typing import Optional
 
-from client import Agent, Here, MatchOver, Spent, Swap
+from client import Agent, Here, Spent, Swap, play
 
 RIGHT, LEFT = 0, 1
 SIDES = ("right", "left")
@@ -155,18 +154,5 @@ def search(agent: Agent, key: str, nodes: int) -> None:
         agent.leave()
 
 
-def main() -> None:
-    if len(sys.argv) != 5:
-        sys.exit(__doc__.strip())
-    host, port, key, nodes = sys.argv[1:]
-    agent = Agent.connect(host, int(port))
-    try:
-        search(agent, key, int(nodes))
-    except MatchOver:
-        print(f"{key}: the match ended before the search did")
-    finally:
-        agent.close()
-
-
 if __name__ == "__main__":
-    main()
+    play(__doc__, search, 1)

@@ -1,9 +1,6 @@
 // A match, by the rules of docs/MODEL.md.
 "use strict";
 const EVERY = 512;
-const WORDS = {
-  e: "enter", l: "look", q: "leave", b: "bad", w: "write", d: "depart", a: "accuse", v: "deliver", c: "close",
-};
 const bytes = (text) => new TextEncoder().encode(text).length;
 
 class Match {
@@ -79,7 +76,7 @@ class Match {
   // the event's line in the replay
   line(place) {
     const { kind, agent, port, expect, put } = this.events[place];
-    const line = { agent, do: WORDS[kind], expect, port, put, reply: this.reply(place) };
+    const line = { agent, do: this.given.words[kind], expect, port, put, reply: this.reply(place) };
     if (kind === "c") delete line.agent;
     return JSON.stringify(line);
   }

@@ -59,7 +59,8 @@ any_at play (first ∷ passes) index zero pass inside is apart =
     inl (
       ap (λ (p : Passed). p.agent) (sym is),
       subst
-          (λ (p : Passed). slice_get (heard_in p.agent play.log) index ≢ slice_get (receipted p.receipts p.commands) index) is
+          (λ (p : Passed).
+          slice_get (heard_in p.agent play.log) index ≢ slice_get (receipted p.receipts p.commands) index) is
           apart,
     )
 any_at play (first ∷ passes) index (suc place) pass inside is apart =

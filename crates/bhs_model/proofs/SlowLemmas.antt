@@ -76,7 +76,9 @@ module _ (world : World) (held : Held) (slow : World) (still : Held) (instead : 
       × (is_struck slow world state event ≡ false)
   none_given state (Tell agent command) unstruck = (refl, refl, refl)
   none_given state (Deliver agent) unstruck =
-      let parts = or_parts (is_doomed world (state.position agent)) (is_doomed slow (state.position agent)) unstruck in (
+      let parts =
+      or_parts (is_doomed world (state.position agent)) (is_doomed slow (state.position agent)) unstruck
+      in (
         and_right (arrives world state agent) _ parts.1,
         and_right (arrives slow state agent) _ parts.0,
         or_from _ _ parts.1 parts.0,

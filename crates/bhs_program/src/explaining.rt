@@ -7,7 +7,7 @@ ghost use Rattle.bhs_program.specs.Reports.{IsPast, line_at, lines_at, past_of};
 ghost use Rattle.bhs_program.specs.Showing.{PrintsByLine, Reports};
 
 use crate::faults::{Fault, report};
-use crate::lines::passed_on;
+use crate::line_by_line::passed_on;
 use crate::replays::match_of;
 use bhs_match::Sealed;
 use bhs_net::Memory;

@@ -7,11 +7,11 @@ use crate::checking::check;
 use crate::explaining::print_past;
 use crate::faults::{Fault, report};
 use crate::judging::print_verdict;
-use crate::showing::show;
-use crate::staging::rehearse_named;
-use crate::statuses::{DONE, REFUSED_WORDS};
+use crate::showing::show_text;
+use crate::statuses::REFUSED_WORDS;
 use crate::tabling::print_table;
 use crate::twinning::print_twin;
+use crate::whole_rehearsals::rehearse_named;
 use bhs_command_line::{Order, Parsed, order_of};
 use bhs_stream::{Input, Output, send};
 use std::alloc::Global;
@@ -39,10 +39,7 @@ pub fn run<S: AsStr, F: Files, R: Input, W: Output, E: Write>(
 {
     match order_of(alloc, words) {
         Ok(Parsed::Ordered(order)) => obey(alloc, files, order, reader, writer, errors),
-        Ok(Parsed::Shown { text }) => match show(text.as_str(), writer) {
-            Ok(()) => DONE,
-            Err(_) => report("output", Fault::Write, errors),
-        },
+        Ok(Parsed::Shown { text }) => show_text(text.as_str(), writer, errors),
         Ok(Parsed::Refused { text }) => {
             let _ = send(errors, text.as_bytes());
             REFUSED_WORDS

@@ -1,3 +1,5 @@
+//! Texts that are written to an output and passed on.
+
 ghost use Rattle.std.specs.Prelude.{◌≡◌, IfOk, OnOk, OnErr, true, false, ◌⊎◌, string_bytes};
 ghost use Rattle.bhs_stream.specs.Sending.{PutsPart};
 ghost use Rattle.bhs_program.specs.Showing.{Prints, Shows};
@@ -9,14 +11,24 @@ use bhs_net::Memory;
 use bhs_stream::{Output, WriteFault, finish, send};
 use std::io::Write;
 
-/// Writes a text, and sees that all of it is out.
-pub(crate) fn show<W: Output>(text: &str, writer: &mut W) -> Result<(), WriteFault>
+// Writes a text, and sees that all of it is out.
+fn show<W: Output>(text: &str, writer: &mut W) -> Result<(), WriteFault>
     ensures ok { OnOk result (Shows W.takes W.flushes text.now true writer.old writer.new) }
     ensures err { OnErr result (PutsPart W.takes writer.old text.now writer.new
         ⊎ Shows W.takes W.flushes text.now false writer.old writer.new) }
 {
     send(writer, text.as_bytes())?;
     finish(writer)
+}
+
+/// Shows a text, and answers the exit status.
+pub(crate) fn show_text<W: Output, E: Write>(text: &str, writer: &mut W, errors: &mut E) -> u8
+    ensures { Prints W.takes W.flushes text.now writer.old writer.new result }
+{
+    match show(text, writer) {
+        Ok(()) => DONE,
+        Err(_) => report("output", Fault::Write, errors),
+    }
 }
 
 /// Shows a text, if there was memory to make it, and answers the exit status.
@@ -28,11 +40,8 @@ pub(crate) fn show_made<W: Output, E: Write>(
     ensures shown { IfOk made (λ text. Prints W.takes W.flushes (string_bytes text) writer.old writer.new result) }
     ensures lacks { OnErr made ((result ≡ NO_MEMORY) × (writer.new ≡ writer.old)) }
 {
-    let Ok(text) = made else {
-        return report("output", Fault::Memory, errors);
-    };
-    match show(text.as_str(), writer) {
-        Ok(()) => DONE,
-        Err(_) => report("output", Fault::Write, errors),
+    match made {
+        Ok(text) => show_text(text.as_str(), writer, errors),
+        Err(_) => report("output", Fault::Memory, errors),
     }
 }

@@ -6,7 +6,7 @@ ghost use Rattle.bhs_program.specs.Reports.{IsTwinReplay};
 ghost use Rattle.bhs_program.specs.Showing.{PrintsByLine, Reports};
 
 use crate::faults::{Fault, report};
-use crate::lines::passed_on;
+use crate::line_by_line::passed_on;
 use crate::replays::{match_of, write_match};
 use bhs_stream::Output;
 use bhs_view::twin_of;

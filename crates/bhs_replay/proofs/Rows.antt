@@ -1,5 +1,5 @@
 -- Worked rows: what the definitions compute.
-use Rattle.std.proofs.Common.{◌≡◌, List, [], ◌∷◌, codes, true, false, None, Some, refl}
+use Rattle.std.proofs.Common.{◌≡◌, List, [], ◌∷◌, ◌++◌, codes, true, false, None, Some, refl}
 use Rattle.bhs_net.specs.Network.{Network}
 use Rattle.bhs_model.specs.declared.setups.Setup.{Setup}
 use Rattle.bhs_model.specs.declared.commands.Command.TheVariants.{Enter, Write, Accuse}
@@ -42,7 +42,8 @@ spaced_row : spelled (codes "{\"agent\": 0,\"do\":\"look\",\"reply\":{\"ok\":\"n
 unfolding bhs_wire_on_literals
 spaced_row = refl
 
-escaped_row : spelled (codes "{\"agent\":1,\"do\":\"write\",\"expect\":\"\",\"put\":\"\\u0061\",\"reply\":{\"ok\":\"written\"}}") ≡ None
+escaped_row : spelled (codes "{\"agent\":1,\"do\":\"write\",\"expect\":\"\",\"put\":\"\\u0061\","
+    ++ codes "\"reply\":{\"ok\":\"written\"}}") ≡ None
 unfolding bhs_wire_on_literals
 escaped_row = refl
 
@@ -66,11 +67,13 @@ triangle = ((1, 0) ∷ (2, 1) ∷ []) ∷ ((0, 0) ∷ (2, 0) ∷ []) ∷ ((1, 1)
 abbrev two_agents : Setup
 two_agents = record { home = 0; holes = 2 ∷ []; dark = []; agents = 2; quota = 10; board = 8 }
 
-head_row : head_line Two triangle two_agents ≡ codes "{\"agents\":2,\"board\":8,\"dark\":[],\"holes\":[2],\"home\":0,\"links\":[[0,0,1,0],[0,1,2,1],[1,1,2,0]],\"nodes\":3,\"quota\":10,\"replay\":2}"
+head_row : head_line Two triangle two_agents ≡ codes "{\"agents\":2,\"board\":8,\"dark\":[],\"holes\":[2],"
+    ++ codes "\"home\":0,\"links\":[[0,0,1,0],[0,1,2,1],[1,1,2,0]],\"nodes\":3,\"quota\":10,\"replay\":2}"
 unfolding bhs_wire_on_literals
 head_row = refl
 
-old_head_row : head_line One triangle two_agents ≡ codes "{\"agents\":2,\"board\":8,\"hole\":2,\"home\":0,\"links\":[[0,0,1,0],[0,1,2,1],[1,1,2,0]],\"nodes\":3,\"quota\":10,\"replay\":1}"
+old_head_row : head_line One triangle two_agents ≡ codes "{\"agents\":2,\"board\":8,\"hole\":2,"
+    ++ codes "\"home\":0,\"links\":[[0,0,1,0],[0,1,2,1],[1,1,2,0]],\"nodes\":3,\"quota\":10,\"replay\":1}"
 unfolding bhs_wire_on_literals
 old_head_row = refl
 

@@ -55,8 +55,8 @@ fn read(alloc: Global, text: &[u8], fails: bool) -> Result<Sealed, ReplayFault> 
 }
 
 /// An accusation that may be right: two agents, one node that destroys.
-const ACCUSED: &str =
-    "{\"agents\":2,\"board\":8,\"dark\":[],\"holes\":[2],\"home\":0,\"links\":[[0,0,1,0],[0,1,2,1],[1,1,2,0]],\"nodes\":3,\"quota\":10,\"replay\":2}
+const ACCUSED: &str = "{\"agents\":2,\"board\":8,\"dark\":[],\"holes\":[2],\
+    \"home\":0,\"links\":[[0,0,1,0],[0,1,2,1],[1,1,2,0]],\"nodes\":3,\"quota\":10,\"replay\":2}
 {\"agent\":0,\"do\":\"enter\",\"reply\":{\"board\":\"\",\"from\":null,\"ok\":\"here\",\"ports\":2}}
 {\"agent\":0,\"do\":\"accuse\",\"port\":1,\"reply\":{\"ok\":\"noted\"}}
 {\"do\":\"close\",\"reply\":null}
@@ -64,19 +64,21 @@ const ACCUSED: &str =
 ";
 
 /// Its head in version 1.
-const OLD_HEAD: &str =
-    "{\"agents\":2,\"board\":8,\"hole\":2,\"home\":0,\"links\":[[0,0,1,0],[0,1,2,1],[1,1,2,0]],\"nodes\":3,\"quota\":10,\"replay\":1}";
+const OLD_HEAD: &str = "{\"agents\":2,\"board\":8,\"hole\":2,\
+    \"home\":0,\"links\":[[0,0,1,0],[0,1,2,1],[1,1,2,0]],\"nodes\":3,\"quota\":10,\"replay\":1}";
 
 /// Matches with a dark link, with two black holes, with whiteboards, and with none of what destroys.
 const OTHERS: [&str; 5] = [
-    "{\"agents\":2,\"board\":8,\"dark\":[[0,1]],\"holes\":[],\"home\":0,\"links\":[[0,0,1,0],[0,1,2,1],[1,1,2,0]],\"nodes\":3,\"quota\":10,\"replay\":2}
+    "{\"agents\":2,\"board\":8,\"dark\":[[0,1]],\"holes\":[],\
+    \"home\":0,\"links\":[[0,0,1,0],[0,1,2,1],[1,1,2,0]],\"nodes\":3,\"quota\":10,\"replay\":2}
 {\"agent\":0,\"do\":\"enter\",\"reply\":{\"board\":\"\",\"from\":null,\"ok\":\"here\",\"ports\":2}}
 {\"agent\":0,\"do\":\"depart\",\"port\":1,\"reply\":{\"ok\":\"gone\"}}
 {\"agent\":0,\"do\":\"deliver\",\"reply\":null}
 {\"do\":\"close\",\"reply\":null}
 {\"end\":4}
 ",
-    "{\"agents\":2,\"board\":8,\"dark\":[[0,1]],\"holes\":[],\"home\":0,\"links\":[[0,0,1,0],[0,1,2,1],[1,1,2,0]],\"nodes\":3,\"quota\":10,\"replay\":2}
+    "{\"agents\":2,\"board\":8,\"dark\":[[0,1]],\"holes\":[],\
+    \"home\":0,\"links\":[[0,0,1,0],[0,1,2,1],[1,1,2,0]],\"nodes\":3,\"quota\":10,\"replay\":2}
 {\"agent\":0,\"do\":\"enter\",\"reply\":{\"board\":\"\",\"from\":null,\"ok\":\"here\",\"ports\":2}}
 {\"agent\":0,\"do\":\"depart\",\"port\":0,\"reply\":{\"ok\":\"gone\"}}
 {\"agent\":0,\"do\":\"deliver\",\"reply\":{\"board\":\"\",\"from\":0,\"ok\":\"here\",\"ports\":2}}
@@ -86,7 +88,8 @@ const OTHERS: [&str; 5] = [
 {\"do\":\"close\",\"reply\":null}
 {\"end\":7}
 ",
-    "{\"agents\":2,\"board\":8,\"dark\":[],\"holes\":[1,2],\"home\":0,\"links\":[[0,0,1,0],[0,1,2,1],[1,1,2,0]],\"nodes\":3,\"quota\":10,\"replay\":2}
+    "{\"agents\":2,\"board\":8,\"dark\":[],\"holes\":[1,2],\
+    \"home\":0,\"links\":[[0,0,1,0],[0,1,2,1],[1,1,2,0]],\"nodes\":3,\"quota\":10,\"replay\":2}
 {\"agent\":0,\"do\":\"enter\",\"reply\":{\"board\":\"\",\"from\":null,\"ok\":\"here\",\"ports\":2}}
 {\"agent\":0,\"do\":\"accuse\",\"port\":0,\"reply\":{\"ok\":\"noted\"}}
 {\"agent\":1,\"do\":\"enter\",\"reply\":{\"board\":\"\",\"from\":null,\"ok\":\"here\",\"ports\":2}}
@@ -94,7 +97,8 @@ const OTHERS: [&str; 5] = [
 {\"do\":\"close\",\"reply\":null}
 {\"end\":5}
 ",
-    "{\"agents\":2,\"board\":8,\"dark\":[],\"holes\":[1,3],\"home\":0,\"links\":[[0,0,1,0],[0,1,3,1],[1,1,2,0],[2,1,3,0]],\"nodes\":4,\"quota\":10,\"replay\":2}
+    "{\"agents\":2,\"board\":8,\"dark\":[],\"holes\":[1,3],\
+    \"home\":0,\"links\":[[0,0,1,0],[0,1,3,1],[1,1,2,0],[2,1,3,0]],\"nodes\":4,\"quota\":10,\"replay\":2}
 {\"agent\":0,\"do\":\"enter\",\"reply\":{\"board\":\"\",\"from\":null,\"ok\":\"here\",\"ports\":2}}
 {\"agent\":0,\"do\":\"write\",\"expect\":\"\",\"put\":\"\\\"\\n€\",\"reply\":{\"ok\":\"written\"}}
 {\"agent\":1,\"do\":\"enter\",\"reply\":{\"board\":\"\\\"\\n€\",\"from\":null,\"ok\":\"here\",\"ports\":2}}
@@ -105,7 +109,8 @@ const OTHERS: [&str; 5] = [
 {\"do\":\"close\",\"reply\":null}
 {\"end\":8}
 ",
-    "{\"agents\":1,\"board\":0,\"dark\":[],\"holes\":[],\"home\":1,\"links\":[[0,0,1,0],[0,1,2,1],[1,1,2,0]],\"nodes\":3,\"quota\":1,\"replay\":2}
+    "{\"agents\":1,\"board\":0,\"dark\":[],\"holes\":[],\
+    \"home\":1,\"links\":[[0,0,1,0],[0,1,2,1],[1,1,2,0]],\"nodes\":3,\"quota\":1,\"replay\":2}
 {\"do\":\"close\",\"reply\":null}
 {\"end\":1}
 ",

@@ -11,7 +11,8 @@ mod visits;
 pub use dealing::deal;
 pub use pacing::{Pace, Step};
 pub use ports::{CellPort, Played};
-pub use serving::{Contest, Served, ServerFault, run_server};
+pub use serving::{Contest, Served, run_server};
+pub use settling::ServerFault;
 pub use visits::{TURNS, Visit, attend};
 
 #[cfg(test)]

@@ -3,8 +3,7 @@ ghost use Rattle.bhs_server.specs.Settling.{AreSealed, IsUnsettled};
 
 use crate::dealing::deal;
 use crate::pacing::Pace;
-pub use crate::settling::ServerFault;
-use crate::settling::{by_match, settle_all};
+use crate::settling::{ServerFault, by_match, settle_all};
 use crate::visits::{Visit, attend};
 use bhs_deal::Dealer;
 use bhs_lineup::Keys;

@@ -159,7 +159,8 @@ lacks_if : (ended : Ending) (unwritten : List ℕ) → unwritten ≡ [] → MayL
 lacks_if ended unwritten is = subst (MayLack ended) (sym is) (lacks_none ended)
 
 -- what stops a session between two lines
-pub stopped_known : (quota limit : ℕ) (written : List ℕ) (taken : List Line) (phase : Phase) (past : View) (cause : Ending)
+pub stopped_known : (quota limit : ℕ) (written : List ℕ) (taken : List Line) (phase : Phase) (past : View)
+    (cause : Ending)
     → TakesLines phase →
     Known quota limit written taken phase past → Known quota limit written taken (stopped phase cause) past
 stopped_known quota limit written taken Fresh past cause takes k = record {

@@ -11,7 +11,8 @@ use std::test::Fail;
 const FILES: [(&str, &str); 6] = [
     (
         "examples/first.toml",
-        r#"# A first tournament: four matches of three teams. The names of the networks are paths from the root of the repository.
+        r#"# A first tournament: four matches of three teams. The names of the networks are paths from the root of the
+# repository.
 version = 2
 seed = "2b7e151628aed2a6abf7158809cf4f3c2b7e151628aed2a6abf7158809cf4f3c"
 
@@ -123,12 +124,13 @@ links = [
     ),
     (
         "examples/guess.twin",
-        r#"{"agents":2,"board":8,"dark":[],"holes":[1],"home":0,"links":[[0,0,1,0],[0,1,2,1],[1,1,2,0]],"nodes":3,"quota":10,"replay":2}
-{"agent":0,"do":"enter","reply":{"board":"","from":null,"ok":"here","ports":2}}
-{"agent":0,"do":"accuse","port":1,"reply":{"ok":"noted"}}
-{"do":"close","reply":null}
-{"end":3}
-"#,
+        "{\"agents\":2,\"board\":8,\"dark\":[],\"holes\":[1],\"home\":0,\"links\":[[0,0,1,0],[0,1,2,1],[1,1,2,0]],\
+    \"nodes\":3,\"quota\":10,\"replay\":2}
+{\"agent\":0,\"do\":\"enter\",\"reply\":{\"board\":\"\",\"from\":null,\"ok\":\"here\",\"ports\":2}}
+{\"agent\":0,\"do\":\"accuse\",\"port\":1,\"reply\":{\"ok\":\"noted\"}}
+{\"do\":\"close\",\"reply\":null}
+{\"end\":3}
+",
     ),
 ];
 
@@ -151,8 +153,9 @@ match 3 red nodes 3 links 3 agents 2
             "--replay",
             "examples/first",
         ],
-        r#"# Two agents search the ring of 8 nodes, match 0 of first.toml. They know the rules of the ring: port 0 leads on, port 1 back.
-# Agent a has connection 0, agent b connection 1. At each node an agent writes by which port it goes on.
+        r#"# Two agents search the ring of 8 nodes, match 0 of first.toml. They know the rules of the ring: port 0
+# leads on, port 1 back. Agent a has connection 0, agent b connection 1. At each node an agent writes by
+# which port it goes on.
 # 
 # Both enter at the home base.
 0 {"do":"enter","key":"red-ring-0"}
@@ -193,7 +196,8 @@ draw 0 1
 draw 0 1
 1 {"do":"depart","port":0}
 draw 0 1
-# Where a went on by port 0 b has seen all other nodes: 2 on its own way, 4 on that of a, and the home base. One is left.
+# Where a went on by port 0 b has seen all other nodes: 2 on its own way, 4 on that of a, and the home base.
+# One is left.
 1 {"do":"accuse","port":0}
 # The match ends. a still waits on its link, and is told.
 close 0
@@ -346,12 +350,13 @@ close 0
     (
         &["twin", "examples/guess0.jsonl", "1"],
         "",
-        r#"{"agents":2,"board":8,"dark":[],"holes":[1],"home":0,"links":[[0,0,1,0],[0,1,2,1],[1,1,2,0]],"nodes":3,"quota":10,"replay":2}
-{"agent":0,"do":"enter","reply":{"board":"","from":null,"ok":"here","ports":2}}
-{"agent":0,"do":"accuse","port":1,"reply":{"ok":"noted"}}
-{"do":"close","reply":null}
-{"end":3}
-"#,
+        "{\"agents\":2,\"board\":8,\"dark\":[],\"holes\":[1],\"home\":0,\"links\":[[0,0,1,0],[0,1,2,1],[1,1,2,0]],\
+    \"nodes\":3,\"quota\":10,\"replay\":2}
+{\"agent\":0,\"do\":\"enter\",\"reply\":{\"board\":\"\",\"from\":null,\"ok\":\"here\",\"ports\":2}}
+{\"agent\":0,\"do\":\"accuse\",\"port\":1,\"reply\":{\"ok\":\"noted\"}}
+{\"do\":\"close\",\"reply\":null}
+{\"end\":3}
+",
         "",
     ),
     (
@@ -366,63 +371,66 @@ close 0
 const REPLAYS: [(&str, &str); 3] = [
     (
         "examples/first0.jsonl",
-        r#"{"agents":2,"board":64,"dark":[],"holes":[5],"home":0,"links":[[0,0,1,1],[0,1,7,0],[1,0,2,1],[2,0,3,1],[3,0,4,1],[4,0,5,1],[5,0,6,1],[6,0,7,1]],"nodes":8,"quota":100,"replay":2}
-{"agent":0,"do":"enter","reply":{"board":"","from":null,"ok":"here","ports":2}}
-{"agent":1,"do":"enter","reply":{"board":"","from":null,"ok":"here","ports":2}}
-{"agent":0,"do":"write","expect":"","put":"a 0","reply":{"ok":"written"}}
-{"agent":0,"do":"depart","port":0,"reply":{"ok":"gone"}}
-{"agent":0,"do":"deliver","reply":{"board":"","from":1,"ok":"here","ports":2}}
-{"agent":0,"do":"write","expect":"","put":"a 0","reply":{"ok":"written"}}
-{"agent":0,"do":"depart","port":0,"reply":{"ok":"gone"}}
-{"agent":0,"do":"deliver","reply":{"board":"","from":1,"ok":"here","ports":2}}
-{"agent":0,"do":"write","expect":"","put":"a 0","reply":{"ok":"written"}}
-{"agent":0,"do":"depart","port":0,"reply":{"ok":"gone"}}
-{"agent":0,"do":"deliver","reply":{"board":"","from":1,"ok":"here","ports":2}}
-{"agent":0,"do":"write","expect":"","put":"a 0","reply":{"ok":"written"}}
-{"agent":0,"do":"depart","port":0,"reply":{"ok":"gone"}}
-{"agent":0,"do":"deliver","reply":{"board":"","from":1,"ok":"here","ports":2}}
-{"agent":0,"do":"write","expect":"","put":"a 0","reply":{"ok":"written"}}
-{"agent":0,"do":"depart","port":0,"reply":{"ok":"gone"}}
-{"agent":0,"do":"deliver","reply":null}
-{"agent":1,"do":"depart","port":1,"reply":{"ok":"gone"}}
-{"agent":1,"do":"deliver","reply":{"board":"","from":0,"ok":"here","ports":2}}
-{"agent":1,"do":"depart","port":1,"reply":{"ok":"gone"}}
-{"agent":1,"do":"deliver","reply":{"board":"","from":0,"ok":"here","ports":2}}
-{"agent":1,"do":"depart","port":0,"reply":{"ok":"gone"}}
-{"agent":1,"do":"deliver","reply":{"board":"","from":1,"ok":"here","ports":2}}
-{"agent":1,"do":"depart","port":0,"reply":{"ok":"gone"}}
-{"agent":1,"do":"deliver","reply":{"board":"a 0","from":1,"ok":"here","ports":2}}
-{"agent":1,"do":"depart","port":0,"reply":{"ok":"gone"}}
-{"agent":1,"do":"deliver","reply":{"board":"a 0","from":1,"ok":"here","ports":2}}
-{"agent":1,"do":"depart","port":0,"reply":{"ok":"gone"}}
-{"agent":1,"do":"deliver","reply":{"board":"a 0","from":1,"ok":"here","ports":2}}
-{"agent":1,"do":"depart","port":0,"reply":{"ok":"gone"}}
-{"agent":1,"do":"deliver","reply":{"board":"a 0","from":1,"ok":"here","ports":2}}
-{"agent":1,"do":"depart","port":0,"reply":{"ok":"gone"}}
-{"agent":1,"do":"deliver","reply":{"board":"a 0","from":1,"ok":"here","ports":2}}
-{"agent":1,"do":"accuse","port":0,"reply":{"ok":"noted"}}
-{"do":"close","reply":null}
-{"end":35}
-"#,
+        "{\"agents\":2,\"board\":64,\"dark\":[],\"holes\":[5],\"home\":0,\"links\":[[0,0,1,1],[0,1,7,0],[1,0,2,1],[2,\
+    0,3,1],[3,0,4,1],[4,0,5,1],[5,0,6,1],[6,0,7,1]],\"nodes\":8,\"quota\":100,\"replay\":2}
+{\"agent\":0,\"do\":\"enter\",\"reply\":{\"board\":\"\",\"from\":null,\"ok\":\"here\",\"ports\":2}}
+{\"agent\":1,\"do\":\"enter\",\"reply\":{\"board\":\"\",\"from\":null,\"ok\":\"here\",\"ports\":2}}
+{\"agent\":0,\"do\":\"write\",\"expect\":\"\",\"put\":\"a 0\",\"reply\":{\"ok\":\"written\"}}
+{\"agent\":0,\"do\":\"depart\",\"port\":0,\"reply\":{\"ok\":\"gone\"}}
+{\"agent\":0,\"do\":\"deliver\",\"reply\":{\"board\":\"\",\"from\":1,\"ok\":\"here\",\"ports\":2}}
+{\"agent\":0,\"do\":\"write\",\"expect\":\"\",\"put\":\"a 0\",\"reply\":{\"ok\":\"written\"}}
+{\"agent\":0,\"do\":\"depart\",\"port\":0,\"reply\":{\"ok\":\"gone\"}}
+{\"agent\":0,\"do\":\"deliver\",\"reply\":{\"board\":\"\",\"from\":1,\"ok\":\"here\",\"ports\":2}}
+{\"agent\":0,\"do\":\"write\",\"expect\":\"\",\"put\":\"a 0\",\"reply\":{\"ok\":\"written\"}}
+{\"agent\":0,\"do\":\"depart\",\"port\":0,\"reply\":{\"ok\":\"gone\"}}
+{\"agent\":0,\"do\":\"deliver\",\"reply\":{\"board\":\"\",\"from\":1,\"ok\":\"here\",\"ports\":2}}
+{\"agent\":0,\"do\":\"write\",\"expect\":\"\",\"put\":\"a 0\",\"reply\":{\"ok\":\"written\"}}
+{\"agent\":0,\"do\":\"depart\",\"port\":0,\"reply\":{\"ok\":\"gone\"}}
+{\"agent\":0,\"do\":\"deliver\",\"reply\":{\"board\":\"\",\"from\":1,\"ok\":\"here\",\"ports\":2}}
+{\"agent\":0,\"do\":\"write\",\"expect\":\"\",\"put\":\"a 0\",\"reply\":{\"ok\":\"written\"}}
+{\"agent\":0,\"do\":\"depart\",\"port\":0,\"reply\":{\"ok\":\"gone\"}}
+{\"agent\":0,\"do\":\"deliver\",\"reply\":null}
+{\"agent\":1,\"do\":\"depart\",\"port\":1,\"reply\":{\"ok\":\"gone\"}}
+{\"agent\":1,\"do\":\"deliver\",\"reply\":{\"board\":\"\",\"from\":0,\"ok\":\"here\",\"ports\":2}}
+{\"agent\":1,\"do\":\"depart\",\"port\":1,\"reply\":{\"ok\":\"gone\"}}
+{\"agent\":1,\"do\":\"deliver\",\"reply\":{\"board\":\"\",\"from\":0,\"ok\":\"here\",\"ports\":2}}
+{\"agent\":1,\"do\":\"depart\",\"port\":0,\"reply\":{\"ok\":\"gone\"}}
+{\"agent\":1,\"do\":\"deliver\",\"reply\":{\"board\":\"\",\"from\":1,\"ok\":\"here\",\"ports\":2}}
+{\"agent\":1,\"do\":\"depart\",\"port\":0,\"reply\":{\"ok\":\"gone\"}}
+{\"agent\":1,\"do\":\"deliver\",\"reply\":{\"board\":\"a 0\",\"from\":1,\"ok\":\"here\",\"ports\":2}}
+{\"agent\":1,\"do\":\"depart\",\"port\":0,\"reply\":{\"ok\":\"gone\"}}
+{\"agent\":1,\"do\":\"deliver\",\"reply\":{\"board\":\"a 0\",\"from\":1,\"ok\":\"here\",\"ports\":2}}
+{\"agent\":1,\"do\":\"depart\",\"port\":0,\"reply\":{\"ok\":\"gone\"}}
+{\"agent\":1,\"do\":\"deliver\",\"reply\":{\"board\":\"a 0\",\"from\":1,\"ok\":\"here\",\"ports\":2}}
+{\"agent\":1,\"do\":\"depart\",\"port\":0,\"reply\":{\"ok\":\"gone\"}}
+{\"agent\":1,\"do\":\"deliver\",\"reply\":{\"board\":\"a 0\",\"from\":1,\"ok\":\"here\",\"ports\":2}}
+{\"agent\":1,\"do\":\"depart\",\"port\":0,\"reply\":{\"ok\":\"gone\"}}
+{\"agent\":1,\"do\":\"deliver\",\"reply\":{\"board\":\"a 0\",\"from\":1,\"ok\":\"here\",\"ports\":2}}
+{\"agent\":1,\"do\":\"accuse\",\"port\":0,\"reply\":{\"ok\":\"noted\"}}
+{\"do\":\"close\",\"reply\":null}
+{\"end\":35}
+",
     ),
     (
         "examples/guess0.jsonl",
-        r#"{"agents":2,"board":8,"dark":[],"holes":[2],"home":0,"links":[[0,0,1,0],[0,1,2,1],[1,1,2,0]],"nodes":3,"quota":10,"replay":2}
-{"agent":0,"do":"enter","reply":{"board":"","from":null,"ok":"here","ports":2}}
-{"agent":0,"do":"accuse","port":1,"reply":{"ok":"noted"}}
-{"do":"close","reply":null}
-{"end":3}
-"#,
+        "{\"agents\":2,\"board\":8,\"dark\":[],\"holes\":[2],\"home\":0,\"links\":[[0,0,1,0],[0,1,2,1],[1,1,2,0]],\
+    \"nodes\":3,\"quota\":10,\"replay\":2}
+{\"agent\":0,\"do\":\"enter\",\"reply\":{\"board\":\"\",\"from\":null,\"ok\":\"here\",\"ports\":2}}
+{\"agent\":0,\"do\":\"accuse\",\"port\":1,\"reply\":{\"ok\":\"noted\"}}
+{\"do\":\"close\",\"reply\":null}
+{\"end\":3}
+",
     ),
     (
         "examples/triangle0.jsonl",
-        r#"{"agents":2,"board":8,"dark":[],"holes":[2],"home":0,"links":[[0,0,1,0],[0,1,2,1],[1,1,2,0]],"nodes":3,"quota":10,"replay":2}
-{"agent":0,"do":"enter","reply":{"board":"","from":null,"ok":"here","ports":2}}
-{"agent":0,"do":"depart","port":0,"reply":{"ok":"gone"}}
-{"agent":0,"do":"deliver","reply":{"board":"","from":0,"ok":"here","ports":2}}
-{"do":"close","reply":null}
-{"end":4}
-"#,
+        "{\"agents\":2,\"board\":8,\"dark\":[],\"holes\":[2],\"home\":0,\"links\":[[0,0,1,0],[0,1,2,1],[1,1,2,0]],\
+    \"nodes\":3,\"quota\":10,\"replay\":2}
+{\"agent\":0,\"do\":\"enter\",\"reply\":{\"board\":\"\",\"from\":null,\"ok\":\"here\",\"ports\":2}}
+{\"agent\":0,\"do\":\"depart\",\"port\":0,\"reply\":{\"ok\":\"gone\"}}
+{\"agent\":0,\"do\":\"deliver\",\"reply\":{\"board\":\"\",\"from\":0,\"ok\":\"here\",\"ports\":2}}
+{\"do\":\"close\",\"reply\":null}
+{\"end\":4}
+",
     ),
 ];
 

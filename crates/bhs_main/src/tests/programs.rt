@@ -3,7 +3,8 @@
 //! A row has a title and steps. A step begins with one of these lines: `$ WORDS` runs the program; `= NAME` reads a
 //! file; `@ NAME` writes one; `% NAME` writes what the last run printed to a file; `/ NAME` makes a folder. Then come
 //! the lines `>` of the script or of the file that is written, `<` of what is printed or stands in the file, `!` of
-//! what is told as a fault, and `?` the exit status, which is else 0. Rows are parted by empty lines.
+//! what is told as a fault, and `?` the exit status, which is else 0. A line `+` goes on with the line before it. Rows
+//! are parted by empty lines.
 
 use bhs_program::run;
 use std::alloc::Global;
@@ -76,7 +77,8 @@ $ rehearse --replay guess
 < 0 {"board":"","from":null,"ok":"here","ports":2}
 < 0 {"ok":"noted"}
 = guess0.jsonl
-< {"agents":2,"board":8,"dark":[],"holes":[2],"home":0,"links":[[0,0,1,0],[0,1,2,1],[1,1,2,0]],"nodes":3,"quota":10,"replay":2}
+< {"agents":2,"board":8,"dark":[],"holes":[2],
++ "home":0,"links":[[0,0,1,0],[0,1,2,1],[1,1,2,0]],"nodes":3,"quota":10,"replay":2}
 < {"agent":0,"do":"enter","reply":{"board":"","from":null,"ok":"here","ports":2}}
 < {"agent":0,"do":"accuse","port":1,"reply":{"ok":"noted"}}
 < {"do":"close","reply":null}
@@ -89,7 +91,8 @@ $ explain guess0.jsonl 0
 $ explain guess0.jsonl 1
 $ explain guess0.jsonl 65535
 $ twin guess0.jsonl 1
-< {"agents":2,"board":8,"dark":[],"holes":[1],"home":0,"links":[[0,0,1,0],[0,1,2,1],[1,1,2,0]],"nodes":3,"quota":10,"replay":2}
+< {"agents":2,"board":8,"dark":[],"holes":[1],
++ "home":0,"links":[[0,0,1,0],[0,1,2,1],[1,1,2,0]],"nodes":3,"quota":10,"replay":2}
 < {"agent":0,"do":"enter","reply":{"board":"","from":null,"ok":"here","ports":2}}
 < {"agent":0,"do":"accuse","port":1,"reply":{"ok":"noted"}}
 < {"do":"close","reply":null}
@@ -108,7 +111,8 @@ The same replay in version 1.
 $ judge first.jsonl
 < guess 1 moves 0 lost 0
 $ twin first.jsonl 01
-< {"agents":2,"board":8,"dark":[],"holes":[1],"home":0,"links":[[0,0,1,0],[0,1,2,1],[1,1,2,0]],"nodes":3,"quota":10,"replay":2}
+< {"agents":2,"board":8,"dark":[],"holes":[1],
++ "home":0,"links":[[0,0,1,0],[0,1,2,1],[1,1,2,0]],"nodes":3,"quota":10,"replay":2}
 < {"agent":0,"do":"enter","reply":{"board":"","from":null,"ok":"here","ports":2}}
 < {"agent":0,"do":"accuse","port":1,"reply":{"ok":"noted"}}
 < {"do":"close","reply":null}
@@ -218,7 +222,8 @@ $ explain slow0.jsonl 0
 
 Another agent's writing elsewhere is not known.
 @ apart.jsonl
-> {"agents":2,"board":8,"dark":[],"holes":[2],"home":0,"links":[[0,0,1,0],[0,1,2,1],[1,1,2,0]],"nodes":3,"quota":10,"replay":2}
+> {"agents":2,"board":8,"dark":[],"holes":[2],
++ "home":0,"links":[[0,0,1,0],[0,1,2,1],[1,1,2,0]],"nodes":3,"quota":10,"replay":2}
 > {"agent":0,"do":"enter","reply":{"board":"","from":null,"ok":"here","ports":2}}
 > {"agent":1,"do":"enter","reply":{"board":"","from":null,"ok":"here","ports":2}}
 > {"agent":1,"do":"depart","port":0,"reply":{"ok":"gone"}}
@@ -233,7 +238,8 @@ $ explain apart.jsonl 0
 
 It is known once the agent arrives there.
 @ near.jsonl
-> {"agents":2,"board":8,"dark":[],"holes":[2],"home":0,"links":[[0,0,1,0],[0,1,2,1],[1,1,2,0]],"nodes":3,"quota":10,"replay":2}
+> {"agents":2,"board":8,"dark":[],"holes":[2],
++ "home":0,"links":[[0,0,1,0],[0,1,2,1],[1,1,2,0]],"nodes":3,"quota":10,"replay":2}
 > {"agent":0,"do":"enter","reply":{"board":"","from":null,"ok":"here","ports":2}}
 > {"agent":1,"do":"enter","reply":{"board":"","from":null,"ok":"here","ports":2}}
 > {"agent":1,"do":"depart","port":0,"reply":{"ok":"gone"}}
@@ -326,7 +332,8 @@ $ twin both1.jsonl 3
 ! twin: same
 ? 4
 $ twin both1.jsonl 2
-< {"agents":2,"board":8,"dark":[],"holes":[2,3],"home":0,"links":[[0,0,1,0],[0,1,3,1],[1,1,2,0],[2,1,3,0]],"nodes":4,"quota":10,"replay":2}
+< {"agents":2,"board":8,"dark":[],"holes":[2,3],
++ "home":0,"links":[[0,0,1,0],[0,1,3,1],[1,1,2,0],[2,1,3,0]],"nodes":4,"quota":10,"replay":2}
 < {"agent":0,"do":"enter","reply":{"board":"","from":null,"ok":"here","ports":2}}
 < {"agent":1,"do":"enter","reply":{"board":"","from":null,"ok":"here","ports":2}}
 < {"agent":0,"do":"accuse","port":0,"reply":{"ok":"noted"}}
@@ -437,8 +444,10 @@ Another number in the end line.
 ? 3"#;
 
 const HEADS: [&str; 2] = [
-    r#"{"agents":2,"board":8,"dark":[],"holes":[2],"home":0,"links":[[0,0,1,0],[0,1,2,1],[1,1,2,0]],"nodes":3,"quota":10,"replay":2}"#,
-    r#"{"agents":2,"board":8,"hole":2,"home":0,"links":[[0,0,1,0],[0,1,2,1],[1,1,2,0]],"nodes":3,"quota":10,"replay":1}"#,
+    "{\"agents\":2,\"board\":8,\"dark\":[],\"holes\":[2],\
+    \"home\":0,\"links\":[[0,0,1,0],[0,1,2,1],[1,1,2,0]],\"nodes\":3,\"quota\":10,\"replay\":2}",
+    "{\"agents\":2,\"board\":8,\"hole\":2,\
+    \"home\":0,\"links\":[[0,0,1,0],[0,1,2,1],[1,1,2,0]],\"nodes\":3,\"quota\":10,\"replay\":1}",
 ];
 
 /// What is done, with what, and what is to come of it.
@@ -529,9 +538,10 @@ fn runs<R: Abort + Files>(
 
 /// Carries out the steps of a row.
 fn holds<R: Abort + Files>(rt: &R, alloc: Global, row: &str) -> Result<(), Fail> {
+    let row = row.replace(alloc, "\n+ ", "")?;
     let mut printed = Vec::new(alloc);
     let mut step = Step::new(alloc, "");
-    for line in row.lines() {
+    for line in row.as_str().lines() {
         let (mark, rest) = line.split_once(' ').unwrap_or((line, ""));
         if ["$", "=", "@", "%", "/"].contains(&mark) {
             does(rt, alloc, &step, &mut printed)?;

@@ -1,7 +1,6 @@
 use Rattle.std.proofs.Common.{inl, inr, refl}
-use Rattle.bhs_program.specs.declared.faults.Fault.TheVariants.{Write, Memory}
+use Rattle.bhs_program.specs.declared.faults.Fault.TheVariants.{Memory}
 use Rattle.bhs_program.specs.Program.{obeys, helps}
-use Rattle.bhs_program.specs.Showing.{all, part, held_back}
 use Rattle.bhs_program.proofs.ExitLemmas.{status_of_run}
 use Rattle.bhs_program.proofs.orders.run.Goals as goal
 
@@ -12,21 +11,13 @@ returns-in-Ok-Ordered-clause-runs g c = obeys c.in-Ok-Ordered.order
 pub returns-in-Ok-Ordered-clause-status : goal.returns-in-Ok-Ordered-clause-status
 returns-in-Ok-Ordered-clause-status g c = status_of_run _ _ _ _ _ _ _ _ _ _ (returns-in-Ok-Ordered-clause-runs g c)
 
-pub returns-in-Ok-clause-runs : goal.returns-in-Ok-clause-runs
-returns-in-Ok-clause-runs g c =
-    let asked = rw c.in-Ok-Shown.field-0-is at c.in-Ok-Shown.ensures.answers in
-    helps c.as_str.result.now asked refl (all refl c.in-Ok.ensures.ok)
-
 pub returns-in-Ok-Shown-clause-runs : goal.returns-in-Ok-Shown-clause-runs
 returns-in-Ok-Shown-clause-runs g c =
     let asked = rw c.in-Ok-Shown.field-0-is at c.in-Ok-Shown.ensures.answers in
-    helps c.as_str.result.now asked refl (elim c.in-Err-show.ensures.err [
-      | inl puts ↦ part c.report.ensures puts
-      | inr shows ↦ held_back c.report.ensures shows
-    ])
+    helps c.as_str.result.now asked refl c.show_text.ensures
 
 pub returns-in-Ok-Shown-clause-status : goal.returns-in-Ok-Shown-clause-status
-returns-in-Ok-Shown-clause-status g c = inr (inr (Write, c.report.ensures))
+returns-in-Ok-Shown-clause-status g c = status_of_run _ _ _ _ _ _ _ _ _ _ (returns-in-Ok-Shown-clause-runs g c)
 
 pub returns-clause-status : goal.returns-clause-status
 returns-clause-status g c = inr (inr (Memory, c.report-in-Err.ensures))

@@ -91,7 +91,9 @@ loop-one-preserved g c =
     let made = rw (← same) at c.line_in.ensures.line in
     let here = at_event g.W.Output.takes c.args.writer.now _ (replay_of play) log c.loop-one.one-index one
     c.loop-one-test.true c.one-item.is c.loop-one.invariant.0 in
-    let reads = was_made c.line_in.result _ c.in_ok-send_line-2.ensures.made (rw (← same) at c.line_in.ensures.reads) in (
+    let reads =
+    was_made c.line_in.result _ c.in_ok-send_line-2.ensures.made (rw (← same) at c.line_in.ensures.reads)
+    in (
       sent_more g.W.Output.takes _ _ _ (replay_of play) (kept_line log one ++ 10 ∷ [])
           (left_of log (drop (c.loop-one.one-index + 1) log)) here
           (c.in_ok-send_line-2.ensures.ok (kept_line log one) made),

@@ -4,7 +4,7 @@ use Rattle.bhs_model.specs.declared.limits.TheConstants.{MAX_TURNS}
 use Rattle.bhs_stream.specs.Streams.{known_takes}
 use Rattle.bhs_program.specs.Program.{does, rehearses_on, refuses_file}
 use Rattle.bhs_program.specs.Rehearsal.{Rehearses, opening_of}
-use Rattle.bhs_program.proofs.staging.rehearse_named.Goals as goal
+use Rattle.bhs_program.proofs.whole_rehearsals.rehearse_named.Goals as goal
 
 pub returns-in-Ok : goal.returns-in-Ok
 returns-in-Ok g c =

@@ -1,7 +1,7 @@
 use Rattle.std.proofs.Common.{inl, inr, refl}
 use Rattle.bhs_program.specs.declared.faults.Fault.TheVariants.{Write}
 use Rattle.bhs_program.specs.Rehearsal.{done, ends, unfiled}
-use Rattle.bhs_program.proofs.staging.rehearse_whole.Goals as goal
+use Rattle.bhs_program.proofs.whole_rehearsals.rehearse_whole.Goals as goal
 
 pub returns-in-Some : goal.returns-in-Some
 returns-in-Some g c =

@@ -1,6 +1,6 @@
 use Rattle.std.proofs.Common.{map, refl}
 use Rattle.bhs_rehearsal.specs.Rehearsing.{game_of}
-use Rattle.bhs_program.proofs.staging.rehearse_out.Goals as goal
+use Rattle.bhs_program.proofs.whole_rehearsals.rehearse_out.Goals as goal
 
 pub returns-clause-played : goal.returns-clause-played
 returns-clause-played g c = (
