@@ -14,12 +14,11 @@ NETWORKS = ["ring8", "hypercube16", "torus25", "triangle"]
 
 HEAD = """//! The files of `examples/`, written by `tools/example_tests.py`: change those files, and run it again.
 
-use bhs_program::run;
+use bhs_program::{Machine, run};
 use std::alloc::Global;
 use std::fs;
 use std::io::Read;
 use std::process::Abort;
-use std::rt::Files;
 use std::test::Fail;
 
 const FILES: [(&str, &str); %d] = [
@@ -33,7 +32,7 @@ const RUNS: [(&[&str], &str, &str, &str); %d] = [
 const REPLAYS: [(&str, &str); %d] = [
 %s];
 
-fn prints<R: Abort + Files>(
+fn prints<R: Abort + Machine>(
     rt: &R,
     alloc: Global,
     words: &[&str],

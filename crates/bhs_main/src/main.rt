@@ -1,27 +1,33 @@
-//! The program `arena`: rehearses the matches of a tournament by a script, and checks the files of one.
+//! The program `arena`: serves contests, rehearses the matches of a tournament by a script, and says of replays what
+//! came of their matches, and why.
 #![tactic(auto)]
 
 ghost use Rattle.std.specs.Prelude.{IfOk};
 ghost use Rattle.bhs_program.specs.Fault.{IsStatus};
 
-use bhs_program::{Fault, report, run, words_of};
+use bhs_program::{Fault, Machine, report, run, words_of};
+use std::alloc::Global;
 use std::io;
-use std::io::BufWriter;
+use std::io::{BufWriter, Input, Print, Write};
 use std::process::ExitCode;
+use std::rt::Env;
 
 fn main(rt: HostRuntime) -> ExitCode {
-    ExitCode::from(match started(&rt) {
+    let mut errors = rt.stderr();
+    ExitCode::from(match started(&rt, rt.alloc(), &mut errors) {
         Ok(status) => status,
-        Err(error) => report("arena", Fault::from(error), &mut rt.stderr()),
+        Err(error) => report("arena", Fault::from(error), &mut errors),
     })
 }
 
-fn started(rt: &HostRuntime) -> io::Result<u8>
+fn started<R: Machine + Env + Input + Print, E: Write>(
+    rt: &R,
+    alloc: Global,
+    errors: &mut E,
+) -> io::Result<u8>
     ensures { IfOk result IsStatus }
 {
-    let alloc = rt.alloc();
-    let mut errors = rt.stderr();
-    let words = match words_of(alloc, rt, &mut errors) {
+    let words = match words_of(alloc, rt, errors) {
         Ok(words) => words,
         Err(status) => return Ok(status),
     };
@@ -32,7 +38,7 @@ fn started(rt: &HostRuntime) -> io::Result<u8>
         words.as_slice(),
         &mut rt.reader(),
         &mut writer,
-        &mut errors,
+        errors,
     ))
 }
 

@@ -1,6 +1,7 @@
 //! What crosses crates, and what the crates below are slow to prove again: a crate with tests is proved twice.
 
 mod command_lines;
+mod contests;
 mod cuts;
 mod examples;
 mod files;

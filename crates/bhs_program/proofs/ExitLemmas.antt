@@ -1,20 +1,26 @@
 -- The exit statuses of what the program does.
-use Rattle.std.proofs.Common.{◌≡◌, inl, inr, ℕ, List, Option, None, Some, Bool}
+use Rattle.std.proofs.Common.{◌≡◌, inl, inr, ℕ, List, Option, None, Some, Bool, true, false}
+use Rattle.std.specs.Prelude.{◌==◌, if◌then◌else◌}
+use Rattle.bhs_match.specs.Matches.{Play}
+use Rattle.bhs_lineup.specs.declared.lineups.Ready.{Ready}
 use Rattle.bhs_stream.specs.Streams.{Chunk, Taken}
 use Rattle.bhs_rehearsal.specs.Stages.{Stage}
 use Rattle.bhs_command_line.specs.declared.orders.Order.{Order}
 use Rattle.bhs_command_line.specs.declared.orders.Order.TheVariants as order
 use Rattle.bhs_program.specs.declared.faults.Fault.TheVariants.{Write, Memory, Twin}
+use Rattle.bhs_program.specs.declared.statuses.TheConstants.{DONE}
 use Rattle.bhs_program.specs.Fault.{IsStatus}
 use Rattle.bhs_program.specs.Program.{Does, HasNoTwin, Obeys, does, lacks_memory, RehearsesNamed, rehearses_on}
 use Rattle.bhs_program.specs.Program.{refuses_file, Runs, obeys, helps, refuses_words, lacks_room}
 use Rattle.bhs_program.specs.Rehearsal.{Rehearses, done, unfiled, ends}
 use Rattle.bhs_program.specs.Showing.{Prints, all, part, held_back, PrintsByLine, whole, cut_off, kept_back, Reports}
 use Rattle.bhs_program.specs.Showing.{prints, stops}
+use Rattle.bhs_program.specs.Contests.{Files, all_filed, unfiled_one, Ends, Hosts, settles, fails}
+use Rattle.bhs_program.specs.Contests.{Serves, serves_on, goes_unheard, refuses_contest, first_status}
 
-module _ {P I O : Type 0} (files : P → List ℕ → Taken → P → Type 0) (gives : I → Chunk → I → Type 0)
-    (takes : O → List ℕ → Taken → O → Type 0)
-    (flushes : O → Bool → O → Type 0) (input input' : I) (output output' : O) (code : ℕ) where
+-- the exit status of what was printed
+module _ {O : Type 0} (takes : O → List ℕ → Taken → O → Type 0) (flushes : O → Bool → O → Type 0) (output output' : O)
+    (code : ℕ) where
   of_print : (text : List ℕ) → Prints takes flushes text output output' code → IsStatus code
   of_print text (all is shows) = inl is
   of_print text (part is puts) = inr (inr (Write, is))
@@ -31,6 +37,36 @@ module _ {P I O : Type 0} (files : P → List ℕ → Taken → P → Type 0) (g
   of_report Printing IsReport told (prints text is print) = told text print
   of_report Printing IsReport told (stops fault is kept) = inr (inr (fault, is))
 
+  of_text : (IsReport : List ℕ → Type 0) → Reports (Prints takes flushes) IsReport output output' code → IsStatus code
+  of_text IsReport report = of_report _ _ of_print report
+
+  of_many : (IsReport : List ℕ → Type 0) → Reports (PrintsByLine takes flushes) IsReport output output' code
+      → IsStatus code
+  of_many IsReport report = of_report _ _ of_lines report
+
+-- the exit status of a contest
+of_either : (is_done : Bool) (one two : ℕ) → IsStatus one → IsStatus two
+    → IsStatus (if is_done then two else one)
+of_either true one two first second = second
+of_either false one two first second = first
+
+module _ {P O : Type 0} (files : P → List ℕ → Taken → P → Type 0) (takes : O → List ℕ → Taken → O → Type 0)
+    (flushes : O → Bool → O → Type 0) where
+  of_files : (plays : List Play) (code : ℕ) → Files files takes flushes plays code → IsStatus code
+  of_files plays code (all_filed is filed) = inl is
+  of_files plays code (unfiled_one fault is) = inr (inr (fault, is))
+
+  of_host : (matches : List Ready) (output output' : O) (code : ℕ)
+      → Hosts files takes flushes matches output output' code → IsStatus code
+  of_host matches output output' code (settles plays sealed ended) =
+      rw ended.coded (of_either (ended.filed == DONE) ended.filed ended.printed
+      (of_files plays ended.filed ended.writes)
+      (of_text takes flushes output output' ended.printed _ ended.tables))
+  of_host matches output output' code (fails fault unserved is kept) = inr (inr (fault, is))
+
+module _ {P I O : Type 0} (files : P → List ℕ → Taken → P → Type 0) (gives : I → Chunk → I → Type 0)
+    (takes : O → List ℕ → Taken → O → Type 0)
+    (flushes : O → Bool → O → Type 0) (input input' : I) (output output' : O) (code : ℕ) where
   of_rehearsal : (turns : ℕ) (prefix : Option (List ℕ)) (stage : Stage) → Rehearses files gives takes turns flushes
       prefix stage input input' output output' code → IsStatus code
   of_rehearsal turns prefix stage (done out is filed) = inl is
@@ -42,17 +78,23 @@ module _ {P I O : Type 0} (files : P → List ℕ → Taken → P → Type 0) (g
   of_named prefix (rehearses_on lineup assembled rehearsal) = of_rehearsal _ _ _ rehearsal
   of_named prefix (refuses_file fault is rests) = inr (inr (fault, is))
 
+  of_served : (port : ℕ) → Serves files takes flushes port output output' code → IsStatus code
+  of_served port (serves_on lineup assembled heard shows hosts) = of_host files takes flushes _ heard output' code hosts
+  of_served port (goes_unheard lineup assembled is print) = inr (inr (Write, is))
+  of_served port (refuses_contest fault is kept) = inr (inr (fault, is))
+
   of_deed : (order : Order) → Does files gives takes flushes order input input' output output' code → IsStatus code
   of_deed (order.Rehearse None prefix) rehearsal = of_rehearsal _ _ _ rehearsal
   of_deed (order.Rehearse (Some name) prefix) named = of_named prefix named
-  of_deed (order.Check name) check = of_report _ _ of_print check.1
-  of_deed (order.Judge replay) judged = of_report _ _ of_print judged.1
-  of_deed (order.Table entries) table = of_report _ _ of_print table.1
-  of_deed (order.Explain replay agent) past = of_report _ _ of_lines past.1
+  of_deed (order.Check name) check = of_text takes flushes output output' code _ check.1
+  of_deed (order.Judge replay) judged = of_text takes flushes output output' code _ judged.1
+  of_deed (order.Table entries) table = of_text takes flushes output output' code _ table.1
+  of_deed (order.Explain replay agent) past = of_many takes flushes output output' code _ past.1
   of_deed (order.Twin replay node) twin = elim twin.1 [
-    | inl report ↦ of_report _ _ of_lines report
+    | inl report ↦ of_many takes flushes output output' code _ report
     | inr none ↦ inr (inr (Twin none.fault, none.coded))
   ]
+  of_deed (order.Serve name hosting) served = of_served hosting.port served.1
 
   of_order : (order : Order) → Obeys files gives takes flushes order input input' output output' code → IsStatus code
   of_order order (does deed) = of_deed order deed
@@ -61,6 +103,6 @@ module _ {P I O : Type 0} (files : P → List ℕ → Taken → P → Type 0) (g
   pub status_of_run : (words : List (List ℕ)) → Runs files gives takes flushes words input input' output output'
       code → IsStatus code
   status_of_run words (obeys order is obeyed) = of_order order obeyed
-  status_of_run words (helps text asked unread print) = of_print text print
+  status_of_run words (helps text asked unread print) = of_print takes flushes output output' code text print
   status_of_run words (refuses_words refused is rests) = inr (inl is)
   status_of_run words (lacks_room is rests) = inr (inr (Memory, is))

@@ -14,9 +14,11 @@ use Rattle.bhs_replay.specs.declared.faults.WritingFault.{WritingFault}
 use Rattle.bhs_replay.specs.declared.faults.WritingFault.TheVariants as writing
 use Rattle.bhs_view.specs.declared.twins.TwinFault.{TwinFault}
 use Rattle.bhs_view.specs.declared.twins.TwinFault.TheVariants as twins
+use Rattle.bhs_server.specs.declared.settling.ServerFault.{ServerFault}
+use Rattle.bhs_server.specs.declared.settling.ServerFault.TheVariants as servers
 use Rattle.bhs_program.specs.declared.faults.Fault.{Fault}
 use Rattle.bhs_program.specs.declared.faults.Fault.TheVariants.{Read, Text, Turns, Line, File, Replay, Twin, Write}
-use Rattle.bhs_program.specs.declared.faults.Fault.TheVariants.{Memory}
+use Rattle.bhs_program.specs.declared.faults.Fault.TheVariants.{Memory, Listen, Unsettled}
 use Rattle.bhs_program.specs.declared.statuses.TheConstants as statuses
 
 -- an error of opening or reading
@@ -58,6 +60,11 @@ abbrev pub of_twin : TwinFault → Fault
 of_twin twins.Memory = Memory
 of_twin fault = Twin fault
 
+-- why a contest was not settled
+abbrev pub of_server : ServerFault → Fault
+of_server (servers.Unsettled game) = Unsettled game
+of_server servers.Memory = Memory
+
 -- the exit status of a text that is no replay: it is not spelled as one, or its events are those of no match
 abbrev pub replay_status : ReplayFault → ℕ
 replay_status (replays.Event line) = statuses.REFUSED_MATCH
@@ -73,6 +80,8 @@ status (Line line) = statuses.REFUSED_TEXT
 status (File fault) = statuses.REFUSED_TEXT
 status (Replay fault) = replay_status fault
 status (Twin fault) = statuses.REFUSED_MATCH
+status Listen = statuses.FAILED_STREAM
+status (Unsettled game) = statuses.REFUSED_MATCH
 status Write = statuses.FAILED_STREAM
 status Memory = statuses.NO_MEMORY
 

@@ -5,4 +5,5 @@ pub mod Playing
 pub mod Rehearsal
 pub mod Reports
 pub mod Showing
+pub mod Contests
 pub mod Program

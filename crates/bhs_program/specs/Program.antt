@@ -11,6 +11,7 @@ use Rattle.bhs_command_line.specs.CommandLine.{AreRefused, faults, is_asked, ord
 use Rattle.bhs_command_line.specs.declared.orders.Order.{Order}
 use Rattle.bhs_command_line.specs.declared.orders.Order.TheVariants as order
 use Rattle.bhs_program.specs.BuiltIn.{built_in}
+use Rattle.bhs_program.specs.Contests.{Serves}
 use Rattle.bhs_program.specs.Fault.{status}
 use Rattle.bhs_program.specs.Rehearsal.{Rehearses, opening, opening_of}
 use Rattle.bhs_program.specs.Reports.{IsReplayed, IsJudgement, IsTable, IsPast, IsTwinReplay}
@@ -68,6 +69,8 @@ module _ {P I O : Type 0} (files : P → List ℕ → Taken → P → Type 0) (g
       (input' ≡ input) × TellsByLine (IsPast agent) output output' code
   Does (order.Twin replay node) input input' output output' code =
       (input' ≡ input) × (TellsByLine (IsTwinReplay node) output output' code ⊎ HasNoTwin node output output' code)
+  Does (order.Serve name hosting) input input' output output' code =
+      (input' ≡ input) × Serves files takes flushes hosting.port output output' code
 
   pub data Obeys (order : Order) (input input' : I) (output output' : O) (code : ℕ) : Type 0 where
     does : Does order input input' output output' code → Obeys order input input' output output' code

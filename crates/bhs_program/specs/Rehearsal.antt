@@ -21,10 +21,11 @@ use Rattle.bhs_script.specs.Script.{instructions_of}
 use Rattle.bhs_script.specs.Transcript.{transcript}
 use Rattle.bhs_program.specs.declared.faults.Fault.{Fault}
 use Rattle.bhs_program.specs.declared.faults.Fault.TheVariants.{Read, Text, Line, File, Replay, Twin, Write, Memory}
-use Rattle.bhs_program.specs.declared.faults.Fault.TheVariants.{Turns}
+use Rattle.bhs_program.specs.declared.faults.Fault.TheVariants.{Turns, Listen, Unsettled}
 use Rattle.bhs_program.specs.declared.statuses.TheConstants.{DONE}
 use Rattle.bhs_program.specs.Fault.{status}
 use Rattle.bhs_program.specs.Playing.{StopsPlaying}
+use Rattle.bhs_program.specs.Showing.{Took}
 
 -- how the rehearsal of a tournament begins
 abbrev pub opening_of : Contest → Stage
@@ -77,6 +78,8 @@ module _ {I O : Type 0} (gives : I → Chunk → I → Type 0) (takes : O → Li
   Stops stage input input' output output' (File fault) = ⊥
   Stops stage input input' output output' (Replay fault) = ⊥
   Stops stage input input' output output' (Twin fault) = ⊥
+  Stops stage input input' output output' Listen = ⊥
+  Stops stage input input' output output' (Unsettled game) = ⊥
   Stops stage input input' output output' Write = PlaysUntil Write stage input input' output output'
   Stops stage input input' output output' Memory =
       StopsReading input input' output output' reads.Memory
@@ -101,7 +104,7 @@ module _ {I O : Type 0} (gives : I → Chunk → I → Type 0) (takes : O → Li
 -- some file took the whole replay of a match that has ended
 abbrev pub IsFiled : {P : Type 0} → (P → List ℕ → Taken → P → Type 0) → Game → Type 0
 IsFiled {P} files game =
-    (state_of game).closed ≡ true → (old new : P) × PutsAll files old (replay Two game.net game.setup game.log) new
+    (state_of game).closed ≡ true → Took files (replay Two game.net game.setup game.log)
 
 -- where replays were asked for, those of all matches that have ended
 abbrev pub AreFiled : {P : Type 0} → (P → List ℕ → Taken → P → Type 0) → Option (List ℕ) → List Game → Type 0

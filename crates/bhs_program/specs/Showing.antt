@@ -8,6 +8,10 @@ use Rattle.bhs_program.specs.declared.statuses.TheConstants.{DONE}
 use Rattle.bhs_program.specs.Fault.{status}
 use Rattle.bhs_program.specs.Playing.{StopsPlaying}
 
+-- some file took the whole of a text
+abbrev pub Took : {P : Type 0} → (P → List ℕ → Taken → P → Type 0) → (text : List ℕ) → Type 0
+Took {P} files text = (old new : P) × PutsAll files old text new
+
 module _ {O : Type 0} (takes : O → List ℕ → Taken → O → Type 0) (flushes : O → Bool → O → Type 0) where
   -- all of a text was written, and whether what was held back was passed on
   pub record Shows (text : List ℕ) (is_out : Bool) (output output' : O) : Type 0 where

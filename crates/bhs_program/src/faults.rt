@@ -1,8 +1,8 @@
 ghost use Rattle.std.specs.Prelude.{◌≡◌};
 ghost use Rattle.bhs_program.specs.declared.faults.Fault.TheVariants as faults;
 ghost use Rattle.std.specs.IoError.{error_kind};
-ghost use Rattle.bhs_program.specs.Fault.{of_file, of_kind, of_read, of_replay, of_script, of_twin, of_writing};
-ghost use Rattle.bhs_program.specs.Fault.{replay_status, status};
+ghost use Rattle.bhs_program.specs.Fault.{of_file, of_kind, of_read, of_replay, of_script, of_server, of_twin};
+ghost use Rattle.bhs_program.specs.Fault.{of_writing, replay_status, status};
 
 use crate::names::Shown;
 use crate::statuses::{FAILED_STREAM, NO_MEMORY, REFUSED_MATCH, REFUSED_TEXT};
@@ -10,6 +10,7 @@ use bhs_files::FileFault;
 use bhs_net::Memory;
 use bhs_replay::{ReplayFault, WritingFault};
 use bhs_script::ScriptFault;
+use bhs_server::ServerFault;
 use bhs_stream::{ReadFault, WriteFault};
 use bhs_view::TwinFault;
 use std::io;
@@ -40,6 +41,12 @@ pub enum Fault {
     /// The match has no such twin.
     #[error("{0}")]
     Twin(TwinFault),
+    /// No client can connect: the port is in use, or is none that the program may have.
+    #[error("listen")]
+    Listen,
+    /// The match of this number is not what its sessions were answered.
+    #[error("unsettled {game}")]
+    Unsettled { game: usize },
     /// A write failed.
     #[error("write")]
     Write,
@@ -56,9 +63,9 @@ impl Fault {
         match self {
             Fault::Text | Fault::Line { .. } | Fault::File(_) => REFUSED_TEXT,
             Fault::Replay(fault) => replay_status(fault),
-            Fault::Twin(_) => REFUSED_MATCH,
+            Fault::Twin(_) | Fault::Unsettled { .. } => REFUSED_MATCH,
             Fault::Memory => NO_MEMORY,
-            Fault::Read | Fault::Turns | Fault::Write => FAILED_STREAM,
+            Fault::Read | Fault::Turns | Fault::Listen | Fault::Write => FAILED_STREAM,
         }
     }
 }
@@ -176,6 +183,17 @@ impl From<TwinFault> for Fault {
         match twin {
             TwinFault::Memory => Fault::Memory,
             _ => Fault::Twin(twin),
+        }
+    }
+}
+
+impl From<ServerFault> for Fault {
+    ghost from_gives = { λ server fault. fault ≡ of_server server };
+
+    fn from(server: ServerFault) -> Fault {
+        match server {
+            ServerFault::Unsettled { game } => Fault::Unsettled { game },
+            ServerFault::Memory => Fault::Memory,
         }
     }
 }

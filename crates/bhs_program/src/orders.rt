@@ -7,6 +7,8 @@ use crate::checking::check;
 use crate::explaining::print_past;
 use crate::faults::{Fault, report};
 use crate::judging::print_verdict;
+use crate::machines::Machine;
+use crate::serving::serve_named;
 use crate::showing::show_text;
 use crate::statuses::REFUSED_WORDS;
 use crate::tabling::print_table;
@@ -17,28 +19,28 @@ use bhs_stream::{Input, Output, send};
 use std::alloc::Global;
 use std::convert::AsStr;
 use std::io::Write;
-use std::rt::Files;
 
-/// Does what the words after the program's name order, and answers the exit status. Files are opened through `files`.
+/// Does what the words after the program's name order, and answers the exit status. Files are opened, threads started
+/// and sockets listened on through `rt`; of the orders only `serve` does more with it than open files.
 /// What is asked for goes to `writer`; why it could not be done goes to `errors`, as a line `WHERE: WHAT`.
 ///
 /// `Runs` goes by the cases of the words: what was read and written, call by call, and with which status. Of the files
 /// that are read it says that some text is what they are taken for, of those that are written what they took. It says
 /// nothing of what goes to `errors`.
-pub fn run<S: AsStr, F: Files, R: Input, W: Output, E: Write>(
+pub fn run<S: AsStr, R: Machine, I: Input, W: Output, E: Write>(
     alloc: Global,
-    files: &F,
+    rt: &R,
     words: &[S],
-    reader: &mut R,
+    reader: &mut I,
     writer: &mut W,
     errors: &mut E,
 ) -> u8
-    ensures runs { Runs (known_takes F.File.contents) R.gives W.takes W.flushes (map S.text words.now) reader.old
+    ensures runs { Runs (known_takes R.File.contents) I.gives W.takes W.flushes (map S.text words.now) reader.old
         reader.new writer.old writer.new result }
     ensures status { IsStatus result }
 {
     match order_of(alloc, words) {
-        Ok(Parsed::Ordered(order)) => obey(alloc, files, order, reader, writer, errors),
+        Ok(Parsed::Ordered(order)) => obey(alloc, rt, order, reader, writer, errors),
         Ok(Parsed::Shown { text }) => show_text(text.as_str(), writer, errors),
         Ok(Parsed::Refused { text }) => {
             let _ = send(errors, text.as_bytes());
@@ -48,29 +50,33 @@ pub fn run<S: AsStr, F: Files, R: Input, W: Output, E: Write>(
     }
 }
 
-fn obey<F: Files, R: Input, W: Output, E: Write>(
+fn obey<R: Machine, I: Input, W: Output, E: Write>(
     alloc: Global,
-    files: &F,
+    rt: &R,
     order: Order,
-    reader: &mut R,
+    reader: &mut I,
     writer: &mut W,
     errors: &mut E,
 ) -> u8
-    ensures { Obeys (known_takes F.File.contents) R.gives W.takes W.flushes order reader.old reader.new writer.old
+    ensures { Obeys (known_takes R.File.contents) I.gives W.takes W.flushes order reader.old reader.new writer.old
         writer.new result }
 {
     match order {
         Order::Rehearse { tournament, prefix } => {
-            rehearse_named(alloc, files, tournament, prefix, reader, writer, errors)
+            rehearse_named(alloc, rt, tournament, prefix, reader, writer, errors)
         }
-        Order::Check { tournament } => check(alloc, files, tournament.as_str(), writer, errors),
-        Order::Judge { replay } => print_verdict(alloc, files, replay.as_str(), writer, errors),
-        Order::Table { entries } => print_table(alloc, files, entries.all(), writer, errors),
+        Order::Check { tournament } => check(alloc, rt, tournament.as_str(), writer, errors),
+        Order::Judge { replay } => print_verdict(alloc, rt, replay.as_str(), writer, errors),
+        Order::Table { entries } => print_table(alloc, rt, entries.all(), writer, errors),
         Order::Explain { replay, agent } => {
-            print_past(alloc, files, replay.as_str(), agent, writer, errors)
+            print_past(alloc, rt, replay.as_str(), agent, writer, errors)
         }
         Order::Twin { replay, node } => {
-            print_twin(alloc, files, replay.as_str(), node, writer, errors)
+            print_twin(alloc, rt, replay.as_str(), node, writer, errors)
         }
+        Order::Serve {
+            tournament,
+            hosting,
+        } => serve_named(alloc, rt, tournament.as_str(), &hosting, writer, errors),
     }
 }

@@ -6,10 +6,12 @@ ghost use Rattle.bhs_stream.specs.Streams.{known_takes};
 ghost use Rattle.bhs_stream.specs.Sending.{PutsAll};
 ghost use Rattle.bhs_rehearsal.specs.Rehearsing.{game_of};
 ghost use Rattle.bhs_replay.specs.Replay.{replay_of};
+ghost use Rattle.bhs_program.specs.Contests.{Files, first_status};
 ghost use Rattle.bhs_program.specs.Fault.{IsOfFault};
 ghost use Rattle.bhs_program.specs.Playing.{StopsPlaying};
 ghost use Rattle.bhs_program.specs.Rehearsal.{IsFiled};
 ghost use Rattle.bhs_program.specs.Reports.{IsReplayed};
+ghost use Rattle.bhs_program.specs.Showing.{Took};
 ghost use Rattle.bhs_program.specs.declared.statuses.TheConstants.{DONE};
 
 use crate::faults::{Fault, report};
@@ -71,10 +73,27 @@ pub(crate) fn write_replays<F: Files, E: Write>(
     status
 }
 
-// The exit status of two: that of the first that failed.
-fn first_fault(first: u8, second: u8) -> u8
-    ensures done { result ≡ DONE → (first ≡ DONE) × (second ≡ DONE) }
-    ensures one { (result ≡ first) ⊎ (result ≡ second) }
+/// Writes the replays of matches that have ended, as `write_replays` does.
+pub(crate) fn write_sealed<F: Files, E: Write>(
+    alloc: Global,
+    files: &F,
+    prefix: &str,
+    sealed: &[Sealed],
+    errors: &mut E,
+) -> u8
+    ensures { Files (known_takes F.File.contents) sealed.now result }
+{
+    let mut status = DONE;
+    for (number, one) in sealed.iter().enumerate() {
+        let code = write_numbered(alloc, files, prefix, number, one, errors);
+        status = first_fault(status, code);
+    }
+    status
+}
+
+/// The exit status of two: that of the first that failed.
+pub(crate) fn first_fault(first: u8, second: u8) -> u8
+    ensures { result ≡ first_status first second }
 {
     if first == DONE { second } else { first }
 }
@@ -91,13 +110,28 @@ fn write_ended<F: Files, E: Write>(
     ensures filed { result ≡ DONE → IsFiled (known_takes F.File.contents) (game_of ready) }
     ensures status { result ≡ DONE ⊎ IsOfFault result }
 {
-    let Ok(sealed) = ready.game.sealed() else {
-        return DONE;
-    };
+    match ready.game.sealed() {
+        Ok(sealed) => write_numbered(alloc, files, prefix, number, &sealed, errors),
+        Err(_) => DONE,
+    }
+}
+
+// Writes the replay of the match of this number.
+fn write_numbered<F: Files, E: Write>(
+    alloc: Global,
+    files: &F,
+    prefix: &str,
+    number: usize,
+    sealed: &Sealed,
+    errors: &mut E,
+) -> u8
+    ensures filed { result ≡ DONE → Took (known_takes F.File.contents) (replay_of sealed.now) }
+    ensures status { result ≡ DONE ⊎ IsOfFault result }
+{
     let Ok(name) = file_name(alloc, prefix, number) else {
         return report(prefix, Fault::Memory, errors);
     };
-    match write_file(alloc, files, name.as_str(), &sealed) {
+    match write_file(alloc, files, name.as_str(), sealed) {
         Ok(()) => DONE,
         Err(fault) => report(name.as_str(), fault, errors),
     }
@@ -109,8 +143,7 @@ fn file_name(alloc: Global, prefix: &str, number: usize) -> Result<String, Memor
 
 // Writes a replay to a new file of this name.
 fn write_file<F: Files>(alloc: Global, files: &F, name: &str, sealed: &Sealed) -> Result<(), Fault>
-    ensures { OnOk result ((old : F.File) × (new : F.File)
-        × PutsAll (known_takes F.File.contents) old (replay_of sealed.now) new) }
+    ensures { OnOk result (Took (known_takes F.File.contents) (replay_of sealed.now)) }
 {
     let mut file = match fs::create(files, name) {
         Ok(file) => file,

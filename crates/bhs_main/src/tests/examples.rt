@@ -1,11 +1,10 @@
 //! The files of `examples/`, written by `tools/example_tests.py`: change those files, and run it again.
 
-use bhs_program::run;
+use bhs_program::{Machine, run};
 use std::alloc::Global;
 use std::fs;
 use std::io::Read;
 use std::process::Abort;
-use std::rt::Files;
 use std::test::Fail;
 
 const FILES: [(&str, &str); 6] = [
@@ -434,7 +433,7 @@ const REPLAYS: [(&str, &str); 3] = [
     ),
 ];
 
-fn prints<R: Abort + Files>(
+fn prints<R: Abort + Machine>(
     rt: &R,
     alloc: Global,
     words: &[&str],

@@ -1,11 +1,10 @@
 //! What `arena check` tells of files, as rows of text, and calls on the files' crate.
 
 use bhs_files::{FileFault, FileKey, assemble, is_team, read_network, read_tournament};
-use bhs_program::run;
+use bhs_program::{Machine, run};
 use std::alloc::Global;
 use std::fs;
 use std::process::Abort;
-use std::rt::Files;
 use std::test::Fail;
 
 pub const TRIANGLE: &str = "version = 1
@@ -241,7 +240,7 @@ pub fn changed<'a>(alloc: Global, text: &str, row: &'a str) -> Result<(String, &
 }
 
 /// Checks a tournament of these files, of which this is told and nothing else.
-fn expect<R: Abort + Files>(
+fn expect<R: Abort + Machine>(
     rt: &R,
     alloc: Global,
     cup: &str,

@@ -3,12 +3,12 @@
 use super::files::{CUP, TRIANGLE, changed};
 use super::streams::{Narrow, Pieces};
 use bhs_model::{MAX_LINE, MAX_TEXT};
-use bhs_program::{Fault, built_in, rehearse, report, run, words_of};
+use bhs_program::{Fault, Machine, built_in, rehearse, report, run, words_of};
 use std::alloc::Global;
 use std::env::FillError;
 use std::fs;
 use std::process::Abort;
-use std::rt::{Env, Files};
+use std::rt::Env;
 use std::test::Fail;
 
 const ROAD: &str = r#"0 {"do":"enter","key":"ka"}
@@ -82,7 +82,7 @@ struct Case<'a> {
     status: u8,
 }
 
-fn ends<R: Abort + Files>(
+fn ends<R: Abort + Machine>(
     rt: &R,
     alloc: Global,
     case: &Case<'_>,

@@ -6,12 +6,11 @@
 //! what is told as a fault, and `?` the exit status, which is else 0. A line `+` goes on with the line before it. Rows
 //! are parted by empty lines.
 
-use bhs_program::run;
+use bhs_program::{Machine, run};
 use std::alloc::Global;
 use std::fs;
 use std::io::Read;
 use std::process::Abort;
-use std::rt::Files;
 use std::test::Fail;
 
 /// A network of three nodes and one of four, and matches on them.
@@ -489,7 +488,7 @@ impl<'a> Step<'a> {
 }
 
 /// Carries out a step. `printed` is what the last run printed.
-fn does<R: Abort + Files>(
+fn does<R: Abort + Machine>(
     rt: &R,
     alloc: Global,
     step: &Step<'_>,
@@ -512,7 +511,7 @@ fn does<R: Abort + Files>(
     Ok(())
 }
 
-fn runs<R: Abort + Files>(
+fn runs<R: Abort + Machine>(
     rt: &R,
     alloc: Global,
     words: &str,
@@ -537,7 +536,7 @@ fn runs<R: Abort + Files>(
 }
 
 /// Carries out the steps of a row.
-fn holds<R: Abort + Files>(rt: &R, alloc: Global, row: &str) -> Result<(), Fail> {
+fn holds<R: Abort + Machine>(rt: &R, alloc: Global, row: &str) -> Result<(), Fail> {
     let row = row.replace(alloc, "\n+ ", "")?;
     let mut printed = Vec::new(alloc);
     let mut step = Step::new(alloc, "");
@@ -575,7 +574,7 @@ fn what_is_no_replay_is_told(rt: HostRuntime) -> Result<(), Fail> {
 }
 
 /// A text is refused by each program that reads a replay.
-fn refused<R: Abort + Files>(rt: &R, alloc: Global, row: &str) -> Result<(), Fail> {
+fn refused<R: Abort + Machine>(rt: &R, alloc: Global, row: &str) -> Result<(), Fail> {
     let mut step = Step::new(alloc, "");
     for line in row.lines().skip(1) {
         let (mark, rest) = line.split_once(' ').unwrap_or((line, ""));

@@ -5,11 +5,10 @@
 //! `rehearse`. Rows are parted by empty lines.
 
 use super::files::{CUP, CUP_OF_VERSION_1, TRIANGLE};
-use bhs_program::run;
+use bhs_program::{Machine, run};
 use std::alloc::Global;
 use std::fs;
 use std::process::Abort;
-use std::rt::Files;
 use std::test::Fail;
 
 const BUILT_IN: &str = r#"An empty script prints nothing.
@@ -437,7 +436,7 @@ impl<'a> Row<'a> {
 }
 
 /// Runs the program as a row says.
-fn plays<R: Abort + Files>(rt: &R, alloc: Global, text: &str) -> Result<(), Fail> {
+fn plays<R: Abort + Machine>(rt: &R, alloc: Global, text: &str) -> Result<(), Fail> {
     let mut row = Row::new(alloc);
     for line in text.lines() {
         row.take(line)?;

@@ -1,0 +1,98 @@
+//! A contest over sockets: its sessions, the replays of its matches, and their table.
+
+ghost use Rattle.std.specs.Prelude.{◌≡◌, ◌×◌, IfOk, IfErr, List, map, length};
+ghost use Rattle.bhs_stream.specs.Streams.{known_takes};
+ghost use Rattle.bhs_server.specs.Settling.{AreSealed};
+ghost use Rattle.bhs_host.specs.Hosting.{AreFresh, given_of};
+ghost use Rattle.bhs_program.specs.Contests.{Ends, Hosts, IsUnserved, first_status};
+
+use crate::faults::{Fault, report};
+use crate::replays::{first_fault, write_sealed};
+use crate::showing::show_made;
+use bhs_command_line::Hosting;
+use bhs_host::{Hosted, Steady, contest_of, standings};
+use bhs_lineup::Lineup;
+use bhs_lock::Open;
+use bhs_match::Sealed;
+use bhs_model::Text;
+use bhs_server::run_server;
+use bhs_stream::Output;
+use std::alloc::Global;
+use std::io::Write;
+use std::net::TcpListener;
+use std::rt::Files;
+use std::sync::Wait;
+use std::thread::Threads;
+use std::time::Clock;
+
+/// The matches of a contest that has ended, and their teams.
+#[derive(Drop)]
+struct Ended {
+    teams: Vec<Text>,
+    sealed: Vec<Sealed>,
+}
+
+/// Serves a contest to the agents that connect to a listener, until all its matches and sessions have ended. Then the
+/// replays of its matches are written, and their table goes to `writer`, also where a replay could not be written. The
+/// answer is the exit status: that of the first that failed.
+pub fn host<R: Files + Threads + Wait + Clock + Sync, W: Output, E: Write>(
+    alloc: Global,
+    rt: &R,
+    listener: &TcpListener,
+    lineup: Lineup,
+    hosting: &Hosting,
+    writer: &mut W,
+    errors: &mut E,
+) -> u8
+    requires { AreFresh lineup.ready.items }
+    ensures { Hosts (known_takes R.File.contents) W.takes W.flushes lineup.ready.items writer.old writer.new result }
+{
+    match ended(alloc, rt, listener, lineup, hosting) {
+        Ok(ended) => tell(alloc, rt, hosting.prefix.as_str(), &ended, writer, errors),
+        Err(fault) => report("serve", fault, errors),
+    }
+}
+
+// The matches of the contest once they have ended, each as its sessions were answered.
+fn ended<R: Threads + Wait + Clock + Sync>(
+    alloc: Global,
+    rt: &R,
+    listener: &TcpListener,
+    lineup: Lineup,
+    hosting: &Hosting,
+) -> Result<Ended, Fault>
+    requires { AreFresh lineup.ready.items }
+    ensures teams { IfOk result (λ ended. ended.teams.items ≡ map (λ ready. ready.team) lineup.ready.items) }
+    ensures sealed { IfOk result (λ ended. AreSealed (map given_of lineup.ready.items) ended.sealed.items) }
+    ensures fault { IfErr result (IsUnserved lineup.ready.items) }
+{
+    let Hosted { teams, contest } = contest_of(alloc, lineup)?;
+    let pace = Steady::new(rt, hosting.turns, hosting.pause);
+    let served = run_server(rt, alloc, listener, contest, hosting.sessions, &pace, &Open)?;
+    Ok(Ended {
+        teams,
+        sealed: served.sealed,
+    })
+}
+
+// Writes the replays of matches, and shows their table.
+fn tell<R: Files + Threads + Sync, W: Output, E: Write>(
+    alloc: Global,
+    rt: &R,
+    prefix: &str,
+    ended: &Ended,
+    writer: &mut W,
+    errors: &mut E,
+) -> u8
+    requires { length ended.teams.items ≡ length ended.sealed.items }
+    ensures { Ends (known_takes R.File.contents) W.takes W.flushes ended.teams.items ended.sealed.items writer.old
+        writer.new result }
+{
+    let filed = write_sealed(alloc, rt, prefix, &ended.sealed, errors);
+    let printed = show_made(
+        standings(rt, alloc, &ended.teams, &ended.sealed),
+        writer,
+        errors,
+    );
+    first_fault(filed, printed)
+}

@@ -1,0 +1,50 @@
+//! Serving the tournament of a file.
+
+ghost use Rattle.std.specs.Prelude.{◌≡◌, IfOk, string_bytes};
+ghost use Rattle.bhs_stream.specs.Streams.{known_takes};
+ghost use Rattle.bhs_program.specs.Contests.{Serves, listening};
+
+use crate::checking::lineup_of;
+use crate::faults::{Fault, report};
+use crate::hosting::host;
+use crate::machines::Machine;
+use crate::showing::show_made;
+use crate::statuses::DONE;
+use bhs_command_line::Hosting;
+use bhs_net::Memory;
+use bhs_stream::Output;
+use std::alloc::Global;
+use std::io::Write;
+use std::net::{Ipv4Addr, SocketAddr, TcpListener};
+
+/// Reads a tournament and its networks, listens on a port of this machine, says so, and hosts the contest. The answer
+/// is the exit status.
+pub(crate) fn serve_named<R: Machine, W: Output, E: Write>(
+    alloc: Global,
+    rt: &R,
+    name: &str,
+    hosting: &Hosting,
+    writer: &mut W,
+    errors: &mut E,
+) -> u8
+    ensures { Serves (known_takes R.File.contents) W.takes W.flushes hosting.port writer.old writer.new result }
+{
+    let lineup = match lineup_of(alloc, rt, name, errors) {
+        Ok(lineup) => lineup,
+        Err(status) => return status,
+    };
+    let address = SocketAddr::from((Ipv4Addr::LOCALHOST, hosting.port));
+    let Ok(listener) = TcpListener::bind(rt, address) else {
+        return report("serve", Fault::Listen, errors);
+    };
+    match show_made(listening(alloc, hosting.port), writer, errors) {
+        DONE => host(alloc, rt, &listener, lineup, hosting, writer, errors),
+        status => status,
+    }
+}
+
+fn listening(alloc: Global, port: u16) -> Result<String, Memory>
+    ensures { IfOk result (λ text. string_bytes text ≡ listening port) }
+{
+    format!(in alloc; "listening {port}\n")
+}
