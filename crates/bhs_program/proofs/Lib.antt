@@ -4,3 +4,5 @@ pub mod TextLemmas
 pub mod SummaryLemmas
 pub mod ExitLemmas
 pub mod ReportLemmas
+pub mod FreshLemmas
+pub mod ContestLemmas

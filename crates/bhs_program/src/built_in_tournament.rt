@@ -2,6 +2,7 @@ ghost use Rattle.std.specs.Prelude.{◌≡◌, IfOk, MatchResult};
 ghost use Rattle.bhs_files.specs.declared.faults.FileFault.TheVariants as faults;
 ghost use Rattle.bhs_lineup.specs.Lineups.{contest};
 ghost use Rattle.bhs_files.specs.Tournaments.{plan};
+ghost use Rattle.bhs_host.specs.Hosting.{AreFresh};
 ghost use Rattle.bhs_program.specs.BuiltIn as texts;
 
 use bhs_files::{FileFault, Tournament, assemble, read_network, read_tournament};
@@ -32,7 +33,8 @@ held = []
 
 /// The tournament that is rehearsed where none is named.
 pub fn built_in(alloc: Global) -> Result<Lineup, Memory>
-    ensures { IfOk result (λ lineup. contest lineup ≡ texts.built_in) }
+    ensures made { IfOk result (λ lineup. contest lineup ≡ texts.built_in) }
+    ensures fresh { IfOk result (λ lineup. AreFresh lineup.ready.items) }
 {
     match assembled(alloc) {
         Ok(lineup) => Ok(lineup),

@@ -4,6 +4,7 @@ ghost use Rattle.std.specs.Prelude.{◌≡◌, ℕ, List, IfOk, IfErr, Ok, lengt
 ghost use Rattle.std.specs.List.{All};
 ghost use Rattle.bhs_files.specs.Names.{first_seen};
 ghost use Rattle.bhs_files.specs.Tournaments.{plan, tournament_in};
+ghost use Rattle.bhs_host.specs.Hosting.{AreFresh};
 ghost use Rattle.bhs_program.specs.Fault.{IsOfFault};
 ghost use Rattle.bhs_program.specs.Showing.{Prints, Reports};
 ghost use Rattle.bhs_program.specs.Summary.{IsAssembled, IsRead, IsSummary};
@@ -54,6 +55,7 @@ pub(crate) fn lineup_of<F: Files, E: Write>(
     errors: &mut E,
 ) -> Result<Lineup, u8>
     ensures made { IfOk result IsAssembled }
+    ensures fresh { IfOk result (λ lineup. AreFresh lineup.ready.items) }
     ensures fault { IfErr result IsOfFault }
 {
     let tournament = match tournament_of(alloc, files, name) {

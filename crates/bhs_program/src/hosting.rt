@@ -7,7 +7,7 @@ ghost use Rattle.bhs_host.specs.Hosting.{AreFresh, given_of};
 ghost use Rattle.bhs_program.specs.Contests.{Ends, Hosts, IsUnserved, first_status};
 
 use crate::faults::{Fault, report};
-use crate::replays::{first_fault, write_sealed};
+use crate::replays::{first_status, write_sealed};
 use crate::showing::show_made;
 use bhs_command_line::Hosting;
 use bhs_host::{Hosted, Steady, contest_of, standings};
@@ -94,5 +94,5 @@ fn tell<R: Files + Threads + Sync, W: Output, E: Write>(
         writer,
         errors,
     );
-    first_fault(filed, printed)
+    first_status(filed, printed)
 }

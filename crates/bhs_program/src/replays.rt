@@ -67,7 +67,7 @@ pub(crate) fn write_replays<F: Files, E: Write>(
     let mut number: usize = 0;
     for one in ready {
         let code = write_ended(alloc, files, prefix, number, one, errors);
-        status = first_fault(status, code);
+        status = first_status(status, code);
         number = number.saturating_add(1);
     }
     status
@@ -86,13 +86,13 @@ pub(crate) fn write_sealed<F: Files, E: Write>(
     let mut status = DONE;
     for (number, one) in sealed.iter().enumerate() {
         let code = write_numbered(alloc, files, prefix, number, one, errors);
-        status = first_fault(status, code);
+        status = first_status(status, code);
     }
     status
 }
 
 /// The exit status of two: that of the first that failed.
-pub(crate) fn first_fault(first: u8, second: u8) -> u8
+pub(crate) fn first_status(first: u8, second: u8) -> u8
     ensures { result ≡ first_status first second }
 {
     if first == DONE { second } else { first }

@@ -1,6 +1,7 @@
 //! A contest over TCP: one thread for each session, and one for the deliveries of each match.
 #![tactic(auto)]
 
+mod connections;
 mod dealing;
 mod pacing;
 mod ports;
@@ -8,6 +9,7 @@ mod serving;
 mod settling;
 mod visits;
 
+pub use connections::Held;
 pub use dealing::deal;
 pub use pacing::{Pace, Step};
 pub use ports::{CellPort, Played};

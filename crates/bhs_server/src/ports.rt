@@ -1,5 +1,6 @@
 ghost use Rattle.std.specs.Prelude.{◌≡◌, None, length};
 
+use crate::connections::Held;
 use bhs_lineup::Keys;
 use bhs_lock::{Cell, Gate, Pass};
 use bhs_model::{Command, Reply};
@@ -17,16 +18,17 @@ pub struct Played {
 
 /// Where a session plays an agent of matches that threads share.
 #[derive(Drop)]
-pub struct CellPort<'a, R, G> {
+pub struct CellPort<'a, R, G, H> {
     rt: &'a R,
     gate: &'a G,
+    held: &'a H,
     cells: &'a [Cell],
     keys: &'a Keys,
     played: Option<Played>,
 }
 
 // Contracts see a port as the keys, the number of matches, and the agent that is played, once there is one.
-impl<'a, R, G> Model for CellPort<'a, R, G> {
+impl<'a, R, G, H> Model for CellPort<'a, R, G, H> {
     ghost use Rattle.std.specs.Prelude.{length};
     ghost use Rattle.bhs_server.specs.Ports.{Seated};
 
@@ -35,14 +37,21 @@ impl<'a, R, G> Model for CellPort<'a, R, G> {
     ghost view = { λ port. record { keys = port.keys.now; games = length port.cells.now; played = port.played } };
 }
 
-impl<'a, R: Wait, G: Gate> CellPort<'a, R, G> {
-    /// A port at which nobody has entered.
-    pub fn new(rt: &'a R, gate: &'a G, cells: &'a [Cell], keys: &'a Keys) -> CellPort<'a, R, G>
+impl<'a, R: Wait, G: Gate, H: Held> CellPort<'a, R, G, H> {
+    /// A port at which nobody has entered. Before it waits for an arrival, what is held back is sent.
+    pub fn new(
+        rt: &'a R,
+        gate: &'a G,
+        held: &'a H,
+        cells: &'a [Cell],
+        keys: &'a Keys,
+    ) -> CellPort<'a, R, G, H>
         ensures { result ≡ record { keys = keys.now; games = length cells.now; played = None } }
     {
         CellPort {
             rt,
             gate,
+            held,
             cells,
             keys,
             played: None,
@@ -56,6 +65,7 @@ impl<'a, R: Wait, G: Gate> CellPort<'a, R, G> {
         let CellPort {
             rt: _,
             gate: _,
+            held: _,
             cells: _,
             keys: _,
             played,
@@ -64,7 +74,7 @@ impl<'a, R: Wait, G: Gate> CellPort<'a, R, G> {
     }
 }
 
-impl<R: Wait, G: Gate> Port for CellPort<'_, R, G> {
+impl<R: Wait, G: Gate, H: Held> Port for CellPort<'_, R, G, H> {
     ghost use Rattle.bhs_server.specs.Ports.{Calls};
 
     ghost calls = { Calls };
@@ -103,6 +113,7 @@ impl<R: Wait, G: Gate> Port for CellPort<'_, R, G> {
         let Some(cell) = self.cells.get(*game as usize) else {
             return Ok(Reply::Over);
         };
+        let _ = self.held.send_held();
         cell.news(self.rt, pass)
     }
 }

@@ -1,6 +1,7 @@
 ghost use Rattle.std.specs.Prelude.{◌≡◌, IfOk, IfErr, vec_len};
 ghost use Rattle.bhs_server.specs.Settling.{AreSealed, IsUnsettled};
 
+use crate::connections::{Connection, Held};
 use crate::dealing::deal;
 use crate::pacing::Pace;
 use crate::settling::{ServerFault, by_match, settle_all};
@@ -151,5 +152,28 @@ fn welcome<R: Wait, G: Gate>(
     gate: &G,
 ) -> Visit {
     let _ = stream.set_nodelay(true);
-    attend(rt, alloc, &mut &*stream, &mut &*stream, cells, keys, gate)
+    let Ok(connection) = Connection::new(alloc, stream) else {
+        return Visit {
+            ended: Ended::Memory,
+            played: None,
+        };
+    };
+    let visit = attend(
+        rt,
+        alloc,
+        &mut &connection,
+        &mut &connection,
+        &connection,
+        cells,
+        keys,
+        gate,
+    );
+    let _ = connection.send_held();
+    if connection.has_failed() {
+        return Visit {
+            ended: Ended::WriteFault,
+            ..visit
+        };
+    }
+    visit
 }

@@ -3,6 +3,7 @@ ghost use Rattle.bhs_session.specs.Phase.{Finished};
 ghost use Rattle.bhs_session.specs.Session.{Serves};
 ghost use Rattle.bhs_server.specs.Ports.{Calls, Seated};
 
+use crate::connections::Held;
 use crate::ports::{CellPort, Played};
 use bhs_lineup::Keys;
 use bhs_lock::{Cell, Gate};
@@ -21,12 +22,14 @@ pub struct Visit {
     pub played: Option<Played>,
 }
 
-/// Serves one client to its end, on the match of the agent that its key lets in.
-pub fn attend<I: Input, O: Output, R: Wait, G: Gate>(
+/// Serves one client to its end, on the match of the agent that its key lets in. What the writer holds back is sent, by
+/// `held`, before the session waits for an arrival.
+pub fn attend<I: Input, O: Output, H: Held, R: Wait, G: Gate>(
     rt: &R,
     alloc: Global,
     reader: &mut I,
     writer: &mut O,
+    held: &H,
     cells: &[Cell],
     keys: &Keys,
     gate: &G,
@@ -36,7 +39,7 @@ pub fn attend<I: Input, O: Output, R: Wait, G: Gate>(
         (record { keys = keys.now; games = length cells.now; played = None })
         last TURNS (Finished result.ended) }
 {
-    let mut port = CellPort::new(rt, gate, cells, keys);
+    let mut port = CellPort::new(rt, gate, held, cells, keys);
     let ended = serve(alloc, reader, writer, &mut port, TURNS);
     Visit {
         ended,

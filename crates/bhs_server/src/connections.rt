@@ -1,0 +1,83 @@
+//! The connection of a client. What the client is to be sent is held back while lines of it are still to be answered,
+//! and goes out before its session reads or waits: one call of the system for many lines.
+
+use bhs_net::Memory;
+use std::alloc::Global;
+use std::cell::{Cell, RefCell};
+use std::io;
+use std::io::{Read, Write};
+use std::net::TcpStream;
+
+/// How many bytes are held back at most.
+const ROOM: usize = 8_192;
+
+/// Where a session writes to, if that holds anything back.
+pub trait Held {
+    /// Sends what is held back. A session does so before it waits for an arrival.
+    fn send_held(&self) -> io::Result<()>;
+}
+
+/// A connection over TCP. Its session is on one thread.
+#[derive(Drop)]
+pub(crate) struct Connection<'a> {
+    stream: &'a TcpStream,
+    held: RefCell<Vec<u8>>,
+    has_failed: Cell<bool>,
+}
+
+impl<'a> Connection<'a> {
+    /// A connection with nothing held back.
+    pub(crate) fn new(alloc: Global, stream: &'a TcpStream) -> Result<Connection<'a>, Memory> {
+        Ok(Connection {
+            stream,
+            held: RefCell::new(Vec::with_capacity(alloc, ROOM)?),
+            has_failed: Cell::new(false),
+        })
+    }
+
+    /// Whether some of what was held back could not be sent.
+    pub(crate) fn has_failed(&self) -> bool {
+        self.has_failed.get()
+    }
+}
+
+impl Held for Connection<'_> {
+    fn send_held(&self) -> io::Result<()> {
+        let Ok(mut held) = self.held.try_borrow_mut() else {
+            return Ok(());
+        };
+        if held.is_empty() {
+            return Ok(());
+        }
+        let sent = (&mut &*self.stream).write_all(&held);
+        held.clear();
+        if sent.is_err() {
+            self.has_failed.set(true);
+        }
+        sent
+    }
+}
+
+impl Read for &Connection<'_> {
+    fn read(&mut self, buffer: &mut [u8]) -> io::Result<usize> {
+        self.send_held()?;
+        (&mut &*self.stream).read(buffer)
+    }
+}
+
+impl Write for &Connection<'_> {
+    fn write(&mut self, bytes: &[u8]) -> io::Result<usize> {
+        if let Ok(mut held) = self.held.try_borrow_mut() {
+            if bytes.len() <= ROOM.saturating_sub(held.len()) {
+                held.extend_from_slice(bytes)?;
+                return Ok(bytes.len());
+            }
+        }
+        self.send_held()?;
+        (&mut &*self.stream).write(bytes)
+    }
+
+    fn flush(&mut self) -> io::Result<()> {
+        self.send_held()
+    }
+}
