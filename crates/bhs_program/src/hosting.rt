@@ -1,6 +1,6 @@
 //! A contest over sockets: its sessions, the replays of its matches, and their table.
 
-ghost use Rattle.std.specs.Prelude.{◌≡◌, ◌×◌, IfOk, IfErr, List, map, length};
+ghost use Rattle.std.specs.Prelude.{◌≡◌, IfOk, IfErr, List, map, length};
 ghost use Rattle.bhs_stream.specs.Streams.{known_takes};
 ghost use Rattle.bhs_server.specs.Settling.{AreSealed};
 ghost use Rattle.bhs_host.specs.Hosting.{AreFresh, given_of};
@@ -27,7 +27,7 @@ use std::time::Clock;
 
 /// The matches of a contest that has ended, and their teams.
 #[derive(Drop)]
-struct Ended {
+struct Finished {
     teams: Vec<Text>,
     sealed: Vec<Sealed>,
 }
@@ -47,29 +47,36 @@ pub fn host<R: Files + Threads + Wait + Clock + Sync, W: Output, E: Write>(
     requires { AreFresh lineup.ready.items }
     ensures { Hosts (known_takes R.File.contents) W.takes W.flushes lineup.ready.items writer.old writer.new result }
 {
-    match ended(alloc, rt, listener, lineup, hosting) {
-        Ok(ended) => tell(alloc, rt, hosting.prefix.as_str(), &ended, writer, errors),
+    match served(alloc, rt, listener, lineup, hosting) {
+        Ok(finished) => tell(
+            alloc,
+            rt,
+            hosting.prefix.as_str(),
+            &finished,
+            writer,
+            errors,
+        ),
         Err(fault) => report("serve", fault, errors),
     }
 }
 
 // The matches of the contest once they have ended, each as its sessions were answered.
-fn ended<R: Threads + Wait + Clock + Sync>(
+fn served<R: Threads + Wait + Clock + Sync>(
     alloc: Global,
     rt: &R,
     listener: &TcpListener,
     lineup: Lineup,
     hosting: &Hosting,
-) -> Result<Ended, Fault>
+) -> Result<Finished, Fault>
     requires { AreFresh lineup.ready.items }
-    ensures teams { IfOk result (λ ended. ended.teams.items ≡ map (λ ready. ready.team) lineup.ready.items) }
-    ensures sealed { IfOk result (λ ended. AreSealed (map given_of lineup.ready.items) ended.sealed.items) }
+    ensures teams { IfOk result (λ finished. finished.teams.items ≡ map (λ ready. ready.team) lineup.ready.items) }
+    ensures sealed { IfOk result (λ finished. AreSealed (map given_of lineup.ready.items) finished.sealed.items) }
     ensures fault { IfErr result (IsUnserved lineup.ready.items) }
 {
     let Hosted { teams, contest } = contest_of(alloc, lineup)?;
     let pace = Steady::new(rt, hosting.turns, hosting.pause);
     let served = run_server(rt, alloc, listener, contest, hosting.sessions, &pace, &Open)?;
-    Ok(Ended {
+    Ok(Finished {
         teams,
         sealed: served.sealed,
     })
@@ -80,17 +87,17 @@ fn tell<R: Files + Threads + Sync, W: Output, E: Write>(
     alloc: Global,
     rt: &R,
     prefix: &str,
-    ended: &Ended,
+    finished: &Finished,
     writer: &mut W,
     errors: &mut E,
 ) -> u8
-    requires { length ended.teams.items ≡ length ended.sealed.items }
-    ensures { Ends (known_takes R.File.contents) W.takes W.flushes ended.teams.items ended.sealed.items writer.old
+    requires { length finished.teams.items ≡ length finished.sealed.items }
+    ensures { Ends (known_takes R.File.contents) W.takes W.flushes finished.teams.items finished.sealed.items writer.old
         writer.new result }
 {
-    let filed = write_sealed(alloc, rt, prefix, &ended.sealed, errors);
+    let filed = write_sealed(alloc, rt, prefix, &finished.sealed, errors);
     let printed = show_made(
-        standings(rt, alloc, &ended.teams, &ended.sealed),
+        standings(rt, alloc, &finished.teams, &finished.sealed),
         writer,
         errors,
     );

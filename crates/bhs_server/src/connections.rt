@@ -19,15 +19,15 @@ pub trait Held {
 
 /// A connection over TCP. Its session is on one thread.
 #[derive(Drop)]
-pub(crate) struct Connection<'a> {
-    stream: &'a TcpStream,
+pub(crate) struct Connection {
+    stream: TcpStream,
     held: RefCell<Vec<u8>>,
     has_failed: Cell<bool>,
 }
 
-impl<'a> Connection<'a> {
+impl Connection {
     /// A connection with nothing held back.
-    pub(crate) fn new(alloc: Global, stream: &'a TcpStream) -> Result<Connection<'a>, Memory> {
+    pub(crate) fn new(alloc: Global, stream: TcpStream) -> Result<Connection, Memory> {
         Ok(Connection {
             stream,
             held: RefCell::new(Vec::with_capacity(alloc, ROOM)?),
@@ -41,7 +41,7 @@ impl<'a> Connection<'a> {
     }
 }
 
-impl Held for Connection<'_> {
+impl Held for Connection {
     fn send_held(&self) -> io::Result<()> {
         let Ok(mut held) = self.held.try_borrow_mut() else {
             return Ok(());
@@ -49,7 +49,7 @@ impl Held for Connection<'_> {
         if held.is_empty() {
             return Ok(());
         }
-        let sent = (&mut &*self.stream).write_all(&held);
+        let sent = (&mut &self.stream).write_all(&held);
         held.clear();
         if sent.is_err() {
             self.has_failed.set(true);
@@ -58,14 +58,14 @@ impl Held for Connection<'_> {
     }
 }
 
-impl Read for &Connection<'_> {
+impl Read for &Connection {
     fn read(&mut self, buffer: &mut [u8]) -> io::Result<usize> {
         self.send_held()?;
-        (&mut &*self.stream).read(buffer)
+        (&mut &self.stream).read(buffer)
     }
 }
 
-impl Write for &Connection<'_> {
+impl Write for &Connection {
     fn write(&mut self, bytes: &[u8]) -> io::Result<usize> {
         if let Ok(mut held) = self.held.try_borrow_mut() {
             if bytes.len() <= ROOM.saturating_sub(held.len()) {
@@ -74,7 +74,7 @@ impl Write for &Connection<'_> {
             }
         }
         self.send_held()?;
-        (&mut &*self.stream).write(bytes)
+        (&mut &self.stream).write(bytes)
     }
 
     fn flush(&mut self) -> io::Result<()> {

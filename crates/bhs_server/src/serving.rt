@@ -110,7 +110,7 @@ fn all_visits<R: Threads + Wait + Sync, P: Pace + Sync, G: Gate + Sync>(
             for _ in 0..sessions {
                 handles.push(match listener.accept() {
                     Ok((stream, _)) => scope
-                        .spawn(move || welcome(rt, alloc, &stream, cells, keys, gate))
+                        .spawn(move || welcome(rt, alloc, stream, cells, keys, gate))
                         .map_err(|_| Ended::Memory),
                     Err(_) => Err(Ended::ReadFault),
                 })?;
@@ -146,34 +146,45 @@ fn joined<R: Threads>(
 fn welcome<R: Wait, G: Gate>(
     rt: &R,
     alloc: Global,
-    stream: &TcpStream,
+    stream: TcpStream,
     cells: &[Cell],
     keys: &Keys,
     gate: &G,
 ) -> Visit {
     let _ = stream.set_nodelay(true);
-    let Ok(connection) = Connection::new(alloc, stream) else {
-        return Visit {
+    match Connection::new(alloc, stream) {
+        Ok(connection) => visited(rt, alloc, &connection, cells, keys, gate),
+        Err(_) => Visit {
             ended: Ended::Memory,
             played: None,
-        };
-    };
-    let visit = attend(
+        },
+    }
+}
+
+/// What came of the session of a client, all that was held back being sent.
+fn visited<R: Wait, G: Gate>(
+    rt: &R,
+    alloc: Global,
+    connection: &Connection,
+    cells: &[Cell],
+    keys: &Keys,
+    gate: &G,
+) -> Visit {
+    let Visit { ended, played } = attend(
         rt,
         alloc,
-        &mut &connection,
-        &mut &connection,
-        &connection,
+        &mut &*connection,
+        &mut &*connection,
+        connection,
         cells,
         keys,
         gate,
     );
     let _ = connection.send_held();
-    if connection.has_failed() {
-        return Visit {
-            ended: Ended::WriteFault,
-            ..visit
-        };
-    }
-    visit
+    let ended = if connection.has_failed() {
+        Ended::WriteFault
+    } else {
+        ended
+    };
+    Visit { ended, played }
 }
