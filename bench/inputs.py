@@ -32,15 +32,23 @@ def torus(rows: int, columns: int) -> str:
     return network(rows * columns, torus_links(rows, columns))
 
 
+def ring(nodes: int) -> str:
+    """A ring: at each node port 0 leads to the next node, and port 1 to the one before."""
+    return network(nodes, [(node, 0, (node + 1) % nodes, 1) for node in range(nodes)])
+
+
 def key(game: int, agent: int) -> str:
     return f"k{game}-{agent}"
 
 
-def tournament(name: str, matches: int, agents: int, board: int, version: int = 2) -> str:
-    """A tournament of practice matches on one network, each of its own team, with the largest quota."""
-    hole = "holes = []" if version == 2 else 'hole = "none"'
+def tournament(name: str, matches: int, agents: int, board: int, version: int = 2,
+               holes: Sequence[Sequence[int]] = ()) -> str:
+    """A tournament of matches on one network, each of its own team, with the largest quota. The first of them have
+    these black holes, which takes version 2; the others are practice matches."""
     parts = [f'version = {version}\nseed = "{"0" * 64}"\n']
     for game in range(matches):
+        found = list(holes[game]) if game < len(holes) else []
+        hole = f"holes = {found}" if version == 2 else 'hole = "none"'
         keys = ", ".join(f'"{key(game, agent)}"' for agent in range(agents))
         parts.append(
             f'[[match]]\nteam = "team-{game}"\nnetwork = "{name}"\nhome = 0\n{hole}\n'
@@ -65,15 +73,20 @@ def seconds_of(program: str, words: Sequence[str], source: pathlib.Path, folder:
         return time.perf_counter() - start
 
 
+def peak_so_far(child: subprocess.Popen) -> int:
+    """The most memory, in KiB, that a program has held since it began; 0 where it has ended."""
+    for line in pathlib.Path(f"/proc/{child.pid}/status").read_text().splitlines():
+        if line.startswith("VmHWM:"):
+            return int(line.split()[1])
+    return 0
+
+
 def peak_of_child(child: subprocess.Popen) -> int:
     """The most memory, in KiB, that a program holds until it ends: what the system said last before that, asked every
     half millisecond. What the system says afterwards counts the memory of the one that started it as well."""
     peak = 0
-    status = pathlib.Path(f"/proc/{child.pid}/status")
     while child.poll() is None:
-        for line in status.read_text().splitlines():
-            if line.startswith("VmHWM:"):
-                peak = max(peak, int(line.split()[1]))
+        peak = max(peak, peak_so_far(child))
         time.sleep(PAUSE)
     return peak
 

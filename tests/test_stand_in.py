@@ -1,12 +1,11 @@
 """The stand-in model: worked rows on the triangle, and the replays that the benchmarks write."""
 import io
-import json
 import unittest
 from typing import Iterator
 
 import inputs
 import replays
-from stand_in_model import Match, Setup, command_of, judge, outcome_of
+from stand_in_model import Match, Setup, command_of, judge, outcome_of, played
 
 TRIANGLE = [(0, 0, 1, 0), (1, 1, 2, 0), (2, 1, 0, 1)]
 ENTER, LOOK, LEAVE = ({"do": word} for word in ("enter", "look", "leave"))
@@ -81,23 +80,10 @@ class LargeReplays(unittest.TestCase):
     def plays(self, kind: replays.Kind, commands: int) -> None:
         out = io.StringIO()
         count = replays.write_replay(out, kind.hole(commands), kind.events(commands))
-        lines = [json.loads(line) for line in out.getvalue().splitlines()]
-        head = lines[0]
-        match = Match(Setup(head["nodes"], head["links"], head["home"], head["holes"], head["agents"], head["quota"],
-                            head["board"]))
-        for event in lines[1:-1]:
-            self.play(match, event)
+        match = played(out.getvalue())
         self.assertEqual(match.replay(), out.getvalue())
         self.assertEqual(judge(match), ("silent", kind.moves(commands), kind.lost))
         self.assertEqual(count, len(match.log))
-
-    def play(self, match: Match, event: dict) -> None:
-        if event["do"] == "close":
-            match.close()
-        elif event["do"] == "deliver":
-            match.deliver(event["agent"])
-        else:
-            match.tell(event["agent"], {name: event[name] for name in event if name not in ("agent", "reply")})
 
     def test_each_kind(self) -> None:
         for kind in replays.KINDS:

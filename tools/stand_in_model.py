@@ -192,6 +192,22 @@ class Match:
         return "".join(spelled(line) + "\n" for line in lines)
 
 
+def played(text: str) -> Match:
+    """The match that a replay is of, played anew: its setup, and the commands and deliveries of its events. The text is
+    a replay by these rules where the match has that replay too."""
+    head, *events, _ = [json.loads(line) for line in text.split("\n")[:-1]]
+    match = Match(Setup(head["nodes"], [tuple(link) for link in head["links"]], head["home"], head["holes"],
+                        head["agents"], head["quota"], head["board"], [tuple(place) for place in head["dark"]]))
+    for event in events:
+        if event["do"] == "close":
+            match.close()
+        elif event["do"] == "deliver":
+            match.deliver(event["agent"])
+        else:
+            match.tell(event["agent"], {name: event[name] for name in event if name not in ("agent", "reply")})
+    return match
+
+
 class Verdict(NamedTuple):
     """What a match came to: the outcome as `judge` prints it, the moves that were made, the agents lost."""
 

@@ -66,6 +66,14 @@ class Game:
             self.changed.notify_all()
 
 
+def text_of(line: bytes) -> str:
+    """A line as a text, or an empty one where it is not UTF-8."""
+    try:
+        return line.decode("utf-8")
+    except UnicodeDecodeError:
+        return ""
+
+
 class Session:
     """One connection of a client."""
 
@@ -76,12 +84,16 @@ class Session:
         self.taken = taken
 
     def lines(self) -> Any:
-        """The client's lines; one that is too long, or is not UTF-8, is none that means a command."""
-        for line in self.reader:
-            if not line.endswith(b"\n"):
-                return
-            if line.strip(b" \t\r\n"):
-                yield line[:-1].decode("utf-8", "replace") if len(line) <= MAX_LINE + 1 else ""
+        """The client's lines. One that is too long, of which no more than that is kept, or is not UTF-8, is given as an
+        empty line, which is no command."""
+        is_long = False
+        while piece := self.reader.readline(MAX_LINE + 1):
+            if not piece.endswith(b"\n"):
+                is_long = True
+                continue
+            if is_long or piece.strip(b" \t\r\n"):
+                yield "" if is_long else text_of(piece[:-1])
+            is_long = False
 
     def say(self, reply: Object) -> None:
         self.connection.sendall(spelled(reply).encode() + b"\n")

@@ -1,0 +1,93 @@
+"""The attack by hostile clients, on the stand-in, and what its checks find."""
+import contextlib
+import io
+import os
+import pathlib
+import socket
+import sys
+import tempfile
+import unittest
+from unittest import mock
+
+import hostile_clients
+from hostile_attacks import ATTACKS, Sizes, Wrong, has_heard, hear, hear_end, wait_for_lines
+from hostile_clients import LEAST_SESSIONS, Ending, check_end, check_memory, check_replays, check_table, match_of
+from stand_in_model import Match, Setup
+from tests import TOP
+
+STAND_IN = f"{sys.executable} {TOP / 'tools' / 'stand_in_server.py'}"
+SMALL = Sizes(LEAST_SESSIONS, turns=180, between_bytes=0.02, between_steps=0.02, still=0.1, flood=2**17)
+CHECKS = 7
+
+
+class Attacks(unittest.TestCase):
+    def test_the_stand_in_stands_them(self) -> None:
+        printed = io.StringIO()
+        with tempfile.TemporaryDirectory() as name, mock.patch.dict(os.environ, ARENA=STAND_IN):
+            with contextlib.redirect_stdout(printed):
+                results = hostile_clients.besiege(SMALL, pathlib.Path(name))
+        self.assertEqual(results.failed, 0, printed.getvalue())
+        self.assertEqual(results.count, len(ATTACKS) + CHECKS)
+        self.assertEqual(printed.getvalue().count("\n"), results.count)
+
+
+class Hearing(unittest.TestCase):
+    def setUp(self) -> None:
+        self.client, self.server = socket.socketpair()
+        self.addCleanup(self.client.close)
+        self.addCleanup(self.server.close)
+        self.client.settimeout(0.05)
+
+    def test_lines_are_left_unread_and_then_heard(self) -> None:
+        self.assertFalse(has_heard(self.client))
+        self.server.sendall(b"one\ntwo\n")
+        wait_for_lines(self.client, 2)
+        self.assertTrue(has_heard(self.client))
+        hear(self.client, b"one\n")
+        self.assertRaises(Wrong, hear, self.client, b"one\n")
+
+    def test_silence_and_the_end_are_told_apart(self) -> None:
+        self.assertRaises(Wrong, hear, self.client, b"one\n")
+        self.assertRaises(Wrong, hear_end, self.client)
+        self.server.close()
+        hear_end(self.client)
+        self.assertRaises(Wrong, hear, self.client, b"one\n")
+
+    def test_an_answer_that_is_late_is_wrong(self) -> None:
+        self.server.sendall(b"one\n")
+        self.assertRaises(Wrong, hear, self.client, b"one\n", -1.0)
+
+
+class Checks(unittest.TestCase):
+    ENDING = Ending(True, 0, 1.0, 1000, "")
+
+    def test_the_end(self) -> None:
+        check_end(self.ENDING)
+        self.assertRaises(Wrong, check_end, self.ENDING._replace(status=-9))
+        self.assertRaises(Wrong, check_end, self.ENDING._replace(is_over=False))
+
+    def test_memory_is_bounded_by_the_sessions(self) -> None:
+        bound = 64 * 1024 + 96 * 100
+        sizes = Sizes(sessions=100)
+        check_memory(self.ENDING._replace(peak=bound), sizes)
+        self.assertRaises(Wrong, check_memory, self.ENDING._replace(peak=bound + 1), sizes)
+
+    def test_replays_and_the_table(self) -> None:
+        match = Match(Setup(3, [(0, 0, 1, 0), (1, 1, 2, 0), (2, 1, 0, 1)], 0, [2], 2, 10, 8))
+        match.tell(0, {"do": "enter"})
+        match.close()
+        with tempfile.TemporaryDirectory() as name:
+            folder = pathlib.Path(name)
+            for number, text in enumerate((match.replay(), match.replay().replace('"ports":2', '"ports":3'), "{}\n")):
+                (folder / f"match{number}.jsonl").write_text(text)
+            found = [match_of(folder, 0)]
+            for number in (1, 2, 3):
+                self.assertRaises(Wrong, match_of, folder, number)
+        self.assertEqual(check_replays(found), "1 of 2 events")
+        row = "  1 team-0           silent          0    0\n"
+        check_table("  # team             outcome     moves lost\n" + row, found)
+        self.assertRaises(Wrong, check_table, row, found)
+
+
+if __name__ == "__main__":
+    unittest.main()
