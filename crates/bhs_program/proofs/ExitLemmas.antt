@@ -52,7 +52,7 @@ of_either false one two first second = first
 
 module _ {P O : Type 0} (files : P → List ℕ → Taken → P → Type 0) (takes : O → List ℕ → Taken → O → Type 0)
     (flushes : O → Bool → O → Type 0) where
-  of_files : (plays : List Play) (code : ℕ) → Files files takes flushes plays code → IsStatus code
+  of_files : (plays : List Play) (code : ℕ) → Files files plays code → IsStatus code
   of_files plays code (all_filed is filed) = inl is
   of_files plays code (unfiled_one fault is) = inr (inr (fault, is))
 

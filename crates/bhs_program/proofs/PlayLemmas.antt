@@ -11,7 +11,7 @@ use Rattle.bhs_program.specs.Playing.{StopsPlaying}
 use Rattle.bhs_program.specs.Rehearsal.{Means, Plays, Stops}
 use Rattle.bhs_program.specs.declared.faults.Fault.{Fault}
 use Rattle.bhs_program.specs.declared.faults.Fault.TheVariants.{Read, Text, Line, File, Replay, Twin, Write, Memory}
-use Rattle.bhs_program.specs.declared.faults.Fault.TheVariants.{Turns}
+use Rattle.bhs_program.specs.declared.faults.Fault.TheVariants.{Turns, Listen, Unsettled}
 
 -- a fault at the next bytes of a text
 pub stopped_at : {O : Type 0} (takes : O → List ℕ → Taken → O → Type 0) (a b c : O)
@@ -27,6 +27,8 @@ stopped_at takes a b c text bytes left Turns so_far none = absurd none
 stopped_at takes a b c text bytes left (File fault) so_far none = absurd none
 stopped_at takes a b c text bytes left (Replay fault) so_far none = absurd none
 stopped_at takes a b c text bytes left (Twin fault) so_far none = absurd none
+stopped_at takes a b c text bytes left Listen so_far none = absurd none
+stopped_at takes a b c text bytes left (Unsettled game) so_far none = absurd none
 
 -- the fault that comes through a `?` is this one
 pub fault_is : {T : Type 0} (r : Result T Fault) (fault : Fault) (P : Fault → Type 0) → IsErrAnd r (λ e. e ≡ fault)
@@ -62,6 +64,8 @@ module _ {I O : Type 0} (gives : I → Chunk → I → Type 0) (takes : O → Li
   stops_at (File fault) stopped = absurd stopped
   stops_at (Replay fault) stopped = absurd stopped
   stops_at (Twin fault) stopped = absurd stopped
+  stops_at Listen stopped = absurd stopped
+  stops_at (Unsettled game) stopped = absurd stopped
 
   pub stops_all : {T : Type 0} (r : Result T Fault)
       → IfErr r (StopsPlaying takes (transcript stage instructions) output output')

@@ -30,21 +30,21 @@ IsUnserved matches (Unsettled game) = IsFirstUnsettled (map given_of matches) ga
 IsUnserved matches Memory = Unit {0}
 IsUnserved matches fault = ⊥
 
+-- what the exit status says of the replays of matches that were to be written to files with these calls
+pub data Files {P : Type 0} (files : P → List ℕ → Taken → P → Type 0) (plays : List Play) (code : ℕ) : Type 0 where
+  -- each was written
+  all_filed : code ≡ DONE → AllByRecursion (λ play. Took files (replay_of play)) plays → Files files plays code
+  -- one was not written
+  unfiled_one : (fault : Fault) → code ≡ status fault → Files files plays code
+
 -- the calls of the files that are written, and of the output
 module _ {P O : Type 0} (files : P → List ℕ → Taken → P → Type 0) (takes : O → List ℕ → Taken → O → Type 0)
     (flushes : O → Bool → O → Type 0) where
-  -- what the exit status says of the replays of matches
-  pub data Files (plays : List Play) (code : ℕ) : Type 0 where
-    -- each was written
-    all_filed : code ≡ DONE → AllByRecursion (λ play. Took files (replay_of play)) plays → Files plays code
-    -- one was not written
-    unfiled_one : (fault : Fault) → code ≡ status fault → Files plays code
-
   -- the matches of these teams ended so: their replays were to be written, and then their table was to be printed
   pub record Ends (teams : List (List ℕ)) (plays : List Play) (output output' : O) (code : ℕ) : Type 0 where
     pub filed : ℕ
     pub printed : ℕ
-    pub writes : Files plays filed
+    pub writes : Files files plays filed
     pub tables : Reports (Prints takes flushes) (IsStandings teams plays) output output' printed
     pub coded : code ≡ first_status filed printed
 

@@ -91,9 +91,9 @@ fn tell<R: Files + Threads + Sync, W: Output, E: Write>(
     writer: &mut W,
     errors: &mut E,
 ) -> u8
-    requires { length finished.teams.items ≡ length finished.sealed.items }
-    ensures { Ends (known_takes R.File.contents) W.takes W.flushes finished.teams.items finished.sealed.items writer.old
-        writer.new result }
+    requires { length finished.now.teams.items ≡ length finished.now.sealed.items }
+    ensures { Ends (known_takes R.File.contents) W.takes W.flushes finished.now.teams.items finished.now.sealed.items
+        writer.old writer.new result }
 {
     let filed = write_sealed(alloc, rt, prefix, &finished.sealed, errors);
     let printed = show_made(

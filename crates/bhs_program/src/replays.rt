@@ -93,7 +93,9 @@ pub(crate) fn write_sealed<F: Files, E: Write>(
 
 /// The exit status of two: that of the first that failed.
 pub(crate) fn first_status(first: u8, second: u8) -> u8
-    ensures { result ≡ first_status first second }
+    ensures first { result ≡ first_status first second }
+    ensures done { result ≡ DONE → (first ≡ DONE) × (second ≡ DONE) }
+    ensures one { (result ≡ first) ⊎ (result ≡ second) }
 {
     if first == DONE { second } else { first }
 }

@@ -27,7 +27,7 @@ pub(crate) fn serve_named<R: Machine, W: Output, E: Write>(
     writer: &mut W,
     errors: &mut E,
 ) -> u8
-    ensures { Serves (known_takes R.File.contents) W.takes W.flushes hosting.port writer.old writer.new result }
+    ensures { Serves (known_takes R.File.contents) W.takes W.flushes hosting.now.port writer.old writer.new result }
 {
     let lineup = match lineup_of(alloc, rt, name, errors) {
         Ok(lineup) => lineup,
@@ -37,10 +37,11 @@ pub(crate) fn serve_named<R: Machine, W: Output, E: Write>(
     let Ok(listener) = TcpListener::bind(rt, address) else {
         return report("serve", Fault::Listen, errors);
     };
-    match show_made(listening(alloc, hosting.port), writer, errors) {
-        DONE => host(alloc, rt, &listener, lineup, hosting, writer, errors),
-        status => status,
+    let status = show_made(listening(alloc, hosting.port), writer, errors);
+    if status != DONE {
+        return status;
     }
+    host(alloc, rt, &listener, lineup, hosting, writer, errors)
 }
 
 fn listening(alloc: Global, port: u16) -> Result<String, Memory>

@@ -19,5 +19,5 @@ returns-in-Ok-Shown-clause-runs g c =
 pub returns-in-Ok-Shown-clause-status : goal.returns-in-Ok-Shown-clause-status
 returns-in-Ok-Shown-clause-status g c = status_of_run _ _ _ _ _ _ _ _ _ _ (returns-in-Ok-Shown-clause-runs g c)
 
-pub returns-clause-status : goal.returns-clause-status
-returns-clause-status g c = inr (inr (Memory, c.report-in-Err.ensures))
+pub returns-in-Err-clause-status : goal.returns-in-Err-clause-status
+returns-in-Err-clause-status g c = inr (inr (Memory, c.report.ensures))

@@ -12,7 +12,7 @@ returns-in-Ok g c =
     (subst (λ (contest : Contest). Rehearses (known_takes g.F.File.Write.contents) g.R.Input.gives g.W.Output.takes
     MAX_TURNS g.W.Output.flushes c.args.prefix
     (opening_of contest) c.args.reader.now c.rehearse_whole.new.reader c.args.writer.now c.rehearse_whole.new.writer
-    c.rehearse_whole.result) c.in-Ok.ensures
+    c.rehearse_whole.result) c.in-Ok.ensures.made
     c.rehearse_whole.ensures))
 
 pub returns-in-Ok-lineup_of : goal.returns-in-Ok-lineup_of

@@ -1,0 +1,44 @@
+-- The contest that comes of the matches of a tournament, and the table that comes of matches that have ended.
+use Rattle.std.specs.Prelude.{ℕ, ◌≡◌, ◌+◌, List, [], ◌∷◌, string_bytes}
+use Rattle.std.specs.List.{AllByRecursion}
+use Rattle.rand_chacha.specs.ChaCha.{ChaCha}
+use Rattle.bhs_match.specs.Matches.{Play}
+use Rattle.bhs_lineup.specs.declared.lineups.Ready.{Ready}
+use Rattle.bhs_lock.specs.Cells.{Given}
+use Rattle.bhs_deal.specs.Dealer.{dealer_at}
+use Rattle.bhs_referee.specs.Verdicts.{verdict_of}
+use Rattle.bhs_standings.specs.declared.rows.Row.{Row}
+use Rattle.bhs_standings.specs.Ranks.{IsRanking}
+use Rattle.bhs_standings.specs.Tables.{table_of}
+
+-- nothing has happened in any match
+abbrev pub AreFresh : List Ready → Type 0
+AreFresh matches = AllByRecursion (λ ready. ready.game.log ≡ []) matches
+
+-- what the cell of a match is given: its network and its setup
+abbrev pub given_of : Ready → Given
+given_of ready = record { net = ready.game.net; setup = ready.game.setup }
+
+-- the dealers of matches of which the first has this number: each at the start of the stream of its match's number
+abbrev pub dealers_of : (seed : List ℕ) (game : ℕ) → List Ready → List ChaCha
+dealers_of seed game [] = []
+dealers_of seed game (ready ∷ others) = dealer_at seed game 0 ∷ dealers_of seed (game + 1) others
+
+-- the row of a team: its name, and the verdict on its match
+pub record IsRowOf (team : List ℕ) (play : Play) (row : Row) : Type 0 where
+  pub team_is : string_bytes row.team ≡ team
+  pub judged : row.verdict ≡ verdict_of play
+
+-- the rows of teams, one of each with its match, in their order
+abbrev pub AreRowsOf : List (List ℕ) → List Play → List Row → Type 0
+AreRowsOf [] [] [] = Unit {0}
+AreRowsOf (team ∷ teams) (play ∷ plays) (row ∷ rows) = IsRowOf team play row × AreRowsOf teams plays rows
+AreRowsOf teams plays rows = ⊥
+
+-- the text is the table of these teams by the verdicts on their matches
+pub record IsStandings (teams : List (List ℕ)) (plays : List Play) (text : List ℕ) : Type 0 where
+  pub rows : List Row
+  pub places : List ℕ
+  pub rows_are : AreRowsOf teams plays rows
+  pub ranked : IsRanking rows places
+  pub said : text ≡ table_of rows places

@@ -1,0 +1,14 @@
+//! From the matches of a tournament to a contest under locks, and from matches that have ended to their table.
+#![tactic(auto)]
+
+mod hosting;
+mod judging;
+mod pacing;
+mod tabling;
+
+pub use hosting::{Hosted, contest_of};
+pub use pacing::Steady;
+pub use tabling::standings;
+
+#[cfg(test)]
+mod tests;
