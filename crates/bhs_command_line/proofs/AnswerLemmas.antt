@@ -1,5 +1,5 @@
 -- What an error tells, and which answer the words get.
-use Rattle.std.proofs.Common.{◌≡◌, ◌≢◌, ◌⊎◌, ◌↔◌, ◌∙◌, ◌||◌, IsTrue, ap, subst, sym, refl, inl, inr, not, true≢false, ℕ}
+use Rattle.std.proofs.Common.{◌≡◌, ◌≢◌, ◌⊎◌, ◌↔◌, ◌∙◌, ◌||◌, IsTrue, ap, subst, sym, refl, inl, inr, not, true≢false}
 use Rattle.std.proofs.Common.{Bool, true, false, List, [], ◌∷◌, Option, Some, None, Result, Ok, Err, IfOk, arith}
 use Rattle.std.proofs.Common.{is_some, eqb-true, length, suc}
 use Rattle.std.specs.Prelude.{IsErr, if◌then◌else◌, option_and_then}

@@ -2,3 +2,5 @@ mod WordLemmas
 mod AnswerLemmas
 mod NumberLemmas
 mod FoundLemmas
+mod ToldLemmas
+mod ServeLemmas

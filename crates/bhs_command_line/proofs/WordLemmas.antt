@@ -12,8 +12,12 @@ use Rattle.clap.proofs.OnLiterals.{clap_on_literals}
 use Rattle.bhs_command_line.specs.CommandLine.{AsksHelp, AskAfter, Says, arena, command_in, faults, is_dashed}
 use Rattle.bhs_command_line.specs.CommandLine.{number_in, entries_in, order_by}
 use Rattle.bhs_command_line.specs.declared.orders.Order.{Order}
-use Rattle.bhs_command_line.specs.declared.orders.Order.TheVariants.{Check, Explain, Judge, Rehearse, Table, Twin}
+use Rattle.bhs_command_line.specs.declared.orders.Order.TheVariants.{Check, Explain, Judge, Rehearse, Serve, Table}
+use Rattle.bhs_command_line.specs.declared.orders.Order.TheVariants.{Twin}
 use Rattle.bhs_command_line.specs.declared.orders.Entry.{Entry}
+use Rattle.bhs_command_line.specs.declared.orders.Hosting.{Hosting}
+use Rattle.bhs_command_line.proofs.NumberLemmas.{hosting_plain}
+use Rattle.bhs_command_line.proofs.ServeLemmas.{serve_found}
 
 -- ---- lists of kinds
 
@@ -50,7 +54,10 @@ help_fault words (inr (inr (inl asks))) = asked_after (codes "check" ∷ []) wor
 help_fault words (inr (inr (inr (inl asks)))) = asked_after (codes "judge" ∷ []) words asks (refl, refl)
 help_fault words (inr (inr (inr (inr (inl asks))))) = asked_after (codes "table" ∷ []) words asks (refl, refl)
 help_fault words (inr (inr (inr (inr (inr (inl asks)))))) = asked_after (codes "explain" ∷ []) words asks (refl, refl)
-help_fault words (inr (inr (inr (inr (inr (inr asks)))))) = asked_after (codes "twin" ∷ []) words asks (refl, refl)
+help_fault words (inr (inr (inr (inr (inr (inr (inl asks))))))) =
+    asked_after (codes "twin" ∷ []) words asks (refl, refl)
+help_fault words (inr (inr (inr (inr (inr (inr (inr asks))))))) =
+    asked_after (codes "serve" ∷ []) words asks (refl, refl)
 
 pub no_word_fault : (words : List Text) → words ≡ [] → faults words ≡ DisplayHelpOnMissingArgumentOrSubcommand ∷ []
 unfolding clap_on_literals
@@ -147,3 +154,7 @@ says_gives words (Explain replay agent) (word, plain, also, says, is) =
 says_gives words (Twin replay node) (word, plain, also, says, is) =
     let found = twin_found replay word plain also in
     here words _ _ is (found.0, found.1 ∙ ap (λ (o : Option ℕ). option_map (Twin replay) o) says)
+says_gives words (Serve tournament hosting) (port, sessions, turns, pause, plain, also, says, is) =
+    let found = serve_found tournament port sessions turns pause hosting.prefix plain also
+    (hosting_plain port sessions turns pause hosting.prefix hosting says) in
+    here words _ _ is (found.0, found.1 ∙ ap (λ (o : Option Hosting). option_map (Serve tournament) o) says)

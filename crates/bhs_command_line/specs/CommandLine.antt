@@ -1,5 +1,5 @@
 -- The command line of the program, and what its words give.
-use Rattle.std.specs.Prelude.{◌≡◌, ◌⊎◌, ◌==◌, ◌&&◌, ◌^◌, IsTrue, Bool, true, false, not, ℕ, nat_lt}
+use Rattle.std.specs.Prelude.{◌≡◌, ◌⊎◌, ◌==◌, ◌&&◌, IsTrue, Bool, true, false, not, ℕ, nat_lt, nat_le}
 use Rattle.std.specs.Prelude.{List, [], ◌∷◌, ◌++◌, Option, length}
 use Rattle.std.specs.Prelude.{Some, None, codes, if◌then◌else◌, option_and_then, option_map, unwrap_or}
 use Rattle.std.specs.List.{list_all, list_any, before_first, after_first, position_or_len}
@@ -16,7 +16,9 @@ use Rattle.clap.specs.declared.error.kind.ErrorKind.TheVariants.{DisplayHelp, Di
 use Rattle.bhs_files.specs.Shapes.{is_team}
 use Rattle.bhs_command_line.specs.declared.orders.Order.{Order}
 use Rattle.bhs_command_line.specs.declared.orders.Order.TheVariants.{Rehearse, Check, Judge, Table, Explain, Twin}
+use Rattle.bhs_command_line.specs.declared.orders.Order.TheVariants.{Serve}
 use Rattle.bhs_command_line.specs.declared.orders.Entry.{Entry}
+use Rattle.bhs_command_line.specs.declared.orders.Hosting.{Hosting}
 use Rattle.bhs_command_line.specs.declared.Parsed.{Parsed}
 use Rattle.bhs_command_line.specs.declared.Parsed.TheVariants.{Ordered, Shown, Refused}
 
@@ -37,20 +39,21 @@ may_have id = record (new_rule id) { value_names = 1 }
 abbrev pub must_have : (id : Text) → Rule
 must_have id = record (new_rule id) { required = true; value_names = 1 }
 
+-- a word that stands behind the option of this name
+abbrev pub behind : (option : Text) → Rule → Rule
+behind option rule = record rule { long = Some option }
+
 -- a command with these words
 abbrev pub command : (name : Text) → List Rule → Shape
 command name rules = record (new_shape name) { rules = rules }
-
--- the option `--replay` with a word of its own
-abbrev pub replay_option : Rule
-replay_option = record (new_rule (codes "prefix")) { long = Some (codes "replay"); value_names = 1 }
 
 -- one word or more
 abbrev pub entry_words : Rule
 entry_words = record (new_rule (codes "entry")) { required = true; action = Some Append; value_names = 1 }
 
 abbrev pub rehearse : Shape
-rehearse = command (codes "rehearse") (may_have (codes "tournament") ∷ replay_option ∷ [])
+rehearse = command (codes "rehearse")
+    (may_have (codes "tournament") ∷ behind (codes "replay") (may_have (codes "prefix")) ∷ [])
 
 abbrev pub check : Shape
 check = command (codes "check") (must_have (codes "tournament") ∷ [])
@@ -67,10 +70,18 @@ explain = command (codes "explain") (must_have (codes "replay") ∷ must_have (c
 abbrev pub twin : Shape
 twin = command (codes "twin") (must_have (codes "replay") ∷ must_have (codes "node") ∷ [])
 
+abbrev pub serve : Shape
+serve = command (codes "serve") (must_have (codes "tournament")
+    ∷ behind (codes "port") (must_have (codes "port"))
+    ∷ behind (codes "sessions") (must_have (codes "sessions"))
+    ∷ behind (codes "turns") (must_have (codes "turns"))
+    ∷ behind (codes "pause") (must_have (codes "pause"))
+    ∷ behind (codes "replay") (must_have (codes "prefix")) ∷ [])
+
 abbrev pub arena : App
 arena =
     with_subcommand (with_subcommand (with_subcommand (with_subcommand (with_subcommand (with_subcommand
-    (program (codes "arena")) rehearse) check) judge) table) explain) twin
+    (with_subcommand (program (codes "arena")) rehearse) check) judge) table) explain) twin) serve
 
 -- ---- what clap makes of the words that stand after the program's name
 
@@ -84,11 +95,16 @@ command_in words = subcommand_of arena words
 
 -- ---- what a word says
 
--- the number of 16 bits that a word spells in decimal digits; zeros may stand in front
+-- the number from `least` to `most` that a word spells in decimal digits; zeros may stand in front
+abbrev pub number_within : (least most : ℕ) → Text → Option ℕ
+number_within least most word =
+    let number = digits_value 10 word in
+    if list_all is_ascii_digit word && (not (is_empty word) && (nat_le least number && nat_le number most))
+    then Some number else None
+
+-- the number of an agent or a node
 abbrev pub number_in : Text → Option ℕ
-number_in word =
-    if list_all is_ascii_digit word && (not (is_empty word) && nat_lt (digits_value 10 word) (2 ^ 16))
-    then Some (digits_value 10 word) else None
+number_in = number_within 0 65535
 
 -- the character `=`
 abbrev pub is_equals : ℕ → Bool
@@ -106,6 +122,18 @@ entries_in [] = Some []
 entries_in (word ∷ words) =
     option_and_then (λ entry. option_map (λ entries. entry ∷ entries) (entries_in words)) (entry_in word)
 
+-- a hosting by these numbers, if all are there
+abbrev pub hosting_of : (port sessions turns pause : Option ℕ) → (prefix : Text) → Option Hosting
+hosting_of (Some port) (Some sessions) (Some turns) (Some pause) prefix =
+    Some (record { port = port; sessions = sessions; turns = turns; pause = pause; prefix = prefix })
+hosting_of _ _ _ _ prefix = None
+
+-- the hosting that the words of the options say
+abbrev pub hosting_in : (port sessions turns pause prefix : Text) → Option Hosting
+hosting_in port sessions turns pause prefix = hosting_of
+    (number_within 1 65535 port) (number_within 1 1024 sessions)
+    (number_within 0 4294967295 turns) (number_within 0 4294967295 pause) prefix
+
 -- ---- orders
 
 -- the word that a command must have, and all its words; clap refuses a command without them
@@ -114,6 +142,15 @@ text_in id rows = unwrap_or (first_of id rows) []
 
 abbrev pub texts_in : (id : Text) → List Row → List Text
 texts_in id rows = unwrap_or (all_of id rows) []
+
+-- the number that a command must have
+abbrev pub number_by : (least most : ℕ) → (id : Text) → List Row → Option ℕ
+number_by least most id rows = number_within least most (text_in id rows)
+
+-- the hosting that the words of `serve` say
+abbrev pub hosting_by : List Row → Option Hosting
+hosting_by rows = hosting_in (text_in (codes "port") rows) (text_in (codes "sessions") rows)
+    (text_in (codes "turns") rows) (text_in (codes "pause") rows) (text_in (codes "prefix") rows)
 
 -- the order that a command gives
 abbrev pub order_by : Text × List Row → Option Order
@@ -127,7 +164,9 @@ order_by (name, rows) =
     then option_map (Explain (text_in (codes "replay") rows)) (number_in (text_in (codes "agent") rows))
     else (if bytes_eq name (codes "twin")
     then option_map (Twin (text_in (codes "replay") rows)) (number_in (text_in (codes "node") rows))
-    else None)))))
+    else (if bytes_eq name (codes "serve")
+    then option_map (Serve (text_in (codes "tournament") rows)) (hosting_by rows)
+    else None))))))
 
 -- the order that the words give, and None where they give none
 abbrev pub order_in : List Text → Option Order
@@ -145,8 +184,8 @@ is_dashed (byte ∷ bytes) = byte == 45
 abbrev pub IsName : Text → Type 0
 IsName name = is_dashed name ≡ false
 
--- The words give this order: the command and its own words, none of which begins with a hyphen, and the option last. A
--- command alone may have the mark `--` that ends the options.
+-- The words give this order: the command and its own words, none of which begins with a hyphen, and the options last,
+-- in this order. A command alone may have the mark `--` that ends the options.
 abbrev pub Says : List Text → Order → Type 0
 Says words (Rehearse None None) = (words ≡ codes "rehearse" ∷ []) ⊎ (words ≡ codes "rehearse" ∷ codes "--" ∷ [])
 Says words (Rehearse (Some name) None) = IsName name × (words ≡ codes "rehearse" ∷ name ∷ [])
@@ -164,6 +203,12 @@ Says words (Explain replay agent) =
 Says words (Twin replay node) =
     (word : Text) × IsName replay × IsName word × (number_in word ≡ Some node)
     × (words ≡ codes "twin" ∷ replay ∷ word ∷ [])
+Says words (Serve tournament hosting) =
+    (port : Text) × (sessions : Text) × (turns : Text) × (pause : Text)
+    × IsName tournament × IsName hosting.prefix
+    × (hosting_in port sessions turns pause hosting.prefix ≡ Some hosting)
+    × (words ≡ codes "serve" ∷ tournament ∷ codes "--port" ∷ port ∷ codes "--sessions" ∷ sessions
+    ∷ codes "--turns" ∷ turns ∷ codes "--pause" ∷ pause ∷ codes "--replay" ∷ hosting.prefix ∷ [])
 
 -- ---- answers
 
@@ -202,7 +247,8 @@ AsksHelp words = AskAfter [] words
     ⊎ (AskAfter (codes "judge" ∷ []) words
     ⊎ (AskAfter (codes "table" ∷ []) words
     ⊎ (AskAfter (codes "explain" ∷ []) words
-    ⊎ AskAfter (codes "twin" ∷ []) words)))))
+    ⊎ (AskAfter (codes "twin" ∷ []) words
+    ⊎ AskAfter (codes "serve" ∷ []) words))))))
 
 abbrev pub is_shown : Parsed → Bool
 is_shown (Shown text) = true

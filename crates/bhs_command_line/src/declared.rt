@@ -23,7 +23,8 @@ pub(crate) fn command_line<'a>(alloc: Global) -> Result<Command<'a>, AllocError>
         .subcommand(judge_command(alloc)?)?
         .subcommand(table_command(alloc)?)?
         .subcommand(explain_command(alloc)?)?
-        .subcommand(twin_command(alloc)?)
+        .subcommand(twin_command(alloc)?)?
+        .subcommand(serve_command(alloc)?)
 }
 
 fn program<'a>(alloc: Global) -> Result<Command<'a>, AllocError>
@@ -114,6 +115,22 @@ fn twin_command<'a>(alloc: Global) -> Result<Command<'a>, AllocError>
         ))
 }
 
+fn serve_command<'a>(alloc: Global) -> Result<Command<'a>, AllocError>
+    ensures shape { IfOk result (λ command. shape_of command ≡ specs.serve) }
+    ensures local { IfOk result (λ command. (fields_of command).has_globals ≡ false) }
+{
+    Command::new(alloc, "serve")
+        .about(help::SERVE)
+        .long_about(help::SERVE_AT_LENGTH)
+        .after_long_help(help::SERVE_EXAMPLE)
+        .arg(must_have(alloc, "tournament", "TOURNAMENT", TOURNAMENT_FILE))?
+        .arg(must_have_option(alloc, "port", "port", "PORT", help::PORT))?
+        .arg(must_have_option(alloc, "sessions", "sessions", "SESSIONS", help::SESSIONS))?
+        .arg(must_have_option(alloc, "turns", "turns", "TURNS", help::TURNS))?
+        .arg(must_have_option(alloc, "pause", "pause", "PAUSE", help::PAUSE))?
+        .arg(must_have_option(alloc, "replay", "prefix", "PREFIX", help::SERVED_REPLAYS))
+}
+
 fn must_have<'a>(alloc: Global, id: &'a str, name: &'a str, help: &'a str) -> Arg<'a>
     ensures rule { rule_of result ≡ specs.must_have id.now }
     ensures local { result.global ≡ false }
@@ -122,6 +139,19 @@ fn must_have<'a>(alloc: Global, id: &'a str, name: &'a str, help: &'a str) -> Ar
         .required(true)
         .value_name(name)
         .help(help)
+}
+
+fn must_have_option<'a>(
+    alloc: Global,
+    option: &'a str,
+    id: &'a str,
+    name: &'a str,
+    help: &'a str,
+) -> Arg<'a>
+    ensures rule { rule_of result ≡ specs.behind option.now (specs.must_have id.now) }
+    ensures local { result.global ≡ false }
+{
+    must_have(alloc, id, name, help).long(option)
 }
 
 fn optional_tournament<'a>(alloc: Global) -> Arg<'a>
@@ -134,7 +164,7 @@ fn optional_tournament<'a>(alloc: Global) -> Arg<'a>
 }
 
 fn replay_option<'a>(alloc: Global) -> Arg<'a>
-    ensures rule { rule_of result ≡ specs.replay_option }
+    ensures rule { rule_of result ≡ specs.behind (codes "replay") (specs.may_have (codes "prefix")) }
     ensures local { result.global ≡ false }
 {
     Arg::new(alloc, "prefix")

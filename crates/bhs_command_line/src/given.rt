@@ -1,11 +1,13 @@
 //! The order in what clap made of the words.
 
-ghost use Rattle.std.specs.Prelude.{◌≡◌, IfOk, option_and_then, option_map, codes};
-ghost use Rattle.bhs_command_line.specs.CommandLine.{order_by, number_in, entries_in, text_in, texts_in};
+ghost use Rattle.std.specs.Prelude.{◌≡◌, ◌<◌, ◌^◌, IfOk, option_and_then, option_map, codes};
+ghost use Rattle.bhs_command_line.specs.CommandLine.{order_by, hosting_by, number_by, entries_in};
+ghost use Rattle.bhs_command_line.specs.CommandLine.{text_in, texts_in};
 ghost use Rattle.clap.specs.Words.{first_of, found_of, rows_of, subcommand_rows_of};
 
-use crate::orders::{Entries, Order};
-use crate::words::{entries_in, number_in, text};
+use crate::numbers::{AGENT, NODE, Number, PAUSE, PORT, SESSIONS, TURNS};
+use crate::orders::{Entries, Hosting, Order};
+use crate::words::{entries_in, number_within, text};
 use bhs_model::Text;
 use clap::ArgMatches;
 use std::alloc::{AllocError, Global};
@@ -46,22 +48,54 @@ fn order_named(
             Some(entries) => Ok(Some(Order::Table { entries })),
             None => Ok(None),
         },
-        "explain" => match number_given(words, "agent") {
+        "explain" => match short_given(words, &AGENT) {
             Some(agent) => Ok(Some(Order::Explain {
                 replay: text_given(alloc, words, "replay")?,
                 agent,
             })),
             None => Ok(None),
         },
-        "twin" => match number_given(words, "node") {
+        "twin" => match short_given(words, &NODE) {
             Some(node) => Ok(Some(Order::Twin {
                 replay: text_given(alloc, words, "replay")?,
                 node,
             })),
             None => Ok(None),
         },
+        "serve" => match hosting_given(alloc, words)? {
+            Some(hosting) => Ok(Some(Order::Serve {
+                tournament: text_given(alloc, words, "tournament")?,
+                hosting,
+            })),
+            None => Ok(None),
+        },
         _ => Ok(None),
     }
+}
+
+// The hosting that the words of `serve` say.
+fn hosting_given(alloc: Global, words: &ArgMatches<'_>) -> Result<Option<Hosting>, AllocError>
+    ensures { IfOk result (λ hosting. hosting ≡ hosting_by (rows_of (found_of words.now))) }
+{
+    let Some(port) = short_given(words, &PORT) else {
+        return Ok(None);
+    };
+    let Some(sessions) = number_given(words, &SESSIONS) else {
+        return Ok(None);
+    };
+    let Some(turns) = number_given(words, &TURNS) else {
+        return Ok(None);
+    };
+    let Some(pause) = number_given(words, &PAUSE) else {
+        return Ok(None);
+    };
+    Ok(Some(Hosting {
+        port,
+        sessions,
+        turns,
+        pause,
+        prefix: text_given(alloc, words, "prefix")?,
+    }))
 }
 
 // The text that a command may have.
@@ -81,11 +115,26 @@ fn text_given(alloc: Global, words: &ArgMatches<'_>, id: &str) -> Result<Text, A
     text(alloc, words.get_str(id).unwrap_or(""))
 }
 
-// The number that a command must have.
-fn number_given(words: &ArgMatches<'_>, id: &str) -> Option<u16>
-    ensures { result ≡ number_in (text_in id.now (rows_of (found_of words.now))) }
+/// The number that a command must have.
+pub(crate) fn number_given(words: &ArgMatches<'_>, number: &Number) -> Option<u32>
+    ensures { result ≡ number_by number.now.least number.now.most number.now.id.now (rows_of (found_of words.now)) }
 {
-    number_in(words.get_str(id).unwrap_or(""))
+    number_within(
+        number.least,
+        number.most,
+        words.get_str(number.id).unwrap_or(""),
+    )
+}
+
+// The same of a number of 16 bits.
+fn short_given(words: &ArgMatches<'_>, number: &Number) -> Option<u16>
+    requires { number.now.most < 2 ^ 16 }
+    ensures { result ≡ number_by number.now.least number.now.most number.now.id.now (rows_of (found_of words.now)) }
+{
+    match number_given(words, number) {
+        Some(value) => Some(value as u16),
+        None => None,
+    }
 }
 
 // The entries of a table.

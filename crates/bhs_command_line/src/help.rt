@@ -11,10 +11,11 @@ the whiteboard. One node is a black hole. It destroys every agent that arrives,
 and leaves no trace. An agent is a stream of JSON lines, and is told no more than
 this model allows.
 
-The program rehearses: it plays the lines of many clients that stand in a script,
-and writes the replay of each match. It judges replays, ranks teams by them, and
-says of a match why an agent saw what it saw. It also reads the files of a
-tournament, and says what is wrong with them.";
+The program serves a contest to agents that connect over TCP, and writes the
+replay of each match. It also rehearses: it plays the lines of many clients that
+stand in a script. It judges replays, ranks teams by them, and says of a match
+why an agent saw what it saw. It reads the files of a tournament, and says what
+is wrong with them.";
 
 pub(crate) const REHEARSE: &str = "Plays the script on standard input on a tournament";
 
@@ -255,3 +256,76 @@ Exit status:
   4  The replay is not of a match: event or differs; or there is no such twin
   5  Memory ran out
   6  Reading or writing failed";
+
+pub(crate) const SERVE: &str = "Serves a tournament to agents that connect over TCP";
+
+pub(crate) const SERVE_AT_LENGTH: &str = "\
+Serves the matches of a tournament to agents that connect over TCP. At the end
+each match is judged, and the table of the teams is printed.
+
+The server listens on port PORT of 127.0.0.1, prints `listening PORT`, and
+accepts SESSIONS connections. Each is one session of one agent: its first line
+is the agent's enter with its key, and each later line is one of the agent's
+commands. `arena rehearse --help` says what the lines are. Each is answered by a
+line, and an arrival is told by a line too. While the agent is on a link its
+lines wait.
+
+All matches begin at once, when the server listens. In each match a turn comes
+every PAUSE milliseconds: one of the agents on a link arrives, and the seed of
+the tournament draws which. After TURNS turns the match is closed. So a contest
+lasts about TURNS times PAUSE milliseconds. TURNS should be several times the
+moves that a search needs. On one machine a PAUSE of 0 to 20 will do. With 0 the
+turns come as fast as they can, also while nobody has connected yet, so TURNS
+must be large.
+
+After the close a session is answered `over`: at its next line, or at once where
+its agent is on a link. A client that neither sends a line nor closes its
+connection keeps its session, and the server waits for it. It also waits where
+fewer connections come than SESSIONS.
+
+When all sessions have ended, the replay of each match M is written to the file
+PREFIXM.jsonl. A file that stands there is replaced. Then each match is judged,
+and the table is printed as `arena table` prints it.
+
+What is wrong with a file is told on standard error, as `FILE: FAULT`, and what
+is wrong with the server as `serve: FAULT`:
+
+  listen       It cannot listen on the port, as where another program does
+  unsettled M  The log of match M is not what its agents were answered
+  memory       Memory ran out";
+
+pub(crate) const SERVE_EXAMPLE: &str = "\
+Example:
+
+  arena serve cup.toml --port 4000 --sessions 2 --turns 1000 --pause 5 \\
+    --replay cup
+
+prints
+
+  listening 4000
+
+and about 5 seconds later, where one agent accused from its home base and the
+other one left,
+
+    # team             outcome     moves lost
+    1 red              guess 1         0    0
+
+Exit status:
+
+  0  Each replay was written, and the table was printed
+  2  The command line was refused
+  3  A file was refused, and nothing was served
+  4  A match is unsettled
+  5  Memory ran out
+  6  Listening, reading or writing failed";
+
+pub(crate) const PORT: &str = "The port of 127.0.0.1 to listen on, 1 to 65535";
+
+pub(crate) const SESSIONS: &str = "How many sessions are served, 1 to 1024";
+
+pub(crate) const TURNS: &str = "After how many turns each match is closed";
+
+pub(crate) const PAUSE: &str = "How many milliseconds pass before each turn";
+
+pub(crate) const SERVED_REPLAYS: &str =
+    "Writes the replay of each match M to the file PREFIXM.jsonl";

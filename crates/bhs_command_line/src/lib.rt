@@ -12,6 +12,7 @@ ghost use Rattle.clap.specs.declared.error.kind.ErrorKind.TheVariants.{OutOfMemo
 mod declared;
 mod given;
 mod help;
+mod numbers;
 mod orders;
 mod unfit;
 mod words;
@@ -19,7 +20,7 @@ mod words;
 use clap::Error;
 use clap::error::ErrorKind;
 use given::order_given;
-pub use orders::{Entries, Entry, Order};
+pub use orders::{Entries, Entry, Hosting, MAX_SESSIONS, Order};
 use std::alloc::{AllocError, Global};
 use std::convert::AsStr;
 use unfit::unfit_text;

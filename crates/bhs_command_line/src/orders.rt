@@ -36,6 +36,29 @@ pub enum Order {
         replay: Text,
         node: u16,
     },
+    /// Serves the tournament of this file to agents that connect.
+    Serve {
+        tournament: Text,
+        hosting: Hosting,
+    },
+}
+
+/// The most sessions that are served.
+pub const MAX_SESSIONS: u32 = 1024;
+
+/// How a contest is served.
+#[derive(Debug, Drop)]
+pub struct Hosting {
+    /// The port to listen on, from 1.
+    pub port: u16,
+    /// How many sessions are served, 1 to 1024.
+    pub sessions: u32,
+    /// After how many turns each match is closed.
+    pub turns: u32,
+    /// How many milliseconds pass before each turn.
+    pub pause: u32,
+    /// With what the names of the replays begin.
+    pub prefix: Text,
 }
 
 /// A team of a table, with the name of the replay of its match.

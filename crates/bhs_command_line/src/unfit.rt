@@ -1,5 +1,7 @@
 //! What is told of a word that is no number, or no entry of a table.
 
+use crate::given::number_given;
+use crate::numbers::{AGENT, NODE, Number, PAUSE, PORT, SESSIONS, TURNS};
 use crate::words::entry_in;
 use clap::ArgMatches;
 use std::alloc::{AllocError, Global};
@@ -8,21 +10,32 @@ use std::alloc::{AllocError, Global};
 pub(crate) fn unfit_text(alloc: Global, matches: &ArgMatches<'_>) -> Result<String, AllocError> {
     match matches.subcommand() {
         Some(("table", words)) => unfit_entry(alloc, words),
-        Some(("twin", words)) => unfit_number(alloc, words, "node", "NODE"),
-        Some((_, words)) => unfit_number(alloc, words, "agent", "AGENT"),
-        None => Ok(String::new(alloc)),
+        Some(("explain", words)) => unfit_number(alloc, words, &[AGENT]),
+        Some(("twin", words)) => unfit_number(alloc, words, &[NODE]),
+        Some(("serve", words)) => unfit_number(alloc, words, &[PORT, SESSIONS, TURNS, PAUSE]),
+        _ => Ok(String::new(alloc)),
     }
 }
 
+// Tells the first of these numbers that the words do not give.
 fn unfit_number(
     alloc: Global,
     words: &ArgMatches<'_>,
-    id: &str,
-    name: &str,
+    numbers: &[Number],
 ) -> Result<String, AllocError> {
+    let is_unfit = |number: &&Number| number_given(words, number).is_none();
+    let Some(number) = numbers.iter().find(is_unfit) else {
+        return Ok(String::new(alloc));
+    };
+    let Number {
+        id,
+        name,
+        least,
+        most,
+    } = number;
     let word = words.get_str(id).unwrap_or("");
     format!(in alloc;
-        "error: invalid value '{word}' for '<{name}>': it is no number from 0 to 65535\n\n\
+        "error: invalid value '{word}' for '{name}': it is no number from {least} to {most}\n\n\
         For more information, try '--help'.\n"
     )
 }

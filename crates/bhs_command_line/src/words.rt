@@ -3,19 +3,23 @@
 ghost use Rattle.std.specs.Prelude.{◌≡◌, IfOk, map};
 ghost use Rattle.std.specs.Char.{is_ascii_digit};
 ghost use Rattle.std.specs.List.{list_all};
-ghost use Rattle.bhs_command_line.specs.CommandLine.{number_in, entry_in, entries_in};
+ghost use Rattle.bhs_command_line.specs.CommandLine.{number_within, entry_in, entries_in};
 
 use crate::orders::{Entries, Entry};
 use bhs_files::is_team;
 use bhs_model::Text;
 use std::alloc::{AllocError, Global};
 
-/// The number of 16 bits that a word spells in decimal digits. Zeros may stand in front.
-pub(crate) fn number_in(word: &str) -> Option<u16>
-    ensures { result ≡ number_in word.now }
+/// The number from `least` to `most` that a word spells in decimal digits. Zeros may stand in front.
+pub(crate) fn number_within(least: u32, most: u32, word: &str) -> Option<u32>
+    ensures { result ≡ number_within least most word.now }
 {
-    if is_digits(word) {
-        word.parse().ok()
+    if !is_digits(word) {
+        return None;
+    }
+    let number = word.parse().ok()?;
+    if least <= number && number <= most {
+        Some(number)
     } else {
         None
     }

@@ -1,4 +1,4 @@
-use bhs_command_line::{Order, Parsed, order_of};
+use bhs_command_line::{Hosting, Order, Parsed, order_of};
 use bhs_model::Text;
 use std::alloc::Global;
 use std::fmt::Write;
@@ -17,6 +17,7 @@ Commands:
   table     Prints the table of teams, by the replays of their matches
   explain   Prints the causal past of an agent: why it saw what it saw
   twin      Writes the replay of a twin: a black hole elsewhere, and nobody could tell
+  serve     Serves a tournament to agents that connect over TCP
   help      Print this message or the help of the given subcommand(s)
 
 Options:
@@ -48,6 +49,11 @@ explain cup0.jsonl 7 => explain cup0.jsonl 7
 explain cup0.jsonl 00000065535 => explain cup0.jsonl 65535
 twin cup0.jsonl 0 => twin cup0.jsonl 0
 twin -- -cup0.jsonl 03 => twin -cup0.jsonl 3
+serve cup.toml --port 4000 --sessions 2 --turns 900 --pause 5 --replay cup => serve cup.toml 4000 2 900 5 cup
+serve --replay p --pause 0 --turns 0 --sessions 1 --port 1 cup.toml => serve cup.toml 1 1 0 0 p
+serve a --port=065535 --sessions=01024 --turns=1 --pause=2 --replay= => serve a 65535 1024 1 2 ''
+serve a --port 2 --sessions 3 --turns 4294967295 --pause 04294967295 --replay p => serve a 2 3 4294967295 4294967295 p
+serve --port 7 --sessions 7 --turns 7 --pause 7 --replay out/p -- -a => serve -a 7 7 7 7 out/p
 ";
 
 fn shown(text: &Text) -> &str {
@@ -60,6 +66,20 @@ fn shown_if_any(text: &Option<Text>) -> &str {
         Some(text) => shown(text),
         None => "-",
     }
+}
+
+fn write_hosting(line: &mut String, tournament: &Text, hosting: &Hosting) -> Result<(), Fail> {
+    let Hosting {
+        port,
+        sessions,
+        turns,
+        pause,
+        prefix,
+    } = hosting;
+    let tournament = shown(tournament);
+    let prefix = shown(prefix);
+    write!(line, "serve {tournament} {port} {sessions} {turns} {pause} {prefix}")?;
+    Ok(())
 }
 
 /// An order as a line.
@@ -81,6 +101,10 @@ fn line_of(alloc: Global, order: &Order) -> Result<String, Fail> {
         }
         Order::Explain { replay, agent } => write!(line, "explain {} {agent}", shown(replay))?,
         Order::Twin { replay, node } => write!(line, "twin {} {node}", shown(replay))?,
+        Order::Serve {
+            tournament,
+            hosting,
+        } => write_hosting(&mut line, tournament, hosting)?,
     }
     Ok(line)
 }
@@ -156,6 +180,8 @@ fn shows_long_help(rt: HostRuntime) -> Result<(), Fail> {
     let out_of_memory = "\n  5  Memory ran out\n";
     let check = "\n\nUsage: arena check <TOURNAMENT>\n";
     let line = "\n  match 0 red nodes 3 links 3 agents 2\n";
+    let serve = "\n\nUsage: arena serve --port <PORT> --sessions <SESSIONS> --turns <TURNS> ";
+    let option = "\n      --port <PORT>\n          The port of 127.0.0.1 to listen on, 1 to 65535\n";
     for (words, parts) in [
         (
             ["--help"].as_slice(),
@@ -169,6 +195,10 @@ fn shows_long_help(rt: HostRuntime) -> Result<(), Fail> {
         (
             ["check", "--help"].as_slice(),
             [check, line, out_of_memory].as_slice(),
+        ),
+        (
+            ["serve", "--help"].as_slice(),
+            [serve, option, "\n  listening 4000\n", out_of_memory].as_slice(),
         ),
         (
             ["help", "rehearse"].as_slice(),
@@ -252,6 +282,22 @@ error: invalid value '65536' for '<NODE>': it is no number from 0 to 65535
 
 For more information, try '--help'.
 ";
+    let no_options = "\
+error: the following required arguments were not provided:
+  --port <PORT>
+  --pause <PAUSE>
+
+Usage: arena serve --port <PORT> --sessions <SESSIONS> --turns <TURNS> --pause <PAUSE> --replay <PREFIX> <TOURNAMENT>
+
+For more information, try '--help'.
+";
+    let twice = "\
+error: the argument '--port <PORT>' cannot be used multiple times
+
+Usage: arena serve --port <PORT> --sessions <SESSIONS> --turns <TURNS> --pause <PAUSE> --replay <PREFIX> <TOURNAMENT>
+
+For more information, try '--help'.
+";
     let entry = "\
 error: invalid value 'Red=a' for '<TEAM=REPLAY>...': a team is 1 to 16 of a to z, 0 to 9 and -, and = follows it
 
@@ -262,6 +308,11 @@ For more information, try '--help'.
         (["explain", "cup0.jsonl", "+7"].as_slice(), number),
         (["twin", "cup0.jsonl", "65536"].as_slice(), large),
         (["table", "red=a", "Red=a", "x"].as_slice(), entry),
+        (
+            ["serve", "a", "--sessions", "1", "--turns", "x", "--replay", "p"].as_slice(),
+            no_options,
+        ),
+        (["serve", "--port", "1", "a", "--port", "1"].as_slice(), twice),
         (["--"].as_slice(), HELP),
         (["reherse"].as_slice(), misspelt),
         (["rehearse", "cup.toml", "extra"].as_slice(), extra),
@@ -277,6 +328,52 @@ For more information, try '--help'.
             return Err(Fail::from("not refused"));
         };
         assert_eq!(rt; text.as_str(), want, "at {words:?}");
+    }
+    Ok(())
+}
+
+// What stands for the four numbers of `serve`, and how the first unfit one is told.
+const UNFIT: &str = "\
+0 1 0 0 => '0' for '--port <PORT>': it is no number from 1 to 65535
+65536 1 0 0 => '65536' for '--port <PORT>': it is no number from 1 to 65535
+1 0 0 0 => '0' for '--sessions <SESSIONS>': it is no number from 1 to 1024
+1 1025 0 0 => '1025' for '--sessions <SESSIONS>': it is no number from 1 to 1024
+1 1 4294967296 0 => '4294967296' for '--turns <TURNS>': it is no number from 0 to 4294967295
+1 1 +1 0 => '+1' for '--turns <TURNS>': it is no number from 0 to 4294967295
+1 1 0 5ms => '5ms' for '--pause <PAUSE>': it is no number from 0 to 4294967295
+1 1 0 '' => '' for '--pause <PAUSE>': it is no number from 0 to 4294967295
+x 0 x x => 'x' for '--port <PORT>': it is no number from 1 to 65535
+1 y x x => 'y' for '--sessions <SESSIONS>': it is no number from 1 to 1024
+1 1 z x => 'z' for '--turns <TURNS>': it is no number from 0 to 4294967295
+";
+
+#[test]
+fn refuses_numbers_of_serve(rt: HostRuntime) -> Result<(), Fail> {
+    let alloc = rt.alloc();
+    for row in UNFIT.lines() {
+        let (numbers, told) = row.split_once(" => ").ok_or("a row")?;
+        let mut numbers = numbers.split(' ').map(word_of);
+        let words = [
+            "serve",
+            "--port",
+            numbers.next().ok_or("a port")?,
+            "--sessions",
+            numbers.next().ok_or("sessions")?,
+            "--turns",
+            numbers.next().ok_or("turns")?,
+            "--pause",
+            numbers.next().ok_or("a pause")?,
+            "--replay",
+            "p",
+            "cup.toml",
+        ];
+        let Parsed::Refused { text } = order_of(alloc, words.as_slice())? else {
+            return Err(Fail::from("not refused"));
+        };
+        let want = format!(in alloc;
+            "error: invalid value {told}\n\nFor more information, try '--help'.\n"
+        )?;
+        assert_eq!(rt; text.as_str(), want.as_str(), "at {row}");
     }
     Ok(())
 }

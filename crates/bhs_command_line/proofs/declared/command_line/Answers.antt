@@ -27,6 +27,10 @@ returns c =
     let is_explain : app_of c.in_ok-subcommand-5.field-0 ≡ with_explain =
     c.in_ok-subcommand-5.ensures.shape c.in_ok-explain_command.ensures.local
     ∙ ap₂ with_subcommand is_table c.in_ok-explain_command.ensures.shape in
-    IfOk-weaker c.subcommand-6.result _ _
-    (λ command adds. adds.shape c.in_ok-twin_command.ensures.local
-    ∙ ap₂ with_subcommand is_explain c.in_ok-twin_command.ensures.shape) c.subcommand-6.ensures
+    let with_twin : App = with_subcommand with_explain specs.twin in
+    let is_twin : app_of c.in_ok-subcommand-6.field-0 ≡ with_twin =
+    c.in_ok-subcommand-6.ensures.shape c.in_ok-twin_command.ensures.local
+    ∙ ap₂ with_subcommand is_explain c.in_ok-twin_command.ensures.shape in
+    IfOk-weaker c.subcommand-7.result _ _
+    (λ command adds. adds.shape c.in_ok-serve_command.ensures.local
+    ∙ ap₂ with_subcommand is_twin c.in_ok-serve_command.ensures.shape) c.subcommand-7.ensures

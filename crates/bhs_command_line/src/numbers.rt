@@ -1,0 +1,56 @@
+//! The numbers that commands must have.
+
+use crate::orders::MAX_SESSIONS;
+
+/// A number that a command must have: which word says it, and from where to where it goes.
+#[derive(Clone, Copy, Debug)]
+pub(crate) struct Number {
+    /// By what clap finds the word.
+    pub(crate) id: &'static str,
+    /// How clap names the word to a user.
+    pub(crate) name: &'static str,
+    pub(crate) least: u32,
+    pub(crate) most: u32,
+}
+
+pub(crate) const AGENT: Number = Number {
+    id: "agent",
+    name: "<AGENT>",
+    least: 0,
+    most: 65_535,
+};
+
+pub(crate) const NODE: Number = Number {
+    id: "node",
+    name: "<NODE>",
+    least: 0,
+    most: 65_535,
+};
+
+pub(crate) const PORT: Number = Number {
+    id: "port",
+    name: "--port <PORT>",
+    least: 1,
+    most: 65_535,
+};
+
+pub(crate) const SESSIONS: Number = Number {
+    id: "sessions",
+    name: "--sessions <SESSIONS>",
+    least: 1,
+    most: MAX_SESSIONS,
+};
+
+pub(crate) const TURNS: Number = Number {
+    id: "turns",
+    name: "--turns <TURNS>",
+    least: 0,
+    most: 4_294_967_295,
+};
+
+pub(crate) const PAUSE: Number = Number {
+    id: "pause",
+    name: "--pause <PAUSE>",
+    least: 0,
+    most: 4_294_967_295,
+};
