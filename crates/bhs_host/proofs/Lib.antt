@@ -1,2 +1,3 @@
+mod HostLemmas
 mod NoteLemmas
 mod RowLemmas

@@ -1,12 +1,23 @@
 -- Notes that have seen verdicts, one after the other.
-use Rattle.std.proofs.Common.{◌≡◌, ◌∙◌, sym, ap, subst, ℕ, suc, ◌+◌, ◌<◌, List, [], ◌∷◌, ◌++◌, length, take, get_or, arith}
-use Rattle.std.specs.Prelude.{Option, Some, IfSome, Result, Ok, Err, IfOk, slice_get}
+use Rattle.std.proofs.Common.{◌≡◌, ◌∙◌, refl, sym, ap, subst, ℕ, suc, ◌+◌, ◌<◌, List, [], ◌∷◌, ◌++◌, length, map, take, get_or, arith}
+use Rattle.std.specs.Prelude.{Option, Some, None, option_map, IfSome, Result, Ok, Err, IfOk, slice_get}
 use Rattle.std.proofs.lemmas.List.{take_more}
-use Rattle.std.proofs.lemmas.Option.{slice_get-get_or}
+use Rattle.std.proofs.lemmas.Option.{slice_get-get_or, slice_get-map, slice_get_read}
 use Rattle.std.proofs.Common.{length-append}
 use Rattle.bhs_referee.specs.declared.verdicts.Verdict.{Verdict}
 use Rattle.bhs_showcase.specs.Shown.{Seen, Agree}
 use Rattle.bhs_host.specs.Judging.{HasSeen, HaveSeen}
+
+-- a note that has seen the verdict on a match of a list
+pub seen_at : {X : Type 0} (judge : X → Verdict) (places : List ℕ) (plays : List X) (game : ℕ) (play : X)
+    (note : Option Seen) → game < length plays → play ≡ get_or plays game play
+    → IfSome note (λ note. slice_get places game ≡ Some note.place)
+    → IfSome note (λ note. note.verdict ≡ Some (judge play))
+    → IfSome note (HasSeen places (map judge plays) game)
+seen_at judge places plays game play None within is place seen = tt
+seen_at judge places plays game play (Some note) within is place seen =
+    let here = slice_get_read plays (length plays) game play refl within is in
+    record { place = place; seen = seen ∙ sym (slice_get-map judge plays game ∙ ap (option_map judge) here) }
 
 -- what holds of each note by its number holds of all
 pub seen_from : (places : List ℕ) (verdicts : List Verdict) (from : ℕ) (notes : List (Option Seen))
@@ -14,9 +25,9 @@ pub seen_from : (places : List ℕ) (verdicts : List Verdict) (from : ℕ) (note
     → IfSome (get_or notes i d) (HasSeen places verdicts k)) → HaveSeen places verdicts from notes
 seen_from places verdicts from [] each = tt
 seen_from places verdicts from (note ∷ notes) each = (
-    each 0 from note (omega arith) (omega arith),
-    seen_from places verdicts (from + 1) notes (λ i k d is lt. each (suc i) k d (omega arith) (omega arith)),
-  )
+  each 0 from note (omega arith) (omega arith),
+  seen_from places verdicts (from + 1) notes (λ i k d is lt. each (suc i) k d (omega arith) (omega arith)),
+)
 
 -- the verdict that a note has seen comes next
 read_more : (verdicts done : List Verdict) (verdict : Verdict) (note : Seen) → done ≡ take (length done) verdicts
@@ -25,7 +36,7 @@ read_more : (verdicts done : List Verdict) (verdict : Verdict) (note : Seen) →
 read_more verdicts done verdict note so_far lt seen agrees =
     let at = get_or verdicts (length done) verdict in
     let same : at ≡ verdict = subst (λ one. Agree one (Some verdict))
-        (seen ∙ slice_get-get_or verdicts (length done) verdict lt) agrees in
+    (seen ∙ slice_get-get_or verdicts (length done) verdict lt) agrees in
     ap (λ list. list ++ verdict ∷ []) so_far
     ∙ sym (take_more verdicts (length done) verdict lt ∙ ap (λ one. take (length done) verdicts ++ one ∷ []) same)
 
@@ -43,7 +54,7 @@ reads_on places verdicts done done' left left' note verdict so_far next agrees g
     let one : length done' ≡ length done + 1 = ap length grown ∙ length-append done (verdict ∷ []) in
     let fewer = ap (λ (list : List (Option Seen)). length list) next in
     let now : HaveSeen places verdicts (length done) (Some note ∷ left') =
-        subst (HaveSeen places verdicts (length done)) next so_far.seen in
+    subst (HaveSeen places verdicts (length done)) next so_far.seen in
     let within : length done < length verdicts = omega (arith, so_far.many, fewer) in
     record {
       many = omega (arith, so_far.many, fewer, one);

@@ -3,7 +3,7 @@ use Rattle.std.proofs.Common.{◌≡◌, refl, subst, ℕ, List, [], ◌∷◌, 
 use Rattle.bhs_match.specs.Matches.{Play}
 use Rattle.bhs_referee.specs.Verdicts.{verdict_of}
 use Rattle.bhs_standings.specs.declared.rows.Row.{Row}
-use Rattle.bhs_host.specs.Hosting.{AreRowsOf, IsRowOf}
+use Rattle.bhs_host.specs.Hosting.{AreRowsOf}
 
 -- rows with the verdicts on these matches are the rows of their own teams
 of_own_teams : (plays : List Play) (rows : List Row)

@@ -78,7 +78,10 @@ fn write_hosting(line: &mut String, tournament: &Text, hosting: &Hosting) -> Res
     } = hosting;
     let tournament = shown(tournament);
     let prefix = shown(prefix);
-    write!(line, "serve {tournament} {port} {sessions} {turns} {pause} {prefix}")?;
+    write!(
+        line,
+        "serve {tournament} {port} {sessions} {turns} {pause} {prefix}"
+    )?;
     Ok(())
 }
 
@@ -181,7 +184,8 @@ fn shows_long_help(rt: HostRuntime) -> Result<(), Fail> {
     let check = "\n\nUsage: arena check <TOURNAMENT>\n";
     let line = "\n  match 0 red nodes 3 links 3 agents 2\n";
     let serve = "\n\nUsage: arena serve --port <PORT> --sessions <SESSIONS> --turns <TURNS> ";
-    let option = "\n      --port <PORT>\n          The port of 127.0.0.1 to listen on, 1 to 65535\n";
+    let option =
+        "\n      --port <PORT>\n          The port of 127.0.0.1 to listen on, 1 to 65535\n";
     for (words, parts) in [
         (
             ["--help"].as_slice(),
@@ -309,10 +313,23 @@ For more information, try '--help'.
         (["twin", "cup0.jsonl", "65536"].as_slice(), large),
         (["table", "red=a", "Red=a", "x"].as_slice(), entry),
         (
-            ["serve", "a", "--sessions", "1", "--turns", "x", "--replay", "p"].as_slice(),
+            [
+                "serve",
+                "a",
+                "--sessions",
+                "1",
+                "--turns",
+                "x",
+                "--replay",
+                "p",
+            ]
+            .as_slice(),
             no_options,
         ),
-        (["serve", "--port", "1", "a", "--port", "1"].as_slice(), twice),
+        (
+            ["serve", "--port", "1", "a", "--port", "1"].as_slice(),
+            twice,
+        ),
         (["--"].as_slice(), HELP),
         (["reherse"].as_slice(), misspelt),
         (["rehearse", "cup.toml", "extra"].as_slice(), extra),

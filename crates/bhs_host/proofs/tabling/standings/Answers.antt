@@ -1,4 +1,4 @@
-use Rattle.std.proofs.Common.{◌≡◌, ◌∙◌}
+use Rattle.std.proofs.Common.{◌∙◌}
 use Rattle.std.proofs.lemmas.Result.{IfOk-weaker}
 use Rattle.bhs_host.proofs.RowLemmas.{rows_are}
 use Rattle.bhs_host.proofs.tabling.standings.Goals as goal
@@ -9,12 +9,12 @@ returns g c =
     let judged = c.in_ok-rows.ensures.verdicts ∙ (c.deref.ensures.value ∙ c.in_ok-verdicts.ensures) in
     IfOk-weaker c.table.result _ _
     (λ text is.
-        let told = rw c.deref-2.ensures.value at is in
-        record {
-          rows = c.in_ok-rows.rows.items;
-          places = told.0;
-          rows_are = rows_are c.args.teams.now c.args.sealed.now c.in_ok-rows.rows.items named judged;
-          ranked = told.1;
-          said = told.2;
-        })
+    let told = rw c.deref-2.ensures.value at is in
+    record {
+      rows = c.in_ok-rows.rows.items;
+      places = told.0;
+      rows_are = rows_are c.args.teams.now c.args.sealed.now c.in_ok-rows.rows.items named judged;
+      ranked = told.1;
+      said = told.2;
+    })
     c.table.ensures
