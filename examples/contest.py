@@ -1,15 +1,17 @@
 #!/usr/bin/env python3
 """Plays a contest on this machine: the server, four teams of the sample agents, and the table.
 
-    python3 examples/contest.py [--keep FOLDER] [--pages FOLDER]
+    python3 examples/contest.py [--keep FOLDER] [--pages FOLDER] [--kill TEAM]
 
 Starts `./arena serve` on examples/contest.toml, and then the agents of each team as programs of their own, as teams
 would do. Waits for the server to end, and prints its table and which teams solved their networks. All of them must:
-else the exit status is 1. Files go to a temporary folder; --keep has the replays of the matches written to a folder,
+else the exit status is 1. With --kill the agents of a team are killed in the middle of their search, and the other
+teams must solve theirs. Files go to a temporary folder; --keep has the replays of the matches written to a folder,
 --pages also a page of each (tools/replay_page.py). ARENA in the environment names another program than ./arena, as
 ARENA="python3 tools/stand_in_server.py" to try it without the build.
 """
 import argparse
+import itertools
 import os
 import pathlib
 import shlex
@@ -17,7 +19,8 @@ import socket
 import subprocess
 import sys
 import tempfile
-from typing import Dict, List
+import time
+from typing import Dict, List, Optional
 
 TOP = pathlib.Path(__file__).resolve().parent.parent
 AGENTS = TOP / "examples" / "agents"
@@ -25,6 +28,8 @@ TOURNAMENT = "examples/contest.toml"
 TURNS = 3000
 PAUSE = 2
 PATIENCE = 20
+# seconds until the agents of a team are killed, if they are
+LIFE = 0.5
 # pages are laid out by a package of Debian, which another Python does not see
 DEBIANS_PYTHON = "/usr/bin/python3"
 RING = ["8"]
@@ -75,22 +80,26 @@ def start_server(port: int, replays: str) -> subprocess.Popen:
     return server
 
 
-def play(folder: pathlib.Path, replays: str) -> str:
-    """Plays the contest, and answers the server's table."""
+def play(folder: pathlib.Path, replays: str, killed: Optional[str]) -> str:
+    """Plays the contest, and answers the server's table. The agents of one team may be killed meanwhile."""
     build(folder)
     port = free_port()
     server = start_server(port, replays)
-    agents = [
-        subprocess.Popen(command_of(agent, f"{team}-{number}", port, folder), stderr=subprocess.DEVNULL,
-                         stdout=subprocess.DEVNULL)
-        for team, programs in TEAMS.items() for number, agent in enumerate(programs)
-    ]
+    agents = {
+        team: [subprocess.Popen(command_of(agent, f"{team}-{number}", port, folder), stderr=subprocess.DEVNULL,
+                                stdout=subprocess.DEVNULL) for number, agent in enumerate(programs)]
+        for team, programs in TEAMS.items()
+    }
     try:
+        if killed:
+            time.sleep(LIFE)
+            for agent in agents[killed]:
+                agent.kill()
         printed, _ = server.communicate(timeout=PATIENCE)
     except subprocess.TimeoutExpired:
         raise SystemExit(f"contest: the server did not end within {PATIENCE} seconds") from None
     finally:
-        for child in [server, *agents]:
+        for child in [server, *itertools.chain.from_iterable(agents.values())]:
             if child.poll() is None:
                 child.kill()
             child.wait()
@@ -118,16 +127,20 @@ def main() -> int:
     parser = argparse.ArgumentParser(description=__doc__, formatter_class=argparse.RawDescriptionHelpFormatter)
     parser.add_argument("--keep", metavar="FOLDER", type=pathlib.Path, help="write the replays there")
     parser.add_argument("--pages", metavar="FOLDER", type=pathlib.Path, help="write a page of each match there")
+    parser.add_argument("--kill", metavar="TEAM", choices=sorted(TEAMS), help="kill its agents after half a second")
     words = parser.parse_args()
     with tempfile.TemporaryDirectory() as name:
         kept = words.keep or words.pages or pathlib.Path(name)
         kept.mkdir(parents=True, exist_ok=True)
         replays = str(kept.resolve() / "match")
-        table = play(pathlib.Path(name), replays)
+        table = play(pathlib.Path(name), replays, words.kill)
         print(table, end="", flush=True)
         found = outcomes(table)
-        failed = [team for team in TEAMS if found.get(team) != "solved"]
+        failed = [team for team in TEAMS if found.get(team) != "solved" and team != words.kill]
         for team in TEAMS:
+            if team == words.kill:
+                print(f"{team}'s agents were killed")
+                continue
             print(f"{team} solved its network" if team not in failed else f"{team} did not solve its network")
         if words.pages:
             write_pages(replays, words.pages)
