@@ -18,6 +18,7 @@ use bhs_program::{Machine, run};
 use std::alloc::Global;
 use std::fs;
 use std::io::Read;
+use std::net::{Net, TcpListener, TcpStream};
 use std::process::Abort;
 use std::test::Fail;
 
@@ -32,7 +33,7 @@ const RUNS: [(&[&str], &str, &str, &str); %d] = [
 const REPLAYS: [(&str, &str); %d] = [
 %s];
 
-fn prints<R: Abort + Machine>(
+fn prints<R: Abort + Machine + Net<Listener = TcpListener, Stream = TcpStream>>(
     rt: &R,
     alloc: Global,
     words: &[&str],

@@ -9,22 +9,21 @@ use bhs_program::{Fault, Machine, report, run, words_of};
 use std::alloc::Global;
 use std::io;
 use std::io::{BufWriter, Input, Print, Write};
+use std::net::{Net, TcpListener, TcpStream};
 use std::process::ExitCode;
 use std::rt::Env;
 
 fn main(rt: HostRuntime) -> ExitCode {
-    let mut errors = rt.stderr();
-    ExitCode::from(match started(&rt, rt.alloc(), &mut errors) {
+    ExitCode::from(match started(&rt, rt.alloc(), &mut rt.stderr()) {
         Ok(status) => status,
-        Err(error) => report("arena", Fault::from(error), &mut errors),
+        Err(error) => report("arena", Fault::from(error), &mut rt.stderr()),
     })
 }
 
-fn started<R: Machine + Env + Input + Print, E: Write>(
-    rt: &R,
-    alloc: Global,
-    errors: &mut E,
-) -> io::Result<u8>
+fn started<
+    R: Machine + Net<Listener = TcpListener, Stream = TcpStream> + Env + Input + Print,
+    E: Write,
+>(rt: &R, alloc: Global, errors: &mut E) -> io::Result<u8>
     ensures { IfOk result IsStatus }
 {
     let words = match words_of(alloc, rt, errors) {

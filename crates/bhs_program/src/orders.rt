@@ -19,6 +19,7 @@ use bhs_stream::{Input, Output, send};
 use std::alloc::Global;
 use std::convert::AsStr;
 use std::io::Write;
+use std::net::{Net, TcpListener, TcpStream};
 
 /// Does what the words after the program's name order, and answers the exit status. Files are opened, threads started
 /// and sockets listened on through `rt`; of the orders only `serve` does more with it than open files.
@@ -27,14 +28,13 @@ use std::io::Write;
 /// `Runs` goes by the cases of the words: what was read and written, call by call, and with which status. Of the files
 /// that are read it says that some text is what they are taken for, of those that are written what they took. It says
 /// nothing of what goes to `errors`.
-pub fn run<S: AsStr, R: Machine, I: Input, W: Output, E: Write>(
-    alloc: Global,
-    rt: &R,
-    words: &[S],
-    reader: &mut I,
-    writer: &mut W,
-    errors: &mut E,
-) -> u8
+pub fn run<
+    S: AsStr,
+    R: Machine + Net<Listener = TcpListener, Stream = TcpStream>,
+    I: Input,
+    W: Output,
+    E: Write,
+>(alloc: Global, rt: &R, words: &[S], reader: &mut I, writer: &mut W, errors: &mut E) -> u8
     ensures runs { Runs (known_takes R.File.contents) I.gives W.takes W.flushes (map S.text words.now) reader.old
         reader.new writer.old writer.new result }
     ensures status { IsStatus result }
@@ -50,14 +50,12 @@ pub fn run<S: AsStr, R: Machine, I: Input, W: Output, E: Write>(
     }
 }
 
-fn obey<R: Machine, I: Input, W: Output, E: Write>(
-    alloc: Global,
-    rt: &R,
-    order: Order,
-    reader: &mut I,
-    writer: &mut W,
-    errors: &mut E,
-) -> u8
+fn obey<
+    R: Machine + Net<Listener = TcpListener, Stream = TcpStream>,
+    I: Input,
+    W: Output,
+    E: Write,
+>(alloc: Global, rt: &R, order: Order, reader: &mut I, writer: &mut W, errors: &mut E) -> u8
     ensures { Obeys (known_takes R.File.contents) I.gives W.takes W.flushes order reader.old reader.new writer.old
         writer.new result }
 {

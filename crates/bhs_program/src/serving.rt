@@ -15,18 +15,15 @@ use bhs_net::Memory;
 use bhs_stream::Output;
 use std::alloc::Global;
 use std::io::Write;
-use std::net::{Ipv4Addr, SocketAddr, TcpListener};
+use std::net::{Ipv4Addr, Net, SocketAddr, TcpListener, TcpStream};
 
 /// Reads a tournament and its networks, listens on a port of this machine, says so, and hosts the contest. The answer
 /// is the exit status.
-pub(crate) fn serve_named<R: Machine, W: Output, E: Write>(
-    alloc: Global,
-    rt: &R,
-    name: &str,
-    hosting: &Hosting,
-    writer: &mut W,
-    errors: &mut E,
-) -> u8
+pub(crate) fn serve_named<
+    R: Machine + Net<Listener = TcpListener, Stream = TcpStream>,
+    W: Output,
+    E: Write,
+>(alloc: Global, rt: &R, name: &str, hosting: &Hosting, writer: &mut W, errors: &mut E) -> u8
     ensures { Serves (known_takes R.File.contents) W.takes W.flushes hosting.now.port writer.old writer.new result }
 {
     let lineup = match lineup_of(alloc, rt, name, errors) {

@@ -5,7 +5,7 @@ use bhs_model::Text;
 use bhs_program::{DONE, FAILED_STREAM, Machine, REFUSED_TEXT, built_in, host, run};
 use std::alloc::Global;
 use std::io::Write;
-use std::net::{Ipv4Addr, Shutdown, SocketAddr, TcpListener, TcpStream};
+use std::net::{Ipv4Addr, Net, Shutdown, SocketAddr, TcpListener, TcpStream};
 use std::process::Abort;
 use std::rt::Files;
 use std::test::Fail;
@@ -46,7 +46,7 @@ keys = [\"ka\", \"kb\"]
 ";
 
 /// All that a client hears that says these lines and ends its input. It tries for ten seconds to connect.
-fn hears<R: Machine>(
+fn hears<R: Machine + Net<Listener = TcpListener, Stream = TcpStream>>(
     rt: &R,
     alloc: Global,
     address: SocketAddr,
@@ -64,7 +64,9 @@ fn hears<R: Machine>(
 }
 
 /// A port on which nobody listens.
-fn free_port<R: Machine>(rt: &R) -> io::Result<u16> {
+fn free_port<R: Machine + Net<Listener = TcpListener, Stream = TcpStream>>(
+    rt: &R,
+) -> io::Result<u16> {
     Ok(TcpListener::bind(rt, loopback(0))?.local_addr()?.port())
 }
 
@@ -127,7 +129,7 @@ struct Run {
 }
 
 /// Serves a tournament for two seconds to one client, which accuses.
-fn served<R: Abort + Machine>(
+fn served<R: Abort + Machine + Net<Listener = TcpListener, Stream = TcpStream>>(
     rt: &R,
     alloc: Global,
     cup: &str,
@@ -245,7 +247,7 @@ fn what_keeps_a_contest_from_beginning_is_told(rt: HostRuntime) -> Result<(), Fa
 }
 
 /// The program does not listen, and tells this.
-fn refuses<R: Abort + Machine>(
+fn refuses<R: Abort + Machine + Net<Listener = TcpListener, Stream = TcpStream>>(
     rt: &R,
     alloc: Global,
     cup: &str,

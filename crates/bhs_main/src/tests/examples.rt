@@ -4,6 +4,7 @@ use bhs_program::{Machine, run};
 use std::alloc::Global;
 use std::fs;
 use std::io::Read;
+use std::net::{Net, TcpListener, TcpStream};
 use std::process::Abort;
 use std::test::Fail;
 
@@ -433,7 +434,7 @@ const REPLAYS: [(&str, &str); 3] = [
     ),
 ];
 
-fn prints<R: Abort + Machine>(
+fn prints<R: Abort + Machine + Net<Listener = TcpListener, Stream = TcpStream>>(
     rt: &R,
     alloc: Global,
     words: &[&str],

@@ -4,6 +4,7 @@ use bhs_files::{FileFault, FileKey, assemble, is_team, read_network, read_tourna
 use bhs_program::{Machine, run};
 use std::alloc::Global;
 use std::fs;
+use std::net::{Net, TcpListener, TcpStream};
 use std::process::Abort;
 use std::test::Fail;
 
@@ -240,7 +241,7 @@ pub fn changed<'a>(alloc: Global, text: &str, row: &'a str) -> Result<(String, &
 }
 
 /// Checks a tournament of these files, of which this is told and nothing else.
-fn expect<R: Abort + Machine>(
+fn expect<R: Abort + Machine + Net<Listener = TcpListener, Stream = TcpStream>>(
     rt: &R,
     alloc: Global,
     cup: &str,

@@ -7,6 +7,7 @@ use bhs_program::{Fault, Machine, built_in, rehearse, report, run, words_of};
 use std::alloc::Global;
 use std::env::FillError;
 use std::fs;
+use std::net::{Net, TcpListener, TcpStream};
 use std::process::Abort;
 use std::rt::Env;
 use std::test::Fail;
@@ -82,7 +83,7 @@ struct Case<'a> {
     status: u8,
 }
 
-fn ends<R: Abort + Machine>(
+fn ends<R: Abort + Machine + Net<Listener = TcpListener, Stream = TcpStream>>(
     rt: &R,
     alloc: Global,
     case: &Case<'_>,

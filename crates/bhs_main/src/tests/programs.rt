@@ -10,6 +10,7 @@ use bhs_program::{Machine, run};
 use std::alloc::Global;
 use std::fs;
 use std::io::Read;
+use std::net::{Net, TcpListener, TcpStream};
 use std::process::Abort;
 use std::test::Fail;
 
@@ -488,7 +489,7 @@ impl<'a> Step<'a> {
 }
 
 /// Carries out a step. `printed` is what the last run printed.
-fn does<R: Abort + Machine>(
+fn does<R: Abort + Machine + Net<Listener = TcpListener, Stream = TcpStream>>(
     rt: &R,
     alloc: Global,
     step: &Step<'_>,
@@ -511,7 +512,7 @@ fn does<R: Abort + Machine>(
     Ok(())
 }
 
-fn runs<R: Abort + Machine>(
+fn runs<R: Abort + Machine + Net<Listener = TcpListener, Stream = TcpStream>>(
     rt: &R,
     alloc: Global,
     words: &str,
@@ -536,7 +537,11 @@ fn runs<R: Abort + Machine>(
 }
 
 /// Carries out the steps of a row.
-fn holds<R: Abort + Machine>(rt: &R, alloc: Global, row: &str) -> Result<(), Fail> {
+fn holds<R: Abort + Machine + Net<Listener = TcpListener, Stream = TcpStream>>(
+    rt: &R,
+    alloc: Global,
+    row: &str,
+) -> Result<(), Fail> {
     let row = row.replace(alloc, "\n+ ", "")?;
     let mut printed = Vec::new(alloc);
     let mut step = Step::new(alloc, "");
@@ -574,7 +579,11 @@ fn what_is_no_replay_is_told(rt: HostRuntime) -> Result<(), Fail> {
 }
 
 /// A text is refused by each program that reads a replay.
-fn refused<R: Abort + Machine>(rt: &R, alloc: Global, row: &str) -> Result<(), Fail> {
+fn refused<R: Abort + Machine + Net<Listener = TcpListener, Stream = TcpStream>>(
+    rt: &R,
+    alloc: Global,
+    row: &str,
+) -> Result<(), Fail> {
     let mut step = Step::new(alloc, "");
     for line in row.lines().skip(1) {
         let (mark, rest) = line.split_once(' ').unwrap_or((line, ""));

@@ -8,6 +8,7 @@ use super::files::{CUP, CUP_OF_VERSION_1, TRIANGLE};
 use bhs_program::{Machine, run};
 use std::alloc::Global;
 use std::fs;
+use std::net::{Net, TcpListener, TcpStream};
 use std::process::Abort;
 use std::test::Fail;
 
@@ -436,7 +437,11 @@ impl<'a> Row<'a> {
 }
 
 /// Runs the program as a row says.
-fn plays<R: Abort + Machine>(rt: &R, alloc: Global, text: &str) -> Result<(), Fail> {
+fn plays<R: Abort + Machine + Net<Listener = TcpListener, Stream = TcpStream>>(
+    rt: &R,
+    alloc: Global,
+    text: &str,
+) -> Result<(), Fail> {
     let mut row = Row::new(alloc);
     for line in text.lines() {
         row.take(line)?;
