@@ -1,12 +1,12 @@
 #!/usr/bin/env python3
 """Plays a contest on this machine: the server, four teams of the sample agents, and the table.
 
-    python3 examples/contest.py [--keep FOLDER] [--pages FOLDER] [--kill TEAM]
+    python3 examples/contest.py [--keep FOLDER] [--pages FOLDER] [--kill]
 
 Starts `./arena serve` on examples/contest.toml, and then the agents of each team as programs of their own, as teams
 would do. Waits for the server to end, and prints its table and which teams solved their networks. All of them must:
-else the exit status is 1. With --kill the agents of a team are killed in the middle of their search, and the other
-teams must solve theirs. Files go to a temporary folder; --keep has the replays of the matches written to a folder,
+else the exit status is 1. With --kill the agents of the team green are killed in the middle of their search, and
+the other teams must solve theirs. Files go to a temporary folder; --keep has the replays of the matches written to a folder,
 --pages also a page of each (tools/replay_page.py). ARENA in the environment names another program than ./arena, as
 ARENA="python3 tools/stand_in_server.py" to try it without the build.
 """
@@ -20,7 +20,7 @@ import subprocess
 import sys
 import tempfile
 import time
-from typing import Dict, List, Optional
+from typing import Dict, List
 
 TOP = pathlib.Path(__file__).resolve().parent.parent
 AGENTS = TOP / "examples" / "agents"
@@ -28,8 +28,9 @@ TOURNAMENT = "examples/contest.toml"
 TURNS = 3000
 PAUSE = 2
 PATIENCE = 20
-# seconds until the agents of a team are killed, if they are
-LIFE = 0.5
+# whose agents are killed, if any are, and after how many seconds: they have entered by then, and search for longer
+VICTIM = "green"
+LIFE = 1
 # pages are laid out by a package of Debian, which another Python does not see
 DEBIANS_PYTHON = "/usr/bin/python3"
 RING = ["8"]
@@ -80,7 +81,7 @@ def start_server(port: int, replays: str) -> subprocess.Popen:
     return server
 
 
-def play(folder: pathlib.Path, replays: str, killed: Optional[str]) -> str:
+def play(folder: pathlib.Path, replays: str, kills: bool) -> str:
     """Plays the contest, and answers the server's table. The agents of one team may be killed meanwhile."""
     build(folder)
     port = free_port()
@@ -91,9 +92,9 @@ def play(folder: pathlib.Path, replays: str, killed: Optional[str]) -> str:
         for team, programs in TEAMS.items()
     }
     try:
-        if killed:
+        if kills:
             time.sleep(LIFE)
-            for agent in agents[killed]:
+            for agent in agents[VICTIM]:
                 agent.kill()
         printed, _ = server.communicate(timeout=PATIENCE)
     except subprocess.TimeoutExpired:
@@ -127,7 +128,7 @@ def main() -> int:
     parser = argparse.ArgumentParser(description=__doc__, formatter_class=argparse.RawDescriptionHelpFormatter)
     parser.add_argument("--keep", metavar="FOLDER", type=pathlib.Path, help="write the replays there")
     parser.add_argument("--pages", metavar="FOLDER", type=pathlib.Path, help="write a page of each match there")
-    parser.add_argument("--kill", metavar="TEAM", choices=sorted(TEAMS), help="kill its agents after half a second")
+    parser.add_argument("--kill", action="store_true", help=f"kill the agents of {VICTIM} after a second")
     words = parser.parse_args()
     with tempfile.TemporaryDirectory() as name:
         kept = words.keep or words.pages or pathlib.Path(name)
@@ -136,11 +137,9 @@ def main() -> int:
         table = play(pathlib.Path(name), replays, words.kill)
         print(table, end="", flush=True)
         found = outcomes(table)
-        failed = [team for team in TEAMS if found.get(team) != "solved" and team != words.kill]
-        for team in TEAMS:
-            if team == words.kill:
-                print(f"{team}'s agents were killed")
-                continue
+        judged = [team for team in TEAMS if not (words.kill and team == VICTIM)]
+        failed = [team for team in judged if found.get(team) != "solved"]
+        for team in judged:
             print(f"{team} solved its network" if team not in failed else f"{team} did not solve its network")
         if words.pages:
             write_pages(replays, words.pages)
