@@ -5,10 +5,10 @@
 
 Starts `./arena serve` on examples/contest.toml, and then the agents of each team as programs of their own, as teams
 would do. Waits for the server to end, and prints its table and which teams solved their networks. All of them must:
-else the exit status is 1. With --kill the agents of the team green are killed in the middle of their search, and
-the other teams must solve theirs. Files go to a temporary folder; --keep has the replays of the matches written to a folder,
---pages also a page of each (tools/replay_page.py). ARENA in the environment names another program than ./arena, as
-ARENA="python3 tools/stand_in_server.py" to try it without the build.
+else the exit status is 1. With --kill the agents of the team green are killed in the middle of their search, and the
+other teams must solve theirs. Files go to a temporary folder; --keep has the replays of the matches written to a
+folder, --pages also a page of each (tools/replay_page.py). ARENA in the environment names another program than
+./arena, as ARENA="python3 tools/stand_in_server.py" to try it without the build.
 """
 import argparse
 import itertools
@@ -28,9 +28,12 @@ TOURNAMENT = "examples/contest.toml"
 TURNS = 3000
 PAUSE = 2
 PATIENCE = 20
-# whose agents are killed, if any are, and after how many seconds: they have entered by then, and search for longer
+# whose agents are killed, if any are, after how many seconds, and in turns of how many milliseconds: by then they have
+# entered, and they need longer to search
 VICTIM = "green"
-LIFE = 1
+LIFE = 1.5
+SLOW_TURNS = 1000
+SLOW_PAUSE = 12
 # pages are laid out by a package of Debian, which another Python does not see
 DEBIANS_PYTHON = "/usr/bin/python3"
 RING = ["8"]
@@ -70,9 +73,9 @@ def build(folder: pathlib.Path) -> None:
     subprocess.run(["cc", "-O2", "-Wall", "-Wextra", "-o", str(folder / "ring"), source], check=True)
 
 
-def start_server(port: int, replays: str) -> subprocess.Popen:
+def start_server(port: int, replays: str, turns: int, pause: int) -> subprocess.Popen:
     sessions = sum(len(agents) for agents in TEAMS.values())
-    words = ["serve", TOURNAMENT, "--port", port, "--sessions", sessions, "--turns", TURNS, "--pause", PAUSE]
+    words = ["serve", TOURNAMENT, "--port", port, "--sessions", sessions, "--turns", turns, "--pause", pause]
     command = [*arena(), *map(str, words), "--replay", replays]
     server = subprocess.Popen(command, cwd=TOP, stdout=subprocess.PIPE, text=True)
     line = server.stdout.readline()
@@ -85,7 +88,8 @@ def play(folder: pathlib.Path, replays: str, kills: bool) -> str:
     """Plays the contest, and answers the server's table. The agents of one team may be killed meanwhile."""
     build(folder)
     port = free_port()
-    server = start_server(port, replays)
+    turns, pause = (SLOW_TURNS, SLOW_PAUSE) if kills else (TURNS, PAUSE)
+    server = start_server(port, replays, turns, pause)
     agents = {
         team: [subprocess.Popen(command_of(agent, f"{team}-{number}", port, folder), stderr=subprocess.DEVNULL,
                                 stdout=subprocess.DEVNULL) for number, agent in enumerate(programs)]
