@@ -74,8 +74,9 @@ class Lab:
         self.runs += 1
         script = self.folder / command.script if command.script else os.devnull
         with open(script, "rb") as given:
+            plain = {"stdin": given, "stdout": subprocess.PIPE, "stderr": subprocess.PIPE}
             child = subprocess.Popen([self.program, *command.words], cwd=self.folder, preexec_fn=limit,
-                                     **{"stdin": given, "stdout": subprocess.PIPE, "stderr": subprocess.PIPE, **streams})
+                                     **{**plain, **streams})
             try:
                 printed, told = child.communicate(timeout=PATIENCE)
             except subprocess.TimeoutExpired:
@@ -113,7 +114,8 @@ def no_memory(lab: Lab) -> None:
             places = {"arena", "output", "script", "twin", "kept", *(f"kept{number}.jsonl" for number in range(4)),
                       *(word.rpartition("=")[2] for word in command.words[1:])}
             places |= {f"examples/{path.name}" for path in (lab.folder / "examples").glob("*.toml")}
-            lab.expect(f"{most} MiB of memory", command, found, {f"{place}: memory" for place in places}, NO_MEMORY, seen)
+            allowed = {f"{place}: memory" for place in places}
+            lab.expect(f"{most} MiB of memory", command, found, allowed, NO_MEMORY, seen)
     lab.report("8 to 64 MiB of memory", seen)
 
 

@@ -1,4 +1,4 @@
-//! Contests over loopback sockets, from the words to the table.
+//! Contests over loopback sockets.
 
 use bhs_command_line::Hosting;
 use bhs_model::Text;
@@ -14,18 +14,7 @@ use std::{fs, io, thread};
 
 const ENTER: &str = "{\"do\":\"enter\",\"key\":\"ka\"}\n";
 
-const ACCUSE: &str = "{\"do\":\"accuse\",\"port\":1}\n";
-
-const HERE: &str = "{\"board\":\"\",\"from\":null,\"ok\":\"here\",\"ports\":2}\n";
-
-const NOTED: &str = "{\"ok\":\"noted\"}\n";
-
 const HEAD: &str = "  # team             outcome     moves lost";
-
-/// The table of a contest in which an agent accused the link to the black hole from its home base.
-const TABLE: &str = "  # team             outcome     moves lost
-  1 red              guess 1         0    0
-";
 
 const NETWORK: &str = "version = 1
 nodes = 3
@@ -61,13 +50,6 @@ fn hears<R: Machine + Net<Listener = TcpListener, Stream = TcpStream>>(
         thread::sleep(rt, Duration::from_millis(1));
     }
     Ok(String::new(alloc))
-}
-
-/// A port on which nobody listens.
-fn free_port<R: Machine + Net<Listener = TcpListener, Stream = TcpStream>>(
-    rt: &R,
-) -> io::Result<u16> {
-    Ok(TcpListener::bind(rt, loopback(0))?.local_addr()?.port())
 }
 
 /// The text of a file.
@@ -116,100 +98,6 @@ fn a_contest_is_hosted(rt: HostRuntime) -> Result<(), Fail> {
     assert_eq!(rt; table.as_str().lines().count(), 2);
     let replay = text_of(&rt, alloc, "hosted0.jsonl")?;
     assert!(rt; replay.as_str().starts_with("{\"agents\":2,"));
-    Ok(())
-}
-
-/// What the program prints and tells, and its exit status, with what a client heard that played meanwhile.
-#[derive(Drop)]
-struct Run {
-    printed: Vec<u8>,
-    told: Vec<u8>,
-    status: u8,
-    heard: String,
-}
-
-/// Serves a tournament for two seconds to one client, which accuses.
-fn served<R: Abort + Machine + Net<Listener = TcpListener, Stream = TcpStream>>(
-    rt: &R,
-    alloc: Global,
-    cup: &str,
-    port: u16,
-    prefix: &str,
-) -> Result<Run, Fail> {
-    let number = format!(in alloc; "{port}")?;
-    let words = [
-        "serve",
-        cup,
-        "--port",
-        number.as_str(),
-        "--sessions",
-        "1",
-        "--turns",
-        "200",
-        "--pause",
-        "10",
-        "--replay",
-        prefix,
-    ];
-    let lines = format!(in alloc; "{ENTER}{ACCUSE}")?;
-    let mut printed = Vec::new(alloc);
-    let mut told = Vec::new(alloc);
-    let (status, heard) = thread::join(
-        rt,
-        || run(
-            alloc,
-            rt,
-            words.as_slice(),
-            &mut b"".as_slice(),
-            &mut printed,
-            &mut told,
-        ),
-        || hears(rt, alloc, loopback(port), lines.as_str()),
-    );
-    Ok(Run {
-        printed,
-        told,
-        status,
-        heard: heard?,
-    })
-}
-
-#[test]
-fn a_tournament_is_served(rt: HostRuntime) -> Result<(), Fail> {
-    let alloc = rt.alloc();
-    fs::write(&rt, "tri.toml", NETWORK)?;
-    fs::write(&rt, "cup.toml", TOURNAMENT)?;
-    let port = free_port(&rt)?;
-    let run = served(&rt, alloc, "cup.toml", port, "served")?;
-    let printed = format!(in alloc; "listening {port}\n{TABLE}")?;
-    let heard = format!(in alloc; "{HERE}{NOTED}")?;
-    assert_eq!(rt; run.heard.as_str(), heard.as_str());
-    assert_eq!(rt; run.told.as_slice(), b"".as_slice());
-    assert_eq!(rt; run.printed.as_slice(), printed.as_bytes());
-    assert_eq!(rt; run.status, DONE);
-    let replay = text_of(&rt, alloc, "served0.jsonl")?;
-    assert!(rt;
-        replay
-            .as_str()
-            .ends_with("{\"do\":\"close\",\"reply\":null}\n{\"end\":3}\n")
-    );
-    Ok(())
-}
-
-#[test]
-fn a_replay_that_cannot_be_written_loses_no_table(rt: HostRuntime) -> Result<(), Fail> {
-    let alloc = rt.alloc();
-    fs::write(&rt, "tri.toml", NETWORK)?;
-    fs::write(&rt, "cup.toml", TOURNAMENT)?;
-    let port = free_port(&rt)?;
-    let run = served(&rt, alloc, "cup.toml", port, "none/served")?;
-    let printed = format!(in alloc; "listening {port}\n{TABLE}")?;
-    assert_eq!(rt;
-        run.told.as_slice(),
-        b"none/served0.jsonl: write\n".as_slice()
-    );
-    assert_eq!(rt; run.printed.as_slice(), printed.as_bytes());
-    assert_eq!(rt; run.status, FAILED_STREAM);
     Ok(())
 }
 
