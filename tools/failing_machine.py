@@ -20,7 +20,7 @@ import subprocess
 import sys
 import tempfile
 import threading
-from typing import Any, Callable, Counter, Dict, Iterator, List, NamedTuple, Optional, Sequence, Set
+from typing import Any, Callable, Counter, List, NamedTuple, Optional, Sequence, Set
 
 TOP = pathlib.Path(__file__).resolve().parent.parent
 MIB = 1024 * 1024
@@ -58,6 +58,17 @@ class Run(NamedTuple):
     told: str
 
 
+def ended(child: subprocess.Popen) -> Run:
+    """What came of a child that must end by itself."""
+    try:
+        printed, told = child.communicate(timeout=PATIENCE)
+    except subprocess.TimeoutExpired:
+        child.kill()
+        child.communicate()
+        return Run(-1, b"", "it did not end")
+    return Run(child.returncode, printed or b"", (told or b"").decode(errors="replace"))
+
+
 class Lab:
     """The program in a folder of its own, with the examples, and what was found."""
 
@@ -77,13 +88,7 @@ class Lab:
             plain = {"stdin": given, "stdout": subprocess.PIPE, "stderr": subprocess.PIPE}
             child = subprocess.Popen([self.program, *command.words], cwd=self.folder, preexec_fn=limit,
                                      **{**plain, **streams})
-            try:
-                printed, told = child.communicate(timeout=PATIENCE)
-            except subprocess.TimeoutExpired:
-                child.kill()
-                child.communicate()
-                return Run(-1, b"", "it did not end")
-        return Run(child.returncode, printed or b"", (told or b"").decode(errors="replace"))
+            return ended(child)
 
     def expect(self, what: str, command: Command, found: Run, allowed: Set[str], status: int, seen: Counter) -> None:
         """Counts a run that ended as it should: as with nothing missing, or by one of these faults with this status."""
@@ -96,6 +101,13 @@ class Lab:
                 self.faults.append(f"{what}, {command.name}: another text was printed")
         else:
             self.faults.append(f"{what}, {command.name}: status {found.status}, `{found.told.strip()[:100]}`")
+
+    def conclude(self) -> int:
+        """Prints what ended otherwise, and how many runs did; gives the exit status."""
+        for fault in self.faults:
+            print(f"FAILED {fault}")
+        print(f"{self.runs} runs, {len(self.faults)} ended otherwise")
+        return 1 if self.faults else 0
 
     def report(self, what: str, seen: Counter) -> None:
         print(f"{what}: " + ", ".join(f"{count} {name}" for name, count in sorted(seen.items())), flush=True)
@@ -220,13 +232,8 @@ def served(lab: Lab, sessions: int, limit: Callable[[], None]) -> Run:
                 clients.append(socket.create_connection(("127.0.0.1", port), timeout=1))
         for client in clients:
             client.close()
-    try:
-        printed, told = child.communicate(timeout=PATIENCE)
-    except subprocess.TimeoutExpired:
-        child.kill()
-        child.communicate()
-        return Run(-1, b"", "it did not end")
-    return Run(child.returncode, first + printed, told.decode(errors="replace"))
+    run = ended(child)
+    return run._replace(printed=first + run.printed)
 
 
 def servers(lab: Lab) -> None:
@@ -255,10 +262,7 @@ def main() -> int:
         lab = Lab(sys.argv[1], pathlib.Path(name))
         for trial in (no_stack, few_files, full_disk, closed_streams, strange_files, servers, no_memory):
             trial(lab)
-    for fault in lab.faults:
-        print(f"FAILED {fault}")
-    print(f"{lab.runs} runs, {len(lab.faults)} ended otherwise")
-    return 1 if lab.faults else 0
+    return lab.conclude()
 
 
 if __name__ == "__main__":

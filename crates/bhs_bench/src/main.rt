@@ -42,6 +42,3 @@ fn status_of(error: io::Error) -> u8 {
         FAILED_STREAM
     }
 }
-
-#[cfg(test)]
-mod tests;

@@ -7,9 +7,9 @@ A contest server for black hole search by mobile agents.
 
 Agents explore an anonymous network. Its nodes have no names: at a node an agent
 sees how many ports there are, by which of them it came, and what is written on
-the whiteboard. One node is a black hole. It destroys every agent that arrives,
-and leaves no trace. An agent is a stream of JSON lines, and is told no more than
-this model allows.
+the whiteboard. A node may be a black hole, and a link may be dark: these destroy
+every agent that arrives, and leave no trace. An agent is a stream of JSON lines,
+and is told no more than this model allows.
 
 The program serves a contest to agents that connect over TCP, and writes the
 replay of each match. It also rehearses: it plays the lines of many clients that
@@ -43,7 +43,7 @@ What REST may be, the first of a client being its enter:
   {\"do\":\"write\",\"expect\":\"\",\"put\":\"a\"}
                               Writes a on a whiteboard that shows nothing
   {\"do\":\"depart\",\"port\":0}    Departs by port 0 of the node
-  {\"do\":\"accuse\",\"port\":1}    Says that port 1 leads to the black hole, and ends
+  {\"do\":\"accuse\",\"port\":1}    Says that port 1 leads to a black hole, and ends
   {\"do\":\"leave\"}              Ends
 
 Each line that the client of connection N is sent is printed as `N LINE`. While its

@@ -1,5 +1,6 @@
 -- Notes that have seen verdicts, one after the other.
-use Rattle.std.proofs.Common.{◌≡◌, ◌∙◌, refl, sym, ap, subst, ℕ, suc, ◌+◌, ◌<◌, List, [], ◌∷◌, ◌++◌, length, map, take, get_or, arith}
+use Rattle.std.proofs.Common.{◌≡◌, ◌∙◌, refl, sym, ap, subst, ℕ, suc, ◌+◌, ◌<◌, arith}
+use Rattle.std.proofs.Common.{List, [], ◌∷◌, ◌++◌, length, map, take, get_or}
 use Rattle.std.specs.Prelude.{Option, Some, None, option_map, IfSome, Result, Ok, Err, IfOk, slice_get}
 use Rattle.std.proofs.lemmas.List.{take_more}
 use Rattle.std.proofs.lemmas.Option.{slice_get-get_or, slice_get-map, slice_get_read}
@@ -38,7 +39,8 @@ read_more verdicts done verdict note so_far lt seen agrees =
     let same : at ≡ verdict = subst (λ one. Agree one (Some verdict))
     (seen ∙ slice_get-get_or verdicts (length done) verdict lt) agrees in
     ap (λ list. list ++ verdict ∷ []) so_far
-    ∙ sym (take_more verdicts (length done) verdict lt ∙ ap (λ one. take (length done) verdicts ++ one ∷ []) same)
+    ∙ sym (take_more verdicts (length done) verdict lt
+    ∙ ap (λ one. take (length done) verdicts ++ one ∷ []) same)
 
 -- verdicts that were read by the first notes, and the notes that are left
 pub record Reads (places : List ℕ) (verdicts done : List Verdict) (left : List (Option Seen)) : Type 0 where

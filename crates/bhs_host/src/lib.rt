@@ -9,6 +9,3 @@ mod tabling;
 pub use hosting::{Hosted, contest_of};
 pub use pacing::Steady;
 pub use tabling::standings;
-
-#[cfg(test)]
-mod tests;

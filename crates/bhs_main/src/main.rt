@@ -40,6 +40,3 @@ fn started<
         errors,
     ))
 }
-
-#[cfg(test)]
-mod tests;

@@ -94,6 +94,3 @@ impl Net {
         })
     }
 }
-
-#[cfg(test)]
-mod tests;

@@ -1,5 +1,5 @@
-//! What the program does with the words that it is given: it rehearses the matches of a tournament by a script, checks
-//! the files of one, and says what came of the matches of replays, and why.
+//! What the program does with the words that it is given: it serves a tournament to agents that connect, rehearses its
+//! matches by a script, checks its files, and says what came of the matches of replays, and why.
 #![tactic(auto)]
 
 mod built_in_tournament;

@@ -14,7 +14,7 @@ use bhs_command_line::Hosting;
 use bhs_net::Memory;
 use bhs_stream::Output;
 use std::alloc::Global;
-use std::io::Write;
+use std::io::{ErrorKind, Write};
 use std::net::{Ipv4Addr, Net, SocketAddr, TcpListener, TcpStream};
 
 /// Reads a tournament and its networks, listens on a port of this machine, says so, and hosts the contest. The answer
@@ -30,15 +30,27 @@ pub(crate) fn serve_named<
         Ok(lineup) => lineup,
         Err(status) => return status,
     };
-    let address = SocketAddr::from((Ipv4Addr::LOCALHOST, hosting.port));
-    let Ok(listener) = TcpListener::bind(rt, address) else {
-        return report("serve", Fault::Listen, errors);
+    let listener = match listener_on(rt, hosting.port) {
+        Ok(listener) => listener,
+        Err(fault) => return report("serve", fault, errors),
     };
     let status = show_made(listening(alloc, hosting.port), writer, errors);
     if status != DONE {
         return status;
     }
     host(alloc, rt, &listener, lineup, hosting, writer, errors)
+}
+
+// Listens on a port of this machine.
+fn listener_on<R: Net<Listener = TcpListener, Stream = TcpStream>>(
+    rt: &R,
+    port: u16,
+) -> Result<TcpListener, Fault> {
+    match TcpListener::bind(rt, SocketAddr::from((Ipv4Addr::LOCALHOST, port))) {
+        Ok(listener) => Ok(listener),
+        Err(error) if error.kind() == ErrorKind::OutOfMemory => Err(Fault::Memory),
+        Err(_) => Err(Fault::Listen),
+    }
 }
 
 fn listening(alloc: Global, port: u16) -> Result<String, Memory>

@@ -9,6 +9,3 @@ mod walks;
 
 pub use judging::judge;
 pub use verdicts::{Outcome, Verdict};
-
-#[cfg(test)]
-mod tests;

@@ -21,6 +21,3 @@ pub use laws::{every_replay_is_read, one_reading, one_spelling, only_replays_are
 pub use lines::event_line;
 pub use read::read_replay;
 pub use writing::write_replay;
-
-#[cfg(test)]
-mod tests;

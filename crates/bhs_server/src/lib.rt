@@ -16,6 +16,3 @@ pub use ports::{CellPort, Played};
 pub use serving::{Contest, Served, run_server};
 pub use settling::ServerFault;
 pub use visits::{TURNS, Visit, attend};
-
-#[cfg(test)]
-mod tests;

@@ -6,6 +6,3 @@ mod showing;
 
 pub use notes::ShowNote;
 pub use showing::{Show, Showcase};
-
-#[cfg(test)]
-mod tests;

@@ -8,6 +8,3 @@ mod rows;
 pub use printing::{outcome_text, table};
 pub use ranking::rank;
 pub use rows::Row;
-
-#[cfg(test)]
-mod tests;

@@ -60,6 +60,3 @@ pub fn read_text<R: Input>(
     }
     Err(ReadFault::Turns)
 }
-
-#[cfg(test)]
-mod tests;

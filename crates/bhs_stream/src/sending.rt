@@ -37,6 +37,3 @@ pub fn finish<W: Output>(writer: &mut W) -> Result<(), WriteFault>
 {
     writer.pass_on().map_err(|_| WriteFault)
 }
-
-#[cfg(test)]
-mod tests;

@@ -1,6 +1,7 @@
 mod draws;
 mod lines;
 mod matches;
+mod memory;
 mod model;
 mod pasts;
 mod sessions_on_matches;

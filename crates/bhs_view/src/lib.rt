@@ -13,6 +13,3 @@ mod twins;
 pub use cuts::{cut_and_looks, cut_of};
 pub use restricting::{RestrictFault, restrict};
 pub use twins::{TwinFault, twin_of};
-
-#[cfg(test)]
-mod tests;

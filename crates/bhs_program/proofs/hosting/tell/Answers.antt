@@ -10,7 +10,8 @@ returns g c = record {
   writes = rw c.deref.ensures.value at c.write_sealed-filed.ensures;
   tables = reported g.W.Output.takes g.W.Output.flushes
       (IsStandings c.args.finished.now.teams.items c.args.finished.now.sealed.items) string_bytes
-      _ _ _ c.standings.result (rw (c.deref-2.ensures.value, c.deref-3.ensures.value) at c.standings.ensures) c.show_made-printed.ensures.shown
+      _ _ _ c.standings.result (rw (c.deref-2.ensures.value, c.deref-3.ensures.value) at c.standings.ensures)
+      c.show_made-printed.ensures.shown
       c.show_made-printed.ensures.lacks;
   coded = c.first_status.ensures.first;
 }

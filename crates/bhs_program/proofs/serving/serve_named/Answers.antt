@@ -1,15 +1,14 @@
 use Rattle.std.proofs.Common.{refl, string_bytes}
 use Rattle.bhs_stream.specs.Streams.{known_takes}
 use Rattle.bhs_program.specs.Contests.{serves_on, refuses_contest}
-use Rattle.bhs_program.specs.declared.faults.Fault.TheVariants.{Listen}
 use Rattle.bhs_program.proofs.ContestLemmas.{heard, unheard}
 use Rattle.bhs_program.proofs.serving.serve_named.Goals as goal
 
 pub returns-in-Err : goal.returns-in-Err
 returns-in-Err g c = let (fault, is) = c.in-Err.ensures.fault in refuses_contest fault is refl
 
-pub returns-in_default : goal.returns-in_default
-returns-in_default g c = refuses_contest Listen c.report.ensures refl
+pub returns-in-Err-listener_on : goal.returns-in-Err-listener_on
+returns-in-Err-listener_on g c = refuses_contest c.in-Err-listener_on.fault c.report.ensures refl
 
 pub returns-then-status-ne-DONE : goal.returns-then-status-ne-DONE
 returns-then-status-ne-DONE g c =

@@ -1,0 +1,13 @@
+mod files;
+mod limits;
+mod played;
+mod reading;
+mod refused;
+mod rehearsals;
+mod replays;
+mod sending;
+mod sessions;
+mod standings;
+mod streams;
+mod verdicts;
+mod views;

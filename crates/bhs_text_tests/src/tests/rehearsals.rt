@@ -1,0 +1,82 @@
+//! Rehearsals, call by call: what a script cannot say.
+
+use super::files::{CUP, TRIANGLE};
+use bhs_files::{assemble, read_network, read_tournament};
+use bhs_rehearsal::{Out, Rehearsal, RehearsalFault};
+use std::alloc::Global;
+use std::test::Fail;
+
+const ENTER: &[u8] = b"{\"do\":\"enter\",\"key\":\"ka\"}\n";
+
+const DEPART: &[u8] = b"{\"do\":\"depart\",\"port\":0}\n";
+
+const HERE: &[u8] = b"{\"board\":\"\",\"from\":null,\"ok\":\"here\",\"ports\":2}\n";
+
+const GONE: &[u8] = b"{\"ok\":\"gone\"}\n";
+
+const COME: &[u8] = b"{\"board\":\"\",\"from\":0,\"ok\":\"here\",\"ports\":2}\n";
+
+fn rehearsal(alloc: Global) -> Result<Rehearsal, Fail> {
+    let tournament = read_tournament(alloc, CUP)?;
+    let networks = vec![in alloc; read_network(alloc, TRIANGLE)?]?;
+    if tournament.networks(alloc)?.len() != networks.len() {
+        return Err(Fail::from("one network"));
+    }
+    Ok(Rehearsal::new(alloc, assemble(alloc, tournament, &networks)?, 256)?)
+}
+
+/// Whether a call sent this to connection 255 and nothing else.
+fn is_sent(outs: Result<Vec<Out>, RehearsalFault>, bytes: &[u8]) -> bool {
+    match outs {
+        Ok(outs) => match outs.as_slice() {
+            [out] => out.conn == 255 && out.bytes.as_slice() == bytes,
+            _ => false,
+        },
+        Err(_) => false,
+    }
+}
+
+#[test]
+fn calls_give_what_is_sent(rt: HostRuntime) -> Result<(), Fail> {
+    let mut stage = rehearsal(rt.alloc())?;
+    assert!(rt; is_sent(stage.feed(255, ENTER), HERE));
+    assert!(rt; is_sent(stage.feed(255, DEPART), GONE));
+    assert!(rt; is_sent(stage.draw(0, 0), COME));
+    assert!(rt; stage.end(255) == Ok(Vec::new(rt.alloc())));
+    assert!(rt; stage.close(0) == Ok(Vec::new(rt.alloc())));
+    assert!(rt; !stage.failed());
+    let ready = stage.into_ready();
+    assert_eq!(rt; ready.len(), 1);
+    assert_eq!(rt; ready[0].team.as_str(), "red");
+    assert_eq!(rt; ready[0].game.log().len(), 5);
+    Ok(())
+}
+
+#[test]
+fn what_is_not_there_is_told(rt: HostRuntime) -> Result<(), Fail> {
+    let mut stage = rehearsal(rt.alloc())?;
+    assert_eq!(rt; stage.feed(256, ENTER), Err(RehearsalFault::Conn));
+    assert_eq!(rt; stage.end(256), Err(RehearsalFault::Conn));
+    assert_eq!(rt; stage.draw(1, 0), Err(RehearsalFault::NoGame));
+    assert_eq!(rt; stage.close(1), Err(RehearsalFault::NoGame));
+    assert!(rt; !stage.failed());
+    Ok(())
+}
+
+// Each request for memory is granted here; `tools/refusals.py` refuses them in turn.
+#[test]
+fn want_of_memory_is_for_good(rt: HostRuntime) -> Result<(), Fail> {
+    let mut stage = rehearsal(rt.alloc())?;
+    let _ = stage.feed(0, ENTER);
+    let _ = stage.feed(0, DEPART);
+    let _ = stage.draw(0, 0);
+    let last = stage.close(0);
+    assert_eq!(rt; stage.failed(), last == Err(RehearsalFault::Memory));
+    if stage.failed() {
+        assert_eq!(rt; stage.feed(256, b"\n"), Err(RehearsalFault::Memory));
+        assert_eq!(rt; stage.end(0), Err(RehearsalFault::Memory));
+        assert_eq!(rt; stage.draw(0, 0), Err(RehearsalFault::Memory));
+        assert_eq!(rt; stage.close(1), Err(RehearsalFault::Memory));
+    }
+    Ok(())
+}

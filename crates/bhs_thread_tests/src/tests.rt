@@ -1,0 +1,5 @@
+mod cells;
+mod locks;
+mod paces;
+mod servers;
+mod showcases;

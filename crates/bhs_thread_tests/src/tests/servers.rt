@@ -1,0 +1,283 @@
+//! Contests over loopback sockets.
+
+mod clients;
+mod contests;
+mod gates;
+
+use bhs_lock::Open;
+use bhs_match::Sealed;
+use bhs_server::{Served, run_server};
+use bhs_session::Ended;
+use clients::{
+    ACCUSE, BYE, COME, Client, DEPART, DEPART_TO_THE_HOLE, GONE, HERE, LEAVE, LOOK, NOTED, OVER,
+    STRANGE, TAKEN, UNKNOWN,
+};
+use contests::{Patience, contest};
+use gates::Turnstile;
+use std::alloc::Global;
+use std::net::{Ipv4Addr, Net, SocketAddr, TcpListener, TcpStream};
+use std::test::Fail;
+use std::time::Clock;
+use std::{io, thread};
+
+fn listener<R: Net<Listener = TcpListener, Stream = TcpStream>>(rt: &R) -> io::Result<TcpListener> {
+    TcpListener::bind(rt, SocketAddr::from((Ipv4Addr::LOCALHOST, 0)))
+}
+
+/// How many events the logs have.
+fn lengths(alloc: Global, sealed: &[Sealed]) -> Result<Vec<usize>, Fail> {
+    let mut lengths = Vec::with_capacity(alloc, sealed.len())?;
+    for one in sealed {
+        lengths.push(one.log().len())?;
+    }
+    Ok(lengths)
+}
+
+/// What clients hear of whom two enter and leave.
+fn two_visits<R: Net<Listener = TcpListener, Stream = TcpStream> + Clock>(
+    client: &Client<'_, R>,
+    pace: &Patience<'_, R>,
+) -> io::Result<(String, String)> {
+    let first = client.enters("k0-0", LEAVE)?;
+    let second = client.enters("k0-1", LEAVE)?;
+    let heard = (client.hears(first)?, client.hears(second)?);
+    pace.reach();
+    Ok(heard)
+}
+
+#[test]
+fn two_enter_and_leave(rt: HostRuntime) -> Result<(), Fail> {
+    let alloc = rt.alloc();
+    let listener = listener(&rt)?;
+    let client = Client::new(&rt, alloc, listener.local_addr()?);
+    let pace = Patience::new(&rt, 0, 1);
+    let ready = contest(alloc, 1, 2)?;
+    let (served, heard) = thread::join(
+        &rt,
+        || run_server(&rt, alloc, &listener, ready, 2, &pace, &Open),
+        || two_visits(&client, &pace),
+    );
+    let visit = format!(in alloc; "{HERE}{BYE}")?;
+    let (first, second) = heard?;
+    assert!(rt; first == visit && second == visit);
+    let Served { sealed, ended } = served?;
+    assert_eq!(rt; ended.as_slice(), [Ended::Bye, Ended::Bye].as_slice());
+    assert_eq!(rt; lengths(alloc, &sealed)?.as_slice(), [5].as_slice());
+    assert!(rt; !pace.gave_up());
+    Ok(())
+}
+
+#[test]
+fn sessions_are_served_beside_each_other(rt: HostRuntime) -> Result<(), Fail> {
+    let alloc = rt.alloc();
+    let listener = listener(&rt)?;
+    let client = Client::new(&rt, alloc, listener.local_addr()?);
+    let pace = Patience::new(&rt, 0, 1);
+    let gate = Turnstile::new(&rt);
+    let ready = contest(alloc, 1, 2)?;
+    let (served, heard) = thread::join(
+        &rt,
+        || run_server(&rt, alloc, &listener, ready, 2, &pace, &gate),
+        || two_visits(&client, &pace),
+    );
+    assert!(rt; heard.is_ok());
+    assert_eq!(rt; lengths(alloc, &served?.sealed)?.as_slice(), [5].as_slice());
+    assert!(rt; !pace.gave_up() && !gate.gave_up());
+    Ok(())
+}
+
+/// What a client hears whose session ends, for each way of ending.
+fn each_ending<R: Net<Listener = TcpListener, Stream = TcpStream> + Clock>(
+    client: &Client<'_, R>,
+    pace: &Patience<'_, R>,
+    alloc: Global,
+) -> io::Result<String> {
+    let mut heard = String::new(alloc);
+    let bye = client.hears(client.enters("k0-0", LEAVE)?)?;
+    heard.push_str(bye.as_str())?;
+    let noted = client.hears(client.enters("k0-1", ACCUSE)?)?;
+    heard.push_str(noted.as_str())?;
+    let unknown = client.hears(client.enters("zz", LOOK)?)?;
+    heard.push_str(unknown.as_str())?;
+    let taken = client.hears(client.enters("k0-0", LOOK)?)?;
+    heard.push_str(taken.as_str())?;
+    let outside = client.hears(client.says(LOOK)?)?;
+    heard.push_str(outside.as_str())?;
+    let silent = client.hears(client.says("")?)?;
+    heard.push_str(silent.as_str())?;
+    let ended = client.hears(client.enters("k0-2", LOOK)?)?;
+    heard.push_str(ended.as_str())?;
+    client.waits_for(&client.enters("k0-3", "")?, HERE.len())?;
+    client.waits_for(&client.enters("k0-4", DEPART)?, HERE.len() + GONE.len())?;
+    pace.reach();
+    let away = client.enters("k0-5", DEPART_TO_THE_HOLE)?;
+    client.waits_for(&away, HERE.len() + GONE.len())?;
+    pace.reach();
+    let over = client.hears(away)?;
+    heard.push_str(over.as_str())?;
+    Ok(heard)
+}
+
+#[test]
+fn sessions_end_by_each_cause(rt: HostRuntime) -> Result<(), Fail> {
+    let alloc = rt.alloc();
+    let listener = listener(&rt)?;
+    let client = Client::new(&rt, alloc, listener.local_addr()?);
+    let pace = Patience::new(&rt, 1, 2);
+    let ready = contest(alloc, 1, 6)?;
+    let (served, heard) = thread::join(
+        &rt,
+        || run_server(&rt, alloc, &listener, ready, 10, &pace, &Open),
+        || each_ending(&client, &pace, alloc),
+    );
+    let expected = format!(in alloc;
+        "{HERE}{BYE}{HERE}{NOTED}{UNKNOWN}{TAKEN}{STRANGE}{HERE}{HERE}{HERE}{GONE}{OVER}"
+    )?;
+    assert_eq!(rt; heard?.as_str(), expected.as_str());
+    let Served { sealed, ended } = served?;
+    let causes = [
+        Ended::Bye,
+        Ended::Noted,
+        Ended::Denied,
+        Ended::Denied,
+        Ended::Denied,
+        Ended::InputEnded,
+        Ended::InputEnded,
+        Ended::ReadFault,
+        Ended::WriteFault,
+        Ended::Over,
+    ];
+    assert_eq!(rt; ended.as_slice(), causes.as_slice());
+    assert_eq!(rt; lengths(alloc, &sealed)?.as_slice(), [17].as_slice());
+    assert!(rt; !pace.gave_up());
+    Ok(())
+}
+
+/// Whether an agent enters, moves, looks and leaves. Its number counts the agents of all matches, eight of each.
+fn moves_on<R: Net<Listener = TcpListener, Stream = TcpStream> + Clock>(
+    client: &Client<'_, R>,
+    pace: &Patience<'_, R>,
+    alloc: Global,
+    number: usize,
+) -> io::Result<bool> {
+    let (game, agent) = (number / 8, number % 8);
+    let key = format!(in alloc; "k{game}-{agent}")?;
+    let lines = format!(in alloc; "{LOOK}{DEPART}{LOOK}{LEAVE}")?;
+    let heard = client.hears(client.enters(key.as_str(), lines.as_str())?)?;
+    pace.reach();
+    let expected = format!(in alloc; "{HERE}{HERE}{GONE}{COME}{COME}{BYE}")?;
+    Ok(heard == expected)
+}
+
+#[test]
+fn sixty_four_sessions_play_eight_matches(rt: HostRuntime) -> Result<(), Fail> {
+    let alloc = rt.alloc();
+    let listener = listener(&rt)?;
+    let client = Client::new(&rt, alloc, listener.local_addr()?);
+    let pace = Patience::new(&rt, 0, 64);
+    let ready = contest(alloc, 8, 8)?;
+    let (served, heard) = thread::join(
+        &rt,
+        || run_server(&rt, alloc, &listener, ready, 64, &pace, &Open),
+        || thread::map_indices(
+            &rt,
+            alloc,
+            64,
+            &|number| moves_on(&client, &pace, alloc, number),
+        ),
+    );
+    for one in heard? {
+        assert!(rt; one?);
+    }
+    let Served { sealed, ended } = served?;
+    assert_eq!(rt; ended.len(), 64);
+    assert!(rt; ended.iter().all(|ended| *ended == Ended::Bye));
+    assert_eq!(rt; lengths(alloc, &sealed)?.as_slice(), [49; 8].as_slice());
+    assert!(rt; !pace.gave_up());
+    Ok(())
+}
+
+/// What clients hear that come one after the other: one that says nothing, one with a key of nobody, one that enters
+/// and leaves, and one with its key.
+fn four_visits<R: Net<Listener = TcpListener, Stream = TcpStream> + Clock>(
+    client: &Client<'_, R>,
+    pace: &Patience<'_, R>,
+    alloc: Global,
+) -> io::Result<String> {
+    let silent = client.hears(client.says("")?)?;
+    let unknown = client.hears(client.enters("zz", LEAVE)?)?;
+    let bye = client.hears(client.enters("k0-0", LEAVE)?)?;
+    let taken = client.hears(client.enters("k0-0", LEAVE)?)?;
+    pace.reach();
+    Ok(format!(in alloc; "{silent}{unknown}{bye}{taken}")?)
+}
+
+#[test]
+fn four_come_one_after_the_other(rt: HostRuntime) -> Result<(), Fail> {
+    let alloc = rt.alloc();
+    let listener = listener(&rt)?;
+    let client = Client::new(&rt, alloc, listener.local_addr()?);
+    let pace = Patience::new(&rt, 0, 1);
+    let ready = contest(alloc, 1, 2)?;
+    let (served, heard) = thread::join(
+        &rt,
+        || run_server(&rt, alloc, &listener, ready, 4, &pace, &Open),
+        || four_visits(&client, &pace, alloc),
+    );
+    let expected = format!(in alloc; "{UNKNOWN}{HERE}{BYE}{TAKEN}")?;
+    assert_eq!(rt; heard?.as_str(), expected.as_str());
+    let Served { sealed, ended } = served?;
+    let causes = [Ended::InputEnded, Ended::Denied, Ended::Bye, Ended::Denied];
+    assert_eq!(rt; ended.as_slice(), causes.as_slice());
+    assert_eq!(rt; lengths(alloc, &sealed)?.as_slice(), [3].as_slice());
+    assert!(rt; !pace.gave_up());
+    Ok(())
+}
+
+/// A client whose agent enters, moves and is heard of no more.
+fn is_gone<R: Net<Listener = TcpListener, Stream = TcpStream> + Clock>(
+    client: &Client<'_, R>,
+    pace: &Patience<'_, R>,
+) -> io::Result<()> {
+    drop(client.enters("k0-0", DEPART)?);
+    pace.reach();
+    Ok(())
+}
+
+#[test]
+fn a_client_is_gone_at_once(rt: HostRuntime) -> Result<(), Fail> {
+    let alloc = rt.alloc();
+    let listener = listener(&rt)?;
+    let client = Client::new(&rt, alloc, listener.local_addr()?);
+    let pace = Patience::new(&rt, 0, 1);
+    let ready = contest(alloc, 1, 2)?;
+    let (served, gone) = thread::join(
+        &rt,
+        || run_server(&rt, alloc, &listener, ready, 1, &pace, &Open),
+        || is_gone(&client, &pace),
+    );
+    assert!(rt; gone.is_ok());
+    let Served { sealed, ended } = served?;
+    let causes = [
+        Ended::Over,
+        Ended::InputEnded,
+        Ended::ReadFault,
+        Ended::WriteFault,
+    ];
+    assert!(rt; ended.iter().all(|ended| causes.contains(ended)));
+    assert_eq!(rt; sealed.len(), 1);
+    Ok(())
+}
+
+#[test]
+fn an_accept_that_fails_is_a_session(rt: HostRuntime) -> Result<(), Fail> {
+    let alloc = rt.alloc();
+    let listener = listener(&rt)?;
+    listener.set_nonblocking(true)?;
+    let pace = Patience::new(&rt, 0, 0);
+    let ready = contest(alloc, 2, 1)?;
+    let Served { sealed, ended } = run_server(&rt, alloc, &listener, ready, 2, &pace, &Open)?;
+    assert_eq!(rt; ended.as_slice(), [Ended::ReadFault; 2].as_slice());
+    assert_eq!(rt; lengths(alloc, &sealed)?.as_slice(), [1, 1].as_slice());
+    Ok(())
+}

@@ -1,0 +1,263 @@
+"""Rows of text that play the program: how they are read, and how they are played.
+
+A file of rows, tests/program/*.rows, begins with lines that begin with #, which say what it shows. Rows are parted by
+empty lines. A row has a title and steps, and a step begins with one of these lines:
+
+    $ WORDS   runs the program with these words, which are parted and quoted as in a shell
+    @ NAME    writes a file
+    = NAME    reads a file
+    % NAME    writes to a file what the last run printed
+    / NAME    makes a folder
+
+Then come the lines of the step:
+
+    > TEXT    a line of the script, or of the file that is written
+    < TEXT    a line of what is printed, or stands in the file that is read
+    ! TEXT    a line of what is told as a fault
+    ? NUMBER  the exit status, which is else 0
+
+`>~`, `<~` and `!~` are the same without a line feed behind the text, `>x` gives bytes in hexadecimal digits. A `¶` in
+one of these lines stands for a line feed. A line `+` goes on with the line before it. Where the title of the first row
+of a file begins with `Before each row`, its steps are carried out before those of each other row.
+
+A row may have tables. `* NAME => NAME` names the columns of one, and each line `| VALUE => VALUE` makes a row of its
+own, in which the values stand for the names. Of several tables each line goes with each line of the others; values may
+hold names of tables that stand before theirs.
+
+A row whose second line is `~ SOURCE TARGET` is a table of changes, for `check cup.toml`. In a line `OLD => NEW => LINE`
+the first OLD in the file SOURCE, as it is written before each row, becomes NEW, and the file TARGET is written so. LINE
+is what is printed, where it begins with `match`, or told, with the exit status 6 where it ends with `: read`, and else
+3. `right` stands for the line of the match of a file in which nothing is changed.
+"""
+import itertools
+import pathlib
+import re
+import shlex
+import subprocess
+import tempfile
+from typing import Any, Callable, Dict, Iterator, List, NamedTuple, Sequence, Tuple, Union
+
+PATIENCE = 60
+# how much of a line is shown where it is not the line that was wanted
+SHOWN = 160
+HEADS = "$@=%/"
+FIRST = "Before each row"
+ARROW = " => "
+RIGHT = "match 0 red nodes 3 links 3 agents 2"
+DONE, REFUSED_TEXT, FAILED_STREAM = 0, 3, 6
+
+Word = Union[str, bytes]
+
+
+class Wrong(Exception):
+    """Something else came than was wanted."""
+
+
+class Run(NamedTuple):
+    """What came of a run."""
+    status: int
+    printed: bytes
+    told: bytes
+
+
+class Stage:
+    """A program in a folder of its own."""
+
+    def __init__(self, program: str, folder: pathlib.Path) -> None:
+        self.program = str(pathlib.Path(program).resolve())
+        self.folder = folder
+
+    def run(self, words: Sequence[Word], script: bytes = b"", front: Sequence[str] = (), **streams: Any) -> Run:
+        """Runs the program on a script, by a command in front of it and with other streams where some are given."""
+        plain = {"stdout": subprocess.PIPE, "stderr": subprocess.PIPE}
+        try:
+            ran = subprocess.run([*front, self.program, *words], cwd=self.folder, input=script, timeout=PATIENCE,
+                                 **{**plain, **streams})
+        except subprocess.TimeoutExpired:
+            raise Wrong(f"it did not end in {PATIENCE} seconds") from None
+        return Run(ran.returncode, ran.stdout or b"", ran.stderr or b"")
+
+
+class Step(NamedTuple):
+    """What is done, with what, and what is to come of it."""
+    mark: str
+    rest: str
+    given: bytes
+    wanted: bytes
+    told: bytes
+    status: int
+
+
+class Row(NamedTuple):
+    title: str
+    steps: List[Step]
+
+
+def difference(what: str, wanted: bytes, came: bytes) -> None:
+    """Tells the first line that is another."""
+    if wanted == came:
+        return
+    pairs = itertools.zip_longest(wanted.splitlines(True), came.splitlines(True))
+    for number, (line, other) in enumerate(pairs, 1):
+        if line != other:
+            raise Wrong(f"{what}, line {number}: wanted {shown(line)}, came {shown(other)}")
+
+
+def shown(line: Union[bytes, None]) -> str:
+    """A line in one line, with `¶` for its line feed."""
+    if line is None:
+        return "nothing"
+    text = line.decode(errors="backslashreplace").replace("\n", "¶")
+    if len(text) > SHOWN:
+        text = f"{text[:SHOWN]}.. ({len(line)} bytes)"
+    return f"`{text}`"
+
+
+def expect(ran: Run, printed: bytes, told: bytes = b"", status: int = DONE) -> None:
+    """What a run told and printed, and its status, are these."""
+    difference("told", told, ran.told)
+    difference("printed", printed, ran.printed)
+    if ran.status != status:
+        raise Wrong(f"exit status: wanted {status}, came {ran.status}")
+
+
+def play(row: Row, stage: Stage) -> None:
+    """Carries out the steps of a row."""
+    printed = b""
+    for step in row.steps:
+        try:
+            printed = do(step, stage, printed)
+        except (OSError, Wrong) as error:
+            raise Wrong(f"{step.mark} {step.rest}: {error}") from None
+
+
+def do(step: Step, stage: Stage, printed: bytes) -> bytes:
+    """Carries out a step, and gives what the last run printed."""
+    place = stage.folder / step.rest
+    if step.mark == "$":
+        ran = stage.run(shlex.split(step.rest), step.given)
+        expect(ran, step.wanted, step.told, step.status)
+        return ran.printed
+    if step.mark == "@":
+        place.write_bytes(step.given)
+    elif step.mark == "%":
+        place.write_bytes(printed)
+    elif step.mark == "/":
+        place.mkdir()
+    else:
+        difference("it", step.wanted, place.read_bytes())
+    return printed
+
+
+def bytes_of(mark: str, rest: str) -> bytes:
+    """The bytes of a line of a step."""
+    if mark == ">x":
+        return bytes.fromhex(rest)
+    return rest.replace("¶", "\n").encode() + (b"" if mark.endswith("~") else b"\n")
+
+
+def step_of(lines: Sequence[str]) -> Step:
+    """The step that begins with the first of these lines."""
+    texts = {">": b"", "<": b"", "!": b""}
+    status = DONE
+    head, _, rest = lines[0].partition(" ")
+    for line in lines[1:]:
+        mark, _, text = line.partition(" ")
+        if mark == "?":
+            status = int(text)
+        elif mark in (">x", *texts, *(f"{name}~" for name in texts)):
+            texts[mark[0]] += bytes_of(mark, text)
+        else:
+            raise ValueError(f"no mark: {line}")
+    return Step(head, rest, texts[">"], texts["<"], texts["!"], status)
+
+
+def steps_of(lines: Sequence[str]) -> List[Step]:
+    """The steps of a row without tables."""
+    heads = [place for place, line in enumerate(lines) if line.partition(" ")[0] in tuple(HEADS)]
+    if lines and heads[:1] != [0]:
+        raise ValueError(f"no step: {lines[0]}")
+    return [step_of(lines[place:end]) for place, end in zip(heads, [*heads[1:], len(lines)])]
+
+
+def tables_of(lines: Sequence[str]) -> List[List[Dict[str, str]]]:
+    """The tables of a row: of each line the values by their names."""
+    tables: List[List[Dict[str, str]]] = []
+    names: List[str] = []
+    for line in lines:
+        mark, _, text = line.partition(" ")
+        if mark == "*":
+            names = text.split(ARROW)
+            tables.append([])
+        elif mark == "|":
+            values = text.split(ARROW)
+            if len(values) != len(names):
+                raise ValueError(f"no line of the table: {line}")
+            tables[-1].append(dict(zip(names, values)))
+    return tables
+
+
+def filled(line: str, values: Sequence[Dict[str, str]]) -> str:
+    """A line with values for names, those of the last table first."""
+    for table in reversed(values):
+        for name, value in table.items():
+            line = line.replace(name, value)
+    return line
+
+
+def spread(lines: Sequence[str]) -> Iterator[Tuple[str, List[Step]]]:
+    """The title and the steps of a row, or of each row that its tables make."""
+    plain = [line for line in lines if line.partition(" ")[0] not in ("*", "|")]
+    for values in itertools.product(*tables_of(lines)):
+        title, *rest = (filled(line, values) for line in plain)
+        yield title, steps_of(rest)
+
+
+def changed(text: str, old: str, new: str) -> str:
+    """A text in which the first of a text is another."""
+    before, found, after = text.partition(old)
+    if not found:
+        raise ValueError(f"nothing to change: {old}")
+    return before + new + after
+
+
+def checks(files: Dict[str, bytes], lines: Sequence[str]) -> Iterator[Tuple[str, List[Step]]]:
+    """The title and the steps for each line of a table of changes."""
+    source, target = lines[1].split()[1:]
+    for line in lines[2:]:
+        old, new, told = (text.replace("¶", "\n") for text in line.split(ARROW))
+        text = changed(files[source].decode(), old, new)
+        told = f"{RIGHT if told == 'right' else told}\n"
+        status = DONE if told.startswith("match") else FAILED_STREAM if told.endswith(": read\n") else REFUSED_TEXT
+        printed, fault = (told, "") if status == DONE else ("", told)
+        yield f"{lines[0]} {line}", [
+            Step("@", target, text.encode(), b"", b"", DONE),
+            Step("$", "check cup.toml", b"", printed.encode(), fault.encode(), status),
+        ]
+
+
+def rows_of(text: str) -> List[Row]:
+    """The rows of a text."""
+    lines = "\n".join(line for line in text.split("\n") if not line.startswith("#"))
+    parts = [part.split("\n") for part in re.split("\n{2,}", lines.replace("\n+ ", "").strip("\n"))]
+    first: List[Step] = []
+    rows = []
+    for part in parts:
+        if part[0].startswith(FIRST):
+            first = steps_of(part[1:])
+            continue
+        is_table = len(part) > 1 and part[1].startswith("~ ")
+        files = {step.rest: step.given for step in first if step.mark == "@"}
+        for title, steps in checks(files, part) if is_table else spread(part):
+            rows.append(Row(title, first + steps))
+    return rows
+
+
+def fault_of(program: str, trial: Callable[[Stage], None]) -> str:
+    """What a trial of the program in a fresh folder finds wrong, or nothing."""
+    with tempfile.TemporaryDirectory() as folder:
+        try:
+            trial(Stage(program, pathlib.Path(folder)))
+        except (Wrong, OSError) as error:
+            return str(error)
+    return ""

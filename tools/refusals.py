@@ -1,0 +1,439 @@
+#!/usr/bin/env python3
+"""Refuses the program one request for memory, or fails or shortens one read or one write, each in turn.
+
+    tools/refusals.py [--quick] [--workers N] PROGRAM [TESTS]
+
+PROGRAM is the built program, linked dynamically. Each command is run on the examples with the first, the second, and
+each later request for memory refused; then with each read and each write failed, and with each shortened to one byte. A
+run with a short read or write must do what it does else. Any other must do that too, or tell the fault (`memory`,
+`read` or `write`, with its status) of a place that it may name, where what it printed is the front of what it prints
+else, and `judge` refuses each replay that it left and that is not whole. Where the fault line itself could not be
+written, the status and what was printed are the same. Nothing may crash, hang or end with another status.
+
+A server is run so as well, with a client that enters and looks and one that has a wrong key. It must end within ten
+seconds, by itself. What the clients hear are fronts of what they hear else, and at most one of them hears less where
+the server ends well; the table is that of the replay; and the replay has all that was answered.
+
+TESTS is a built program of tests, such as crates/bhs_text_tests/out/bhs_text_tests_tests. Its tests of calls that are
+made again (`tests::refused`), and of a rehearsal that wanted memory, are run with each request for memory refused: each
+must pass, or want memory before the call that it tests.
+
+A line is printed for each command and kind, with the number of runs and what came of them, and then the number of all;
+the exit status is 1 where a run ended otherwise. With --quick there are at most 60 runs of each command and kind, and
+40 of a server and kind, evenly spread, the first and the last among them; all others are left out. Without it only
+those of a server are left out that are more than 2,000 of a kind. It needs gcc, which builds `tools/refusals_shim.c`.
+"""
+import argparse
+import collections
+import concurrent.futures
+import contextlib
+import functools
+import json
+import os
+import pathlib
+import re
+import shutil
+import socket
+import struct
+import subprocess
+import sys
+import tempfile
+import time
+from typing import Callable, Dict, Iterable, Iterator, List, NamedTuple, Optional, Sequence, Set, Tuple
+
+from failing_machine import COMMANDS, DONE, FAILED_STREAM, NO_MEMORY, Command, Lab, Run, ended, free_port
+from program_cases import CUP, REFUSED_WORDS, TRIANGLE
+
+SHIM = pathlib.Path(__file__).resolve().with_name("refusals_shim.c")
+KINDS = ["memory", "read", "write"]
+COUNTED = [*KINDS, "refused"]
+STATUSES = {"memory": NO_MEMORY, "read": FAILED_STREAM, "write": FAILED_STREAM}
+MODES = ["memory", "read", "short-read", "write", "short-write"]
+QUICK, QUICK_SERVED, MOST_SERVED = 60, 40, 2000
+WORKERS = 8
+# seconds, of a server that takes a third of one
+SOON = 10
+REFUSED = ("tests::refused::", "tests::rehearsals::want_of_memory_is_for_good")
+OTHERS = [Command("help", ["--help"], "", None), Command("no command", ["rehears"], "", None)]
+# what commands print, as files of the examples or texts
+WANTED = {"check": "first.checked", "rehearse": "first.printed", "built-in": "triangle.printed",
+          "explain": "first.explained", "twin": "guess.twin"}
+WANTED_TEXTS = {"judge": b"solved moves 13 lost 1\n", "table": b"""\
+  # team             outcome     moves lost
+  1 red              solved         13    1
+  2 blue             guess 1         0    0
+"""}
+
+HERE = b'{"board":"","from":null,"ok":"here","ports":2}\n'
+OVER = b'{"ok":"over"}\n'
+SAID = [b'{"do":"enter","key":"ka"}\n{"do":"look"}\n', b'{"do":"enter","key":"zz"}\n']
+# what each of the clients may hear: the first also that the match is over, where it was closed before
+WHOLE = [[HERE + HERE, HERE + OVER, OVER], [b'{"no":"key"}\n']]
+
+
+class Otherwise(Exception):
+    """A run ended as none may."""
+
+
+class Shim:
+    """The library that refuses, and the numbers of calls that it counts."""
+
+    def __init__(self, folder: pathlib.Path) -> None:
+        self.library = str(folder / "shim.so")
+        subprocess.run(["gcc", "-shared", "-fPIC", "-O2", "-o", self.library, str(SHIM)], check=True)
+
+    @contextlib.contextmanager
+    def counting(self, numbers: Dict[str, int], mode: str = "", place: int = 0) -> Iterator[Dict[str, str]]:
+        """An environment in which calls are counted, and one is refused if it is named; at the end the numbers."""
+        refuse = {"REFUSE": f"{mode} {place}"} if mode else {}
+        with tempfile.NamedTemporaryFile() as file:
+            file.write(bytes(8 * len(COUNTED)))
+            file.flush()
+            yield {**os.environ, "LD_PRELOAD": self.library, "COUNTS": file.name, **refuse}
+            numbers.update(zip(COUNTED, struct.unpack(f"{len(COUNTED)}Q", pathlib.Path(file.name).read_bytes())))
+
+
+class Attempt(NamedTuple):
+    """What came of a run, the replays that it left, and how many calls it made."""
+    run: Run
+    replays: Dict[str, bytes]
+    numbers: Dict[str, int]
+
+    def did_as(self, other: "Attempt") -> bool:
+        return (self.run, self.replays) == (other.run, other.replays)
+
+
+class Trials(NamedTuple):
+    """The program, the library that refuses it calls, and how many runs of a kind there are and at the same time."""
+    lab: Lab
+    shim: Shim
+    most: int
+    most_served: int
+    workers: int
+
+    def alike(self, work: Callable[[int], str], some: Iterable[int], what: str, name: str) -> None:
+        """Does a piece of work for each of these places, several at the same time, and counts what came of them."""
+        def tried(place: int) -> Tuple[str, List[str]]:
+            try:
+                return work(place), []
+            except Otherwise as why:
+                return "otherwise", [f"{name} {place}: {why}"]
+        with concurrent.futures.ThreadPoolExecutor(self.workers) as pool:
+            found = list(pool.map(tried, some))
+        self.lab.runs += len(found)
+        self.lab.faults += [fault for _, faults in found for fault in faults]
+        self.lab.report(what, collections.Counter(came for came, _ in found))
+
+
+def kind_of(mode: str) -> str:
+    return mode.rpartition("-")[2]
+
+
+def places(number: int, most: int) -> Sequence[int]:
+    """The places 1 to a number, or so many of them, evenly spread, the first and the last among them."""
+    if not most or number <= most:
+        return range(1, number + 1)
+    return [1 + index * (number - 1) // (most - 1) for index in range(most)]
+
+
+@contextlib.contextmanager
+def room_of(lab: Lab) -> Iterator[pathlib.Path]:
+    """A folder for one run, with the examples."""
+    with tempfile.TemporaryDirectory(dir=lab.folder) as name:
+        (pathlib.Path(name) / "examples").symlink_to(lab.folder / "examples")
+        yield pathlib.Path(name)
+
+
+def replays_in(folder: pathlib.Path) -> Dict[str, bytes]:
+    return {path.name: path.read_bytes() for path in folder.glob("kept*.jsonl")}
+
+
+def plain_run(lab: Lab, words: Sequence[str], folder: pathlib.Path, script: str = "",
+              variables: Optional[Dict[str, str]] = None) -> Run:
+    """What came of the program with these words in a folder."""
+    with open(folder / script if script else os.devnull, "rb") as given:
+        return ended(subprocess.Popen([lab.program, *words], cwd=folder, env=variables, stdin=given,
+                                      stdout=subprocess.PIPE, stderr=subprocess.PIPE))
+
+
+def attempt(trials: Trials, command: Command, mode: str = "", place: int = 0) -> Attempt:
+    """Runs a command in a folder of its own, with this call refused, or none."""
+    numbers: Dict[str, int] = {}
+    with room_of(trials.lab) as room, trials.shim.counting(numbers, mode, place) as variables:
+        run = plain_run(trials.lab, command.words, room, command.script, variables)
+        replays = replays_in(room)
+    return Attempt(run, replays, numbers)
+
+
+def judged(lab: Lab, text: bytes, *words: str) -> Optional[bytes]:
+    """What the program prints of a replay, with nothing refused, or None where it refuses the text."""
+    with room_of(lab) as room:
+        (room / "left.jsonl").write_bytes(text)
+        run = plain_run(lab, words or ["judge", "left.jsonl"], room)
+    return run.printed if run.status == DONE else None
+
+
+def wheres(folder: pathlib.Path, command: Command, mode: str) -> Set[str]:
+    """What a fault of this kind may name: files that the command reads, files that it writes, or a stream."""
+    named = {word.rpartition("=")[2] for word in command.words}
+    files = {name for name in named if (folder / name).is_file()}
+    if any(name.endswith(".toml") for name in files):
+        files |= {f"examples/{path.name}" for path in (folder / "examples").glob("*.toml")}
+    written = {"output", *(f"kept{number}.jsonl" for number in range(4) if "kept" in named)}
+    read = files | ({"script"} if command.script else set())
+    made = read | written | {"arena"} | named & {"kept", "twin"}
+    return {"read": read, "write": written, "memory": made}[kind_of(mode)]
+
+
+def fault_of(mode: str, run: Run) -> str:
+    """The place that the one fault line names, which is the fault that this refusal makes, with its status."""
+    where, _, text = run.told.rstrip("\n").rpartition(": ")
+    if run.told != f"{where}: {mode}\n" or "\n" in where or run.status != STATUSES[mode]:
+        raise Otherwise(f"status {run.status}, `{run.told.strip()[:200]}`")
+    return where
+
+
+def is_untold(whole: Run, found: Run) -> bool:
+    """Whether all is as ever but for what is told, of which only a front could be written."""
+    return whole != found == found._replace(status=whole.status, printed=whole.printed) and \
+        whole.told.startswith(found.told)
+
+
+def outcome(mode: str, may_name: Set[str], whole: Attempt, found: Attempt, accepts: Callable[[bytes], bool]) -> str:
+    """What came of a run with a call refused."""
+    run = found.run
+    if found.numbers["refused"] != 1:
+        raise Otherwise("the call was not made")
+    if found.did_as(whole):
+        return "as ever"
+    told = f"status {run.status}, `{run.told.strip()[:200]}`"
+    if mode.startswith("short"):
+        raise Otherwise(f"a short call made a difference: {told}, {len(run.printed)} bytes printed")
+    if not whole.run.printed.startswith(run.printed):
+        raise Otherwise(f"another text was printed: {told}, `{run.printed[-200:]!r}`")
+    for name, text in found.replays.items():
+        if text != whole.replays.get(name) and accepts(text):
+            raise Otherwise(f"{name} is the replay of another match: {told}")
+    if mode == "write" and found.replays == whole.replays and is_untold(whole.run, run):
+        return "untold"
+    where = fault_of(mode, run)
+    if where not in may_name:
+        raise Otherwise(f"it names another place: {told}")
+    if where.startswith("kept") and run.printed != whole.run.printed:
+        raise Otherwise(f"a replay keeps back what is printed: {told}")
+    return mode
+
+
+def wanted_fault(lab: Lab, command: Command, plain: Run, whole: Attempt) -> Optional[str]:
+    """What is wrong with a run of a command with nothing refused, beside one without the library."""
+    examples = lab.folder / "examples"
+    wanted = WANTED_TEXTS.get(command.name, plain.printed)
+    if command.name in WANTED:
+        wanted = (examples / WANTED[command.name]).read_bytes()
+    if plain != whole.run:
+        return "the library makes a difference"
+    if plain.status != (REFUSED_WORDS if command in OTHERS[1:] else DONE):
+        return f"status {plain.status}, `{plain.told.strip()[:200]}`"
+    if plain.printed != wanted:
+        return f"another text was printed: `{plain.printed[-200:]!r}`"
+    if command.name == "rehearse" and whole.replays.get("kept0.jsonl") != (examples / "first0.jsonl").read_bytes():
+        return "its replay is not examples/first0.jsonl"
+    return None
+
+
+def refuse_command(trials: Trials, command: Command) -> None:
+    """Runs a command with each call of each kind refused."""
+    lab = trials.lab
+    whole = attempt(trials, command)
+    if not whole.numbers["memory"] or not whole.numbers["write"]:
+        lab.faults.append(f"{command.name}: no call was counted; is the program linked dynamically?")
+    accepts = functools.lru_cache()(lambda text: judged(lab, text) is not None)
+    for mode in MODES:
+        number = whole.numbers[kind_of(mode)]
+        may_name = wheres(lab.folder, command, mode)
+        trials.alike(lambda place: outcome(mode, may_name, whole, attempt(trials, command, mode, place), accepts),
+                     places(number, trials.most), f"{command.name}, {mode} of {number}", f"{command.name}, {mode}")
+
+
+class Contest(NamedTuple):
+    """What came of a server, what its clients heard, the replays that it left, its calls, and how long it took."""
+    run: Run
+    heard: List[bytes]
+    replays: Dict[str, bytes]
+    numbers: Dict[str, int]
+    seconds: float
+
+
+def hears(port: int, said: bytes) -> bytes:
+    """What a client hears that says this and ends its input."""
+    heard = b""
+    with contextlib.suppress(OSError), socket.create_connection(("127.0.0.1", port), timeout=SOON) as client:
+        client.sendall(said)
+        client.shutdown(socket.SHUT_WR)
+        while True:
+            piece = client.recv(4096)
+            if not piece:
+                break
+            heard += piece
+    return heard
+
+
+def hosted(program: str, folder: pathlib.Path, variables: Dict[str, str]) -> Contest:
+    """Serves a contest in a folder to two clients, one behind the other. What is printed has N for the port."""
+    port = free_port()
+    words = ["serve", "cup.toml", "--port", str(port), "--sessions", "2", "--turns", "40", "--pause", "5", "--replay",
+             "kept"]
+    began = time.monotonic()
+    child = subprocess.Popen([program, *words], cwd=folder, env=variables, stdout=subprocess.PIPE,
+                             stderr=subprocess.PIPE)
+    assert child.stdout
+    first = child.stdout.readline()
+    heard = [hears(port, said) if first.endswith(b"\n") else b"" for said in SAID]
+    run = ended(child)
+    seconds = time.monotonic() - began
+    printed = (first + run.printed).replace(b"listening %d\n" % port, b"listening N\n")
+    return Contest(run._replace(printed=printed), heard, replays_in(folder), {}, seconds)
+
+
+def served(trials: Trials, mode: str = "", place: int = 0) -> Contest:
+    """Serves a contest with this call refused, or none; again where another took the port meanwhile."""
+    for _ in range(5):
+        numbers: Dict[str, int] = {}
+        with room_of(trials.lab) as room, trials.shim.counting(numbers, mode, place) as variables:
+            (room / "tri.toml").write_text(TRIANGLE)
+            (room / "cup.toml").write_text(CUP)
+            contest = hosted(trials.lab.program, room, variables)._replace(numbers=numbers)
+        if contest.run.told != "serve: listen\n":
+            break
+    return contest
+
+
+def answers_of(replay: bytes) -> bytes:
+    """The lines that the agents of a replay were answered."""
+    events = [json.loads(line) for line in replay.splitlines()[1:-1]]
+    lines = [json.dumps(event["reply"], sort_keys=True, separators=(",", ":")) for event in events if event["reply"]]
+    return "".join(f"{line}\n" for line in lines).encode()
+
+
+def cut_sessions(heard: Sequence[bytes]) -> int:
+    """How many clients heard less than all, and nothing else."""
+    for number, (text, wholes) in enumerate(zip(heard, WHOLE)):
+        if not any(whole.startswith(text) for whole in wholes):
+            raise Otherwise(f"client {number} heard `{text!r}`")
+    return sum(text not in wholes for text, wholes in zip(heard, WHOLE))
+
+
+def check_replay(contest: Contest, lab: Lab, told: str) -> Optional[bytes]:
+    """The table of the replay that a server left, which has all that was answered; None where there is no replay."""
+    replay = contest.replays.get("kept0.jsonl", b"")
+    table = judged(lab, replay, "table", "red=left.jsonl")
+    answers = contest.heard[0].replace(OVER, b"")
+    if table is not None and not answers_of(replay).startswith(answers[:answers.rfind(b"\n") + 1]):
+        raise Otherwise(f"client 0 heard what its replay has not: {told}")
+    return table
+
+
+def served_outcome(mode: str, contest: Contest, lab: Lab) -> str:
+    """What came of a contest with a call refused."""
+    run = contest.run
+    told = f"status {run.status}, `{run.told.strip()[:200]}`, printed `{run.printed!r}`, heard `{contest.heard}`"
+    if contest.seconds > SOON:
+        raise Otherwise(f"it took {contest.seconds:.0f} seconds: {told}")
+    cut = cut_sessions(contest.heard)
+    table = check_replay(contest, lab, told)
+    if run.status == DONE and not run.told:
+        if table is None or run.printed != b"listening N\n" + table:
+            raise Otherwise(f"the table is not that of the replay: {told}")
+        if cut > 1 or (cut and mode.startswith("short")):
+            raise Otherwise(f"{cut} clients heard too little: {told}")
+        missed = "" if contest.numbers["refused"] else " (call not made)"
+        return ("a session cut" if cut else "as ever") + missed
+    if mode.startswith("short"):
+        raise Otherwise(f"a short call made a difference: {told}")
+    return served_fault(mode, contest, table, told)
+
+
+def served_fault(mode: str, contest: Contest, table: Optional[bytes], told: str) -> str:
+    """What came of a contest whose server tells a fault."""
+    where = fault_of(mode, contest.run)
+    may_name = {"read": {"cup.toml", "tri.toml"}, "write": {"output", "kept0.jsonl"},
+                "memory": {"arena", "serve", "output", "cup.toml", "tri.toml", "kept", "kept0.jsonl"}}[mode]
+    if where not in may_name:
+        raise Otherwise(f"it names another place: {told}")
+    lines = contest.run.printed.splitlines(keepends=True)
+    if lines[:1] not in ([], [b"listening N\n"]) and not b"listening N\n".startswith(contest.run.printed):
+        raise Otherwise(f"another text was printed: {told}")
+    if where == "kept0.jsonl" and (len(lines) != 3 or not lines[2].startswith(b"  1 red ")):
+        raise Otherwise(f"a replay keeps the table back: {told}")
+    if table is not None and not (b"listening N\n" + table).startswith(contest.run.printed):
+        raise Otherwise(f"the table is not that of the replay: {told}")
+    return f"{where.rpartition('/')[2]}: {mode}"
+
+
+def refuse_server(trials: Trials) -> None:
+    """Runs a server with calls of each kind refused."""
+    contest = served(trials)
+    try:
+        if served_outcome("short", contest, trials.lab) != "as ever (call not made)":
+            raise Otherwise(str(contest))
+    except Otherwise as why:
+        trials.lab.faults.append(f"serve with nothing refused: {why}")
+    for mode in MODES:
+        number = contest.numbers[kind_of(mode)]
+        trials.alike(lambda place: served_outcome(mode, served(trials, mode, place), trials.lab),
+                     places(number, trials.most_served), f"serve, {mode} of {number}", f"serve, {mode}")
+
+
+def outcome_of_test(trials: Trials, program: str, name: str, place: int) -> str:
+    """What came of a test with a request for memory refused."""
+    with trials.shim.counting({}, "memory", place) as variables:
+        found = ended(subprocess.Popen([program, name], env=variables, cwd=trials.lab.folder, stdout=subprocess.PIPE,
+                                       stderr=subprocess.STDOUT))
+    text = found.printed.decode(errors="replace").strip()
+    if found.status == DONE:
+        return "passed"
+    if found.status > 0 and re.search("memory|alloc", text.lower()):
+        return "begins"
+    raise Otherwise(f"status {found.status}, `{text[:200]}`")
+
+
+def refuse_tests(trials: Trials, tests: str) -> None:
+    """Runs each test of calls that are made again, with each request for memory refused."""
+    program = str(pathlib.Path(tests).resolve())
+    listed = subprocess.run([program, "--list"], stdout=subprocess.PIPE, text=True, check=True).stdout.split()
+    for name in [word.rstrip(":") for word in listed if word.startswith(REFUSED)]:
+        numbers: Dict[str, int] = {}
+        with trials.shim.counting(numbers) as variables:
+            subprocess.run([program, name], env=variables, cwd=trials.lab.folder, check=True,
+                           stdout=subprocess.DEVNULL)
+        number = numbers["memory"]
+        trials.alike(lambda place: outcome_of_test(trials, program, name, place), places(number, trials.most),
+                     f"{name}, memory of {number}", f"{name}, memory")
+
+
+def main() -> int:
+    parser = argparse.ArgumentParser(description=__doc__, formatter_class=argparse.RawDescriptionHelpFormatter)
+    parser.add_argument("program", metavar="PROGRAM")
+    parser.add_argument("tests", metavar="TESTS", nargs="?")
+    parser.add_argument("--quick", action="store_true")
+    parser.add_argument("--workers", metavar="N", type=int, default=WORKERS, help="runs at the same time (%(default)s)")
+    given = parser.parse_args()
+    if not shutil.which("gcc"):
+        sys.exit("there is no gcc")
+    most, most_served = (QUICK, QUICK_SERVED) if given.quick else (0, MOST_SERVED)
+    with tempfile.TemporaryDirectory() as name:
+        lab = Lab(given.program, pathlib.Path(name))
+        trials = Trials(lab, Shim(lab.folder), most, most_served, given.workers)
+        for command in (*COMMANDS, *OTHERS):
+            plain = plain_run(lab, command.words, lab.folder, command.script)
+            fault = wanted_fault(lab, command, plain, attempt(trials, command))
+            lab.faults += [f"{command.name} with nothing refused: {fault}"] if fault else []
+            refuse_command(trials, command)
+        refuse_server(trials)
+        if given.tests:
+            refuse_tests(trials, given.tests)
+    return lab.conclude()
+
+
+if __name__ == "__main__":
+    sys.exit(main())
