@@ -1,10 +1,11 @@
-"""The client and the search in C over sockets, served by the stand-in."""
+"""The client and the search in C over sockets, served by the stand-in with turns that wait."""
 import pathlib
 import shutil
 import socket
 import subprocess
 import sys
 import tempfile
+import time
 import unittest
 from typing import List
 
@@ -27,7 +28,7 @@ keys = ["ka", "kb"]
 
 
 class Served(unittest.TestCase):
-    """A server of one match."""
+    """A server of one match, whose turns wait until an agent is on a link."""
 
     def setUp(self) -> None:
         folder = tempfile.TemporaryDirectory()
@@ -35,19 +36,26 @@ class Served(unittest.TestCase):
         self.folder = pathlib.Path(folder.name)
 
     def serve(self, network: str, holes: List[int], quota: int, sessions: int, turns: int = 300) -> int:
-        """Starts a server, and answers its port."""
+        """Starts a server, and answers its port. The match is closed after these turns, or when the test says so."""
         tournament = self.folder / "t.toml"
         tournament.write_text(TOURNAMENT.format(network=TOP / "examples" / network, holes=holes, quota=quota))
         with socket.create_server(("127.0.0.1", 0)) as listener:
             port = listener.getsockname()[1]
         words = ["serve", tournament, "--port", port, "--sessions", sessions, "--turns", turns, "--pause", 1]
-        command = [sys.executable, TOP / "tools/stand_in_server.py", *words, "--replay", self.folder / "match"]
-        self.server = subprocess.Popen([str(word) for word in command], stdout=subprocess.PIPE, text=True)
+        command = [sys.executable, "-m", "tests.patient_server", *words, "--replay", self.folder / "match"]
+        self.server = subprocess.Popen([str(word) for word in command], cwd=TOP, stdin=subprocess.PIPE,
+                                       stdout=subprocess.PIPE, text=True)
         self.addCleanup(self.server.wait)
         self.addCleanup(self.server.stdout.close)
+        self.addCleanup(self.server.stdin.close)
         self.addCleanup(self.server.kill)
         self.assertEqual(self.server.stdout.readline(), f"listening {port}\n")
         return port
+
+    def outcome(self) -> List[str]:
+        """Closes the match, and answers the row of its team in the table: place, team, outcome, moves and lost."""
+        self.server.stdin.close()
+        return self.server.stdout.read().splitlines()[1].split()
 
     def connect(self, port: int) -> Agent:
         agent = Agent.connect("127.0.0.1", port)
@@ -76,15 +84,11 @@ class Clients(Served):
         self.assertRaises(client.NotEntered, self.connect(port).look)
         other = self.connect(port)
         other.enter("kb")
-        self.assertEqual(self.server_ends_after(other), "silent")
-
-    def server_ends_after(self, agent: Agent) -> str:
-        """Accuses nobody, leaves, and answers the outcome."""
-        agent.leave()
-        return self.server.stdout.read().splitlines()[1].split()[2]
+        other.leave()
+        self.assertEqual(self.outcome()[2], "silent")
 
     def test_a_lost_agent_waits_until_the_match_is_over(self) -> None:
-        agent = self.connect(self.serve("triangle.toml", [1], 7, 1, turns=20))
+        agent = self.connect(self.serve("triangle.toml", [1], 7, 1, turns=1))
         agent.enter("ka")
         self.assertRaises(client.MatchOver, agent.depart, 0)
 
@@ -102,7 +106,10 @@ class SearchInC(Served):
                 quiet = {"stdout": subprocess.DEVNULL, "stderr": subprocess.DEVNULL}
                 agents = [subprocess.Popen([*command, port, key, "8"], **quiet)
                           for command, key in zip(commands, ("ka", "kb"))]
-                self.assertEqual(self.server.stdout.read().splitlines()[1].split()[1:3], ["red", "solved"])
+                # one of them accuses and ends; the other may be lost, and then ends with the match
+                while all(agent.poll() is None for agent in agents):
+                    time.sleep(0.01)
+                self.assertEqual(self.outcome()[1:3], ["red", "solved"])
                 for agent in agents:
                     agent.wait()
 

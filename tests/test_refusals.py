@@ -193,7 +193,7 @@ class CommandTest(InFolder):
         self.assertIn("check, memory of 1: 1 otherwise", self.said)
 
     def test_a_hang_is_otherwise(self):
-        with unittest.mock.patch.object(failing_machine, "PATIENCE", 1):
+        with unittest.mock.patch.object(failing_machine, "PATIENCE", 5):
             self.assertEqual(self.faults_of("-DHANGS"), ["check, memory 1: status -1, `it did not end`"])
 
     def test_what_is_lost_is_otherwise(self):
@@ -297,7 +297,7 @@ class ServedTest(unittest.TestCase):
 
     def test_what_must_not_come(self):
         short = Run(0, b"listening N\n", "")
-        for mode, given in (("memory", {"seconds": 11.0}), ("memory", {"heard": [b"", b""]}),
+        for mode, given in (("memory", {"seconds": refusals.SOON + 1.0}), ("memory", {"heard": [b"", b""]}),
                             ("short-read", {"heard": [refusals.HERE, self.KEY]}),
                             ("memory", {"heard": [b'{"ok":"gone"}\n', self.KEY]}), ("write", {"run": short}),
                             ("memory", {"replay": b""}), ("memory", {"run": Run(6, b"", "serve: memory\n")}),

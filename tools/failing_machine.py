@@ -229,7 +229,7 @@ def served(lab: Lab, sessions: int, limit: Callable[[], None]) -> Run:
     if first:
         with contextlib.suppress(OSError):
             for _ in range(sessions):
-                clients.append(socket.create_connection(("127.0.0.1", port), timeout=1))
+                clients.append(socket.create_connection(("127.0.0.1", port), timeout=PATIENCE))
         for client in clients:
             client.close()
     run = ended(child)

@@ -52,7 +52,7 @@ MODES = ["memory", "read", "short-read", "write", "short-write"]
 QUICK, QUICK_SERVED, MOST_SERVED = 60, 40, 2000
 WORKERS = 8
 # seconds, of a server that takes a third of one
-SOON = 10
+SOON = 60
 REFUSED = ("tests::refused::", "tests::rehearsals::want_of_memory_is_for_good")
 OTHERS = [Command("help", ["--help"], "", None), Command("no command", ["rehears"], "", None)]
 # what commands print, as files of the examples or texts
