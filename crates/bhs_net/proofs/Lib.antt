@@ -11,3 +11,4 @@ pub mod Walks
 pub mod Marks
 pub mod Made
 pub mod Counts
+pub mod Numberings

@@ -4,4 +4,5 @@ pub mod Network
 pub mod Faults
 pub mod Listing
 pub mod Search
+pub mod Numbering
 pub mod Laws

@@ -6,6 +6,7 @@ mod laws;
 mod links;
 mod listing;
 mod network;
+mod numbering;
 mod search;
 
 pub use faults::{MAX_NODES, MIN_NODES, NetFault};

@@ -1,5 +1,6 @@
-//! Whether rows are connected, and still so when any one node is removed. One search takes time in the number of ports;
-//! with n nodes and m links there are n + 1 searches, so the cost is O(n * m).
+//! Whether rows are connected, and still so when any one node is removed. An order of the nodes shows that, in time in
+//! the number of ports. Where there is none, searches say why: each takes time in the number of ports, and with n nodes
+//! there are up to n + 1 of them.
 
 ghost use Rattle.std.specs.Prelude.{◌≡◌, ◌≢◌, ◌<◌, ◌⊎◌, length, IfOk, IfErr, OnOk, MatchBool};
 ghost use Rattle.bhs_net.specs.Network.{network_of, IsPortLabelled, IsNetwork, IsConnected};
@@ -8,6 +9,7 @@ ghost use Rattle.bhs_net.specs.Listing.{TellsLeast};
 
 use crate::faults::NetFault;
 use crate::listing::End;
+use crate::numbering::order_of;
 use std::alloc::{AllocError, Global};
 
 /// Marks the nodes to which paths lead from `start` that keep off the node `removed`.
@@ -67,7 +69,8 @@ fn reaches_all(
     Ok(true)
 }
 
-/// Looks for two nodes that no path joins, and then for the least node without which no path joins some two others.
+/// Looks for an order that shows a network; and where it finds none, for two nodes that no path joins, and then for the
+/// least node without which no path joins some two others.
 pub fn check_paths(alloc: Global, rows: &[Vec<End>]) -> Result<(), NetFault>
     requires { IsPortLabelled (network_of rows.now) }
     ensures ok { OnOk result (IsNetwork (network_of rows.now)) }
@@ -76,6 +79,9 @@ pub fn check_paths(alloc: Global, rows: &[Vec<End>]) -> Result<(), NetFault>
         ⊎ (IsConnected (network_of rows.now)
         × TellsLeast NetFault.CutNode (IsCutIn (network_of rows.now)) fault))) }
 {
+    if order_of(rows).shows_network(rows) {
+        return Ok(());
+    }
     let nodes = rows.len();
 
     // `nodes` is the number of no node, so this search removes none.

@@ -1,0 +1,5 @@
+use Rattle.std.proofs.Common.{◌≡◌, length}
+use Rattle.bhs_net.proofs.numbering.order_of.Given as goal
+
+abbrev pub invariant-loop-place : goal.invariant-loop-place
+invariant-loop-place l = (length l.before ≡ 256) × (length l.behind ≡ 256) × (length l.goes_behind ≡ 256)

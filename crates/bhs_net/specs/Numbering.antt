@@ -1,0 +1,17 @@
+use Rattle.std.specs.Prelude.{◌≡◌, ◌≢◌, ℕ, ◌<◌, ◌⊎◌, List, length, slice_index_or}
+use Rattle.bhs_net.specs.Links.{End}
+
+-- the place that a table has for a node
+abbrev pub place_of : List ℕ → ℕ → ℕ
+place_of places node = slice_index_or places node 0
+
+-- some port of the row leads to a node whose place is such
+abbrev pub LeadsTo : List End → List ℕ → (ℕ → Type 0) → Type 0
+LeadsTo row places P = (port : ℕ) × (port < length row) × P (place_of places (slice_index_or row port (0, 0)).0)
+
+-- the row of the node at this place leads to a lower one, but from the first; to a higher one, but from the last; and
+-- from the first to the last
+pub record LeadsOn (row : List End) (places : List ℕ) (place last : ℕ) : Type 0 where
+  pub down : (place ≡ 0) ⊎ LeadsTo row places (λ other. other < place)
+  pub up : (place ≡ last) ⊎ LeadsTo row places (λ other. place < other)
+  pub around : (place ≢ 0) ⊎ LeadsTo row places (λ other. other ≡ last)

@@ -1,0 +1,164 @@
+//! An order of the nodes that shows that no node cuts a network: each node but the first has a neighbour before it, each
+//! but the last has one behind it, and the first and the last are neighbours. Without any one node those before it still
+//! lead down to the first, and those behind it up to the last. A. Lempel, S. Even and I. Cederbaum ("An algorithm for
+//! planarity testing of graphs", 1967) showed that each network has such an order. It is found by a depth-first search,
+//! as by R. E. Tarjan ("Two streamlined depth-first search algorithms", Fundamenta Informaticae 9, 1986). Nothing is
+//! proved of how it is found: it is checked. Both take time in the number of ports.
+
+ghost use Rattle.std.specs.Prelude.{◌≡◌, ◌<◌, true};
+ghost use Rattle.bhs_net.specs.Network.{network_of, IsPortLabelled, IsNetwork};
+ghost use Rattle.bhs_net.specs.Numbering.{LeadsOn};
+
+use crate::listing::End;
+
+/// A table by node has a place for each `u8`, which is each node that a network may have.
+const NODES: usize = 256;
+
+/// More steps than a search takes: one for each port, and one back from each node.
+const STEPS: usize = NODES * NODES;
+
+/// The nodes by place, and the places by node.
+#[derive(Drop)]
+pub struct Order {
+    nodes: [u8; NODES],
+    places: [u8; NODES],
+}
+
+/// A depth-first search from node 0. By place: the nodes that were found; by node: its place, the node from which it
+/// was found, and the first place to which a link leads from it or from one that was found behind it.
+#[derive(Drop)]
+struct Search {
+    found: [u8; NODES],
+    last: u8,
+    parents: [u8; NODES],
+    lows: [u8; NODES],
+}
+
+/// A node's place in a table by node.
+fn at(node: u8) -> usize
+    ensures same { result ≡ node }
+    ensures within { result < 256 }
+{
+    usize::from(node)
+}
+
+fn head(rows: &[Vec<End>], node: u8, port: usize) -> Option<u8> {
+    match rows.get(at(node)) {
+        Some(row) => match row.get(port) {
+            Some(end) => u8::try_from(end.0).ok(),
+            None => None,
+        },
+        None => None,
+    }
+}
+
+fn depth_first(rows: &[Vec<End>]) -> Search {
+    let mut search = Search {
+        found: [0; NODES],
+        last: 0,
+        parents: [0; NODES],
+        lows: [0; NODES],
+    };
+    let mut places = [0; NODES];
+    let mut ports = [0; NODES];
+    let mut node = 0;
+    for _ in 0..STEPS {
+        let here = at(node);
+        if let Some(other) = head(rows, node, ports[here]) {
+            ports[here] = ports[here].wrapping_add(1);
+            let to = at(other);
+            if other == 0 || places[to] != 0 {
+                search.lows[here] = search.lows[here].min(places[to]);
+            } else {
+                search.last = search.last.wrapping_add(1);
+                search.found[at(search.last)] = other;
+                search.parents[to] = node;
+                search.lows[to] = search.last;
+                places[to] = search.last;
+                node = other;
+            }
+        } else if node == 0 {
+            break;
+        } else {
+            let low = search.lows[here];
+            node = search.parents[here];
+            let up = at(node);
+            search.lows[up] = search.lows[up].min(low);
+        }
+    }
+    search
+}
+
+/// An order of the nodes, which is one as above where there is one. Each node stands beside the one from which it was
+/// found, before or behind it.
+pub fn order_of(rows: &[Vec<End>]) -> Order {
+    let search = depth_first(rows);
+    let second = search.found[1];
+    let mut before = [0; NODES];
+    let mut behind = [0; NODES];
+    let mut goes_behind = [false; NODES];
+    before[0] = second;
+    behind[0] = second;
+    for place in 2..=search.last {
+        let node = search.found[at(place)];
+        let parent = search.parents[at(node)];
+        let low = search.found[at(search.lows[at(node)])];
+        let is_behind = goes_behind[at(low)];
+        goes_behind[at(parent)] = !is_behind;
+        let next = if is_behind { behind[at(parent)] } else { parent };
+        let previous = before[at(next)];
+        before[at(node)] = previous;
+        behind[at(node)] = next;
+        behind[at(previous)] = node;
+        before[at(next)] = node;
+    }
+    let mut order = Order {
+        nodes: [0; NODES],
+        places: [0; NODES],
+    };
+    let mut node = 0;
+    for place in 0..=search.last {
+        order.nodes[at(place)] = node;
+        order.places[at(node)] = place;
+        node = behind[at(node)];
+    }
+    order
+}
+
+/// Whether a row leads to a node of a lower place, but from the first; to one of a higher place, but from the last; and
+/// from the first to the last.
+fn leads_on(row: &[End], places: &[u8], place: u8, last: u8) -> bool
+    ensures { result ≡ true → LeadsOn row.now places.now place last }
+{
+    let mut leads_down = place == 0;
+    let mut leads_up = place == last;
+    let mut leads_around = place != 0;
+    for end in row {
+        if let Some(other) = places.get(usize::from(end.0)) {
+            leads_down = leads_down || *other < place;
+            leads_up = leads_up || *other > place;
+            leads_around = leads_around || *other == last;
+        }
+    }
+    leads_down && leads_up && leads_around
+}
+
+impl Order {
+    /// Whether the order shows that no node cuts the rows, as above.
+    pub fn shows_network(&self, rows: &[Vec<End>]) -> bool
+        requires { IsPortLabelled (network_of rows.now) }
+        ensures { result ≡ true → IsNetwork (network_of rows.now) }
+    {
+        let last = rows.len() - 1;
+        for (node, row) in rows.iter().enumerate() {
+            let place = self.places[node];
+            if usize::from(place) > last
+                || usize::from(self.nodes[usize::from(place)]) != node
+                || !leads_on(row, &self.places, place, last as u8)
+            {
+                return false;
+            }
+        }
+        true
+    }
+}
