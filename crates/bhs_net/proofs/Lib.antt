@@ -12,3 +12,4 @@ pub mod Marks
 pub mod Made
 pub mod Counts
 pub mod Numberings
+pub mod Fillings

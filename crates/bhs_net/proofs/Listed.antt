@@ -42,7 +42,7 @@ AreJoined-from_listed links end listed = pick listed.2
     pick (inr e) = (near_end (link_at links listed.0), (listed.0, listed.1, inr (e, refl)))
 
 -- a link that joins two ends of one node is a loop
-Joins-loop : (link : Link) (end other : End) → Joins link end other → end.0 ≡ other.0 → link.v ≡ link.w
+pub Joins-loop : (link : Link) (end other : End) → Joins link end other → end.0 ≡ other.0 → link.v ≡ link.w
 Joins-loop link end other (inl j) e = ap (λ (q : End). q.0) j.0 ∙ (e ∙ sym (ap (λ (q : End). q.0) j.1))
 Joins-loop link end other (inr j) e = ap (λ (q : End). q.0) j.1 ∙ (sym e ∙ sym (ap (λ (q : End). q.0) j.0))
 

@@ -10,7 +10,8 @@ use Rattle.bhs_net.specs.Links.{End, near_end, far_end, link_at, HasEnd, Joins, 
 use Rattle.bhs_net.specs.Links.{AreLinked}
 use Rattle.bhs_net.specs.Network.{Network, nodes_of, row_of, degree_of, far_of, HasPort, Leads, IsPortLabelled}
 use Rattle.bhs_net.specs.Network.{IsConnected, HasLinks, Makes}
-use Rattle.bhs_net.specs.Faults.{IsStray, IsLoop, IsDouble, IsPortTwice, IsGap, IsApart, IsCut, Holds, Refuses, Lists}
+use Rattle.bhs_net.specs.Faults.{IsStray, IsLoop, IsDouble, IsPortTwice, IsGap, IsApart, IsCut, Holds, HasNoFault}
+use Rattle.bhs_net.specs.Faults.{Refuses, Lists}
 use Rattle.bhs_net.specs.Search.{IsApartIn, IsCutIn}
 use Rattle.bhs_net.specs.Listing.{TellsLeast}
 use Rattle.bhs_net.proofs.Listed.{HasPort-node, IsListed-from_joined}
@@ -19,7 +20,7 @@ use Rattle.bhs_net.proofs.Walks.{IsPath-along, not_cut}
 
 -- the links of a network lead as its ports do
 module _ (net : Network) (links : List Link) (made_of : HasLinks net links) where
-  joined_leads : (node port : ℕ) (other : End) → AreJoined links (node, port) other → (port < degree_of net node)
+  pub joined_leads : (node port : ℕ) (other : End) → AreJoined links (node, port) other → (port < degree_of net node)
       × (far_of net node port ≡ other)
   joined_leads node port other joined = pick joined.2
     where
@@ -109,21 +110,18 @@ module _ (net : Network) (links : List Link) (made_of : HasLinks net links) wher
       ),
     )
 
--- each fault refutes that the links make a network
-module _ (nodes : ℕ) (links : List Link) (net : Network) (makes : Makes nodes links net) where
-  labelled : IsPortLabelled net
-  labelled = makes.network.labelled
-
+-- links of a network with port labels have no fault in their list
+module _ (nodes : ℕ) (links : List Link) (net : Network) (size : nodes_of net ≡ nodes) (labelled : IsPortLabelled net)
+    (made_of : HasLinks net links) where
   not_stray : (place : ℕ) → ¬ IsStray nodes links place
   not_stray place stray =
-      let near = HasPort-node net _ _ (makes.made_of.near place stray.0).0 in
-      let far = HasPort-node net _ _ (makes.made_of.far place stray.0).0 in
-      let size = makes.size in
+      let near = HasPort-node net _ _ (made_of.near place stray.0).0 in
+      let far = HasPort-node net _ _ (made_of.far place stray.0).0 in
       ⊎_elim (λ v. omega arith) (λ w. omega arith) stray.1
 
   not_loop : (place : ℕ) → ¬ IsLoop links place
   not_loop place loop =
-      let near = makes.made_of.near place loop.0 in
+      let near = made_of.near place loop.0 in
       labelled.no_loop _ _ near.0 (ap (λ (q : End). q.0) near.1 ∙ sym loop.1)
 
   -- two ports of a node that lead to one node are one port, so the links share an end
@@ -140,15 +138,15 @@ module _ (nodes : ℕ) (links : List Link) (net : Network) (makes : Makes nodes 
       at_early = let lt : early < place = double.1.1 in let at : place < length links = double.0 in omega arith
 
       twice : ¬ SharesEnd (link_at links early) (link_at links place)
-      twice shares = makes.made_of.once early place double.1.1 double.0 shares
+      twice shares = made_of.once early place double.1.1 double.0 shares
 
       near_at : (k : ℕ) → k < length links → HasPort net (near_end (link_at links k))
           × (far_of net (link_at links k).v (link_at links k).p ≡ far_end (link_at links k))
-      near_at k lt = makes.made_of.near k lt
+      near_at k lt = made_of.near k lt
 
       far_at : (k : ℕ) → k < length links → HasPort net (far_end (link_at links k))
           × (far_of net (link_at links k).w (link_at links k).q ≡ near_end (link_at links k))
-      far_at k lt = makes.made_of.far k lt
+      far_at k lt = made_of.far k lt
 
       both : {v p w q : ℕ} → v ≡ w → p ≡ q → ◌≡◌ {A = End} (v, p) (w, q)
       both e f = cc
@@ -163,20 +161,37 @@ module _ (nodes : ℕ) (links : List Link) (net : Network) (makes : Makes nodes 
           both same_node (labelled.simple c.0 a.1 c.1 there q.0 leads)
 
   not_twice : (place : ℕ) → ¬ IsPortTwice links place
-  not_twice place twice = makes.made_of.once twice.1.0 place twice.1.1 twice.0 twice.1.2
+  not_twice place twice = made_of.once twice.1.0 place twice.1.1 twice.0 twice.1.2
 
   listed_port : (end : End) → IsListed links end → HasPort net end
   listed_port end listed = pick listed.2
     where
       pick : HasEnd (link_at links listed.0) end → HasPort net end
-      pick (inl e) = subst (λ (q : End). HasPort net q) e (makes.made_of.near listed.0 listed.1).0
-      pick (inr e) = subst (λ (q : End). HasPort net q) e (makes.made_of.far listed.0 listed.1).0
+      pick (inl e) = subst (λ (q : End). HasPort net q) e (made_of.near listed.0 listed.1).0
+      pick (inr e) = subst (λ (q : End). HasPort net q) e (made_of.far listed.0 listed.1).0
 
   not_gap : (node : ℕ) → ¬ IsGap links node
   not_gap node gap =
       let port : gap.0 < degree_of net node = listed_port (node, gap.0) gap.2 in
-      gap.4 (IsListed-from_joined links _ _ (makes.made_of.all node gap.1
+      gap.4 (IsListed-from_joined links _ _ (made_of.all node gap.1
       (let lower : gap.1 < gap.0 = gap.3 in omega arith)))
+
+  pub no_fault_listed : HasNoFault nodes links 6
+  no_fault_listed Nodes h = λ wrong. let few = labelled.few in let many = labelled.many in
+      ⊎_elim (λ low. omega arith) (λ high. omega arith) wrong
+  no_fault_listed (Node link) h = not_stray link
+  no_fault_listed (Loop link) h = not_loop link
+  no_fault_listed (Double link) h = not_double link
+  no_fault_listed (PortTwice link) h = not_twice link
+  no_fault_listed (PortGap node) h = not_gap node
+  no_fault_listed Apart h = absurd (omega arith)
+  no_fault_listed (CutNode node) h = absurd (omega arith)
+  no_fault_listed Memory h = λ never. never
+
+-- each fault refutes that the links make a network
+module _ (nodes : ℕ) (links : List Link) (net : Network) (makes : Makes nodes links net) where
+  listed : HasNoFault nodes links 6
+  listed = no_fault_listed nodes links net makes.size makes.network.labelled makes.made_of
 
   not_cut_node : (node : ℕ) → ¬ IsCut nodes links node
   not_cut_node node cut =
@@ -184,13 +199,12 @@ module _ (nodes : ℕ) (links : List Link) (net : Network) (makes : Makes nodes 
       not_cut net node (makes.network.biconnected node is.0) is
 
   pub no_fault : (fault : NetFault) → ¬ Holds nodes links fault
-  no_fault Nodes = λ wrong. let few = labelled.few in let many = labelled.many in let size = makes.size in
-      ⊎_elim (λ low. omega arith) (λ high. omega arith) wrong
-  no_fault (Node link) = not_stray link
-  no_fault (Loop link) = not_loop link
-  no_fault (Double link) = not_double link
-  no_fault (PortTwice link) = not_twice link
-  no_fault (PortGap node) = not_gap node
+  no_fault Nodes = listed Nodes (omega arith)
+  no_fault (Node link) = listed (Node link) (omega arith)
+  no_fault (Loop link) = listed (Loop link) (omega arith)
+  no_fault (Double link) = listed (Double link) (omega arith)
+  no_fault (PortTwice link) = listed (PortTwice link) (omega arith)
+  no_fault (PortGap node) = listed (PortGap node) (omega arith)
   no_fault Apart = not_apart net links makes.made_of nodes makes.size makes.network.connected
   no_fault (CutNode node) = not_cut_node node
   no_fault Memory = λ never. never

@@ -39,7 +39,7 @@ eq_or_not : (a b : ℕ) → (a ≡ b) ⊎ (a ≢ b)
 eq_or_not a b = ⊎_elim (λ e. inl e.1) (λ ne. inr ne.1) (eqb_tells a b)
 
 -- a mark more
-IsMarked-set : (marks : List Bool) (at node : ℕ) → at < length marks → IsMarked marks node
+pub IsMarked-set : (marks : List Bool) (at node : ℕ) → at < length marks → IsMarked marks node
     → IsMarked (set marks at true) node
 IsMarked-set marks at node lt h = ⊎_elim
     (λ e. subst (λ k. IsMarked (set marks at true) k) (sym e) (get_or-set_same marks at true false lt))

@@ -11,7 +11,7 @@ use Rattle.bhs_net.specs.Numbering.{place_of, LeadsTo, LeadsOn}
 use Rattle.bhs_net.proofs.Degrees.{row_of-network_of}
 use Rattle.bhs_net.proofs.Places.{below_or_at, lt_eq_gt}
 use Rattle.bhs_net.proofs.Walks.{IsPath-none, IsPath-more, IsPath-append, IsPath-back, Leads-to, Leads-back}
-use Rattle.bhs_net.proofs.Walks.{Without-back, any_path}
+use Rattle.bhs_net.proofs.Walks.{Without-back}
 
 -- some port of the first ones of a row leads to a node whose place is such
 abbrev pub LeadsBefore : List End → List ℕ → ℕ → (ℕ → Type 0) → Type 0
@@ -49,8 +49,13 @@ module _ (net : Network) (labelled : IsPortLabelled net) (place node_at : ℕ �
       × ((cut : ℕ) → place node < place cut → IsPath (Without cut (Leads net)) node end)
 
   down : (most node : ℕ) → node < nodes_of net → place node ≤ most → Down node
-  down zero node lt le = (node, lt, omega arith, IsPath-none (Leads net) node,
-      λ cut h. IsPath-none (Without cut (Leads net)) node)
+  down zero node lt le = (
+    node,
+    lt,
+    omega arith,
+    IsPath-none (Leads net) node,
+    λ cut h. IsPath-none (Without cut (Leads net)) node,
+  )
   down (suc most) node lt le = ⊎_elim
       (λ first. (node, lt, first, IsPath-none (Leads net) node, λ cut h. IsPath-none (Without cut (Leads net)) node))
       (λ goes.
@@ -72,8 +77,12 @@ module _ (net : Network) (labelled : IsPortLabelled net) (place node_at : ℕ �
       × ((cut : ℕ) → place cut < place node → IsPath (Without cut (Leads net)) node end)
 
   up : (most node : ℕ) → node < nodes_of net → last ≤ place node + most → Up node
-  up zero node lt le = (node, lt, (let w = (placed node lt).within in omega arith),
-      λ cut h. IsPath-none (Without cut (Leads net)) node)
+  up zero node lt le = (
+    node,
+    lt,
+    (let w = (placed node lt).within in omega arith),
+    λ cut h. IsPath-none (Without cut (Leads net)) node,
+  )
   up (suc most) node lt le = ⊎_elim
       (λ at. (node, lt, at, λ cut h. IsPath-none (Without cut (Leads net)) node))
       (λ goes.
@@ -148,7 +157,7 @@ module _ (net : Network) (labelled : IsPortLabelled net) (place node_at : ℕ �
         (subst (λ d. IsPath (Leads net) b d) (same_node q.0 p.0 q.1 p.1 (q.2 ∙ sym p.2)) q.3))
 
     network : IsNetwork net
-    network = record { labelled = labelled; connected = connected_by; biconnected = joined_without; }
+    network = record { labelled = labelled; connected = connected_by; biconnected = joined_without }
 
   pub IsNetwork-from_placed : IsNetwork net
   IsNetwork-from_placed =

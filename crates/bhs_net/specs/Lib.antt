@@ -3,6 +3,7 @@ pub mod Paths
 pub mod Network
 pub mod Faults
 pub mod Listing
+pub mod Filling
 pub mod Search
 pub mod Numbering
 pub mod Laws

@@ -2,6 +2,7 @@
 #![tactic(auto)]
 
 mod faults;
+mod filling;
 mod laws;
 mod links;
 mod listing;

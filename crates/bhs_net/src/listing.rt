@@ -1,6 +1,7 @@
-//! From a list of links to rows of far ends: one pass over the links for each fault, since a fault that is told first
-//! may stand later in the list. The ends stand in a map by node and port, so that nothing is as large as the largest
-//! port. With n links the cost is O(n log n), and O(n) memory.
+//! From a list of links to rows of far ends. The rows of links that have no fault are filled at once. Others take one
+//! pass over the links for each fault, since a fault that is told first may stand later in the list; there the ends stand
+//! in a map by node and port, so that nothing is as large as the largest port. With n links the cost is O(n), or
+//! O(n log n) where there is a fault, and O(n) memory.
 
 ghost use Rattle.std.specs.Prelude.{◌≡◌, ℕ, ◌<◌, ◌≤◌, ◌⊎◌, length, OnOk, IfOk, IfErr, min};
 ghost use Rattle.std.specs.Option.{option_map_or};
@@ -9,6 +10,7 @@ ghost use Rattle.bhs_net.specs.Faults.{IsStray, IsLoop, IsDouble, IsPortTwice, L
 ghost use Rattle.bhs_net.specs.Listing.{TellsLeast, MapsEnds, IsRowOf, AreRowsOf, HasAllPorts, IsBeyond};
 
 use crate::faults::{MAX_NODES, MIN_NODES, NetFault};
+use crate::filling::filled;
 use crate::links::Link;
 use std::alloc::{AllocError, Global};
 use std::collections::{BTreeMap, BTreeSet};
@@ -39,7 +41,8 @@ fn check_ends(nodes: u16, links: &[Link]) -> Result<(), NetFault>
     Ok(())
 }
 
-fn check_loops(links: &[Link]) -> Result<(), NetFault>
+/// Refuses the first link that joins a node to itself.
+pub fn check_loops(links: &[Link]) -> Result<(), NetFault>
     ensures ok { OnOk result ((place : ℕ) → ¬ IsLoop links.now place) }
     ensures err { IfErr result (TellsLeast NetFault.Loop (IsLoop links.now)) }
 {
@@ -157,6 +160,9 @@ pub fn listed(alloc: Global, nodes: u16, links: &[Link]) -> Result<Vec<Vec<End>>
     ensures err { IfErr result (Refuses nodes links.now) }
 {
     check_nodes(nodes)?;
+    if let Some(filled_rows) = filled(alloc, nodes, links)? {
+        return Ok(filled_rows);
+    }
     check_ends(nodes, links)?;
     check_loops(links)?;
     check_doubles(alloc, links)?;

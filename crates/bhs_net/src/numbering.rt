@@ -105,7 +105,11 @@ pub fn order_of(rows: &[Vec<End>]) -> Order {
         let low = search.found[at(search.lows[at(node)])];
         let is_behind = goes_behind[at(low)];
         goes_behind[at(parent)] = !is_behind;
-        let next = if is_behind { behind[at(parent)] } else { parent };
+        let next = if is_behind {
+            behind[at(parent)]
+        } else {
+            parent
+        };
         let previous = before[at(next)];
         before[at(node)] = previous;
         behind[at(node)] = next;

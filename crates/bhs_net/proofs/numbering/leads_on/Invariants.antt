@@ -1,5 +1,4 @@
-use Rattle.std.proofs.Common.{◌≡◌, ◌≢◌, true, ◌<◌, ◌⊎◌, take, ℕ}
-use Rattle.bhs_net.specs.Numbering.{LeadsTo}
+use Rattle.std.proofs.Common.{◌≡◌, ◌≢◌, true, ◌<◌, ◌⊎◌, ℕ}
 use Rattle.bhs_net.proofs.Numberings.{LeadsBefore}
 use Rattle.bhs_net.proofs.numbering.leads_on.Given as goal
 

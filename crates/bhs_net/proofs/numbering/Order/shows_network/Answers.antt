@@ -1,5 +1,5 @@
 use Rattle.std.proofs.Common.{◌≡◌, ◌<◌, ◌≤◌, ◌-◌, length, arith, sym, ap, ◌∙◌}
-use Rattle.bhs_net.specs.Numbering.{place_of, LeadsOn}
+use Rattle.bhs_net.specs.Numbering.{place_of}
 use Rattle.bhs_net.proofs.Numberings.{ArePlaced-more, IsNetwork-from_all}
 use Rattle.bhs_net.proofs.numbering.Order.shows_network.Goals as goal
 
