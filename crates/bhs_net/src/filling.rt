@@ -11,6 +11,7 @@ ghost use Rattle.bhs_net.specs.Filling.{notes_of, note_at, AreNoted, IsFilled, A
 
 use crate::links::Link;
 use crate::listing::{End, check_loops};
+use crate::numbering::NODES;
 use std::alloc::{AllocError, Global};
 
 /// Notes the place of a link for one of its ends, if there is such a place.
@@ -122,29 +123,29 @@ fn filled_rows(
 }
 
 /// Whether no two ports of the row lead to one node.
-fn leads_apart(alloc: Global, nodes: usize, row: &[End]) -> Result<bool, AllocError>
-    ensures { IfOk result (λ is_apart. is_apart ≡ true → LeadsApart row.now) }
+fn leads_apart(row: &[End]) -> bool
+    ensures { result ≡ true → LeadsApart row.now }
 {
-    let mut marks = vec![in alloc; false; nodes]?;
+    let mut marks = [false; NODES];
     for end in row {
         let node = usize::from(end.0);
-        if node >= nodes || marks[node] {
-            return Ok(false);
+        if node >= NODES || marks[node] {
+            return false;
         }
         marks[node] = true;
     }
-    Ok(true)
+    true
 }
 
-fn all_lead_apart(alloc: Global, rows: &[Vec<End>]) -> Result<bool, AllocError>
-    ensures { IfOk result (λ are_apart. are_apart ≡ true → AllLeadApart (network_of rows.now)) }
+fn all_lead_apart(rows: &[Vec<End>]) -> bool
+    ensures { result ≡ true → AllLeadApart (network_of rows.now) }
 {
     for row in rows {
-        if !leads_apart(alloc, rows.len(), row)? {
-            return Ok(false);
+        if !leads_apart(row) {
+            return false;
         }
     }
-    Ok(true)
+    true
 }
 
 /// The rows of the network that the links make, where they have none of the first six faults.
@@ -166,7 +167,7 @@ pub fn filled(
     }
     match filled_rows(alloc, links, &notes)? {
         Some(rows) => {
-            if all_lead_apart(alloc, &rows)? {
+            if all_lead_apart(&rows) {
                 Ok(Some(rows))
             } else {
                 Ok(None)

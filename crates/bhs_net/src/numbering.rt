@@ -12,7 +12,7 @@ ghost use Rattle.bhs_net.specs.Numbering.{LeadsOn};
 use crate::listing::End;
 
 /// A table by node has a place for each `u8`, which is each node that a network may have.
-const NODES: usize = 256;
+pub const NODES: usize = 256;
 
 /// More steps than a search takes: one for each port, and one back from each node.
 const STEPS: usize = NODES * NODES;

@@ -11,7 +11,7 @@ loop-row-preserved c =
     let rows = c.args.rows.now in
     let here : c.loop-row.row-index < length rows = let t = c.loop-row-test.true in omega arith in
     let apart : LeadsApart c.row-item.result.items =
-    rw c.deref.ensures.value at (c.in_ok-leads_apart.ensures c.if-not-branch.false) in
+    rw c.deref.ensures.value at (c.leads_apart.ensures c.if-not-leads_apart.false) in
     λ early lt. ⊎_elim
     (λ below. c.loop-row.invariant early below)
     (λ at. subst (λ k. LeadsApart (row_of (network_of rows) k)) (sym at)
