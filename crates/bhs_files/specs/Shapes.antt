@@ -7,7 +7,8 @@ use Rattle.std.specs.Result.{result_ok}
 use Rattle.toml.specs.Data.{Data, string, integer, array, Items, no_items, item, Members, as_table}
 use Rattle.bhs_lineup.specs.declared.limits.TheConstants.{SEED_BYTES}
 use Rattle.hex.specs.Hex.{decode_sized}
-use Rattle.bhs_files.specs.declared.limits.TheConstants.{MAX_MATCHES, MAX_TEAM, MAX_NETWORK_NAME, MAX_KEY, MAX_KEYS}
+use Rattle.bhs_teams.specs.Teams.{is_team}
+use Rattle.bhs_files.specs.declared.limits.TheConstants.{MAX_MATCHES, MAX_NETWORK_NAME, MAX_KEY, MAX_KEYS}
 
 -- a whole number 0 to 65,535
 abbrev pub number : Data → Option ℕ
@@ -22,14 +23,6 @@ text_where test _ = None
 -- at least one byte, and no more than these
 abbrev pub is_sized : ℕ → List ℕ → Bool
 is_sized most bytes = nat_le 1 (length bytes) && nat_le (length bytes) most
-
--- `a` to `z`, `0` to `9`, or `-`
-abbrev pub is_team_character : ℕ → Bool
-is_team_character c = (nat_le 97 c && nat_le c 122) || (nat_le 48 c && nat_le c 57) || (c == 45)
-
--- the name of a team
-abbrev pub is_team : List ℕ → Bool
-is_team bytes = is_sized MAX_TEAM bytes && list_all is_team_character bytes
 
 -- the name of a network's file
 abbrev pub is_network_name : List ℕ → Bool

@@ -20,9 +20,8 @@ pub use faults::FileFault;
 pub use file_keys::FileKey;
 pub use fixtures::Fixture;
 pub use limits::{
-    MAX_KEY, MAX_KEYS, MAX_MATCHES, MAX_NETWORK_NAME, MAX_TEAM, NETWORK_VERSION, TOURNAMENT_VERSION,
+    MAX_KEY, MAX_KEYS, MAX_MATCHES, MAX_NETWORK_NAME, NETWORK_VERSION, TOURNAMENT_VERSION,
 };
 pub use network_files::read_network;
-pub use shapes::is_team;
 pub use tournament_files::read_tournament;
 pub use tournaments::Tournament;

@@ -7,9 +7,6 @@ pub const TOURNAMENT_VERSION: u16 = 2;
 /// The most matches of a tournament. The least is 1.
 pub const MAX_MATCHES: usize = 64;
 
-/// The most characters of a team's name. The least is 1.
-pub const MAX_TEAM: usize = 16;
-
 /// The most bytes of the name of a network's file. The least is 1.
 pub const MAX_NETWORK_NAME: usize = 255;
 

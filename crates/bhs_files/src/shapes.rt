@@ -1,29 +1,17 @@
 ghost use Rattle.std.specs.Prelude.{◌≡◌, ◌≤◌, length, option_copied, option_map, IfOk, IfSome, map, vec_len};
 ghost use Rattle.toml.specs.Data.{as_table};
 ghost use Rattle.toml.specs.View.{view, items_view, table_view};
-ghost use Rattle.bhs_files.specs.Shapes.{number, is_sized, is_team, is_team_character, is_network_name, team};
+ghost use Rattle.bhs_files.specs.Shapes.{number, is_sized, is_network_name, team};
 ghost use Rattle.bhs_files.specs.Shapes.{network_name, key, seed, hole, holes, pair, each, ends, keys, matches};
 
-use crate::limits::{MAX_KEY, MAX_KEYS, MAX_MATCHES, MAX_NETWORK_NAME, MAX_TEAM};
+use crate::limits::{MAX_KEY, MAX_KEYS, MAX_MATCHES, MAX_NETWORK_NAME};
 use bhs_lineup::SEED_BYTES;
 use bhs_model::Text;
 use bhs_net::Memory;
+use bhs_teams::is_team;
 use hex::FromHex;
 use std::alloc::Global;
 use toml::{Table, Value};
-
-/// Whether the text is the name of a team: 1 to `MAX_TEAM` characters out of `a` to `z`, `0` to `9` and `-`.
-pub fn is_team(name: &str) -> bool
-    ensures { result ≡ is_team name.now }
-{
-    is_sized(name, MAX_TEAM) && name.as_bytes().iter().all(|byte| is_team_character(*byte))
-}
-
-fn is_team_character(byte: u8) -> bool
-    ensures { result ≡ is_team_character byte }
-{
-    matches!(byte, b'a'..=b'z' | b'0'..=b'9' | b'-')
-}
 
 fn is_network_name(name: &str) -> bool
     ensures { result ≡ is_network_name name.now }

@@ -12,9 +12,8 @@ use Rattle.bhs_model.specs.declared.commands.Command.TheVariants.{Enter, Look, W
 use Rattle.bhs_model.specs.declared.events.Event.{Event}
 use Rattle.bhs_model.specs.declared.events.Event.TheVariants.{Tell, Deliver, Close}
 use Rattle.bhs_model.specs.declared.replies.Reply.{Reply}
-use Rattle.bhs_model.specs.declared.replies.Reply.TheVariants.{Here, Written, Changed, Gone, Noted, Bye, Over, No}
 use Rattle.bhs_wire.specs.Reply.{quoted_text}
-use Rattle.bhs_wire.proofs.ReplyLines.{compact_text-data_of}
+use Rattle.bhs_wire.proofs.ReplyLines.{compact_text-data_of, tokens-data_of}
 use Rattle.bhs_replay.specs.EventLine.{said, answered, reply_part, event_line}
 use Rattle.bhs_replay.specs.EventTokens.{happening_tokens, answer_tokens, event_tokens}
 use Rattle.bhs_replay.proofs.EventData.{answer_data, reply_member, said_members, event_data}
@@ -60,15 +59,7 @@ compact_text-event_data Close reply = ap (λ text. codes "{\"do\":\"close\"" ++ 
 
 answer_tokens-data : (reply : Option Reply) → json_tokens (outline (answer_data reply)) ≡ answer_tokens reply
 answer_tokens-data None = refl
-answer_tokens-data (Some (Here ports None board)) = refl
-answer_tokens-data (Some (Here ports (Some port) board)) = refl
-answer_tokens-data (Some Written) = refl
-answer_tokens-data (Some (Changed board)) = refl
-answer_tokens-data (Some Gone) = refl
-answer_tokens-data (Some Noted) = refl
-answer_tokens-data (Some Bye) = refl
-answer_tokens-data (Some Over) = refl
-answer_tokens-data (Some (No why)) = refl
+answer_tokens-data (Some reply) = tokens-data_of reply
 
 abbrev with_answer : Event → List Token → List Token
 with_answer event answer = Token.begin_object ∷ (happening_tokens event

@@ -12,7 +12,6 @@ mod read;
 mod reader;
 mod reading;
 mod steps;
-mod tokens;
 mod writing;
 
 pub use faults::{ReplayFault, WritingFault};

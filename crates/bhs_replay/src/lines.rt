@@ -3,15 +3,13 @@ ghost use Rattle.std.specs.Prelude.{string_bytes, decimal};
 ghost use Rattle.json.specs.Token.{key};
 ghost use Rattle.bhs_model.specs.Marks.{read_if};
 ghost use Rattle.bhs_replay.specs.EventLine.{event_line};
-ghost use Rattle.bhs_replay.specs.EventTokens.{happening_tokens, command_tokens, reply_tokens, label_token};
-ghost use Rattle.bhs_replay.specs.EventTokens.{answer_tokens, word_tokens};
-ghost use Rattle.bhs_replay.specs.Spelling.{CommandFits, EventFits, LabelFits, ReplyFits, ReadsBack};
+ghost use Rattle.bhs_replay.specs.EventTokens.{happening_tokens, command_tokens, answer_tokens};
+ghost use Rattle.bhs_replay.specs.Spelling.{CommandFits, EventFits, ReplyFits, ReadsBack};
 
-use crate::tokens::{write_number, write_text};
 use bhs_match::Sealed;
-use bhs_model::{Command, Event, Kept, Reply, Text};
+use bhs_model::{Command, Event, Kept, Reply};
 use bhs_net::Memory;
-use bhs_wire::word_of;
+use bhs_wire::{write_number, write_reply, write_text};
 use json::Writer;
 use std::alloc::Global;
 
@@ -111,67 +109,4 @@ fn write_answer(out: &mut Writer, reply: &Option<Reply>) -> Result<(), Memory>
         Some(reply) => write_reply(out, reply),
         None => Ok(out.null()?),
     }
-}
-
-fn write_reply(out: &mut Writer, reply: &Reply) -> Result<(), Memory>
-    ensures ok { OnOk result (out.new.tokens ≡ out.old.tokens ++ reply_tokens reply.now) }
-    ensures before { out.new.before ≡ out.old.before }
-    ensures fits { ReplyFits (Some reply.now) }
-{
-    match reply {
-        Reply::Here { ports, came, board } => write_here(out, *ports, *came, board),
-        Reply::Written => write_word(out, "ok", "written"),
-        Reply::Changed { board } => write_changed(out, board),
-        Reply::Gone => write_word(out, "ok", "gone"),
-        Reply::Noted => write_word(out, "ok", "noted"),
-        Reply::Bye => write_word(out, "ok", "bye"),
-        Reply::Over => write_word(out, "ok", "over"),
-        Reply::No(why) => write_word(out, "no", word_of(*why)),
-    }
-}
-
-fn write_here(out: &mut Writer, ports: u16, came: Option<u16>, board: &Text) -> Result<(), Memory>
-    ensures ok { OnOk result (out.new.tokens ≡ out.old.tokens ++ reply_tokens (Reply.Here ports came board.now)) }
-    ensures before { out.new.before ≡ out.old.before }
-    ensures fits { ReplyFits (Some (Reply.Here ports came board.now)) }
-{
-    out.begin_object()?;
-    write_text(out, "board", board.as_str())?;
-    write_label(out, came)?;
-    write_text(out, "ok", "here")?;
-    write_number(out, "ports", ports)?;
-    Ok(out.end_object()?)
-}
-
-fn write_changed(out: &mut Writer, board: &Text) -> Result<(), Memory>
-    ensures ok { OnOk result (out.new.tokens ≡ out.old.tokens ++ reply_tokens (Reply.Changed board.now)) }
-    ensures before { out.new.before ≡ out.old.before }
-{
-    out.begin_object()?;
-    write_text(out, "board", board.as_str())?;
-    write_text(out, "ok", "changed")?;
-    Ok(out.end_object()?)
-}
-
-fn write_label(out: &mut Writer, came: Option<u16>) -> Result<(), Memory>
-    ensures ok { OnOk result (out.new.tokens ≡ out.old.tokens ++ key (codes "from") ∷ label_token came ∷ []) }
-    ensures before { out.new.before ≡ out.old.before }
-    ensures fits { LabelFits came }
-{
-    match came {
-        Some(port) => write_number(out, "from", port),
-        None => {
-            out.key("from")?;
-            Ok(out.null()?)
-        }
-    }
-}
-
-fn write_word(out: &mut Writer, name: &str, text: &str) -> Result<(), Memory>
-    ensures ok { OnOk result (out.new.tokens ≡ out.old.tokens ++ word_tokens name.now text.now) }
-    ensures before { out.new.before ≡ out.old.before }
-{
-    out.begin_object()?;
-    write_text(out, name, text)?;
-    Ok(out.end_object()?)
 }

@@ -4,5 +4,4 @@ mod matches;
 mod memory;
 mod model;
 mod pasts;
-mod sessions_on_matches;
 mod triangle;

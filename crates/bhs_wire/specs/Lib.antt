@@ -2,5 +2,6 @@ pub mod LineKind
 pub mod First
 pub mod Why
 pub mod Reply
+pub mod ReplyTokens
 pub mod Denial
 pub mod Lines

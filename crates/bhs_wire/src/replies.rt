@@ -1,63 +1,86 @@
-ghost use Rattle.std.specs.Prelude.{◌≡◌, codes, string_bytes, IfOk};
-ghost use Rattle.serde_json.specs.View.{view};
-ghost use Rattle.bhs_wire.specs.Reply.{here, changed, plain, refused, data_of, line};
+ghost use Rattle.std.specs.Prelude.{◌≡◌, ◌++◌, ◌∷◌, [], codes, string_bytes, IfOk, OnOk};
+ghost use Rattle.json.specs.Token.{key};
+ghost use Rattle.bhs_wire.specs.Reply.{line};
+ghost use Rattle.bhs_wire.specs.ReplyTokens.{reply_tokens, label_token, word_tokens, LabelFits, NumbersFit};
 ghost use Rattle.bhs_wire.specs.Why.{word};
 
+use crate::tokens::{write_number, write_text};
 use bhs_model::{Reply, Text, Why};
 use bhs_net::Memory;
-use serde_json::{Value, json};
+use json::Writer;
 use std::alloc::Global;
 
 /// The line of a reply, without its line feed.
 pub fn line_of(alloc: Global, reply: &Reply) -> Result<String, Memory>
     ensures { IfOk result (λ text. string_bytes text ≡ line reply.now) }
 {
-    value_of(alloc, reply)?.to_string(alloc)
+    let mut out = Writer::new(Vec::new(alloc));
+    write_reply(&mut out, reply)?;
+    Ok(String::from_utf8(out.into_inner()).unwrap())
 }
 
-/// A reply as JSON, for a line or for a part of one.
-pub fn value_of(alloc: Global, reply: &Reply) -> Result<Value, Memory>
-    ensures { IfOk result (λ value. view value ≡ data_of reply.now) }
+/// Writes a reply as a part of JSON. An `Err` may have written a part of it.
+pub fn write_reply(out: &mut Writer, reply: &Reply) -> Result<(), Memory>
+    ensures ok { OnOk result (out.new.tokens ≡ out.old.tokens ++ reply_tokens reply.now) }
+    ensures before { out.new.before ≡ out.old.before }
+    ensures fits { NumbersFit reply.now }
 {
     match reply {
-        Reply::Here { ports, came, board } => value_of_here(alloc, *ports, *came, board),
-        Reply::Written => value_of_word(alloc, "written"),
-        Reply::Changed { board } => value_of_changed(alloc, board),
-        Reply::Gone => value_of_word(alloc, "gone"),
-        Reply::Noted => value_of_word(alloc, "noted"),
-        Reply::Bye => value_of_word(alloc, "bye"),
-        Reply::Over => value_of_word(alloc, "over"),
-        Reply::No(why) => value_of_refusal(alloc, *why),
+        Reply::Here { ports, came, board } => write_here(out, *ports, *came, board),
+        Reply::Written => write_word(out, "ok", "written"),
+        Reply::Changed { board } => write_changed(out, board),
+        Reply::Gone => write_word(out, "ok", "gone"),
+        Reply::Noted => write_word(out, "ok", "noted"),
+        Reply::Bye => write_word(out, "ok", "bye"),
+        Reply::Over => write_word(out, "ok", "over"),
+        Reply::No(why) => write_word(out, "no", word_of(*why)),
     }
 }
 
-fn value_of_here(
-    alloc: Global,
-    ports: u16,
-    came: Option<u16>,
-    board: &Text,
-) -> Result<Value, Memory>
-    ensures { IfOk result (λ value. view value ≡ here ports came board.now) }
+fn write_here(out: &mut Writer, ports: u16, came: Option<u16>, board: &Text) -> Result<(), Memory>
+    ensures ok { OnOk result (out.new.tokens ≡ out.old.tokens ++ reply_tokens (Reply.Here ports came board.now)) }
+    ensures before { out.new.before ≡ out.old.before }
+    ensures fits { NumbersFit (Reply.Here ports came board.now) }
 {
-    json!(in alloc; {"board": board.as_str(), "from": came, "ok": "here", "ports": ports})
+    out.begin_object()?;
+    write_text(out, "board", board.as_str())?;
+    write_label(out, came)?;
+    write_text(out, "ok", "here")?;
+    write_number(out, "ports", ports)?;
+    Ok(out.end_object()?)
 }
 
-fn value_of_changed(alloc: Global, board: &Text) -> Result<Value, Memory>
-    ensures { IfOk result (λ value. view value ≡ changed board.now) }
+fn write_changed(out: &mut Writer, board: &Text) -> Result<(), Memory>
+    ensures ok { OnOk result (out.new.tokens ≡ out.old.tokens ++ reply_tokens (Reply.Changed board.now)) }
+    ensures before { out.new.before ≡ out.old.before }
 {
-    json!(in alloc; {"board": board.as_str(), "ok": "changed"})
+    out.begin_object()?;
+    write_text(out, "board", board.as_str())?;
+    write_text(out, "ok", "changed")?;
+    Ok(out.end_object()?)
 }
 
-fn value_of_word(alloc: Global, word: &str) -> Result<Value, Memory>
-    ensures { IfOk result (λ value. view value ≡ plain word.now) }
+fn write_label(out: &mut Writer, came: Option<u16>) -> Result<(), Memory>
+    ensures ok { OnOk result (out.new.tokens ≡ out.old.tokens ++ key (codes "from") ∷ label_token came ∷ []) }
+    ensures before { out.new.before ≡ out.old.before }
+    ensures fits { LabelFits came }
 {
-    json!(in alloc; {"ok": word})
+    match came {
+        Some(port) => write_number(out, "from", port),
+        None => {
+            out.key("from")?;
+            Ok(out.null()?)
+        }
+    }
 }
 
-fn value_of_refusal(alloc: Global, why: Why) -> Result<Value, Memory>
-    ensures { IfOk result (λ value. view value ≡ refused why) }
+fn write_word(out: &mut Writer, name: &str, text: &str) -> Result<(), Memory>
+    ensures ok { OnOk result (out.new.tokens ≡ out.old.tokens ++ word_tokens name.now text.now) }
+    ensures before { out.new.before ≡ out.old.before }
 {
-    json!(in alloc; {"no": word_of(why)})
+    out.begin_object()?;
+    write_text(out, name, text)?;
+    Ok(out.end_object()?)
 }
 
 /// The word that tells a client why a command is refused. Takes no memory.

@@ -2,7 +2,7 @@ use bhs_model::{Command, MAX_LINE, Reply, Text, Why};
 use bhs_net::Memory;
 use bhs_wire::{
     Denial, First, LineKind, Lines, Raw, command_of, denial_of, kind_of, line_of, read_line,
-    value_of, word_of,
+    word_of,
 };
 use std::alloc::Global;
 use std::test::Fail;
@@ -225,7 +225,6 @@ fn replies(rt: HostRuntime) -> Result<(), Fail> {
     ] {
         assert_eq!(rt; line_of(alloc, &reply)?.as_str(), line);
     }
-    assert!(rt; value_of(alloc, &Reply::Gone)?.get("ok").is_some());
     assert_eq!(rt; word_of(Why::Long), "long");
     Ok(())
 }
