@@ -7,9 +7,9 @@ ghost use Rattle.bhs_replay.specs.Head.{head_line, links_of, whole, listed, end_
 ghost use Rattle.bhs_replay.specs.HeadTokens.{data_tokens, doom_tokens, version_number};
 
 use crate::links::links_of;
-use bhs_wire::write_number;
 use bhs_model::Setup;
 use bhs_net::{Link, Memory, Net};
+use bhs_wire::write_number;
 use json::Writer;
 use std::alloc::Global;
 

@@ -1,6 +1,7 @@
 //! What the files' crate makes of files: `tests/program/files.rows` has what the program tells of them.
 
-use bhs_files::{assemble, is_team, read_network, read_tournament};
+use bhs_files::{assemble, read_network, read_tournament};
+use bhs_teams::is_team;
 use std::alloc::Global;
 use std::test::Fail;
 
