@@ -56,14 +56,14 @@ fn cell(alloc: Global) -> Option<Cell> {
     Cell::new(alloc, 0, Match::new(alloc, net, setup).ok()?, held).ok()
 }
 
-/// What the agent is answered to a command, which is made again where memory runs out.
+/// What the agent is answered to a command, which is told again where memory runs out.
 fn told<R: Wait>(
     rt: &R,
     cell: &Cell,
     pass: &mut Pass,
-    commands: [Command; 2],
+    command: Command,
+    again: Command,
 ) -> Result<Reply, Fail> {
-    let [command, again] = commands;
     match cell.submit(rt, &Open, pass, command) {
         Ok(answer) => Ok(answer.reply),
         Err(_) => Ok(cell.submit(rt, &Open, pass, again)?.reply),
@@ -85,10 +85,10 @@ fn a_match_is_made_and_commands_are_told_again(rt: HostRuntime) -> Result<(), Fa
         None => cell(alloc).expect(&rt, "memory suffices"),
     };
     let mut pass = cell.claim(&rt, 0).expect(&rt, "a pass is claimed once");
-    told(&rt, &cell, &mut pass, [Command::Enter, Command::Enter])?;
-    let written = told(&rt, &cell, &mut pass, [write(alloc)?, write(alloc)?])?;
+    told(&rt, &cell, &mut pass, Command::Enter, Command::Enter)?;
+    let written = told(&rt, &cell, &mut pass, write(alloc)?, write(alloc)?)?;
     assert_eq!(rt; written, Reply::Written);
-    let looked = told(&rt, &cell, &mut pass, [Command::Look, Command::Look])?;
+    let looked = told(&rt, &cell, &mut pass, Command::Look, Command::Look)?;
     let board = Text::from(String::from_str(alloc, "ab")?);
     let here = Reply::Here {
         ports: 2,
