@@ -20,7 +20,7 @@ SMALL = Sizes(LEAST_SESSIONS, turns=180, between_bytes=0.02, between_steps=0.02,
 CHECKS = 7
 
 
-@unittest.skipUnless("BY_THE_CLOCK" in os.environ, "a siege goes by the clock, which a busy machine may miss")
+@unittest.skipUnless("BY_THE_CLOCK" in os.environ, "goes by the clock")
 class Attacks(unittest.TestCase):
     def test_the_stand_in_stands_them(self) -> None:
         printed = io.StringIO()

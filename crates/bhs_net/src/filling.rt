@@ -1,6 +1,6 @@
-//! The rows of links that have no fault, in time in the number of links. The place of each link in the list is noted for
-//! both of its ends; then a port's link is looked up by its note. Nothing is proved of how the notes are made: a place
-//! that two links would need holds one of them, and the other is missed.
+//! The rows of links that have no fault, in time in the number of links. The place of each link in the list is noted
+//! for both of its ends; then a port's link is looked up by its note. Nothing is proved of how the notes are made: a
+//! place that two links would need holds one of them, and the other is missed.
 
 ghost use Rattle.std.specs.Prelude.{◌≡◌, ◌≤◌, true, length, IfOk, IfSome};
 ghost use Rattle.bhs_net.specs.declared.faults.TheConstants.{MIN_NODES, MAX_NODES};

@@ -1,7 +1,7 @@
 //! From a list of links to rows of far ends. The rows of links that have no fault are filled at once. Others take one
-//! pass over the links for each fault, since a fault that is told first may stand later in the list; there the ends stand
-//! in a map by node and port, so that nothing is as large as the largest port. With n links the cost is O(n), or
-//! O(n log n) where there is a fault, and O(n) memory.
+//! pass over the links for each fault, since a fault that is told first may stand later in the list; there the ends
+//! stand in a map by node and port, so that nothing is as large as the largest port. With n links the cost is O(n),
+//! or O(n log n) where there is a fault, and O(n) memory.
 
 ghost use Rattle.std.specs.Prelude.{◌≡◌, ℕ, ◌<◌, ◌≤◌, ◌⊎◌, length, OnOk, IfOk, IfErr, min};
 ghost use Rattle.std.specs.Option.{option_map_or};

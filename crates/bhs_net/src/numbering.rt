@@ -1,9 +1,9 @@
-//! An order of the nodes that shows that no node cuts a network: each node but the first has a neighbour before it, each
-//! but the last has one behind it, and the first and the last are neighbours. Without any one node those before it still
-//! lead down to the first, and those behind it up to the last. A. Lempel, S. Even and I. Cederbaum ("An algorithm for
-//! planarity testing of graphs", 1967) showed that each network has such an order. It is found by a depth-first search,
-//! as by R. E. Tarjan ("Two streamlined depth-first search algorithms", Fundamenta Informaticae 9, 1986). Nothing is
-//! proved of how it is found: it is checked. Both take time in the number of ports.
+//! An order of the nodes that shows that no node cuts a network: each node but the first has a neighbour before it,
+//! each but the last has one behind it, and the first and the last are neighbours. Without any one node those before
+//! it still lead down to the first, and those behind it up to the last. A. Lempel, S. Even and I. Cederbaum ("An
+//! algorithm for planarity testing of graphs", 1967) showed that each network has such an order. It is found by a
+//! depth-first search, as by R. E. Tarjan ("Two streamlined depth-first search algorithms", Fundamenta Informaticae
+//! 9, 1986). Nothing is proved of how it is found: it is checked. Both take time in the number of ports.
 
 ghost use Rattle.std.specs.Prelude.{◌≡◌, ◌<◌, true};
 ghost use Rattle.bhs_net.specs.Network.{network_of, IsPortLabelled, IsNetwork};
