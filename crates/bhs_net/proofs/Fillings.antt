@@ -10,7 +10,7 @@ use Rattle.bhs_net.specs.Links.{End, link_at, HasEnd, Joins, AreJoined}
 use Rattle.bhs_net.specs.Network.{Network, nodes_of, row_of, degree_of, far_of, HasPort, IsPortLabelled, HasLinks}
 use Rattle.bhs_net.specs.Faults.{IsLoop, Lists}
 use Rattle.bhs_net.specs.Search.{IsMarked}
-use Rattle.bhs_net.specs.Filling.{Notes, notes_of, notes_at, note_at, AreNoted, IsFilled, AreFilled, AllLeadApart}
+use Rattle.bhs_net.specs.Filling.{Index, index_of, places_at, place_at, AreIndexed, IsFilled, AreFilled, AllLeadApart}
 use Rattle.bhs_net.proofs.Places.{below_or_at, lt_or_ge}
 use Rattle.bhs_net.proofs.Listed.{HasPort-node, AreJoined-back, Joins-loop}
 use Rattle.bhs_net.proofs.Made.{joined_leads, no_fault_listed}
@@ -20,12 +20,6 @@ use Rattle.bhs_net.proofs.Marks.{IsMarked-set}
 pub record HasPorts (links : List Link) (node ports : ℕ) (row : List End) : Type 0 where
   pub size : length row ≡ ports
   pub joined : (port : ℕ) → port < ports → AreJoined links (node, port) (get_or row port (0, 0))
-
-pub HasPorts-none : (links : List Link) (node : ℕ) (row : List End) → row ≡ [] → HasPorts links node 0 row
-HasPorts-none links node row e = record {
-  size = ap (λ (r : List End). length r) e;
-  joined = λ port h. absurd (omega arith);
-}
 
 -- what is pushed is the last of a list
 last_is : {X : Type 0} (xs : List X) (x d : X) (n : ℕ) → length xs ≡ n → get_or (xs ++ x ∷ []) n d ≡ x
@@ -45,34 +39,28 @@ HasPorts-more links node ports row end joined known = record {
 }
 
 -- the rows of the first nodes
-pub record HasRows (links : List Link) (notes : Notes) (nodes : ℕ) (net : Network) : Type 0 where
+pub record HasRows (links : List Link) (index : Index) (nodes : ℕ) (net : Network) : Type 0 where
   pub size : nodes_of net ≡ nodes
-  pub rows : (node : ℕ) → node < nodes → IsFilled links node (notes_at notes node) (row_of net node)
+  pub rows : (node : ℕ) → node < nodes → IsFilled links node (places_at index node) (row_of net node)
 
-pub HasRows-none : (links : List Link) (notes : Notes) (net : Network) → net ≡ [] → HasRows links notes 0 net
-HasRows-none links notes net e = record {
-  size = ap (λ (n : Network). length n) e;
-  rows = λ node h. absurd (omega arith);
-}
-
-pub HasRows-more : (links : List Link) (notes : Notes) (nodes : ℕ) (net : Network) (row : List End)
-    → IsFilled links nodes (notes_at notes nodes) row → HasRows links notes nodes net
-    → HasRows links notes (nodes + 1) (net ++ row ∷ [])
-HasRows-more links notes nodes net row filled known = record {
+pub HasRows-more : (links : List Link) (index : Index) (nodes : ℕ) (net : Network) (row : List End)
+    → IsFilled links nodes (places_at index nodes) row → HasRows links index nodes net
+    → HasRows links index (nodes + 1) (net ++ row ∷ [])
+HasRows-more links index nodes net row filled known = record {
   size = let s = known.size in simp length-append (omega arith);
   rows = λ node h. ⊎_elim
-      (λ below. subst (λ (r : List End). IsFilled links node (notes_at notes node) r)
+      (λ below. subst (λ (r : List End). IsFilled links node (places_at index node) r)
       (sym (get_or-append net (row ∷ []) [] node (let s = known.size in omega arith))) (known.rows node below))
-      (λ at. subst (λ k. IsFilled links k (notes_at notes k) (row_of (net ++ row ∷ []) k)) (sym at)
-      (subst (λ (r : List End). IsFilled links nodes (notes_at notes nodes) r)
+      (λ at. subst (λ k. IsFilled links k (places_at index k) (row_of (net ++ row ∷ []) k)) (sym at)
+      (subst (λ (r : List End). IsFilled links nodes (places_at index nodes) r)
       (sym (last_is net row [] nodes known.size)) filled))
       (below_or_at node nodes h);
 }
 
--- the notes of the node that a loop over rows reads
-pub notes_read : (rows : List (Vec ℕ Global)) (node : ℕ) (row : Vec ℕ Global) → node < length rows
-    → row ≡ get_or rows node row → notes_at (notes_of rows) node ≡ row.items
-notes_read rows node row h is = get_or-map (λ (r : Vec ℕ Global). r.items) rows node row [] h
+-- the places of the node that a loop over rows reads
+pub places_read : (rows : List (Vec ℕ Global)) (node : ℕ) (row : Vec ℕ Global) → node < length rows
+    → row ≡ get_or rows node row → places_at (index_of rows) node ≡ row.items
+places_read rows node row h is = get_or-map (λ (r : Vec ℕ Global). r.items) rows node row [] h
     ∙ ap (λ (r : Vec ℕ Global). r.items) (sym is)
 
 -- the first ports of a row lead to nodes with marks, and no two of them to one node
@@ -81,14 +69,6 @@ pub record KnowsHeads (nodes ports : ℕ) (row : List End) (marks : List Bool) :
   pub marked : (port : ℕ) → port < ports → IsMarked marks (get_or row port (0, 0)).0
   pub apart : (port other : ℕ) → port < ports → other < ports → (get_or row port (0, 0)).0 ≡ (get_or row other (0, 0)).0
       → port ≡ other
-
-pub KnowsHeads-none : (nodes : ℕ) (row : List End) (marks : List Bool) → length marks ≡ nodes
-    → KnowsHeads nodes 0 row marks
-KnowsHeads-none nodes row marks size = record {
-  size = size;
-  marked = λ port h. absurd (omega arith);
-  apart = λ port other h. absurd (omega arith);
-}
 
 pub KnowsHeads-more : (nodes ports : ℕ) (row : List End) (marks : List Bool) (node : ℕ)
     → (get_or row ports (0, 0)).0 ≡ node → node < nodes → get_or marks node false ≡ false
@@ -116,29 +96,29 @@ KnowsHeads-more nodes ports row marks node is lt fresh known =
           (below_or_at port ports h);
     }
 
--- ---- notes and rows make a network with port labels
-module _ (links : List Link) (notes : Notes) (net : Network) (noted : AreNoted links notes)
-    (filled : AreFilled links notes net) where
-  -- a link is noted for each of its ends
-  noted_for : (place : ℕ) (end : End) → place < length links → HasEnd (link_at links place) end
-      → note_at notes end ≡ Some place
-  noted_for place end lt (inl e) = subst (λ (q : End). note_at notes q ≡ Some place) e (noted place lt).0
-  noted_for place end lt (inr e) = subst (λ (q : End). note_at notes q ≡ Some place) e (noted place lt).1
+-- ---- rows that are filled by an index make a network with port labels
+module _ (links : List Link) (index : Index) (net : Network) (indexed : AreIndexed links index)
+    (filled : AreFilled links index net) where
+  -- a link is indexed for each of its ends
+  indexed_for : (place : ℕ) (end : End) → place < length links → HasEnd (link_at links place) end
+      → place_at index end ≡ Some place
+  indexed_for place end lt (inl e) = subst (λ (q : End). place_at index q ≡ Some place) e (indexed place lt).0
+  indexed_for place end lt (inr e) = subst (λ (q : End). place_at index q ≡ Some place) e (indexed place lt).1
 
   one_link : (place other : ℕ) (end : End) → place < length links → other < length links
       → HasEnd (link_at links place) end → HasEnd (link_at links other) end → place ≡ other
   one_link place other end lt lt' h i =
-      let same : Some place ≡ Some other = sym (noted_for place end lt h) ∙ noted_for other end lt' i in cc
+      let same : Some place ≡ Some other = sym (indexed_for place end lt h) ∙ indexed_for other end lt' i in cc
 
   has_port : (place : ℕ) (end : End) → place < length links → HasEnd (link_at links place) end → HasPort net end
   has_port place end lt h =
-      let within : end.1 < length (notes_at notes end.0) = slice_get_within (notes_at notes end.0) end.1 place
-      (noted_for place end lt h) in
+      let within : end.1 < length (places_at index end.0) = slice_get_within (places_at index end.0) end.1 place
+      (indexed_for place end lt h) in
       ⊎_elim
       (λ is_node. let s = (filled.rows end.0 is_node).size in omega arith)
-      (λ beyond. absurd (let none : notes_at notes end.0 ≡ [] = get_or_past notes end.0 [] (let s = filled.size in
+      (λ beyond. absurd (let none : places_at index end.0 ≡ [] = get_or_past index end.0 [] (let s = filled.size in
       omega arith) in
-      let zero : length (notes_at notes end.0) ≡ 0 = ap (λ (n : List ℕ). length n) none in omega arith))
+      let zero : length (places_at index end.0) ≡ 0 = ap (λ (n : List ℕ). length n) none in omega arith))
       (lt_or_ge end.0 (nodes_of net))
 
   joined : (node port : ℕ) → port < degree_of net node → AreJoined links (node, port) (far_of net node port)

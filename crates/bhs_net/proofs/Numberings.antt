@@ -7,7 +7,7 @@ use Rattle.bhs_net.specs.Paths.{IsPath, Without}
 use Rattle.bhs_net.specs.Links.{End}
 use Rattle.bhs_net.specs.Network.{Network, network_of, nodes_of, row_of, far_of, Leads, IsPortLabelled, IsNetwork}
 use Rattle.bhs_net.specs.Network.{AreJoinedWithout}
-use Rattle.bhs_net.specs.Numbering.{place_of, LeadsTo, LeadsOn}
+use Rattle.bhs_net.specs.Numbering.{place_in, LeadsTo, LeadsOn}
 use Rattle.bhs_net.proofs.Degrees.{row_of-network_of}
 use Rattle.bhs_net.proofs.Places.{below_or_at, lt_eq_gt}
 use Rattle.bhs_net.proofs.Walks.{IsPath-none, IsPath-more, IsPath-append, IsPath-back, Leads-to, Leads-back}
@@ -16,7 +16,7 @@ use Rattle.bhs_net.proofs.Walks.{Without-back}
 -- some port of the first ones of a row leads to a node whose place is such
 abbrev pub LeadsBefore : List End → List ℕ → ℕ → (ℕ → Type 0) → Type 0
 LeadsBefore row places ports P = (port : ℕ) × (port < ports)
-    × P (place_of places (slice_index_or row port (0, 0)).0)
+    × P (place_in places (slice_index_or row port (0, 0)).0)
 
 -- a node leads to another whose place is such
 abbrev pub Goes : Network → (ℕ → ℕ) → ℕ → (ℕ → Type 0) → Type 0
@@ -29,6 +29,9 @@ pub record IsPlaced (net : Network) (place : ℕ → ℕ) (last node : ℕ) : Ty
   pub down : (place node ≡ 0) ⊎ Goes net place node (λ other. other < place node)
   pub up : (place node ≡ last) ⊎ Goes net place node (λ other. place node < other)
   pub around : (place node ≢ 0) ⊎ Goes net place node (λ other. other ≡ last)
+
+zero_or_more : (n : ℕ) → (n ≡ 0) ⊎ (0 < n)
+zero_or_more n = grind arith
 
 module _ (net : Network) (labelled : IsPortLabelled net) (place node_at : ℕ → ℕ) (last : ℕ)
     (is_at : (node : ℕ) → node < nodes_of net → node_at (place node) ≡ node)
@@ -107,7 +110,8 @@ module _ (net : Network) (labelled : IsPortLabelled net) (place node_at : ℕ �
         → IsPath (Without cut (Leads net)) node other
     to_last cut node zero_is lt off =
         let way = up last node lt (omega arith) in
-        subst (λ d. IsPath (Without cut (Leads net)) node d) (same_node way.0 other way.1 other_in (way.2 ∙ sym is_last))
+        subst (λ d. IsPath (Without cut (Leads net)) node d)
+        (same_node way.0 other way.1 other_in (way.2 ∙ sym is_last))
         (way.3 cut (let o : place node ≢ place cut = off in omega arith))
 
     -- and to the first, where another is
@@ -143,10 +147,7 @@ module _ (net : Network) (labelled : IsPortLabelled net) (place node_at : ℕ �
         (to_last cut b (omega arith) bt (apart cut b lt bt off')))
         (λ positive. meet cut first a b (to_first cut a (omega arith) at (apart cut a lt at off))
         (to_first cut b (omega arith) bt (apart cut b lt bt off')))
-        (below_or_at' (place cut))
-      where
-        below_or_at' : (n : ℕ) → (n ≡ 0) ⊎ (0 < n)
-        below_or_at' n = grind arith
+        (zero_or_more (place cut))
 
     connected_by : (a b : ℕ) → a < nodes_of net → b < nodes_of net → IsPath (Leads net) a b
     connected_by a b at bt =
@@ -169,46 +170,39 @@ module _ (net : Network) (labelled : IsPortLabelled net) (place node_at : ℕ �
 
 -- a node whose row leads on is placed
 pub IsPlaced-from_row : (rows : List (Vec End Global)) (node : ℕ) (row : Vec End Global) (places : List ℕ) (last : ℕ)
-    → node < length rows → row ≡ get_or rows node row → place_of places node ≤ last
-    → LeadsOn row.items places (place_of places node) last → IsPlaced (network_of rows) (place_of places) last node
+    → node < length rows → row ≡ get_or rows node row → place_in places node ≤ last
+    → LeadsOn row.items places (place_in places node) last → IsPlaced (network_of rows) (place_in places) last node
 IsPlaced-from_row rows node row places last lt is within leads =
     let net = network_of rows in
-    let goes : (P : ℕ → Type 0) → LeadsTo row.items places P → Goes net (place_of places) node P = λ P h.
+    let goes : (P : ℕ → Type 0) → LeadsTo row.items places P → Goes net (place_in places) node P = λ P h.
     let there : LeadsTo (row_of net node) places P =
     subst (λ (r : List End). LeadsTo r places P) (sym (row_of-network_of rows node row lt is)) h in
     ((far_of net node there.0).0, (there.0, there.1, refl), there.2) in
     record {
       within = within;
-      down = ⊎_elim (λ e. inl e) (λ h. inr (goes (λ other. other < place_of places node) h)) leads.down;
-      up = ⊎_elim (λ e. inl e) (λ h. inr (goes (λ other. place_of places node < other) h)) leads.up;
+      down = ⊎_elim (λ e. inl e) (λ h. inr (goes (λ other. other < place_in places node) h)) leads.down;
+      up = ⊎_elim (λ e. inl e) (λ h. inr (goes (λ other. place_in places node < other) h)) leads.up;
       around = ⊎_elim (λ e. inl e) (λ h. inr (goes (λ other. other ≡ last) h)) leads.around;
     }
 
 -- the first nodes are placed, and stand at their places
 pub record ArePlaced (rows : List (Vec End Global)) (nodes places : List ℕ) (last seen : ℕ) : Type 0 where
-  pub placed : (node : ℕ) → node < seen → IsPlaced (network_of rows) (place_of places) last node
-  pub at : (node : ℕ) → node < seen → place_of nodes (place_of places node) ≡ node
-
-pub ArePlaced-none : (rows : List (Vec End Global)) (nodes places : List ℕ) (last : ℕ)
-    → ArePlaced rows nodes places last 0
-ArePlaced-none rows nodes places last = record {
-  placed = λ node h. absurd (omega arith);
-  at = λ node h. absurd (omega arith);
-}
+  pub placed : (node : ℕ) → node < seen → IsPlaced (network_of rows) (place_in places) last node
+  pub at : (node : ℕ) → node < seen → place_in nodes (place_in places node) ≡ node
 
 pub ArePlaced-more : (rows : List (Vec End Global)) (nodes places : List ℕ) (last seen : ℕ) (row : Vec End Global)
-    → seen < length rows → row ≡ get_or rows seen row → place_of places seen ≤ last
-    → place_of nodes (place_of places seen) ≡ seen → LeadsOn row.items places (place_of places seen) last
+    → seen < length rows → row ≡ get_or rows seen row → place_in places seen ≤ last
+    → place_in nodes (place_in places seen) ≡ seen → LeadsOn row.items places (place_in places seen) last
     → ArePlaced rows nodes places last seen → ArePlaced rows nodes places last (seen + 1)
 ArePlaced-more rows nodes places last seen row lt is within here leads known = record {
   placed = λ node h. ⊎_elim
       (λ below. known.placed node below)
-      (λ at. subst (λ k. IsPlaced (network_of rows) (place_of places) last k) (sym at)
+      (λ at. subst (λ k. IsPlaced (network_of rows) (place_in places) last k) (sym at)
       (IsPlaced-from_row rows seen row places last lt is within leads))
       (below_or_at node seen h);
   at = λ node h. ⊎_elim
       (λ below. known.at node below)
-      (λ at. subst (λ k. place_of nodes (place_of places k) ≡ k) (sym at) here)
+      (λ at. subst (λ k. place_in nodes (place_in places k) ≡ k) (sym at) here)
       (below_or_at node seen h);
 }
 
@@ -217,6 +211,6 @@ pub IsNetwork-from_all : (rows : List (Vec End Global)) (nodes places : List ℕ
     → IsNetwork (network_of rows)
 IsNetwork-from_all rows nodes places last seen labelled all known =
     let size = length-map rows (λ (r : Vec End Global). r.items) in
-    IsNetwork-from_placed (network_of rows) labelled (place_of places) (place_of nodes) last
+    IsNetwork-from_placed (network_of rows) labelled (place_in places) (place_in nodes) last
     (λ node lt. known.at node (let l : node < nodes_of (network_of rows) = lt in omega arith))
     (λ node lt. known.placed node (let l : node < nodes_of (network_of rows) = lt in omega arith))

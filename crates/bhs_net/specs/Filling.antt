@@ -4,41 +4,43 @@ use Rattle.bhs_net.specs.declared.links.Link.{Link}
 use Rattle.bhs_net.specs.Links.{End, near_end, far_end, link_at, AreJoined}
 use Rattle.bhs_net.specs.Network.{Network, nodes_of, row_of}
 
--- by node and port, the places of links that are noted there
-abbrev pub Notes : Type 0
-Notes = List (List ℕ)
+-- by node and port the place in the list of a link that has this end
+abbrev pub Index : Type 0
+Index = List (List ℕ)
 
--- the notes that rows in memory show
-abbrev pub notes_of : List (Vec ℕ Global) → Notes
-notes_of rows = map (λ row. row.items) rows
+-- the index that rows in memory show
+abbrev pub index_of : List (Vec ℕ Global) → Index
+index_of rows = map (λ row. row.items) rows
 
--- the places that are noted for a node
-abbrev pub notes_at : Notes → ℕ → List ℕ
-notes_at notes node = slice_index_or notes node []
+-- the places that the index has for a node
+abbrev pub places_at : Index → ℕ → List ℕ
+places_at index node = slice_index_or index node []
 
--- the place that is noted for an end
-abbrev pub note_at : Notes → End → Option ℕ
-note_at notes end = slice_get (notes_at notes end.0) end.1
+-- the place that the index has for an end
+abbrev pub place_at : Index → End → Option ℕ
+place_at index end = slice_get (places_at index end.0) end.1
 
--- each link is noted for both of its ends
-abbrev pub AreNoted : List Link → Notes → Type 0
-AreNoted links notes = (place : ℕ) → place < length links → (note_at notes (near_end (link_at links place)) ≡ Some place)
-    × (note_at notes (far_end (link_at links place)) ≡ Some place)
+-- the index has each link for both of its ends
+abbrev pub AreIndexed : List Link → Index → Type 0
+AreIndexed links index = (place : ℕ) → place < length links
+    → (place_at index (near_end (link_at links place)) ≡ Some place)
+    × (place_at index (far_end (link_at links place)) ≡ Some place)
 
--- a row has the far ends of a node's ports, as many as are noted
-pub record IsFilled (links : List Link) (node : ℕ) (notes : List ℕ) (row : List End) : Type 0 where
-  pub size : length row ≡ length notes
+-- a row has the far ends of a node's ports, as many as there are places
+pub record IsFilled (links : List Link) (node : ℕ) (places : List ℕ) (row : List End) : Type 0 where
+  pub size : length row ≡ length places
   pub joined : (port : ℕ) → port < length row → AreJoined links (node, port) (slice_index_or row port (0, 0))
 
 -- each node has its row
-pub record AreFilled (links : List Link) (notes : Notes) (net : Network) : Type 0 where
-  pub size : nodes_of net ≡ length notes
-  pub rows : (node : ℕ) → node < nodes_of net → IsFilled links node (notes_at notes node) (row_of net node)
+pub record AreFilled (links : List Link) (index : Index) (net : Network) : Type 0 where
+  pub size : nodes_of net ≡ length index
+  pub rows : (node : ℕ) → node < nodes_of net → IsFilled links node (places_at index node) (row_of net node)
 
 -- no two ports of a row lead to one node
 abbrev pub LeadsApart : List End → Type 0
 LeadsApart row = (port other : ℕ) → port < length row → other < length row → (slice_index_or row port (0, 0)).0
     ≡ (slice_index_or row other (0, 0)).0 → port ≡ other
 
+-- and so of each row
 abbrev pub AllLeadApart : Network → Type 0
 AllLeadApart net = (node : ℕ) → node < nodes_of net → LeadsApart (row_of net node)

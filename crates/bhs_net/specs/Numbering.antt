@@ -2,12 +2,12 @@ use Rattle.std.specs.Prelude.{◌≡◌, ◌≢◌, ℕ, ◌<◌, ◌⊎◌, Lis
 use Rattle.bhs_net.specs.Links.{End}
 
 -- the place that a table has for a node
-abbrev pub place_of : List ℕ → ℕ → ℕ
-place_of places node = slice_index_or places node 0
+abbrev pub place_in : List ℕ → ℕ → ℕ
+place_in places node = slice_index_or places node 0
 
 -- some port of the row leads to a node whose place is such
 abbrev pub LeadsTo : List End → List ℕ → (ℕ → Type 0) → Type 0
-LeadsTo row places P = (port : ℕ) × (port < length row) × P (place_of places (slice_index_or row port (0, 0)).0)
+LeadsTo row places P = (port : ℕ) × (port < length row) × P (place_in places (slice_index_or row port (0, 0)).0)
 
 -- the row of the node at this place leads to a lower one, but from the first; to a higher one, but from the last; and
 -- from the first to the last

@@ -1,34 +1,35 @@
-//! The rows of links that have no fault, in time in the number of links. The place of each link in the list is noted
-//! for both of its ends; then a port's link is looked up by its note. Nothing is proved of how the notes are made: a
-//! place that two links would need holds one of them, and the other is missed.
+//! The rows of links that have no fault, in time in the number of links. An index says for each end at which place of
+//! the list a link with this end stands, and each port is filled by that link. Nothing is proved of how the index is
+//! made: it is checked. Of two links that would need one place in it, one is missed.
 
 ghost use Rattle.std.specs.Prelude.{◌≡◌, ◌≤◌, true, length, IfOk, IfSome};
 ghost use Rattle.bhs_net.specs.declared.faults.TheConstants.{MIN_NODES, MAX_NODES};
 ghost use Rattle.bhs_net.specs.Links.{AreJoined};
 ghost use Rattle.bhs_net.specs.Network.{network_of};
 ghost use Rattle.bhs_net.specs.Faults.{Lists};
-ghost use Rattle.bhs_net.specs.Filling.{notes_of, note_at, AreNoted, IsFilled, AreFilled, LeadsApart, AllLeadApart};
+ghost use Rattle.bhs_net.specs.Filling.{index_of, place_at, AreIndexed, IsFilled, AreFilled, LeadsApart, AllLeadApart};
 
 use crate::links::Link;
 use crate::listing::{End, check_loops};
 use crate::numbering::NODES;
 use std::alloc::{AllocError, Global};
 
-/// Notes the place of a link for one of its ends, if there is such a place.
-fn note(notes: &mut Vec<Vec<usize>>, node: u16, port: u16, place: usize)
-    ensures size { length notes.new.items ≡ length notes.old.items }
+/// Writes the place of a link into the index, if that has room for this end.
+fn set_place(index: &mut Vec<Vec<usize>>, node: u16, port: u16, place: usize)
+    ensures size { length index.new.items ≡ length index.old.items }
 {
     let (node, port) = (usize::from(node), usize::from(port));
-    if node < notes.len() && port < notes[node].len() {
-        notes[node][port] = place;
+    if node < index.len() && port < index[node].len() {
+        index[node][port] = place;
     }
 }
 
-/// For each node as many places as it has ends, in which the places of links are noted by their ports.
-fn noted(alloc: Global, nodes: u16, links: &[Link]) -> Result<Vec<Vec<usize>>, AllocError>
-    ensures size { IfOk result (λ notes. length notes.items ≡ nodes) }
+/// The index of links: for each node as many places as links end at it, in the order of their ports.
+fn indexed(alloc: Global, nodes: u16, links: &[Link]) -> Result<Vec<Vec<usize>>, AllocError>
+    ensures size { IfOk result (λ index. length index.items ≡ nodes) }
 {
     let mut degrees: Vec<usize> = vec![in alloc; 0; usize::from(nodes)]?;
+    // No degree is more than twice the length of the list, so none wraps.
     for link in links {
         for node in [link.v, link.w] {
             if let Some(degree) = degrees.get_mut(usize::from(node)) {
@@ -36,34 +37,34 @@ fn noted(alloc: Global, nodes: u16, links: &[Link]) -> Result<Vec<Vec<usize>>, A
             }
         }
     }
-    let mut notes = Vec::new(alloc);
+    let mut index = Vec::new(alloc);
     for degree in &degrees {
-        notes.push(vec![in alloc; 0; *degree]?)?;
+        index.push(vec![in alloc; 0; *degree]?)?;
     }
     for (place, link) in links.iter().enumerate() {
-        note(&mut notes, link.v, link.p, place);
-        note(&mut notes, link.w, link.q, place);
+        set_place(&mut index, link.v, link.p, place);
+        set_place(&mut index, link.w, link.q, place);
     }
-    Ok(notes)
+    Ok(index)
 }
 
-/// The place that is noted for an end.
-fn note_of(notes: &[Vec<usize>], node: u16, port: u16) -> Option<usize>
-    ensures { result ≡ note_at (notes_of notes.now) (node, port) }
+/// The place of the list that the index has for an end.
+fn place_at(index: &[Vec<usize>], node: u16, port: u16) -> Option<usize>
+    ensures { result ≡ place_at (index_of index.now) (node, port) }
 {
-    match notes.get(usize::from(node)) {
+    match index.get(usize::from(node)) {
         Some(row) => row.get(usize::from(port)).copied(),
         None => None,
     }
 }
 
-/// Whether each link is noted for both of its ends.
-fn are_noted(links: &[Link], notes: &[Vec<usize>]) -> bool
-    ensures { result ≡ true → AreNoted links.now (notes_of notes.now) }
+/// Whether the index has each link for both of its ends.
+fn are_indexed(links: &[Link], index: &[Vec<usize>]) -> bool
+    ensures { result ≡ true → AreIndexed links.now (index_of index.now) }
 {
     for (place, link) in links.iter().enumerate() {
-        let near = note_of(notes, link.v, link.p);
-        let far = note_of(notes, link.w, link.q);
+        let near = place_at(index, link.v, link.p);
+        let far = place_at(index, link.w, link.q);
         if near != Some(place) || far != Some(place) {
             return false;
         }
@@ -85,17 +86,17 @@ fn other_end(links: &[Link], place: usize, node: usize, port: usize) -> Option<E
     }
 }
 
-/// The far ends of a node's ports, if the links that are noted for them have these ports.
+/// The far ends of a node's ports, if the links at these places have the ports in turn.
 fn filled_row(
     alloc: Global,
     links: &[Link],
     node: usize,
-    notes: &[usize],
+    places: &[usize],
 ) -> Result<Option<Vec<End>>, AllocError>
-    ensures { IfOk result (λ found. IfSome found (λ row. IsFilled links.now node notes.now row.items)) }
+    ensures { IfOk result (λ found. IfSome found (λ row. IsFilled links.now node places.now row.items)) }
 {
     let mut row = Vec::new(alloc);
-    for (port, place) in notes.iter().enumerate() {
+    for (port, place) in places.iter().enumerate() {
         match other_end(links, *place, node, port) {
             Some(end) => row.push(end)?,
             None => return Ok(None),
@@ -107,15 +108,15 @@ fn filled_row(
 fn filled_rows(
     alloc: Global,
     links: &[Link],
-    notes: &[Vec<usize>],
+    index: &[Vec<usize>],
 ) -> Result<Option<Vec<Vec<End>>>, AllocError>
     ensures { IfOk result
-        (λ found. IfSome found (λ rows. AreFilled links.now (notes_of notes.now) (network_of rows.items))) }
+        (λ found. IfSome found (λ rows. AreFilled links.now (index_of index.now) (network_of rows.items))) }
 {
     let mut rows = Vec::new(alloc);
-    for (node, row) in notes.iter().enumerate() {
-        match filled_row(alloc, links, node, row)? {
-            Some(filled) => rows.push(filled)?,
+    for (node, places) in index.iter().enumerate() {
+        match filled_row(alloc, links, node, places)? {
+            Some(row) => rows.push(row)?,
             None => return Ok(None),
         }
     }
@@ -148,7 +149,7 @@ fn all_lead_apart(rows: &[Vec<End>]) -> bool
     true
 }
 
-/// The rows of the network that the links make, where they have none of the first six faults.
+/// The rows of the network that the links make; None where they have one of the first six faults, which is not proved.
 pub fn filled(
     alloc: Global,
     nodes: u16,
@@ -161,11 +162,11 @@ pub fn filled(
     if let Err(_) = check_loops(links) {
         return Ok(None);
     }
-    let notes = noted(alloc, nodes, links)?;
-    if !are_noted(links, &notes) {
+    let index = indexed(alloc, nodes, links)?;
+    if !are_indexed(links, &index) {
         return Ok(None);
     }
-    match filled_rows(alloc, links, &notes)? {
+    match filled_rows(alloc, links, &index)? {
         Some(rows) => {
             if all_lead_apart(&rows) {
                 Ok(Some(rows))

@@ -1,12 +1,14 @@
 //! An order of the nodes that shows that no node cuts a network: each node but the first has a neighbour before it,
 //! each but the last has one behind it, and the first and the last are neighbours. Without any one node those before
-//! it still lead down to the first, and those behind it up to the last. A. Lempel, S. Even and I. Cederbaum ("An
-//! algorithm for planarity testing of graphs", 1967) showed that each network has such an order. It is found by a
-//! depth-first search, as by R. E. Tarjan ("Two streamlined depth-first search algorithms", Fundamenta Informaticae
-//! 9, 1986). Nothing is proved of how it is found: it is checked. Both take time in the number of ports.
+//! it still lead down to the first, and those behind it up to the last. It is called an st-numbering; A. Lempel,
+//! S. Even and I. Cederbaum ("An algorithm for planarity testing of graphs", 1967) showed that each network has one.
+//! It is found by a depth-first search, as by R. E. Tarjan ("Two streamlined depth-first search algorithms",
+//! Fundamenta Informaticae 9, 1986). Nothing is proved of how it is found: it is checked. Both take time in the number
+//! of ports.
 
 ghost use Rattle.std.specs.Prelude.{◌≡◌, ◌<◌, true};
 ghost use Rattle.bhs_net.specs.Network.{network_of, IsPortLabelled, IsNetwork};
+ghost use Rattle.bhs_net.specs.declared.numbering.TheConstants.{NODES};
 ghost use Rattle.bhs_net.specs.Numbering.{LeadsOn};
 
 use crate::listing::End;
@@ -14,7 +16,7 @@ use crate::listing::End;
 /// A table by node has a place for each `u8`, which is each node that a network may have.
 pub const NODES: usize = 256;
 
-/// More steps than a search takes: one for each port, and one back from each node.
+/// The most steps of a search: one for each port, and one back from each node.
 const STEPS: usize = NODES * NODES;
 
 /// The nodes by place, and the places by node.
@@ -37,11 +39,12 @@ struct Search {
 /// A node's place in a table by node.
 fn at(node: u8) -> usize
     ensures same { result ≡ node }
-    ensures within { result < 256 }
+    ensures within { result < NODES }
 {
     usize::from(node)
 }
 
+/// The node to which a port leads.
 fn head(rows: &[Vec<End>], node: u8, port: usize) -> Option<u8> {
     match rows.get(at(node)) {
         Some(row) => match row.get(port) {
@@ -52,6 +55,8 @@ fn head(rows: &[Vec<End>], node: u8, port: usize) -> Option<u8> {
     }
 }
 
+/// Searches depth first. Neither counter wraps: a node has fewer than 256 ports, and at most 255 nodes are found behind
+/// the first.
 fn depth_first(rows: &[Vec<End>]) -> Search {
     let mut search = Search {
         found: [0; NODES],
@@ -89,8 +94,8 @@ fn depth_first(rows: &[Vec<End>]) -> Search {
     search
 }
 
-/// An order of the nodes, which is one as above where there is one. Each node stands beside the one from which it was
-/// found, before or behind it.
+/// An order of the nodes, which is one as above where there is one; that is not proved. Each node is put beside the one
+/// from which it was found, before or behind it.
 pub fn order_of(rows: &[Vec<End>]) -> Order {
     let search = depth_first(rows);
     let second = search.found[1];
@@ -148,7 +153,7 @@ fn leads_on(row: &[End], places: &[u8], place: u8, last: u8) -> bool
 }
 
 impl Order {
-    /// Whether the order shows that no node cuts the rows, as above.
+    /// Whether the order is one as above, and so shows that no node cuts the rows.
     pub fn shows_network(&self, rows: &[Vec<End>]) -> bool
         requires { IsPortLabelled (network_of rows.now) }
         ensures { result ≡ true → IsNetwork (network_of rows.now) }

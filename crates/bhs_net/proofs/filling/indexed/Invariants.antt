@@ -1,5 +1,5 @@
 use Rattle.std.proofs.Common.{◌≡◌, length}
-use Rattle.bhs_net.proofs.filling.noted.Given as goal
+use Rattle.bhs_net.proofs.filling.indexed.Given as goal
 
 abbrev pub invariant-loop-link : goal.invariant-loop-link
 invariant-loop-link l = length l.degrees.items ≡ l.nodes
@@ -8,7 +8,7 @@ abbrev pub invariant-loop-node : goal.invariant-loop-node
 invariant-loop-node l = length l.degrees.items ≡ l.nodes
 
 abbrev pub invariant-loop-degree : goal.invariant-loop-degree
-invariant-loop-degree l = length l.notes.items ≡ l.degree-index
+invariant-loop-degree l = length l.index.items ≡ l.degree-index
 
 abbrev pub invariant-loop-place : goal.invariant-loop-place
-invariant-loop-place l = length l.notes.items ≡ l.nodes
+invariant-loop-place l = length l.index.items ≡ l.nodes
