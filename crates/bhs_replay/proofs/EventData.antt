@@ -6,7 +6,7 @@ use Rattle.bhs_model.specs.declared.commands.Command.TheVariants.{Enter, Look, W
 use Rattle.bhs_model.specs.declared.events.Event.{Event}
 use Rattle.bhs_model.specs.declared.events.Event.TheVariants.{Tell, Deliver, Close}
 use Rattle.bhs_model.specs.declared.replies.Reply.{Reply}
-use Rattle.bhs_wire.specs.Reply.{data_of}
+use Rattle.bhs_wire.proofs.ReplyData.{data_of}
 
 abbrev pub answer_data : Option Reply → Data
 answer_data None = null

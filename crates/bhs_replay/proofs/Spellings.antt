@@ -15,7 +15,7 @@ use Rattle.bhs_model.specs.declared.replies.Reply.TheVariants.{Here, Written, Ch
 use Rattle.bhs_model.specs.declared.replies.Why.{Why}
 use Rattle.bhs_model.specs.declared.replies.Why.TheVariants.{Agent, Outside, Twice, Ended, Spent, Away, Line, Port}
 use Rattle.bhs_model.specs.declared.replies.Why.TheVariants.{Long}
-use Rattle.bhs_wire.specs.Reply.{data_of}
+use Rattle.bhs_wire.proofs.ReplyData.{data_of}
 use Rattle.bhs_replay.specs.EventLine.{event_line}
 use Rattle.bhs_replay.proofs.EventData.{answer_data, event_data}
 use Rattle.bhs_replay.specs.Spelling.{may_stand, EventFits, ReplyFits, reply_in, answer_in, event_in, if_spelled}

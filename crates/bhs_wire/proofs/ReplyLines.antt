@@ -10,7 +10,8 @@ use Rattle.bhs_model.specs.declared.replies.Reply.TheVariants.{Here, Written, Ch
 use Rattle.bhs_model.specs.declared.replies.Why.{Why}
 use Rattle.bhs_model.specs.declared.replies.Why.TheVariants.{Agent, Outside, Twice, Ended, Spent, Away, Line, Port}
 use Rattle.bhs_model.specs.declared.replies.Why.TheVariants.{Long}
-use Rattle.bhs_wire.specs.Reply.{data_of, line}
+use Rattle.bhs_wire.specs.Reply.{line}
+use Rattle.bhs_wire.proofs.ReplyData.{data_of}
 use Rattle.bhs_wire.specs.ReplyTokens.{reply_tokens}
 
 refusal_text : (why : Why) → compact_text (data_of (No why)) ≡ line (No why)
