@@ -1,5 +1,4 @@
 mod draws;
-mod lines;
 mod matches;
 mod memory;
 mod model;

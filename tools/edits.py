@@ -1,7 +1,7 @@
 #!/usr/bin/env python3
 """Tries edits of the code that the prover must refuse, each on a copy of its crate.
 
-    tools/edits [--all] [CRATE..]
+    tools/edits.py [--all] [CRATE..]
 
 The gate tries crates/NAME/edits/*.edit. With --all those of crates/NAME/more-edits/ are tried too, which say the same
 of more functions: run it for each crate that you change. An edit has lines `file: PATH`, and then pairs of lines
@@ -9,11 +9,10 @@ of more functions: run it for each crate that you change. An edit has lines `fil
 
 Of an edited crate the function that is edited is checked, against its contract and those of what it calls, or what a
 line `only: PATH` names. Where that much is still proved, or no function is edited, the whole crate is checked. Each
-edit has a line, and the last line reads `N passed, M failed`. The libraries below a crate are built first, unless they
-are there and no older than their sources.
+edit has a line, and the last line reads `N passed, M failed`. The libraries below a crate must be built, as tools/build
+and the gate leave them.
 """
 import concurrent.futures
-import os
 import pathlib
 import re
 import shutil
@@ -22,10 +21,10 @@ import sys
 import tempfile
 from typing import Dict, Iterator, List, NamedTuple, Optional, Sequence, Tuple
 
-TOP = pathlib.Path(__file__).resolve().parent.parent
-CRATES = TOP / "crates"
-KIT = pathlib.Path("/opt/rattle")
-PARTS = ("src", "specs", "proofs")
+sys.path.insert(0, str(pathlib.Path(__file__).resolve().parent))
+
+from prover import CRATES, PARTS, Libraries, below, is_built, libraries_of, library_of, words_of, workers  # noqa: E402
+
 # what a check of a crate that is proved ends with, and one that is not
 PROVED, NOT_PROVED = "logic=proved", "logic=not-proved"
 SOME_PROVED = re.compile(r"only=(\d+) proved=(\d+)")
@@ -43,22 +42,6 @@ class Edit(NamedTuple):
     """The texts that an edit puts in place of files, and the function that it changes, if it changes one."""
     texts: Dict[str, str]
     function: Optional[str]
-
-
-def libraries_of() -> Dict[str, List[str]]:
-    """What each crate stands on, by name."""
-    lines = (TOP / "crates.txt").read_text().splitlines()
-    rows = [line.partition(":") for line in lines if line and not line.startswith("#")]
-    return {left.split()[0]: right.split() for left, _, right in rows}
-
-
-def below(libraries: Dict[str, List[str]], name: str) -> List[str]:
-    """The crates of this repository that a crate stands on, lowest first."""
-    found: List[str] = []
-    for library in libraries[name]:
-        if library in libraries:
-            found += [it for it in [*below(libraries, library), library] if it not in found]
-    return found
 
 
 # The function that a line stands in.
@@ -120,29 +103,6 @@ def read_edit(path: pathlib.Path, folder: pathlib.Path) -> Edit:
 
 # Checks.
 
-def is_built(name: str) -> bool:
-    """Whether a crate's library is there, and no older than its sources."""
-    made = CRATES / name / "out" / "rlib" / f"{name}.rlib" / "format"
-    if not made.exists():
-        return False
-    sources = [it for part in PARTS for it in (CRATES / name / part).rglob("*") if it.is_file()]
-    return made.stat().st_mtime >= max(it.stat().st_mtime for it in sources)
-
-
-def words_of(libraries: Dict[str, List[str]], name: str) -> List[str]:
-    """The words of a check of a crate over libraries that are built."""
-    root = "src/main.rt" if (CRATES / name / "src" / "main.rt").exists() else "src/lib.rt"
-    words = [KIT / "bin" / "rattle", "check", "--crate-name", name, root, "--jobs", "1",
-             "--extern", f"std={KIT}/rlibs/std.rlib", "-L", f"dependency={KIT}/rlibs",
-             "--antt-project", KIT / "rattle/logic/antt-project.json", "--logic-built", KIT / "logic_built"]
-    for library in libraries[name]:
-        place = CRATES / library / "out" / "rlib" if library in libraries else KIT / "rlibs"
-        words += ["--extern", f"{library}={place / library}.rlib"]
-    for library in below(libraries, name):
-        words += ["-L", f"dependency={CRATES / library / 'out' / 'rlib'}"]
-    return [str(word) for word in words]
-
-
 def checked(words: Sequence[str], name: str, edit: Edit, kept: str, only: Optional[str]) -> Tuple[str, str]:
     """The last line of a check of an edited crate, and the first of its errors."""
     with tempfile.TemporaryDirectory(prefix="edit-") as room:
@@ -177,9 +137,9 @@ def refusal(words: Sequence[str], name: str, edit: Edit, kept: str) -> Optional[
     raise BadEdit(f"it did not come to a proof: {told or last}")
 
 
-def tried(libraries: Dict[str, List[str]], name: str, edits: Sequence[pathlib.Path]) -> Iterator[bool]:
+def tried(libraries: Libraries, name: str, edits: Sequence[pathlib.Path]) -> Iterator[bool]:
     """Tries the edits of a crate in turn, each over what earlier checks kept, and prints a line for each."""
-    words = words_of(libraries, name)
+    words = words_of(libraries, "check", name)
     with tempfile.TemporaryDirectory(prefix="edits-") as kept:
         for path in edits:
             try:
@@ -203,17 +163,16 @@ def main(words: List[str]) -> int:
     names = [word for word in words if word != "--all"]
     strange = [name for name in names if name not in libraries]
     if strange:
-        print(f"tools/edits: no crate {strange[0]} stands in crates.txt", file=sys.stderr)
+        print(f"tools/edits.py: no crate {strange[0]} stands in crates.txt", file=sys.stderr)
         return 2
     folders = ["edits", "more-edits"] if "--all" in words else ["edits"]
     edits = {name: edits_of(name, folders) for name in names or libraries}
     for name in libraries:
         is_needed = any(name in below(libraries, it) for it, found in edits.items() if found)
-        if is_needed and not is_built(name):
-            if subprocess.run(["rt", "lib", "--jobs", "1"], cwd=CRATES / name, stdout=subprocess.DEVNULL).returncode:
-                print(f"tools/edits: {name} is not proved", file=sys.stderr)
-                return 1
-    with concurrent.futures.ThreadPoolExecutor(len(os.sched_getaffinity(0))) as pool:
+        if is_needed and not is_built(libraries, name, library_of(name)):
+            print(f"tools/edits.py: {name} is not built, or older than its sources: run tools/build", file=sys.stderr)
+            return 1
+    with concurrent.futures.ThreadPoolExecutor(workers()) as pool:
         # those with the most edits first, since a crate's are tried in turn
         longest = sorted((it for it in edits.items() if it[1]), key=lambda it: -len(it[1]))
         answers = [it for found in pool.map(lambda it: list(tried(libraries, *it)), longest) for it in found]

@@ -1,0 +1,108 @@
+"""How tools/edits.py reads edits, finds the function that one changes, and takes the prover's answers."""
+import contextlib
+import io
+import pathlib
+import sys
+import tempfile
+import unittest
+import unittest.mock
+
+import edits
+
+CODE = '''use std::fmt;
+
+pub const MOST: u16 = 7;
+
+/// Doubles.
+pub fn double(number: u16) -> u16
+    ensures { result ≡ 2 * number }
+{
+    2 * number
+}
+
+impl Hall {
+    pub(crate) fn told(&mut self) -> u16 {
+        self.count + 1
+    }
+}
+
+impl<'a, R: Read> From<Broken<R>> for Fault {
+    fn from(_broken: Broken<R>) -> Fault {
+        Fault::Broken
+    }
+}
+'''
+# a prover that ends as its working folder's file says, once for --only and once without
+PROVER = "import sys; print(open('src/only' if '--only' in sys.argv else 'src/whole').read())"
+
+
+class Functions(unittest.TestCase):
+    def at(self, text: str, path: str = "src/halls/doors.rt") -> str:
+        return edits.function_at(path, CODE, CODE.index(text)) or "none"
+
+    def test_the_function_of_a_line_is_found(self) -> None:
+        self.assertEqual(self.at("2 * number\n}"), "halls::doors::double")
+        self.assertEqual(self.at("2 * number\n}", "src/lib.rt"), "double")
+        self.assertEqual(self.at("self.count"), "halls::doors::Hall::told")
+        self.assertEqual(self.at("Fault::Broken"), "halls::doors::FaultFromBroken::from")
+
+    def test_a_constant_stands_in_no_function(self) -> None:
+        self.assertEqual(self.at("MOST"), "none")
+
+
+class Reading(unittest.TestCase):
+    def setUp(self) -> None:
+        self.folder = pathlib.Path(self.enterContext(tempfile.TemporaryDirectory()))
+        (self.folder / "src").mkdir()
+        (self.folder / "src" / "lib.rt").write_text(CODE)
+
+    def read(self, *lines: str) -> edits.Edit:
+        path = self.folder / "one.edit"
+        path.write_text("\n".join(["file: src/lib.rt", *lines]) + "\n")
+        return edits.read_edit(path, self.folder)
+
+    def test_pairs_change_the_text_one_after_the_other(self) -> None:
+        edit = self.read("old:     2 * number", "new:     3 * number", "old: 3 * number", "new: 4 * number")
+        self.assertIn("\n    4 * number\n", edit.texts["src/lib.rt"])
+        self.assertEqual(edit.function, "double")
+
+    def test_an_edit_may_name_what_is_checked(self) -> None:
+        self.assertEqual(self.read("only: hosting", "old: = 7;", "new: = 8;").function, "hosting")
+
+    def test_edits_that_can_not_be_tried(self) -> None:
+        for lines in [], ["old: number", "new: 1"], ["old: nowhere", "new: 1"], ["new: 1"]:
+            with self.subTest(lines=lines), self.assertRaises(edits.BadEdit):
+                self.read(*lines)
+
+
+class Answers(unittest.TestCase):
+    def told(self, only: str, whole: str, function: str = "double") -> str:
+        """What is printed of an edit of a crate whose checks end so."""
+        with tempfile.TemporaryDirectory() as folder, unittest.mock.patch.object(edits, "CRATES", pathlib.Path(folder)), \
+                contextlib.redirect_stdout(io.StringIO()) as printed:
+            source = pathlib.Path(folder, "low", "src")
+            source.mkdir(parents=True)
+            for name, text in (("only", only), ("whole", whole), ("lib.rt", CODE)):
+                (source / name).write_text(text)
+            place = {"double": "2 * number\nnew: 3 * number", "none": "= 7;\nnew: = 8;"}[function]
+            path = source.parent / "one.edit"
+            path.write_text(f"file: src/lib.rt\nold: {'    ' if function == 'double' else ''}{place}\n")
+            with unittest.mock.patch.object(edits, "words_of", lambda *_: [sys.executable, "-c", PROVER]):
+                answers = list(edits.tried({"low": []}, "low", [path]))
+        self.assertEqual(answers, ["refused: " in printed.getvalue()])
+        return printed.getvalue().strip()
+
+    def test_the_function_is_refused(self) -> None:
+        self.assertEqual(self.told("./src/lib.rt:9:5: error: it is not proved\nonly=1 proved=0", "logic=proved"),
+                         "edit low/one: refused: double: ./src/lib.rt:9:5: error: it is not proved")
+
+    def test_another_function_is_refused(self) -> None:
+        self.assertIn("refused: the whole crate", self.told("only=1 proved=1", "logic=not-proved functions=2"))
+        self.assertIn("refused: the whole crate", self.told("", "logic=not-proved functions=2", "none"))
+
+    def test_a_crate_that_is_still_proved_is_not_refused(self) -> None:
+        self.assertIn("NOT REFUSED", self.told("only=1 proved=1", "logic=proved functions=2"))
+
+    def test_what_is_not_read_is_not_tried(self) -> None:
+        self.assertIn("BAD EDIT", self.told("only=0 proved=0", "error: expected an expression"))
+        self.assertIn("BAD EDIT", self.told("src/lib.rt:3:1: error: `MOST`: it is not in scope\nonly=1 proved=0", ""))
