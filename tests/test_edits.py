@@ -76,19 +76,19 @@ class Reading(unittest.TestCase):
 
 
 class Answers(unittest.TestCase):
-    def told(self, only: str, whole: str, function: str = "double") -> str:
+    def told(self, only: str, whole: str, old: str = "2 * number\n}") -> str:
         """What is printed of an edit of a crate whose checks end so."""
-        with tempfile.TemporaryDirectory() as folder, unittest.mock.patch.object(edits, "CRATES", pathlib.Path(folder)), \
-                contextlib.redirect_stdout(io.StringIO()) as printed:
-            source = pathlib.Path(folder, "low", "src")
-            source.mkdir(parents=True)
-            for name, text in (("only", only), ("whole", whole), ("lib.rt", CODE)):
-                (source / name).write_text(text)
-            place = {"double": "2 * number\nnew: 3 * number", "none": "= 7;\nnew: = 8;"}[function]
-            path = source.parent / "one.edit"
-            path.write_text(f"file: src/lib.rt\nold: {'    ' if function == 'double' else ''}{place}\n")
-            with unittest.mock.patch.object(edits, "words_of", lambda *_: [sys.executable, "-c", PROVER]):
-                answers = list(edits.tried({"low": []}, "low", [path]))
+        folder = pathlib.Path(self.enterContext(tempfile.TemporaryDirectory()))
+        source = folder / "low" / "src"
+        source.mkdir(parents=True)
+        for name, text in (("only", only), ("whole", whole), ("lib.rt", CODE)):
+            (source / name).write_text(text)
+        edit = edits.Edit({"src/lib.rt": CODE.replace(old, "")}, edits.function_at("src/lib.rt", CODE, CODE.index(old)))
+        self.enterContext(unittest.mock.patch.object(edits, "CRATES", folder))
+        self.enterContext(unittest.mock.patch.object(edits, "read_edit", lambda *_: edit))
+        self.enterContext(unittest.mock.patch.object(edits, "words_of", lambda *_: [sys.executable, "-c", PROVER]))
+        with contextlib.redirect_stdout(io.StringIO()) as printed:
+            answers = list(edits.tried({"low": []}, "low", [pathlib.Path("one.edit")]))
         self.assertEqual(answers, ["refused: " in printed.getvalue()])
         return printed.getvalue().strip()
 
@@ -98,7 +98,7 @@ class Answers(unittest.TestCase):
 
     def test_another_function_is_refused(self) -> None:
         self.assertIn("refused: the whole crate", self.told("only=1 proved=1", "logic=not-proved functions=2"))
-        self.assertIn("refused: the whole crate", self.told("", "logic=not-proved functions=2", "none"))
+        self.assertIn("refused: the whole crate", self.told("", "logic=not-proved functions=2", "MOST"))
 
     def test_a_crate_that_is_still_proved_is_not_refused(self) -> None:
         self.assertIn("NOT REFUSED", self.told("only=1 proved=1", "logic=proved functions=2"))

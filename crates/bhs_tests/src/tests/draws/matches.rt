@@ -1,7 +1,7 @@
 use super::super::triangle::{network, setup};
 use bhs_deal::{Dealer, Drawn, Held, draw};
 use bhs_match::Match;
-use bhs_model::{Command, Event, Reply, Text};
+use bhs_model::{Command, Event};
 use std::alloc::Global;
 use std::test::Fail;
 
@@ -18,32 +18,6 @@ fn tell(agent: u16, command: Command) -> Event {
 
 fn depart(agent: u16, port: u16) -> Event {
     tell(agent, Command::Depart { port })
-}
-
-#[test]
-fn words_draw_from_the_pool(rt: HostRuntime) -> Result<(), Fail> {
-    let alloc = rt.alloc();
-    let (mut game, held) = triangle(alloc, &[])?;
-    assert_eq!(rt; draw(&mut game, &held, 7), Drawn::Nobody);
-    game.apply(tell(0, Command::Enter));
-    game.apply(tell(1, Command::Enter));
-    game.apply(depart(0, 1));
-    assert_eq!(rt; draw(&mut game, &held, 0), Drawn::Delivered { agent: 0 });
-    assert!(rt; game.news(0).is_empty());
-    game.apply(depart(1, 0));
-    assert_eq!(rt; draw(&mut game, &held, 4), Drawn::Delivered { agent: 0 });
-    assert!(rt; game.news(0).is_empty());
-    assert_eq!(rt; draw(&mut game, &held, 5), Drawn::Delivered { agent: 1 });
-    let last = game.log().last().expect(&rt, "the log has events");
-    assert_eq!(rt; last.event, Event::Deliver { agent: 1 });
-    let reply = Reply::Here {
-        ports: 2,
-        came: Some(0),
-        board: Text::from(String::new(alloc)),
-    };
-    let mark = last.mark.expect(&rt, "an arrival is answered");
-    assert_eq!(rt; game.reply(&mark)?, reply);
-    Ok(())
 }
 
 #[test]
