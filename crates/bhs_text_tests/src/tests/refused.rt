@@ -118,7 +118,7 @@ fn a_replay_is_read_and_written_again(rt: HostRuntime) -> Result<(), Fail> {
 }
 
 #[test]
-fn a_match_is_looked_at_again(rt: HostRuntime) -> Result<(), Fail> {
+fn a_past_is_cut_out_again(rt: HostRuntime) -> Result<(), Fail> {
     let alloc = rt.alloc();
     let sealed = played(alloc, 3, &[2], &[], "0e 1e 1d0 1v 1w 0l")?;
     let cut = match cut_of(alloc, &sealed, 0) {
@@ -126,15 +126,28 @@ fn a_match_is_looked_at_again(rt: HostRuntime) -> Result<(), Fail> {
         Err(_) => cut_of(alloc, &sealed, 0)?,
     };
     assert_eq!(rt; cut.as_slice(), [0, 5].as_slice());
-    let part = match restrict(alloc, &sealed, &cut) {
+    Ok(())
+}
+
+#[test]
+fn a_match_is_restricted_again(rt: HostRuntime) -> Result<(), Fail> {
+    let alloc = rt.alloc();
+    let sealed = played(alloc, 3, &[2], &[], "0e 1e 1d0 1v 1w 0l")?;
+    let part = match restrict(alloc, &sealed, &[0, 5]) {
         Ok(part) => part,
-        Err(_) => restrict(alloc, &sealed, &cut)?,
+        Err(_) => restrict(alloc, &sealed, &[0, 5])?,
     };
     assert_eq!(rt; part.log().len(), 3);
-    let unreached = played(alloc, 3, &[2], &[], "0e 0a1")?;
-    let twin = match twin_of(alloc, &unreached, 1) {
+    Ok(())
+}
+
+#[test]
+fn a_twin_is_made_again(rt: HostRuntime) -> Result<(), Fail> {
+    let alloc = rt.alloc();
+    let sealed = played(alloc, 3, &[2], &[], "0e 0a1")?;
+    let twin = match twin_of(alloc, &sealed, 1) {
         Ok(twin) => twin,
-        Err(_) => twin_of(alloc, &unreached, 1)?,
+        Err(_) => twin_of(alloc, &sealed, 1)?,
     };
     assert_eq!(rt; twin.setup().holes.nodes(), [1].as_slice());
     Ok(())
