@@ -1,6 +1,7 @@
 pub mod FirstLines
 pub mod LineFeeds
-pub mod Members
+pub mod Reading
+pub mod SaidLemmas
 pub mod StreamLaws
 pub mod ReplyData
 pub mod ReplyLines

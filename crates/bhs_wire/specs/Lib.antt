@@ -1,5 +1,6 @@
 pub mod LineKind
 pub mod First
+pub mod Said
 pub mod Why
 pub mod Reply
 pub mod ReplyTokens

@@ -4,7 +4,6 @@ use Rattle.serde_json.specs.Data.{string}
 use Rattle.serde_json.specs.Written.{compact_text}
 use Rattle.bhs_model.specs.declared.replies.Reply.{Reply}
 use Rattle.bhs_model.specs.declared.replies.Reply.TheVariants.{Here, Written, Changed, Gone, Noted, Bye, Over, No}
-use Rattle.bhs_model.specs.declared.replies.Why.{Why}
 use Rattle.bhs_wire.specs.Why.{word}
 
 -- a text between quotes, with its escapes

@@ -5,12 +5,14 @@ mod commands;
 mod denials;
 mod kinds;
 mod laws;
+mod numbers;
 mod pieces;
 mod replies;
+mod said;
 mod streams;
 mod tokens;
 
-pub use commands::{First, command_of, read_line};
+pub use commands::{First, LineReader};
 pub use denials::{Denial, denial_of};
 pub use kinds::{LineKind, kind_of};
 pub use laws::{any_pieces, held_is_enough, line_by_line, one_meaning};

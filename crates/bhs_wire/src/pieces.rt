@@ -4,7 +4,7 @@ ghost use Rattle.std.specs.List.{list_any, position};
 ghost use Rattle.std.specs.Option.{ForSome};
 ghost use Rattle.bhs_wire.specs.Lines.{seen, given, is_line_feed, kept, lines, rest, ended_by};
 
-use crate::commands::{First, command_of};
+use crate::commands::{First, LineReader};
 use crate::kinds::is_blank;
 use bhs_model::{Command, MAX_LINE};
 use bhs_net::Memory;
@@ -23,13 +23,13 @@ impl Raw {
     ghost use Rattle.bhs_wire.specs.Lines.{said_by};
 
     /// What the client means by the line.
-    pub fn said(&self, alloc: Global) -> Result<First, Memory>
+    pub fn said(&self, reader: &mut LineReader) -> Result<First, Memory>
         ensures said { IfOk result (λ first. first ≡ said_by (seen self.now)) }
         // An overlong line takes no memory.
         ensures unread { self.now ≡ Raw.Over → IsOk result }
     {
         match self {
-            Raw::Whole(line) => command_of(alloc, line),
+            Raw::Whole(line) => reader.command_of(line),
             Raw::Over => Ok(First::Tell(Command::Bad)),
         }
     }
