@@ -13,12 +13,13 @@ use crate::replies::write_denial;
 use bhs_model::{Command, Text};
 use bhs_net::Memory;
 use bhs_stream::Output;
-use bhs_wire::{Denial, First, Raw};
+use bhs_wire::{Denial, First, LineReader, Raw};
 use std::alloc::Global;
 
 // Takes lines in order. Says whether the session has entered.
 pub(crate) fn take_lines<W: Output, P: Port>(
     alloc: Global,
+    line_reader: &mut LineReader,
     writer: &mut W,
     port: &mut P,
     has_entered: bool,
@@ -31,7 +32,7 @@ pub(crate) fn take_lines<W: Output, P: Port>(
 {
     let mut entered = has_entered;
     for line in found {
-        take_line(alloc, writer, port, entered, line)?;
+        take_line(alloc, line_reader, writer, port, entered, line)?;
         entered = true;
     }
     Ok(entered)
@@ -40,6 +41,7 @@ pub(crate) fn take_lines<W: Output, P: Port>(
 // Takes one line, with the news that its answer waits for.
 fn take_line<W: Output, P: Port>(
     alloc: Global,
+    line_reader: &mut LineReader,
     writer: &mut W,
     port: &mut P,
     has_entered: bool,
@@ -50,7 +52,7 @@ fn take_line<W: Output, P: Port>(
         (record p { output = writer.old; port = port.old; phase = between has_entered })
         writer.new port.new (p.taken ++ seen line.now ∷ []) (λ _. Ready) result }
 {
-    let Ok(first) = line.said(alloc) else {
+    let Ok(first) = line.said(line_reader) else {
         return Err(Stop::between_lines(has_entered, Ended::Memory));
     };
     if has_entered {

@@ -7,7 +7,7 @@ use crate::port::Port;
 use crate::reading::read_lines;
 use bhs_model::Command;
 use bhs_stream::{BUFFER, Input, Output};
-use bhs_wire::Lines;
+use bhs_wire::{LineReader, Lines};
 use std::alloc::Global;
 
 /// Serves one client to its end, by at most `turns` reads: takes its lines one by one, tells them to the port,
@@ -52,6 +52,7 @@ fn play<R: Input, W: Output, P: Port>(
         writer.old writer.new port.old port.new turns (phase_of result) }
 {
     let mut lines = Lines::new(alloc);
+    let mut line_reader = LineReader::new(alloc);
     let mut buffer = [0u8; BUFFER];
     let mut has_entered = false;
     for _ in 0..turns {
@@ -59,7 +60,7 @@ fn play<R: Input, W: Output, P: Port>(
             Ok(found) => found,
             Err(cause) => return Stop::between_lines(has_entered, cause),
         };
-        match take_lines(alloc, writer, port, has_entered, &found) {
+        match take_lines(alloc, &mut line_reader, writer, port, has_entered, &found) {
             Ok(entered) => has_entered = entered,
             Err(stop) => return stop,
         }
