@@ -8,14 +8,10 @@ use Rattle.bhs_model.specs.declared.replies.Why.TheVariants as whys
 use Rattle.bhs_model.specs.Views.{View, Start, Glance, Nothing, Saw, Seen, Standing, Outside, Present}
 use Rattle.bhs_model.specs.Views.{Away, Ended, standing, standing_after, ports, used}
 use Rattle.bhs_model.specs.Replying.{accepts, answer, text}
-use Rattle.bhs_wire.specs.declared.commands.First.TheVariants as firsts
-use Rattle.bhs_wire.specs.declared.denials.Denial.TheVariants as denials
 use Rattle.bhs_wire.specs.Lines.{Line}
 use Rattle.bhs_session.specs.declared.endings.Ended.{Ended as Ending}
 use Rattle.bhs_session.specs.declared.endings.Ended.TheVariants as endings
-use Rattle.bhs_session.specs.declared.port.Entered.TheVariants as entered
 use Rattle.bhs_session.specs.Phase.{Phase, Fresh, Ready, Awaits, Owes, Leaves, Finished, answered_by, stopped}
-use Rattle.bhs_session.specs.Phase.{all}
 use Rattle.bhs_session.specs.Texts.{command_of}
 use Rattle.bhs_session.specs.Met.{Meeting, Hears, Refuses, Arrives, past_after, view_of, commands as commands_of}
 use Rattle.bhs_session.specs.Met.{answer_to, bytes, takes_commands, IsDue, AreDue}

@@ -3,10 +3,8 @@ use Rattle.std.proofs.Common.{◌≡◌, ◌∙◌, ℕ, ◌⊎◌, inl, inr, tr
 use Rattle.std.proofs.Common.{List, [], ◌∷◌, ◌++◌, map, take, drop, refl, sym, ap, ap₂, subst, append_assoc, append-nil}
 use Rattle.std.proofs.lemmas.List.{map-append, take-append-drop}
 use Rattle.bhs_model.specs.declared.commands.Command.{Command}
-use Rattle.bhs_model.specs.declared.commands.Command.TheVariants as commands
 use Rattle.bhs_model.specs.declared.replies.Reply.{Reply}
 use Rattle.bhs_model.specs.declared.replies.Reply.TheVariants as replies
-use Rattle.bhs_model.specs.declared.replies.Why.TheVariants as whys
 use Rattle.bhs_model.specs.Views.{View, Start, Arrived, Sight, Seen}
 use Rattle.bhs_model.specs.Views.{Away, standing}
 use Rattle.bhs_model.specs.Replying.{answer, text, here}
