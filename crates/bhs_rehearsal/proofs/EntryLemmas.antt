@@ -1,9 +1,10 @@
 -- The first item of a connection.
-use Rattle.std.proofs.Common.{◌≡◌, Some, List, [], ◌∷◌, ap}
+use Rattle.std.proofs.Common.{◌≡◌, ℕ, ◌<◌, length, Some, List, [], ◌∷◌, ap, arith}
+use Rattle.std.proofs.lemmas.Grind.{common_steps}
 use Rattle.std.specs.Prelude.{slice_get}
 use Rattle.bhs_wire.specs.Lines.{Line, said_by}
 use Rattle.bhs_rehearsal.specs.Connections.{Item, Says, Ends}
-use Rattle.bhs_rehearsal.specs.Stages.{Stage, entry, entry_by}
+use Rattle.bhs_rehearsal.specs.Stages.{Stage, Sits, entry, entry_by}
 
 pub first_says : (stage : Stage) (items : List Item) (line : Line) → slice_get items 0 ≡ Some (Says line)
     → entry stage items ≡ entry_by stage (said_by line)
@@ -12,3 +13,8 @@ first_says stage (Ends ∷ items) line is = cc
 first_says stage (Says other ∷ items) line is =
     let same : other ≡ line = cc in
     ap (λ (one : Line). entry_by stage (said_by one)) same
+
+-- whom a line lets in plays in a match that there is
+pub sits_within : (stage : Stage) (items : List Item) (seat : ℕ × ℕ) → entry stage items ≡ Sits seat
+    → seat.0 < length stage.games
+sits_within stage items seat is = grind (arith, common_steps)

@@ -9,7 +9,7 @@ use crate::items::Item;
 use crate::takings::take_items;
 use bhs_lineup::Ready;
 use bhs_net::Memory;
-use bhs_wire::{Lines, Raw};
+use bhs_wire::{LineReader, Lines, Raw};
 use std::alloc::Global;
 use std::collections::VecDeque;
 use std::marker::Model;
@@ -128,6 +128,7 @@ impl Connection {
     pub(crate) fn play(
         &mut self,
         alloc: Global,
+        line_reader: &mut LineReader,
         ready: &mut Ready,
         seat: (u32, u16),
     ) -> Result<Vec<u8>, Memory>
@@ -140,7 +141,14 @@ impl Connection {
     {
         self.seat = Some(seat);
         let mut text = Vec::new(alloc);
-        if take_items(alloc, ready, seat.1, &mut self.queue, &mut text)? {
+        if take_items(
+            alloc,
+            line_reader,
+            ready,
+            seat.1,
+            &mut self.queue,
+            &mut text,
+        )? {
             self.shut(alloc);
         }
         Ok(text)

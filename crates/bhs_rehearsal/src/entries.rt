@@ -8,8 +8,7 @@ use crate::items::Item;
 use bhs_lineup::Keys;
 use bhs_net::Memory;
 use bhs_session::key_in;
-use bhs_wire::{Denial, First};
-use std::alloc::Global;
+use bhs_wire::{Denial, First, LineReader};
 
 // What the first item of a connection that was not let in comes to.
 #[derive(Clone, Copy, Debug, PartialEq, Eq)]
@@ -26,7 +25,7 @@ pub(crate) enum Entry {
 
 // What the first item of a connection comes to, where there are so many matches.
 pub(crate) fn first_entry(
-    alloc: Global,
+    line_reader: &mut LineReader,
     games: usize,
     keys: &Keys,
     connections: &[Connection],
@@ -40,7 +39,7 @@ pub(crate) fn first_entry(
         None => Ok(Entry::Waits),
         Some(Item::Ends) => Ok(Entry::Goes),
         Some(Item::Says(line)) => {
-            let first = line.said(alloc)?;
+            let first = line.said(line_reader)?;
             Ok(entry_by(games, keys, connections, first))
         }
     }

@@ -32,7 +32,7 @@ impl Rehearsal {
             (entry self.old.stage (connection_at self.old.stage conn).queue)) result self.new }
     {
         let entry = first_entry(
-            alloc,
+            &mut self.line_reader,
             self.ready.len(),
             &self.keys,
             &self.connections,
@@ -60,7 +60,7 @@ impl Rehearsal {
     {
         let ready = &mut self.ready[seat.0 as usize];
         let connection = &mut self.connections[conn as usize];
-        connection.play(alloc, ready, seat)
+        connection.play(alloc, &mut self.line_reader, ready, seat)
     }
 
     // The connection takes no more.

@@ -9,6 +9,7 @@ use crate::faults::RehearsalFault;
 use crate::outs::Out;
 use bhs_lineup::{Keys, Lineup, Ready};
 use bhs_net::Memory;
+use bhs_wire::LineReader;
 use std::alloc::Global;
 use std::marker::Model;
 
@@ -26,6 +27,7 @@ pub struct Rehearsal {
     pub(crate) ready: Vec<Ready>,
     pub(crate) keys: Keys,
     pub(crate) connections: Vec<Connection>,
+    pub(crate) line_reader: LineReader,
     pub(crate) has_failed: bool,
 }
 
@@ -63,6 +65,7 @@ impl Rehearsal {
             ready,
             keys,
             connections,
+            line_reader: LineReader::new(alloc),
             has_failed: false,
         })
     }

@@ -14,6 +14,7 @@ use bhs_lineup::Ready;
 use bhs_model::{Command, Event, Mark, Reply};
 use bhs_net::Memory;
 use bhs_session::{command_in, ending_of, reply_text};
+use bhs_wire::LineReader;
 use std::alloc::Global;
 use std::collections::VecDeque;
 
@@ -21,6 +22,7 @@ use std::collections::VecDeque;
 // is sent, and says whether it is done.
 pub(crate) fn take_items(
     alloc: Global,
+    line_reader: &mut LineReader,
     ready: &mut Ready,
     agent: u16,
     queue: &mut VecDeque<Item>,
@@ -37,7 +39,7 @@ pub(crate) fn take_items(
     ensures team { team_of ready.new ≡ team_of ready.old }
 {
     while let Some(item) = next_item(ready, agent, queue) {
-        if take_item(alloc, ready, agent, item, text)? {
+        if take_item(alloc, line_reader, ready, agent, item, text)? {
             return Ok(true);
         }
     }
@@ -61,6 +63,7 @@ fn next_item(ready: &Ready, agent: u16, queue: &mut VecDeque<Item>) -> Option<It
 // Takes one item of an agent that is not away. Says whether it was the last.
 fn take_item(
     alloc: Global,
+    line_reader: &mut LineReader,
     ready: &mut Ready,
     agent: u16,
     item: Item,
@@ -73,7 +76,7 @@ fn take_item(
 {
     match item {
         Item::Says(line) => {
-            let first = line.said(alloc)?;
+            let first = line.said(line_reader)?;
             tell(alloc, ready, agent, command_in(first), text)
         }
         Item::Ends => {
