@@ -1,5 +1,5 @@
 -- The past of an agent says where it is.
-use Rattle.std.proofs.Common.{◌≡◌, ◌≢◌, ℕ, Bool, true, false, sym}
+use Rattle.std.proofs.Common.{◌≡◌, ◌≢◌, ℕ, true, false, sym}
 use Rattle.bhs_model.specs.Views.{View, Outside, Present, Away, Ended, standing, ports}
 use Rattle.bhs_model.specs.Worlds.{World}
 use Rattle.bhs_model.specs.Runs.{Position, Before, At, Bound, After, is_bound}

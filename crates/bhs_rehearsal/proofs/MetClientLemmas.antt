@@ -1,9 +1,8 @@
 -- What is known of a connection, where a client is fed or ends.
-use Rattle.std.proofs.Common.{◌≡◌, ◌≢◌, ◌∙◌, ℕ, ◌+◌, inl, inr, Bool, true, false, cond}
+use Rattle.std.proofs.Common.{◌≡◌, ◌≢◌, ◌∙◌, ℕ, inl, inr, Bool, true, false, cond}
 use Rattle.std.proofs.Common.{nat_lt, ◌==◌, Option, Some, None, List, [], ◌++◌, length, refl}
 use Rattle.std.proofs.Common.{sym, subst, append-nil, arith}
 use Rattle.std.proofs.lemmas.Bool.{cond-true, cond-false, ltb-true, ltb-false, eqb-true, eqb-false}
-use Rattle.bhs_model.specs.declared.replies.Reply.TheVariants as replies
 use Rattle.bhs_rehearsal.specs.Games.{state_of}
 use Rattle.bhs_rehearsal.specs.Connections.{Connection, unfed}
 use Rattle.bhs_rehearsal.specs.Stages.{Stage, game_at, connection_at, with_connection}

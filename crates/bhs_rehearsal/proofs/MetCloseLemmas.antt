@@ -2,7 +2,6 @@
 use Rattle.std.proofs.Common.{◌≡◌, ◌≢◌, ◌∙◌, ℕ, zero, suc, ◌+◌, ◌<◌, inl, inr, Bool, true, false, cond, ◌&&◌}
 use Rattle.std.proofs.Common.{◌==◌, Option, Some, None, List, [], ◌∷◌, ◌++◌, length, get_or, refl}
 use Rattle.std.proofs.Common.{sym, ap, ap₂, subst, append-nil, arith}
-use Rattle.std.specs.List.{position}
 use Rattle.std.proofs.lemmas.Bool.{cond-true, eqb-true, eqb-false, eq-eqb}
 use Rattle.std.proofs.lemmas.List.{get_or-set_same, get_or-set_other, length-map}
 use Rattle.bhs_model.specs.declared.events.Event.TheVariants.{Close}
@@ -13,11 +12,10 @@ use Rattle.bhs_model.specs.Views.{View}
 use Rattle.bhs_model.specs.Runs.{State, is_bound}
 use Rattle.bhs_session.specs.Texts.{text_of}
 use Rattle.bhs_rehearsal.specs.Games.{Game, state_of, played, is_away}
-use Rattle.bhs_rehearsal.specs.Connections.{Item, Connection, unfed, shut, taken}
+use Rattle.bhs_rehearsal.specs.Connections.{Item, Connection, unfed, shut}
 use Rattle.bhs_rehearsal.specs.Stages.{Stage, game_at, connection_at, with_game}
 use Rattle.bhs_rehearsal.specs.Stages.{sent_to}
 use Rattle.bhs_rehearsal.specs.Stages.{waits_in, shut_in, told_over}
-use Rattle.bhs_rehearsal.specs.Stages.{said}
 use Rattle.bhs_rehearsal.specs.Laws.{IsSettled}
 use Rattle.bhs_rehearsal.specs.Clients.{bytes_among}
 use Rattle.bhs_rehearsal.proofs.CuttingLemmas.{by_bool}

@@ -1,5 +1,5 @@
 -- What is known of a connection, through a draw.
-use Rattle.std.proofs.Common.{◌≡◌, ◌≢◌, ◌∙◌, ℕ, ◌+◌, ◌<◌, ◌≤◌, inl, inr, Bool, true, false, cond, not}
+use Rattle.std.proofs.Common.{◌≡◌, ◌≢◌, ◌∙◌, ℕ, ◌<◌, ◌≤◌, inl, inr, Bool, true, false, cond, not}
 use Rattle.std.proofs.Common.{nat_lt, ◌==◌, Option, Some, None, List, [], ◌∷◌, ◌++◌, length, get_or, refl}
 use Rattle.std.proofs.Common.{sym, ap, ap₂, subst, append-nil, arith}
 use Rattle.std.specs.List.{position, position_or_len}
@@ -11,7 +11,6 @@ use Rattle.bhs_model.specs.declared.events.Event.{Event}
 use Rattle.bhs_model.specs.declared.events.Event.TheVariants.{Tell, Deliver, Close}
 use Rattle.bhs_model.specs.declared.setups.Setup.{Setup}
 use Rattle.bhs_model.specs.declared.replies.Reply.{Reply}
-use Rattle.bhs_model.specs.declared.replies.Reply.TheVariants as replies
 use Rattle.bhs_model.specs.Replying.{rep, here}
 use Rattle.bhs_model.specs.Views.{View, Start, Arrived, Sight, Away, standing}
 use Rattle.bhs_model.specs.Worlds.{World}
@@ -20,12 +19,11 @@ use Rattle.bhs_model.specs.Runs.{is_let_through, delivered}
 use Rattle.bhs_model.proofs.StepLemmas.{changed_same, arrival_by_past, no_arrival_no_reply, next_arrived}
 use Rattle.bhs_session.specs.Texts.{text_of}
 use Rattle.bhs_rehearsal.specs.Games.{Game, world_in, state_of, played, reply_to, is_away}
-use Rattle.bhs_rehearsal.specs.Connections.{Connection, unfed, taken}
+use Rattle.bhs_rehearsal.specs.Connections.{Connection, unfed}
 use Rattle.bhs_rehearsal.specs.Stages.{Stage, game_at, connection_at, with_game, has_seat}
 use Rattle.bhs_rehearsal.specs.Stages.{Moved, moves}
-use Rattle.bhs_rehearsal.specs.Stages.{sent_to, nothing}
+use Rattle.bhs_rehearsal.specs.Stages.{sent_to}
 use Rattle.bhs_rehearsal.specs.Stages.{tells_arrival, delivers}
-use Rattle.bhs_rehearsal.specs.Stages.{said}
 use Rattle.bhs_rehearsal.specs.Laws.{IsSettled}
 use Rattle.bhs_rehearsal.specs.Clients.{bytes_among}
 use Rattle.bhs_rehearsal.proofs.CuttingLemmas.{by_bool}

@@ -1,5 +1,5 @@
 -- What is known of a connection, through each instruction.
-use Rattle.std.proofs.Common.{◌≡◌, ◌≢◌, ◌∙◌, ℕ, zero, suc, ◌+◌, ◌<◌, ◌≤◌, inl, inr, Bool, true, false, cond}
+use Rattle.std.proofs.Common.{◌≡◌, ◌≢◌, ◌∙◌, ℕ, zero, suc, ◌<◌, ◌≤◌, inl, inr, Bool, true, false, cond}
 use Rattle.std.proofs.Common.{nat_lt, ◌==◌, Option, Some, None, List, [], ◌∷◌, ◌++◌, length, get_or, replicate, refl}
 use Rattle.std.proofs.Common.{sym, ap, subst, append_assoc, arith}
 use Rattle.std.specs.List.{position}
@@ -9,13 +9,12 @@ use Rattle.bhs_model.specs.declared.events.Event.{Event}
 use Rattle.bhs_model.specs.declared.events.Event.TheVariants.{Tell, Deliver, Close}
 use Rattle.bhs_model.specs.declared.setups.Setup.{Setup}
 use Rattle.bhs_model.specs.declared.replies.Reply.{Reply}
-use Rattle.bhs_model.specs.declared.replies.Reply.TheVariants as replies
 use Rattle.bhs_model.specs.Views.{View, Away, standing}
 use Rattle.bhs_model.specs.Runs.{initial, is_bound}
 use Rattle.bhs_model.specs.Runs.{run_from}
 use Rattle.bhs_lineup.specs.KeyTable.{Seat}
 use Rattle.bhs_rehearsal.specs.Games.{Game, world_in, state_of, played, reply_to, is_away, drawn}
-use Rattle.bhs_rehearsal.specs.Connections.{Connection, unfed, shut, taken}
+use Rattle.bhs_rehearsal.specs.Connections.{Connection, unfed, shut}
 use Rattle.bhs_rehearsal.specs.Stages.{Stage, game_at, connection_at, with_game, with_connection, has_seat, Entry}
 use Rattle.bhs_rehearsal.specs.Stages.{Waits, Sits, IsDenied, Goes, entry, enters, moves_in, moves, Instruction}
 use Rattle.bhs_rehearsal.specs.Stages.{Feeds, EndsInput, Draws, Closes, Stepped, stepped, nothing}

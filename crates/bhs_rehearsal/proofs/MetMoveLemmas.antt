@@ -1,11 +1,9 @@
 -- What is known of a connection, where the instruction moves another or itself.
-use Rattle.std.proofs.Common.{◌≡◌, ◌≢◌, ◌∙◌, ℕ, ◌+◌, ◌<◌, Bool}
-use Rattle.std.proofs.Common.{◌==◌, Option, Some, None, List, [], ◌++◌, length, refl}
+use Rattle.std.proofs.Common.{◌≡◌, ◌≢◌, ◌∙◌, ℕ, ◌<◌, Bool}
+use Rattle.std.proofs.Common.{◌==◌, Option, Some, None, List, ◌++◌, length, refl}
 use Rattle.std.proofs.Common.{sym, ap, subst, append_assoc, append-nil}
 use Rattle.std.proofs.lemmas.Bool.{cond-true, eqb-true, eqb-false}
 use Rattle.std.proofs.lemmas.List.{get_or-set_same, get_or-set_other, length-set}
-use Rattle.bhs_model.specs.declared.replies.Reply.TheVariants as replies
-use Rattle.bhs_rehearsal.specs.Games.{played}
 use Rattle.bhs_rehearsal.specs.Connections.{Connection, unfed, taken}
 use Rattle.bhs_rehearsal.specs.Stages.{Stage, game_at, connection_at}
 use Rattle.bhs_rehearsal.specs.Stages.{sent_to}
