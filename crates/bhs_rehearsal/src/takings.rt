@@ -13,8 +13,8 @@ use crate::items::Item;
 use bhs_lineup::Ready;
 use bhs_model::{Command, Event, Mark, Reply};
 use bhs_net::Memory;
-use bhs_session::{command_in, ending_of, reply_text};
-use bhs_wire::LineReader;
+use bhs_session::{command_in, ending_of};
+use bhs_wire::{LineReader, push_line};
 use std::alloc::Global;
 use std::collections::VecDeque;
 
@@ -128,6 +128,7 @@ pub(crate) fn play(ready: &mut Ready, event: Event) -> Option<Mark>
 pub(crate) fn push_reply(alloc: Global, reply: &Reply, text: &mut Vec<u8>) -> Result<(), Memory>
     ensures { OnOk result (text.new.items ≡ text.old.items ++ text_of reply.now) }
 {
-    let line = reply_text(alloc, reply)?;
-    text.extend_from_slice(line.as_bytes())
+    push_line(alloc, text, reply)?;
+    text.push(b'\n')?;
+    Ok(())
 }

@@ -44,8 +44,8 @@ fn send_reply<W: Output>(alloc: Global, writer: &mut W, reply: &Reply) -> Result
     }
 }
 
-/// The line of a reply, with its line feed.
-pub fn reply_text(alloc: Global, reply: &Reply) -> Result<String, Memory>
+// The line of a reply, with its line feed.
+fn reply_text(alloc: Global, reply: &Reply) -> Result<String, Memory>
     ensures { IfOk result (λ text. string_bytes text ≡ text_of reply.now) }
 {
     let mut text = line_of(alloc, reply)?;

@@ -1,4 +1,5 @@
 pub mod FirstLines
+pub mod FirstFeeds
 pub mod LineFeeds
 pub mod Reading
 pub mod SaidLemmas

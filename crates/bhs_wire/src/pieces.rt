@@ -47,7 +47,7 @@ pub fn split_line(bytes: &[u8]) -> Option<(&[u8], &[u8])>
 fn line_end(bytes: &[u8]) -> Option<usize>
     ensures { result ≡ position is_line_feed bytes.now }
 {
-    bytes.iter().position(|byte| *byte == b'\n')
+    memchr::memchr(b'\n', bytes)
 }
 
 // Adds what the line gives that was held in part, and ends here.

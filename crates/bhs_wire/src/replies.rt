@@ -9,6 +9,7 @@ use bhs_model::{Reply, Text, Why};
 use bhs_net::Memory;
 use json::Writer;
 use std::alloc::Global;
+use std::mem::replace;
 
 /// The line of a reply, without its line feed.
 pub fn line_of(alloc: Global, reply: &Reply) -> Result<String, Memory>
@@ -17,6 +18,16 @@ pub fn line_of(alloc: Global, reply: &Reply) -> Result<String, Memory>
     let mut out = Writer::new(Vec::new(alloc));
     write_reply(&mut out, reply)?;
     Ok(String::from_utf8(out.into_inner()).unwrap())
+}
+
+/// Adds the line of a reply to a text, without its line feed. An `Err` may have added a part of it.
+pub fn push_line(alloc: Global, text: &mut Vec<u8>, reply: &Reply) -> Result<(), Memory>
+    ensures { OnOk result (text.new.items ≡ text.old.items ++ line reply.now) }
+{
+    let mut out = Writer::new(replace(text, Vec::new(alloc)));
+    let written = write_reply(&mut out, reply);
+    *text = out.into_inner();
+    written
 }
 
 /// Writes a reply as a part of JSON. An `Err` may have written a part of it.
