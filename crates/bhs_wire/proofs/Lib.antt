@@ -2,6 +2,7 @@ pub mod FirstLines
 pub mod FirstFeeds
 pub mod LineFeeds
 pub mod Reading
+pub mod Turns
 pub mod SaidLemmas
 pub mod StreamLaws
 pub mod ReplyData

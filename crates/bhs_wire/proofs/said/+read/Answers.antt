@@ -1,18 +1,18 @@
-use Rattle.std.proofs.Common.{◌≡◌, ℕ, List, Bool, ◌⊎◌, inl, inr, ◌-◌, ◌<◌, [], ◌∷◌, length, Some, None, refl, ap}
+use Rattle.std.proofs.Common.{◌≡◌, ℕ, List, Bool, ◌⊎◌, inl, inr, ◌-◌, [], ◌∷◌, length, Some, None, refl, ap}
 use Rattle.std.proofs.Common.{◌∙◌, arith}
 use Rattle.json.specs.Token.{Token}
 use Rattle.json.specs.Reads.{token_of}
 use Rattle.json.specs.declared.token.Token as code
 use Rattle.json.specs.declared.token.Token.TheVariants.{Bool as Boolean, Null}
 use Rattle.json.specs.Json.{parse_map, after_end_array, read_key, items, value}
-use Rattle.json.proofs.Grammar.{value_is, read_key-shorter, left_some, left_none}
-use Rattle.serde_json.specs.Data.{Data, null, boolean, string, array, object, put}
+use Rattle.json.proofs.Grammar.{value_is, left_some, left_none}
+use Rattle.serde_json.specs.Data.{Data, null, boolean, string, array, object}
 use Rattle.serde_json.specs.Read.{of_json, of_items, converted}
 use Rattle.bhs_wire.specs.declared.said.Content.TheVariants.{Other}
-use Rattle.bhs_wire.specs.Said.{IsContentOf, rest_of}
+use Rattle.bhs_wire.specs.Said.{IsContentOf}
 use Rattle.bhs_wire.proofs.Reading.{on_err, number_read, number_refused, array_opened, object_opened, too_deep}
-use Rattle.bhs_wire.proofs.Reading.{item_read, item_refused, items_over}
-use Rattle.bhs_wire.proofs.Reading.{member_read, member_refused, key_refused, members_over}
+use Rattle.bhs_wire.proofs.Turns.{item_passed, item_broken, items_ended}
+use Rattle.bhs_wire.proofs.Turns.{member_passed, member_broken, key_broken, members_ended}
 use Rattle.bhs_wire.proofs.said.+read.Goals as goal
 
 -- a truth or a null is read, and nothing is kept of it
@@ -75,12 +75,14 @@ read_value-returns-in-EndObject-clause-err t c =
 pub read_value-returns-then-depth-eq0-clause-err : goal.read_value-returns-then-depth-eq0-clause-err
 read_value-returns-then-depth-eq0-clause-err t c =
     let first : c.args.reader.now ≡ token_of c.in_ok-token.token ∷ c.next.new.self = grind arith in
-    too_deep c.args.depth c.args.reader.now c.next.new.self _ first (omega arith) (inl (ap token_of c.in-BeginArray.is))
+    too_deep c.args.depth c.args.reader.now c.next.new.self _ first (omega arith)
+    (inl (ap token_of c.in-BeginArray.is))
 
 pub read_value-returns-then-depth-eq0-2-clause-err : goal.read_value-returns-then-depth-eq0-2-clause-err
 read_value-returns-then-depth-eq0-2-clause-err t c =
     let first : c.args.reader.now ≡ token_of c.in_ok-token.token ∷ c.next.new.self = grind arith in
-    too_deep c.args.depth c.args.reader.now c.next.new.self _ first (omega arith) (inr (ap token_of c.in-BeginObject.is))
+    too_deep c.args.depth c.args.reader.now c.next.new.self _ first (omega arith)
+    (inr (ap token_of c.in-BeginObject.is))
 
 pub read_value-returns-in_err-skip_items-in-BeginArray-clause-err :
     goal.read_value-returns-in_err-skip_items-in-BeginArray-clause-err
@@ -130,78 +132,49 @@ read_value-returns-in_ok-read_members-in-BeginObject-clause-ok t c =
 
 pub skip_items-returns-in_err-read_value-clause-err : goal.skip_items-returns-in_err-read_value-clause-err
 skip_items-returns-in_err-read_value-clause-err t c =
-    let p = value c.args.depth in
-    let l = c.items in
-    let n = l.invariant.0 in
-    let going : (after_end_array l.reader ≡ None) × (c.take_end_array.new.self ≡ l.reader) = grind arith in
-    on_err c.from_residual.result (l.invariant.2
-    ∙ ap rest_of (item_refused p n l.reader going.0 (rw (← going.1) c.in_err-read_value.ensures.err)))
+    let here = c.items.reader in
+    let going : (after_end_array here ≡ None) × (c.take_end_array.new.self ≡ here) = grind arith in
+    on_err c.from_residual.result (item_broken (value c.args.depth) c.args.reader.now here c.items.invariant going.0
+    (rw (← going.1) c.in_err-read_value.ensures.err))
 
 pub skip_items-items-preserved : goal.skip_items-items-preserved
 skip_items-items-preserved t c =
-    let p = value c.args.depth in
-    let l = c.items in
-    let n = l.invariant.0 in
-    let going : (after_end_array l.reader ≡ None) × (c.take_end_array.new.self ≡ l.reader) = grind arith in
+    let here = c.items.reader in
+    let going : (after_end_array here ≡ None) × (c.take_end_array.new.self ≡ here) = grind arith in
     let done = c.in_ok-read_value.ensures in
-    let r = c.read_value.new.reader in
-    let less : length r < length l.reader = rw (← going.1) done.shorter in (
-      n - 1,
-      omega (arith, l.invariant.1),
-      l.invariant.2 ∙ item_read p n l.reader r done.ok.0 (omega (arith, l.invariant.1)) going.0 (rw (← going.1) done.ok.1),
-      omega (arith, l.invariant.3),
-    )
+    item_passed (value c.args.depth) c.args.reader.now here c.items.invariant c.read_value.new.reader done.ok.0 going.0
+    (rw (← going.1) done.ok.1) (rw (← going.1) done.shorter)
 
 pub skip_items-returns-clause-ok : goal.skip_items-returns-clause-ok
 skip_items-returns-clause-ok t c =
-    let p = value c.args.depth in
-    let l = c.items in
-    let n = l.invariant.0 in
-    l.invariant.2 ∙ items_over p n l.reader c.take_end_array.new.self l.invariant.1 (grind arith)
+    items_ended (value c.args.depth) c.args.reader.now c.items.reader c.items.invariant c.take_end_array.new.self
+    (grind arith)
 
 pub read_members-returns-in_err-name-clause-err : goal.read_members-returns-in_err-name-clause-err
 read_members-returns-in_err-name-clause-err t c =
-    let p = value c.args.depth in
-    let l = c.members in
-    let n = l.invariant.0 in
-    on_err c.from_residual.result (l.invariant.3 ∙ key_refused p l.invariant.1 n l.reader c.in_err-name.ensures.value)
+    on_err c.from_residual.result (key_broken (value c.args.depth) c.args.reader.now c.members.reader c.members.said
+    c.members.invariant c.in_err-name.ensures.value)
 
 pub read_members-returns-in_err-content-clause-err : goal.read_members-returns-in_err-content-clause-err
 read_members-returns-in_err-content-clause-err t c =
-    let p = value c.args.depth in
-    let l = c.members in
-    let n = l.invariant.0 in
-    let s = c.next_key.new.self in
-    let named : read_key l.reader ≡ Some (Some c.in-Some.name.now, s) = grind arith in
-    on_err c.from_residual-in_err-content.result (l.invariant.3
-    ∙ member_refused p l.invariant.1 n c.in-Some.name.now l.reader s named c.in_err-content.ensures.err)
+    let named : read_key c.members.reader ≡ Some (Some c.in-Some.name.now, c.next_key.new.self) = grind arith in
+    on_err c.from_residual-in_err-content.result (member_broken (value c.args.depth) c.args.reader.now c.members.reader
+    c.members.said c.members.invariant c.in-Some.name.now c.next_key.new.self named c.in_err-content.ensures.err)
 
 pub read_members-members-preserved : goal.read_members-members-preserved
 read_members-members-preserved t c =
-    let p = value c.args.depth in
-    let l = c.members in
-    let n = l.invariant.0 in
-    let found = l.invariant.1 in
-    let k = c.in-Some.name.now in
-    let s = c.next_key.new.self in
-    let named : read_key l.reader ≡ Some (Some k, s) = grind arith in
+    let named : read_key c.members.reader ≡ Some (Some c.in-Some.name.now, c.next_key.new.self) = grind arith in
+    let past = c.members.invariant in
     let done = c.in_ok-content.ensures in
-    let d = done.ok.0 in
-    let r = c.read_value.new.reader in
-    let less = read_key-shorter l.reader (Some k) s named in
-    let lesser = done.shorter in (
-      n - 1,
-      put k d found,
-      omega (arith, l.invariant.2),
-      l.invariant.3 ∙ member_read p found n k l.reader s r d (omega (arith, l.invariant.2)) named done.ok.1,
-      omega (arith, l.invariant.4),
-      c.add.ensures found d l.invariant.5 done.ok.2,
-    )
+    member_passed (value c.args.depth) c.args.reader.now c.members.reader c.members.said past c.in-Some.name.now
+    c.next_key.new.self c.read_value.new.reader done.ok.0 c.add.new.self named done.ok.1 done.shorter
+    (c.add.ensures past.found done.ok.0 past.kept done.ok.2)
 
 pub read_members-returns-clause-ok : goal.read_members-returns-clause-ok
 read_members-returns-clause-ok t c =
-    let p = value c.args.depth in
-    let l = c.members in
-    let n = l.invariant.0 in
-    let found = l.invariant.1 in
-    (found, l.invariant.3 ∙ members_over p found n l.reader c.next_key.new.self l.invariant.2 (grind arith), l.invariant.5)
+    let past = c.members.invariant in (
+      past.found,
+      members_ended (value c.args.depth) c.args.reader.now c.members.reader c.members.said past c.next_key.new.self
+          (grind arith),
+      past.kept,
+    )
