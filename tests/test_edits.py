@@ -63,7 +63,9 @@ class Reading(unittest.TestCase):
 
     def test_pairs_change_the_text_one_after_the_other(self) -> None:
         edit = self.read("old:     2 * number", "new:     3 * number", "old: 3 * number", "new: 4 * number")
-        self.assertIn("\n    4 * number\n", edit.texts["src/lib.rt"])
+        texts = {}
+        edit.change(self.folder, texts)
+        self.assertIn("\n    4 * number\n", texts["src/lib.rt"])
         self.assertEqual(edit.function, "double")
 
     def test_an_edit_may_name_what_is_checked(self) -> None:
@@ -83,7 +85,8 @@ class Answers(unittest.TestCase):
         source.mkdir(parents=True)
         for name, text in (("only", only), ("whole", whole), ("lib.rt", CODE)):
             (source / name).write_text(text)
-        edit = edits.Edit({"src/lib.rt": CODE.replace(old, "")}, edits.function_at("src/lib.rt", CODE, CODE.index(old)))
+        function = edits.function_at("src/lib.rt", CODE, CODE.index(old))
+        edit = edits.Edit("one", [("src/lib.rt", old, "")], function)
         self.enterContext(unittest.mock.patch.object(edits, "CRATES", folder))
         self.enterContext(unittest.mock.patch.object(edits, "read_edit", lambda *_: edit))
         self.enterContext(unittest.mock.patch.object(edits, "words_of", lambda *_: [sys.executable, "-c", PROVER]))
@@ -106,3 +109,43 @@ class Answers(unittest.TestCase):
     def test_what_is_not_read_is_not_tried(self) -> None:
         self.assertIn("BAD EDIT", self.told("only=0 proved=0", "error: expected an expression"))
         self.assertIn("BAD EDIT", self.told("src/lib.rt:3:1: error: `MOST`: it is not in scope\nonly=1 proved=0", ""))
+
+
+class Together(unittest.TestCase):
+    DOUBLE = edits.Edit("triples", [("src/lib.rt", "    2 * number\n", "    3 * number\n")], "double")
+    OTHER = edits.Edit("halves", [("src/lib.rt", "    2 * number\n", "    number\n")], "double")
+    TOLD = edits.Edit("counts_no_more", [("src/lib.rt", "self.count + 1", "self.count")], "Hall::told")
+    MOST = edits.Edit("has_less", [("src/lib.rt", "= 7;", "= 6;")], None)
+
+    def setUp(self) -> None:
+        crates = pathlib.Path(self.enterContext(tempfile.TemporaryDirectory()))
+        self.folder = crates / "low"
+        (self.folder / "src").mkdir(parents=True)
+        (self.folder / "src" / "lib.rt").write_text(CODE)
+        self.enterContext(unittest.mock.patch.object(edits, "CRATES", crates))
+
+    def refused(self, *said: str):
+        """What is refused of two edits that are made at once, by a prover that says this."""
+        with tempfile.TemporaryDirectory() as kept:
+            words = [sys.executable, "-c", "import sys; print(sys.argv[1])", "\n".join(said)]
+            return edits.refused_together(edits.Prover("low", words, kept), [self.DOUBLE, self.TOLD])
+
+    def test_edits_of_different_functions_are_made_at_once(self) -> None:
+        chosen, left = edits.together([self.MOST, self.DOUBLE, self.OTHER, self.TOLD], self.folder)
+        self.assertEqual(chosen, [self.DOUBLE, self.TOLD])
+        self.assertEqual(left, [self.MOST, self.OTHER])
+
+    def test_each_is_refused_by_its_own_function(self) -> None:
+        told = self.refused("fn low::double: no proof: `search` did not prove `ensures`",
+                            "fn low::Hall::told: not proved", "only=2 proved=0")
+        self.assertEqual(told, {"triples": "double: no proof: `search` did not prove `ensures`",
+                                "counts_no_more": "Hall::told: not proved"})
+
+    def test_a_caller_is_not_refused_for_what_it_calls(self) -> None:
+        self.assertEqual(list(self.refused("fn low::double: no proof: `search` did not prove `ensures`",
+                                           "fn low::Hall::told: not proved; it calls `double`, which is not proved",
+                                           "only=2 proved=0")), ["triples"])
+
+    def test_a_check_that_does_not_end_refuses_nothing(self) -> None:
+        self.assertEqual(self.refused("fn low::double: no proof: `search` did not prove `ensures`", "killed"), {})
+        self.assertEqual(self.refused("src/lib.rt:3:1: error: `MOST`: it is not in scope", "only=2 proved=0"), {})

@@ -4,9 +4,11 @@ import importlib.machinery
 import importlib.util
 import io
 import pathlib
+import subprocess
 import sys
 import tempfile
 import unittest
+import unittest.mock
 from typing import List, Tuple
 
 import program_cases
@@ -16,6 +18,7 @@ from tests import TOP
 
 # prints its script, or tells its words and fails
 PROGRAM = f"""#!{sys.executable}
+import subprocess
 import sys
 if len(sys.argv) > 1 and sys.argv[1] == "print":
     sys.stdout.write(sys.stdin.read())
@@ -164,6 +167,40 @@ class Gate(unittest.TestCase):
         self.assertEqual(gate.counted(1, None), (0, 1))
         self.assertEqual(gate.counted(1, (5, 0)), (5, 1))
         self.assertEqual(gate.counted(1, (5, 2)), (5, 2))
+
+    def edits_after(self, *lines: str):
+        """What is tried, and counted, of the edits of two crates after these lines of `rt ci`."""
+        crates = pathlib.Path(self.enterContext(tempfile.TemporaryDirectory()))
+        for name in ("low", "high"):
+            (crates / name / "edits").mkdir(parents=True)
+            (crates / name / "edits" / "one.edit").write_text("")
+        tried = []
+
+        def tries(words, **_):
+            tried.append(words[-1])
+            return subprocess.CompletedProcess(words, 0, f"edit {words[-1]}/one: refused\n1 passed, 0 failed\n")
+        libraries = {"low": [], "high": ["low"]}
+        with contextlib.ExitStack() as patches, contextlib.redirect_stdout(io.StringIO()) as printed:
+            for what, by in (("CRATES", crates), ("libraries_of", lambda: libraries),
+                             ("library_of", lambda name: crates / name / "out" / "rlib" / f"{name}.rlib")):
+                patches.enter_context(unittest.mock.patch.object(gate, what, by))
+            patches.enter_context(unittest.mock.patch.object(gate.subprocess, "run", tries))
+            edits = gate.Edits(crates / "built")
+            for line in lines:
+                edits.hear(line)
+            counts = edits.ended()
+        return sorted(tried), counts, printed.getvalue()
+
+    def test_edits_are_tried_once_their_crate_is_proved(self) -> None:
+        self.assertEqual(self.edits_after("rt: low proved", "rt: high proved")[:2], (["high", "low"], (2, 0)))
+        tried, counts, printed = self.edits_after("rt: high NOT PROVED", "rt: low proved",
+                                                  "rt: high: its tests are proved")
+        self.assertEqual((tried, counts), (["low"], (1, 1)))
+        self.assertIn("edit low/one: refused\n", printed)
+        self.assertIn("the edits of high are not tried", printed)
+
+    def test_no_edit_is_tried_before_what_it_stands_on(self) -> None:
+        self.assertEqual(self.edits_after("rt: high proved")[:2], ([], (0, 2)))
 
 
 if __name__ == "__main__":

@@ -101,7 +101,7 @@ TESTS = """
 #include <string.h>
 #include <unistd.h>
 int main(int count_of_words, char **words) {
-    static const char list[] = "tests::others::one: test\\ntests::refused::one: test\\n";
+    static const char list[] = "others::one: test\\ntests::again::one: test\\n";
     if (!strcmp(words[1], "--list"))
         return write(1, list, sizeof list - 1) < 0;
     void *volatile before = malloc(1);
@@ -220,10 +220,10 @@ class TestsTest(InFolder):
 
     def test_calls_that_are_made_again(self):
         self.assertEqual(self.faults_of(), [])
-        self.assertEqual(self.said, "tests::refused::one, memory of 2: 1 begins, 1 passed\n")
+        self.assertEqual(self.said, "tests::again::one, memory of 2: 1 begins, 1 passed\n")
 
     def test_a_test_that_gives_up(self):
-        self.assertEqual(self.faults_of("-DGIVES_UP"), ["tests::refused::one, memory 2: status -6, ``"])
+        self.assertEqual(self.faults_of("-DGIVES_UP"), ["tests::again::one, memory 2: status -6, ``"])
 
 
 class OutcomeTest(unittest.TestCase):

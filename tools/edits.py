@@ -8,9 +8,10 @@ of more functions: run it for each crate that you change. An edit has lines `fil
 `old: TEXT` and `new: TEXT`, where TEXT stands once in that file.
 
 Of an edited crate the function that is edited is checked, against its contract and those of what it calls, or what a
-line `only: PATH` names. Where that much is still proved, or no function is edited, the whole crate is checked. Each
-edit has a line, and the last line reads `N passed, M failed`. The libraries below a crate must be built, as tools/build
-and the gate leave them.
+line `only: PATH` names. Edits of different functions are tried in one check, and an edit that is not refused there by
+its own function is tried by itself. Where that much is still proved, or no function is edited, the whole crate is
+checked. Each edit has a line, and the last line reads `N passed, M failed`. The libraries below a crate must be built,
+as tools/build and the gate leave them.
 """
 import concurrent.futures
 import pathlib
@@ -39,9 +40,18 @@ class BadEdit(Exception):
 
 
 class Edit(NamedTuple):
-    """The texts that an edit puts in place of files, and the function that it changes, if it changes one."""
-    texts: Dict[str, str]
+    """What an edit changes, as files, texts in them and other texts, and the function that it changes, if it does one."""
+    name: str
+    changes: List[Tuple[str, str, str]]
     function: Optional[str]
+
+    def change(self, folder: pathlib.Path, texts: Dict[str, str]) -> None:
+        """Makes the changes in these texts, which stand in place of files of a folder."""
+        for file, old, new in self.changes:
+            text = texts.get(file) or (folder / file).read_text()
+            if text.count(old) != 1:
+                raise BadEdit(f"an old text stands {text.count(old)} times in {file}, and not once: {old}")
+            texts[file] = text.replace(old, new)
 
 
 # The function that a line stands in.
@@ -80,74 +90,140 @@ def function_at(path: str, text: str, place: int) -> Optional[str]:
 
 
 def read_edit(path: pathlib.Path, folder: pathlib.Path) -> Edit:
-    """What an edit makes of a crate's files."""
-    file, old, only, texts, functions = "", "", None, {}, []
+    """An edit of a crate, which can be made there."""
+    file, old, only, changes = "", "", None, []
     for line in path.read_text().split("\n"):
         word, _, text = line.partition(": ")
         if word == "file":
             file = text.strip()
-            texts.setdefault(file, (folder / file).read_text())
         elif word == "only":
             only = text.strip()
         elif word == "old":
             old = text
         elif word == "new" or line == "new:":
-            if not old or texts[file].count(old) != 1:
-                raise BadEdit(f"an old text stands {texts[file].count(old)} times in {file}, and not once: {old}")
-            functions.append(function_at(file, texts[file], texts[file].index(old)))
-            texts[file] = texts[file].replace(old, text)
-    if not functions:
+            if not old:
+                raise BadEdit("a line `new: TEXT` has no line `old: TEXT` before it")
+            changes.append((file, old, text))
+    if not changes:
         raise BadEdit("it has no pair of lines `old: TEXT` and `new: TEXT`")
-    return Edit(texts, only or functions[0])
+    edit = Edit(path.stem, changes, only)
+    edit.change(folder, {})
+    file, old, _ = changes[0]
+    text = (folder / file).read_text()
+    return edit._replace(function=only or function_at(file, text, text.index(old)))
 
 
 # Checks.
 
-def checked(words: Sequence[str], name: str, edit: Edit, kept: str, only: Optional[str]) -> Tuple[str, str]:
-    """The last line of a check of an edited crate, and the first of its errors."""
-    with tempfile.TemporaryDirectory(prefix="edit-") as room:
-        for part in PARTS:
-            if (CRATES / name / part).is_dir():
-                shutil.copytree(CRATES / name / part, f"{room}/{part}")
-        for path, text in edit.texts.items():
-            pathlib.Path(room, path).write_text(text)
-        only_words = ["--only", only] if only else []
-        ran = subprocess.run([*words, "--incremental", kept, *only_words], cwd=room, stdin=subprocess.DEVNULL,
-                             stdout=subprocess.PIPE, stderr=subprocess.STDOUT, text=True, errors="replace")
-    lines = ran.stdout.rstrip("\n").split("\n")
-    unread = next((line for line in lines if UNREAD.match(line)), None)
-    if unread:
-        raise BadEdit(f"the edited text can't be read: {unread}")
-    told = next((line for line in lines if re.match(r"(note: )?\S+:\d+:\d+: ", line)), "")
-    return lines[-1], told
+class Prover(NamedTuple):
+    """How a crate is checked: the words of the check, and where it keeps its work."""
+    name: str
+    words: Sequence[str]
+    kept: str
+
+    def lines(self, edits: Sequence[Edit], functions: Sequence[str]) -> List[str]:
+        """The lines of a check of these functions, or of all, in a copy of the crate with these edits."""
+        texts: Dict[str, str] = {}
+        for edit in edits:
+            edit.change(CRATES / self.name, texts)
+        with tempfile.TemporaryDirectory(prefix="edit-") as room:
+            for part in PARTS:
+                if (CRATES / self.name / part).is_dir():
+                    shutil.copytree(CRATES / self.name / part, f"{room}/{part}")
+            for path, text in texts.items():
+                pathlib.Path(room, path).write_text(text)
+            only = [word for function in functions for word in ("--only", function)]
+            ran = subprocess.run([*self.words, "--incremental", self.kept, *only], cwd=room, stdin=subprocess.DEVNULL,
+                                 stdout=subprocess.PIPE, stderr=subprocess.STDOUT, text=True, errors="replace")
+        lines = ran.stdout.rstrip("\n").split("\n")
+        unread = next((line for line in lines if UNREAD.match(line)), None)
+        if unread:
+            raise BadEdit(f"the edited text can't be read: {unread}")
+        return lines
 
 
-def refusal(words: Sequence[str], name: str, edit: Edit, kept: str) -> Optional[str]:
+def first_told(lines: Sequence[str]) -> str:
+    return next((line for line in lines if re.match(r"(note: )?\S+:\d+:\d+: ", line)), "")
+
+
+def together(edits: Sequence[Edit], folder: pathlib.Path) -> Tuple[List[Edit], List[Edit]]:
+    """Edits of different functions that can be made at once, and the others."""
+    texts: Dict[str, str] = {}
+    chosen: List[Edit] = []
+    for edit in edits:
+        tried = dict(texts)
+        try:
+            edit.change(folder, tried)
+        except BadEdit:
+            continue
+        if edit.function and edit.function not in [it.function for it in chosen]:
+            chosen.append(edit)
+            texts = tried
+    return chosen, [it for it in edits if it not in chosen]
+
+
+def refused_together(prover: Prover, edits: Sequence[Edit]) -> Dict[str, str]:
+    """What the prover says against those edits that their own functions refuse, where all are made at once."""
+    if len(edits) < 2:
+        return {}
+    try:
+        lines = prover.lines(edits, [it.function for it in edits if it.function])
+    except BadEdit:
+        return {}
+    if not SOME_PROVED.match(lines[-1]):
+        return {}
+    refused = {}
+    for edit in edits:
+        begin = f"fn {prover.name}::{edit.function}: "
+        told = next((line[len(begin):] for line in lines if line.startswith(begin)), "")
+        if told.startswith(("no proof", "not proved")) and ("did not prove" in told or "it calls" not in told):
+            refused[edit.name] = f"{edit.function}: {told}"
+    return refused
+
+
+def refusal(prover: Prover, edit: Edit) -> Optional[str]:
     """What the prover says against an edit, or None where the crate is still proved."""
     if edit.function:
-        last, told = checked(words, name, edit, kept, edit.function)
-        counts = SOME_PROVED.match(last)
+        lines = prover.lines([edit], [edit.function])
+        counts = SOME_PROVED.match(lines[-1])
         if counts and int(counts[2]) < int(counts[1]):
-            return f"{edit.function}: {told}"
-    last, told = checked(words, name, edit, kept, None)
-    if last.startswith(NOT_PROVED):
-        return f"the whole crate: {told}"
-    if last.startswith(PROVED):
+            return f"{edit.function}: {first_told(lines)}"
+    lines = prover.lines([edit], [])
+    if lines[-1].startswith(NOT_PROVED):
+        return f"the whole crate: {first_told(lines)}"
+    if lines[-1].startswith(PROVED):
         return None
-    raise BadEdit(f"it did not come to a proof: {told or last}")
+    raise BadEdit(f"it did not come to a proof: {first_told(lines) or lines[-1]}")
 
 
-def tried(libraries: Libraries, name: str, edits: Sequence[pathlib.Path]) -> Iterator[bool]:
-    """Tries the edits of a crate in turn, each over what earlier checks kept, and prints a line for each."""
-    words = words_of(libraries, "check", name)
-    with tempfile.TemporaryDirectory(prefix="edits-") as kept:
-        for path in edits:
+def answers_of(prover: Prover, edits: Sequence[Edit]) -> Iterator[Tuple[str, Optional[str], str]]:
+    """The name of each edit of a crate, what the prover says against it, and the line that is printed."""
+    left = list(edits)
+    while left:
+        chosen, left = together(left, CRATES / prover.name)
+        chosen, left = (chosen, left) if chosen else (left, [])
+        refused = refused_together(prover, chosen)
+        for edit in chosen:
             try:
-                told = refusal(words, name, read_edit(path, CRATES / name), kept)
-                text = "NOT REFUSED: the crate is still proved" if told is None else f"refused: {told[:200]}"
+                told = refused.get(edit.name) or refusal(prover, edit)
+                text = f"refused: {told[:200]}" if told else "NOT REFUSED: the crate is still proved"
             except (BadEdit, OSError) as fault:
                 told, text = None, f"BAD EDIT: {fault}"
-            print(f"edit {name}/{path.stem}: {text}", flush=True)
+            yield edit.name, told, text
+
+
+def tried(libraries: Libraries, name: str, paths: Sequence[pathlib.Path]) -> Iterator[bool]:
+    """Tries the edits of a crate, each check over what earlier ones kept, and prints a line for each edit."""
+    edits = []
+    for path in paths:
+        try:
+            edits.append(read_edit(path, CRATES / name))
+        except (BadEdit, OSError) as fault:
+            print(f"edit {name}/{path.stem}: BAD EDIT: {fault}", flush=True)
+            yield False
+    with tempfile.TemporaryDirectory(prefix="edits-") as kept:
+        for edit, told, text in answers_of(Prover(name, words_of(libraries, "check", name), kept), edits):
+            print(f"edit {name}/{edit}: {text}", flush=True)
             yield told is not None
 
 

@@ -14,9 +14,9 @@ A server is run so as well, with a client that enters and looks and one that has
 seconds, by itself. What the clients hear are fronts of what they hear else, and at most one of them hears less where
 the server ends well; the table is that of the replay; and the replay has all that was answered.
 
-TESTS is a built program of tests, such as crates/bhs_text_tests/out/bhs_text_tests_tests. Its tests of calls that are
-made again (`tests::refused`), and of a rehearsal that wanted memory, are run with each request for memory refused: each
-must pass, or want memory before the call that it tests.
+TESTS is the built program crates/bhs_memory_tests/out/bhs_memory_tests_tests. Its tests are run with each request for
+memory refused: each must pass, or want memory before the call that it tests. One test makes a match, plays on it, and
+then asks for memory once, for itself: no request before that may be one of the play.
 
 A line is printed for each command and kind, with the number of runs and what came of them, and then the number of all;
 the exit status is 1 where a run ended otherwise. With --quick there are at most 60 runs of each command and kind, and
@@ -53,7 +53,10 @@ QUICK, QUICK_SERVED, MOST_SERVED = 60, 40, 2000
 WORKERS = 8
 # seconds, of a server that takes a third of one
 SOON = 60
-REFUSED = ("tests::refused::", "tests::rehearsals::want_of_memory_is_for_good")
+PLAYING = "tests::playing::playing_takes_no_memory"
+# what it says where its own request is refused, and how runs of it end, one request after the other
+OWN = "after the play"
+WANTED_OF_PLAYING = re.compile(r"(begins )*own (passed )*")
 OTHERS = [Command("help", ["--help"], "", None), Command("no command", ["rehears"], "", None)]
 # what commands print, as files of the examples or texts
 WANTED = {"check": "first.checked", "rehearse": "first.printed", "built-in": "triangle.printed",
@@ -392,23 +395,36 @@ def outcome_of_test(trials: Trials, program: str, name: str, place: int) -> str:
     text = found.printed.decode(errors="replace").strip()
     if found.status == DONE:
         return "passed"
+    if found.status > 0 and name == PLAYING and OWN in text:
+        return "own"
     if found.status > 0 and re.search("memory|alloc", text.lower()):
         return "begins"
     raise Otherwise(f"status {found.status}, `{text[:200]}`")
 
 
+def play_in_turn(trials: Trials, program: str, number: int) -> str:
+    """What came of the test of a play with each request for memory refused, one after the other."""
+    outcomes = [outcome_of_test(trials, program, PLAYING, place) for place in range(1, number + 1)]
+    if not WANTED_OF_PLAYING.fullmatch("".join(f"{it} " for it in outcomes)):
+        raise Otherwise(f"playing asks for memory: {outcomes}")
+    return "none in the play"
+
+
 def refuse_tests(trials: Trials, tests: str) -> None:
-    """Runs each test of calls that are made again, with each request for memory refused."""
+    """Runs each test with each request for memory refused."""
     program = str(pathlib.Path(tests).resolve())
     listed = subprocess.run([program, "--list"], stdout=subprocess.PIPE, text=True, check=True).stdout.split()
-    for name in [word.rstrip(":") for word in listed if word.startswith(REFUSED)]:
+    for name in [word.rstrip(":") for word in listed if word.startswith("tests::")]:
         numbers: Dict[str, int] = {}
         with trials.shim.counting(numbers) as variables:
             subprocess.run([program, name], env=variables, cwd=trials.lab.folder, check=True,
                            stdout=subprocess.DEVNULL)
-        number = numbers["memory"]
-        trials.alike(lambda place: outcome_of_test(trials, program, name, place), places(number, trials.most),
-                     f"{name}, memory of {number}", f"{name}, memory")
+        number, what = numbers["memory"], f"{name}, memory of {numbers['memory']}"
+        if name == PLAYING:
+            trials.alike(lambda place: play_in_turn(trials, program, place), [number], what, f"{name}, memory")
+        else:
+            trials.alike(lambda place: outcome_of_test(trials, program, name, place), places(number, trials.most), what,
+                         f"{name}, memory")
 
 
 def main() -> int:

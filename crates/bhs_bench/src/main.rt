@@ -1,4 +1,5 @@
-//! The program `bhs_bench`: how many steps of a match are done in a second, and how many commands under its lock.
+//! The program `bhs_bench`: how many steps of a match are done in a second, how many commands under its lock, and how
+//! long each stage of a line takes.
 #![tactic(auto)]
 
 mod deeds;
@@ -6,6 +7,7 @@ mod faults;
 mod orders;
 mod report;
 mod run;
+mod stages;
 mod submitting;
 mod torus;
 mod workload;

@@ -3,6 +3,7 @@
 /// What the program says of itself.
 pub const USAGE: &str = "usage: bhs_bench step N [time]
        bhs_bench submit N [time]
+       bhs_bench stages N [time]
 
 step plays N events on a match of 16 agents with a quota of 1000 each, on a torus of 16 by 16 nodes. The events
 are picked by the words of a fixed seed, so the counts that are printed are the same each time. A match that has
@@ -13,7 +14,12 @@ by 1, 4 and 16 threads that share one match under its lock; then by 4 and 16 thr
 own. The matches under locks are then settled. The first command of an agent lets it enter. Of each four that follow
 one writes, one is refused, and two look.
 
-  time   also prints the seconds that this took, and the events or commands in a second
+stages does N times over, one after the other, what becomes of the line of a client: it reads four lines, a look, a
+departure, a Write and a line that is none; it plays four events, as step does; it writes the replies to four such
+lines; and it prints these replies as those of a rehearsed connection. A line says how many lines or events there were.
+
+  time   also prints the seconds that this took, and the events or commands in a second; of a stage, the nanoseconds
+         of one line or event
 ";
 
 /// What the program is to do.
@@ -25,6 +31,8 @@ pub enum Order {
     Step { events: u64, is_timed: bool },
     /// Tells commands, so many times over; `is_timed` says whether the time is printed.
     Submit { rounds: u64, is_timed: bool },
+    /// Does each stage of a line so many times over; `is_timed` says whether the time is printed.
+    Stages { rounds: u64, is_timed: bool },
 }
 
 /// The order that the words after the program's name give, if they give one.
@@ -49,6 +57,10 @@ fn order_to(deed: &str, number: &str, is_timed: bool) -> Option<Order> {
             is_timed,
         }),
         "submit" => Some(Order::Submit {
+            rounds: number,
+            is_timed,
+        }),
+        "stages" => Some(Order::Stages {
             rounds: number,
             is_timed,
         }),

@@ -1,6 +1,7 @@
 //! What is printed.
 
 use crate::faults::BenchFault;
+use crate::stages::{Stage, of_a_round};
 use crate::submitting::{Measured, Sharing};
 use crate::workload::Counts;
 use bhs_stream::send;
@@ -71,6 +72,31 @@ pub fn print_run<W: Write>(
     if is_timed {
         let rate = rate(commands, time);
         let text = format!(in alloc; " in a second {rate}")?;
+        send(writer, text.as_bytes())?;
+    }
+    Ok(send(writer, b"\n")?)
+}
+
+/// Prints what was done in a stage, and how long one line or event of it took, in one line.
+pub fn print_stage<W: Write>(
+    alloc: Global,
+    writer: &mut W,
+    stage: Stage,
+    rounds: u64,
+    time: Option<Duration>,
+) -> Result<(), BenchFault> {
+    let what = match stage {
+        Stage::Reading => "read lines",
+        Stage::Playing => "played events",
+        Stage::Writing => "written lines",
+        Stage::Printing => "printed lines",
+    };
+    let number = rounds.saturating_mul(of_a_round());
+    let text = format!(in alloc; "{what} {number}")?;
+    send(writer, text.as_bytes())?;
+    if let Some(time) = time {
+        let nanos = time.as_nanos() / u128::from(number.max(1));
+        let text = format!(in alloc; " nanoseconds {nanos}")?;
         send(writer, text.as_bytes())?;
     }
     Ok(send(writer, b"\n")?)

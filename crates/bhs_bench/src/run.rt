@@ -1,14 +1,15 @@
 use crate::faults::BenchFault;
 use crate::orders::{Order, USAGE, order_of};
-use crate::report::{print_counts, print_run, print_time};
+use crate::report::{print_counts, print_run, print_stage, print_time};
+use crate::stages::{STAGES, lasted};
 use crate::submitting::{Measured, RUNS, run_once};
-use crate::workload::Workload;
+use crate::workload::{Counts, Workload};
 use bhs_stream::{finish, send};
 use std::alloc::Global;
 use std::io::Write;
 use std::sync::Wait;
 use std::thread::Threads;
-use std::time::{Clock, Instant};
+use std::time::{Clock, Duration, Instant};
 
 /// The exit status where all was done.
 pub const DONE: u8 = 0;
@@ -38,6 +39,7 @@ pub fn run<R: Threads + Wait + Clock + Sync, W: Write, E: Write>(
         Some(Order::Help) => show(writer),
         Some(Order::Step { events, is_timed }) => step(alloc, rt, writer, events, is_timed),
         Some(Order::Submit { rounds, is_timed }) => submit(alloc, rt, writer, rounds, is_timed),
+        Some(Order::Stages { rounds, is_timed }) => stages(alloc, rt, writer, rounds, is_timed),
         None => {
             let _ = send(errors, USAGE.as_bytes());
             return REFUSED_WORDS;
@@ -62,18 +64,26 @@ fn step<C: Clock, W: Write>(
     events: u64,
     is_timed: bool,
 ) -> Result<(), BenchFault> {
-    let mut workload = Workload::new(alloc)?;
-    let begin = Instant::now(clock).map_err(|_| BenchFault::Clock)?;
-    for _ in 0..events {
-        workload.step(alloc)?;
-    }
-    let time = begin.elapsed(clock).map_err(|_| BenchFault::Clock)?;
-    print_counts(alloc, writer, events, workload.counts())?;
+    let (counts, time) = played(alloc, clock, events)?;
+    print_counts(alloc, writer, events, counts)?;
     if is_timed {
         print_time(alloc, writer, events, time)?;
     }
     finish(writer)?;
     Ok(())
+}
+
+/// What so many events count, and how long they take.
+fn played<C: Clock>(
+    alloc: Global,
+    clock: &C,
+    events: u64,
+) -> Result<(Counts, Duration), BenchFault> {
+    let mut workload = Workload::new(alloc)?;
+    let begin = Instant::now(clock).map_err(|_| BenchFault::Clock)?;
+    workload.play(alloc, events)?;
+    let time = begin.elapsed(clock).map_err(|_| BenchFault::Clock)?;
+    Ok((workload.counts(), time))
 }
 
 fn submit<R: Threads + Wait + Clock + Sync, W: Write>(
@@ -89,6 +99,21 @@ fn submit<R: Threads + Wait + Clock + Sync, W: Write>(
             all = all.with(run_once(rt, alloc, sharing)?);
         }
         print_run(alloc, writer, sharing, all, is_timed)?;
+    }
+    finish(writer)?;
+    Ok(())
+}
+
+fn stages<C: Clock, W: Write>(
+    alloc: Global,
+    clock: &C,
+    writer: &mut W,
+    rounds: u64,
+    is_timed: bool,
+) -> Result<(), BenchFault> {
+    for stage in STAGES {
+        let time = lasted(alloc, clock, stage, rounds)?;
+        print_stage(alloc, writer, stage, rounds, is_timed.then_some(time))?;
     }
     finish(writer)?;
     Ok(())

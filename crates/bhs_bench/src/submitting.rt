@@ -124,17 +124,22 @@ fn command_of(alloc: Global, place: u16) -> Result<Command, Memory> {
 fn told_without_lock<C: Clock>(clock: &C, alloc: Global) -> Result<Measured, BenchFault> {
     let (mut hall, mut passes) = Hall::new(alloc, 0, game(alloc, AGENTS)?)?;
     let begin = Instant::now(clock).map_err(|_| BenchFault::Clock)?;
-    for place in 0..COMMANDS {
-        for pass in passes.iter_mut() {
-            hall.told(pass, command_of(alloc, place)?)?;
-        }
-    }
+    tell_all(alloc, &mut hall, &mut passes)?;
     let time = begin.elapsed(clock).map_err(|_| BenchFault::Clock)?;
     Ok(Measured {
         commands: commands(),
         kept: hall.state().log().len() as u64,
         time,
     })
+}
+
+fn tell_all(alloc: Global, hall: &mut Hall, passes: &mut [Pass]) -> Result<(), Memory> {
+    for place in 0..COMMANDS {
+        for pass in passes.iter_mut() {
+            hall.told(pass, command_of(alloc, place)?)?;
+        }
+    }
+    Ok(())
 }
 
 /// Each of so many matches is shared by so many threads. The agents are dealt out evenly.
@@ -217,8 +222,24 @@ fn settled<R: Wait>(
     cells: Vec<Cell>,
     shares: Vec<Result<Share, Memory>>,
 ) -> Result<u64, BenchFault> {
+    let handed = handed(alloc, cells.len(), shares)?;
+    let mut kept: u64 = 0;
+    for (cell, passes) in cells.into_iter().zip(handed) {
+        cell.close(rt);
+        let sealed = settle(cell, passes).map_err(|_| BenchFault::Unsettled)?;
+        kept = kept.saturating_add(sealed.log().len() as u64);
+    }
+    Ok(kept)
+}
+
+/// The passes of all shares, by the numbers of their cells.
+fn handed(
+    alloc: Global,
+    cells: usize,
+    shares: Vec<Result<Share, Memory>>,
+) -> Result<Vec<Vec<Pass>>, Memory> {
     let mut handed: Vec<Vec<Pass>> = Vec::new(alloc);
-    for _ in 0..cells.len() {
+    for _ in 0..cells {
         handed.push(Vec::new(alloc))?;
     }
     for share in shares {
@@ -230,11 +251,5 @@ fn settled<R: Wait>(
             all.push(pass)?;
         }
     }
-    let mut kept: u64 = 0;
-    for (cell, passes) in cells.into_iter().zip(handed) {
-        cell.close(rt);
-        let sealed = settle(cell, passes).map_err(|_| BenchFault::Unsettled)?;
-        kept = kept.saturating_add(sealed.log().len() as u64);
-    }
-    Ok(kept)
+    Ok(handed)
 }

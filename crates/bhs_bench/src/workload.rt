@@ -76,8 +76,15 @@ impl Workload {
         })
     }
 
-    /// Plays one event, on a new match where the last one has ended.
-    pub fn step(&mut self, alloc: Global) -> Result<(), BenchFault> {
+    /// Plays so many events, on one match after the other.
+    pub fn play(&mut self, alloc: Global, events: u64) -> Result<(), BenchFault> {
+        for _ in 0..events {
+            self.step(alloc)?;
+        }
+        Ok(())
+    }
+
+    fn step(&mut self, alloc: Global) -> Result<(), BenchFault> {
         if self.events >= EVENTS_OF_A_MATCH {
             let next = Match::new(alloc, self.net.try_clone(alloc)?, setup(alloc, AGENTS))?;
             self.before = self.before.with(&self.game);

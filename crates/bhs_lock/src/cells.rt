@@ -51,13 +51,8 @@ impl Cell {
     {
         let net = play.net().try_clone(alloc)?;
         let setup = play.setup().try_clone()?;
-        let agents = setup.agents;
-        let quota = setup.quota;
-        let mut news = Vec::with_capacity(alloc, usize::from(agents))?;
-        for _ in 0..agents {
-            news.push(Condvar::new())?;
-        }
-        let unclaimed = Unclaimed::new(alloc, game, quota, agents)?;
+        let news = bells(alloc, setup.agents)?;
+        let unclaimed = Unclaimed::new(alloc, game, setup.quota, setup.agents)?;
         let hall = Hall::alone(alloc, game, play)?;
         Ok(Cell {
             game,
@@ -166,4 +161,12 @@ impl Cell {
             setup,
         }
     }
+}
+
+fn bells(alloc: Global, agents: u16) -> Result<Vec<Condvar>, Memory> {
+    let mut bells = Vec::with_capacity(alloc, usize::from(agents))?;
+    for _ in 0..agents {
+        bells.push(Condvar::new())?;
+    }
+    Ok(bells)
 }

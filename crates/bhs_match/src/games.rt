@@ -1,5 +1,5 @@
 ghost use Rattle.std.specs.Prelude.{◌≡◌, ◌<◌, ◌≤◌, ℕ, List, [], length, Some, None, Ok, Err, IfSome, IfOk, IfErr, OnOk};
-ghost use Rattle.std.specs.Prelude.{if◌then◌else◌, ◌⊎◌, map, option_and_then};
+ghost use Rattle.std.specs.Prelude.{if◌then◌else◌, ◌⊎◌, map, option_and_then, replicate, vec_capacity};
 ghost use Rattle.bhs_net.specs.Network.{nodes_of};
 ghost use Rattle.bhs_model.specs.declared.limits.TheConstants.{MAX_AGENTS, MAX_QUOTA};
 ghost use Rattle.bhs_model.specs.declared.events.Event.{Event as EventData};
@@ -25,7 +25,7 @@ use bhs_agent::Standing;
 use bhs_model::{Command, Event, Kept, Mark, Reply, Setup, read, text_at};
 use bhs_net::{Memory, Net};
 use bhs_world::{SetupFault, World};
-use std::alloc::Global;
+use std::alloc::{AllocError, Global};
 use std::marker::Model;
 
 /// A match: a network, how the match is set up, and its log. The log holds the events that changed something, each
@@ -61,11 +61,7 @@ impl Match {
         ensures fault { IfErr result (λ fault. (fault ≡ SetupFault.Memory) ⊎ (first_fault net setup ≡ Some fault)) }
     {
         let world = World::new(alloc, net, setup)?;
-        let agents = world.setup().agents;
-        let quota = world.setup().quota;
-        let log = Vec::with_capacity(alloc, most_kept(agents, quota))?;
-        let pool = Vec::with_capacity(alloc, usize::from(agents))?;
-        let news = no_news(alloc, agents, quota)?;
+        let (log, pool, news) = nothing(alloc, world.setup().agents, world.setup().quota)?;
         Ok(Match {
             world,
             log,
@@ -235,6 +231,23 @@ fn node_seen(world: &World, agent: u16) -> Option<u16>
         Standing::Present { node, .. } => Some(node),
         _ => None,
     }
+}
+
+/// An empty log, pool and news, with room for all that may happen.
+fn nothing(
+    alloc: Global,
+    agents: u16,
+    quota: u16,
+) -> Result<(Vec<Kept>, Vec<Bound>, Vec<News>), AllocError>
+    requires agents { agents ≤ MAX_AGENTS }
+    requires quota { quota ≤ MAX_QUOTA }
+    ensures log { IfOk result (λ made. (made.0.items ≡ []) × (most_kept agents quota ≤ vec_capacity made.0)) }
+    ensures pool { IfOk result (λ made. (made.1.items ≡ []) × (agents ≤ vec_capacity made.1)) }
+    ensures news { IfOk result (λ made. made.2.items ≡ replicate agents (record { places = []; room = quota })) }
+{
+    let log = Vec::with_capacity(alloc, most_kept(agents, quota))?;
+    let pool = Vec::with_capacity(alloc, usize::from(agents))?;
+    Ok((log, pool, no_news(alloc, agents, quota)?))
 }
 
 /// The most events that a log may hold.

@@ -1,7 +1,6 @@
 //! Rehearsals, call by call: what a script cannot say.
 
-use super::files::{CUP, TRIANGLE};
-use bhs_files::{assemble, read_network, read_tournament};
+use bhs_program::built_in;
 use bhs_rehearsal::{Out, Rehearsal, RehearsalFault};
 use std::alloc::Global;
 use std::test::Fail;
@@ -17,12 +16,7 @@ const GONE: &[u8] = b"{\"ok\":\"gone\"}\n";
 const COME: &[u8] = b"{\"board\":\"\",\"from\":0,\"ok\":\"here\",\"ports\":2}\n";
 
 fn rehearsal(alloc: Global) -> Result<Rehearsal, Fail> {
-    let tournament = read_tournament(alloc, CUP)?;
-    let networks = vec![in alloc; read_network(alloc, TRIANGLE)?]?;
-    if tournament.networks(alloc)?.len() != networks.len() {
-        return Err(Fail::from("one network"));
-    }
-    Ok(Rehearsal::new(alloc, assemble(alloc, tournament, &networks)?, 256)?)
+    Ok(Rehearsal::new(alloc, built_in(alloc)?, 256)?)
 }
 
 /// Whether a call sent this to connection 255 and nothing else.
@@ -60,23 +54,5 @@ fn what_is_not_there_is_told(rt: HostRuntime) -> Result<(), Fail> {
     assert_eq!(rt; stage.draw(1, 0), Err(RehearsalFault::NoGame));
     assert_eq!(rt; stage.close(1), Err(RehearsalFault::NoGame));
     assert!(rt; !stage.failed());
-    Ok(())
-}
-
-// Each request for memory is granted here; `tools/refusals.py` refuses them in turn.
-#[test]
-fn want_of_memory_is_for_good(rt: HostRuntime) -> Result<(), Fail> {
-    let mut stage = rehearsal(rt.alloc())?;
-    let _ = stage.feed(0, ENTER);
-    let _ = stage.feed(0, DEPART);
-    let _ = stage.draw(0, 0);
-    let last = stage.close(0);
-    assert_eq!(rt; stage.failed(), last == Err(RehearsalFault::Memory));
-    if stage.failed() {
-        assert_eq!(rt; stage.feed(256, b"\n"), Err(RehearsalFault::Memory));
-        assert_eq!(rt; stage.end(0), Err(RehearsalFault::Memory));
-        assert_eq!(rt; stage.draw(0, 0), Err(RehearsalFault::Memory));
-        assert_eq!(rt; stage.close(1), Err(RehearsalFault::Memory));
-    }
     Ok(())
 }

@@ -1,38 +1,49 @@
 //! Calls that are made again after memory ran out: the second call answers what ample memory answers. What a call takes
-//! over is made anew for the second one. Each request for memory is granted here; `tools/refusals.py` refuses them in
-//! turn.
+//! over is made anew for the second one.
 
-use super::files::{CUP, TRIANGLE};
-use super::played::played;
-use super::replays::ACCUSED;
-use super::streams::{Narrow, Pieces};
-use bhs_deal::Held;
-use bhs_files::{assemble, read_network, read_tournament};
-use bhs_lineup::Lineup;
+use super::{triangle, write};
 use bhs_lock::{Cell, Open, Pass};
-use bhs_match::Match;
-use bhs_model::{Command, DarkLinks, Holes, Reply, Setup, Text};
+use bhs_match::Sealed;
+use bhs_model::{Command, Reply, Text};
+use bhs_program::built_in;
 use bhs_replay::{read_replay, write_replay};
 use bhs_view::{cut_of, restrict, twin_of};
 use std::alloc::Global;
 use std::sync::Wait;
 use std::test::Fail;
 
-fn lineup(alloc: Global) -> Option<Lineup> {
-    let tournament = read_tournament(alloc, CUP).ok()?;
-    let networks = vec![in alloc; read_network(alloc, TRIANGLE).ok()?].ok()?;
-    if tournament.networks(alloc).ok()?.len() != networks.len() {
-        return None;
-    }
-    assemble(alloc, tournament, &networks).ok()
+/// Agent 1 writes at the next node while agent 0 looks at the home base.
+const PLAYED: &str = "{\"agents\":2,\"board\":8,\"dark\":[],\"holes\":[2],\
+    \"home\":0,\"links\":[[0,0,1,0],[0,1,2,1],[1,1,2,0]],\"nodes\":3,\"quota\":10,\"replay\":2}
+{\"agent\":0,\"do\":\"enter\",\"reply\":{\"board\":\"\",\"from\":null,\"ok\":\"here\",\"ports\":2}}
+{\"agent\":1,\"do\":\"enter\",\"reply\":{\"board\":\"\",\"from\":null,\"ok\":\"here\",\"ports\":2}}
+{\"agent\":1,\"do\":\"depart\",\"port\":0,\"reply\":{\"ok\":\"gone\"}}
+{\"agent\":1,\"do\":\"deliver\",\"reply\":{\"board\":\"\",\"from\":0,\"ok\":\"here\",\"ports\":2}}
+{\"agent\":1,\"do\":\"write\",\"expect\":\"\",\"put\":\"b\",\"reply\":{\"ok\":\"written\"}}
+{\"agent\":0,\"do\":\"look\",\"reply\":{\"board\":\"\",\"from\":null,\"ok\":\"here\",\"ports\":2}}
+{\"do\":\"close\",\"reply\":null}
+{\"end\":7}
+";
+
+/// Agent 0 accuses a port that may be the right one.
+const ACCUSED: &str = "{\"agents\":2,\"board\":8,\"dark\":[],\"holes\":[2],\
+    \"home\":0,\"links\":[[0,0,1,0],[0,1,2,1],[1,1,2,0]],\"nodes\":3,\"quota\":10,\"replay\":2}
+{\"agent\":0,\"do\":\"enter\",\"reply\":{\"board\":\"\",\"from\":null,\"ok\":\"here\",\"ports\":2}}
+{\"agent\":0,\"do\":\"accuse\",\"port\":1,\"reply\":{\"ok\":\"noted\"}}
+{\"do\":\"close\",\"reply\":null}
+{\"end\":3}
+";
+
+fn sealed(alloc: Global, replay: &str) -> Result<Sealed, Fail> {
+    Ok(read_replay(alloc, &mut replay.as_bytes(), 1_000)?)
 }
 
 #[test]
 fn files_are_read_and_put_together_again(rt: HostRuntime) -> Result<(), Fail> {
     let alloc = rt.alloc();
-    let lineup = match lineup(alloc) {
-        Some(lineup) => lineup,
-        None => lineup(alloc).expect(&rt, "memory suffices"),
+    let lineup = match built_in(alloc) {
+        Ok(lineup) => lineup,
+        Err(_) => built_in(alloc).expect(&rt, "memory suffices"),
     };
     assert_eq!(rt; lineup.ready.len(), 1);
     assert_eq!(rt; lineup.ready[0].game.net().nodes(), 3);
@@ -41,19 +52,10 @@ fn files_are_read_and_put_together_again(rt: HostRuntime) -> Result<(), Fail> {
     Ok(())
 }
 
-/// A match of one agent on the triangle, under its lock.
+/// A match on the triangle, under its lock.
 fn cell(alloc: Global) -> Option<Cell> {
-    let net = read_network(alloc, TRIANGLE).ok()?;
-    let held = Held::new(alloc, &net, &[]).ok()?;
-    let setup = Setup {
-        home: 0,
-        holes: Holes::from(vec![in alloc; 2].ok()?),
-        dark: DarkLinks::from(Vec::new(alloc)),
-        agents: 1,
-        quota: 10,
-        board: 8,
-    };
-    Cell::new(alloc, 0, Match::new(alloc, net, setup).ok()?, held).ok()
+    let (game, held) = triangle(alloc)?;
+    Cell::new(alloc, 0, game, held).ok()
 }
 
 /// What the agent is answered to a command, which is told again where memory runs out.
@@ -68,13 +70,6 @@ fn told<R: Wait>(
         Ok(answer) => Ok(answer.reply),
         Err(_) => Ok(cell.submit(rt, &Open, pass, again)?.reply),
     }
-}
-
-fn write(alloc: Global) -> Result<Command, Fail> {
-    Ok(Command::Write {
-        expect: Text::from(String::new(alloc)),
-        put: Text::from(String::from_str(alloc, "ab")?),
-    })
 }
 
 #[test]
@@ -103,24 +98,23 @@ fn a_match_is_made_and_commands_are_told_again(rt: HostRuntime) -> Result<(), Fa
 #[test]
 fn a_replay_is_read_and_written_again(rt: HostRuntime) -> Result<(), Fail> {
     let alloc = rt.alloc();
-    let text = ACCUSED.as_bytes();
-    let sealed = match read_replay(alloc, &mut Pieces::new(text, 9, false), 1_000) {
+    let sealed = match read_replay(alloc, &mut PLAYED.as_bytes(), 1_000) {
         Ok(sealed) => sealed,
-        Err(_) => read_replay(alloc, &mut Pieces::new(text, 9, false), 1_000)?,
+        Err(_) => read_replay(alloc, &mut PLAYED.as_bytes(), 1_000)?,
     };
-    let mut writer = Narrow::new(alloc, text.len(), 9, true);
-    if write_replay(alloc, &sealed, &mut writer).is_err() {
-        writer = Narrow::new(alloc, text.len(), 9, true);
-        write_replay(alloc, &sealed, &mut writer)?;
+    let mut written: Vec<u8> = Vec::new(alloc);
+    if write_replay(alloc, &sealed, &mut written).is_err() {
+        written.clear();
+        write_replay(alloc, &sealed, &mut written)?;
     }
-    assert_eq!(rt; writer.taken.as_slice(), text);
+    assert_eq!(rt; written.as_slice(), PLAYED.as_bytes());
     Ok(())
 }
 
 #[test]
 fn a_past_is_cut_out_again(rt: HostRuntime) -> Result<(), Fail> {
     let alloc = rt.alloc();
-    let sealed = played(alloc, 3, &[2], &[], "0e 1e 1d0 1v 1w 0l")?;
+    let sealed = sealed(alloc, PLAYED)?;
     let cut = match cut_of(alloc, &sealed, 0) {
         Ok(cut) => cut,
         Err(_) => cut_of(alloc, &sealed, 0)?,
@@ -132,7 +126,7 @@ fn a_past_is_cut_out_again(rt: HostRuntime) -> Result<(), Fail> {
 #[test]
 fn a_match_is_restricted_again(rt: HostRuntime) -> Result<(), Fail> {
     let alloc = rt.alloc();
-    let sealed = played(alloc, 3, &[2], &[], "0e 1e 1d0 1v 1w 0l")?;
+    let sealed = sealed(alloc, PLAYED)?;
     let part = match restrict(alloc, &sealed, &[0, 5]) {
         Ok(part) => part,
         Err(_) => restrict(alloc, &sealed, &[0, 5])?,
@@ -144,7 +138,7 @@ fn a_match_is_restricted_again(rt: HostRuntime) -> Result<(), Fail> {
 #[test]
 fn a_twin_is_made_again(rt: HostRuntime) -> Result<(), Fail> {
     let alloc = rt.alloc();
-    let sealed = played(alloc, 3, &[2], &[], "0e 0a1")?;
+    let sealed = sealed(alloc, ACCUSED)?;
     let twin = match twin_of(alloc, &sealed, 1) {
         Ok(twin) => twin,
         Err(_) => twin_of(alloc, &sealed, 1)?,

@@ -1,0 +1,115 @@
+//! The stages of a line of a client, each by itself.
+
+use crate::faults::BenchFault;
+use crate::workload::Workload;
+use bhs_model::{Reply, Text, Why};
+use bhs_net::Memory;
+use bhs_script::push_printed;
+use bhs_wire::{First, LineReader, push_line};
+use std::alloc::Global;
+use std::time::{Clock, Duration, Instant};
+
+/// What is done with a line.
+#[derive(Clone, Copy, Debug, PartialEq, Eq)]
+pub enum Stage {
+    /// The line is read.
+    Reading,
+    /// What it says is played.
+    Playing,
+    /// The reply is written.
+    Writing,
+    /// The reply is printed behind the number of its connection.
+    Printing,
+}
+
+/// The stages, in their order.
+pub const STAGES: [Stage; 4] = [
+    Stage::Reading,
+    Stage::Playing,
+    Stage::Writing,
+    Stage::Printing,
+];
+
+/// The lines that are read in a round.
+const LINES: [&[u8]; 4] = [
+    b"{\"do\":\"look\"}",
+    b"{\"do\":\"depart\",\"port\":3}",
+    b"{\"do\":\"write\",\"expect\":\"\",\"put\":\"been here\"}",
+    b"{\"do\":\"loook\"}",
+];
+
+/// What is printed in a round.
+const PRINTED: [&[u8]; 4] = [
+    b"{\"board\":\"been here\",\"from\":1,\"ok\":\"here\",\"ports\":4}\n",
+    b"{\"ok\":\"gone\"}\n",
+    b"{\"ok\":\"written\"}\n",
+    b"{\"no\":\"line\"}\n",
+];
+
+/// How many lines, or events, a round has.
+pub fn of_a_round() -> u64 {
+    4
+}
+
+/// How long a stage takes, so many times over.
+pub fn lasted<C: Clock>(
+    alloc: Global,
+    clock: &C,
+    stage: Stage,
+    rounds: u64,
+) -> Result<Duration, BenchFault> {
+    let begin = Instant::now(clock).map_err(|_| BenchFault::Clock)?;
+    match stage {
+        Stage::Reading => read(alloc, rounds)?,
+        Stage::Playing => play(alloc, rounds)?,
+        Stage::Writing => write(alloc, rounds)?,
+        Stage::Printing => print(alloc, rounds)?,
+    }
+    begin.elapsed(clock).map_err(|_| BenchFault::Clock)
+}
+
+fn read(alloc: Global, rounds: u64) -> Result<(), Memory> {
+    let mut reader = LineReader::new(alloc);
+    for _ in 0..rounds {
+        for line in LINES {
+            let _: First = reader.command_of(line)?;
+        }
+    }
+    Ok(())
+}
+
+fn play(alloc: Global, rounds: u64) -> Result<(), BenchFault> {
+    Workload::new(alloc)?.play(alloc, rounds.saturating_mul(of_a_round()))
+}
+
+fn write(alloc: Global, rounds: u64) -> Result<(), Memory> {
+    let replies = replies(alloc)?;
+    let mut text = Vec::new(alloc);
+    for _ in 0..rounds {
+        text.clear();
+        for reply in &replies {
+            push_line(alloc, &mut text, reply)?;
+        }
+    }
+    Ok(())
+}
+
+fn replies(alloc: Global) -> Result<Vec<Reply>, Memory> {
+    let here = Reply::Here {
+        ports: 4,
+        came: Some(1),
+        board: Text::from(String::from_str(alloc, "been here")?),
+    };
+    Ok(vec![in alloc; here, Reply::Gone, Reply::Written, Reply::No(Why::Line)]?)
+}
+
+fn print(alloc: Global, rounds: u64) -> Result<(), Memory> {
+    let mut text = Vec::new(alloc);
+    for _ in 0..rounds {
+        text.clear();
+        for line in PRINTED {
+            push_printed(&mut text, 12, line)?;
+        }
+    }
+    Ok(())
+}

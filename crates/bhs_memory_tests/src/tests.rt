@@ -1,0 +1,42 @@
+//! Each request for memory is granted here.
+
+mod again;
+mod playing;
+mod wanting;
+
+use bhs_deal::Held;
+use bhs_files::read_network;
+use bhs_match::Match;
+use bhs_model::{Command, DarkLinks, Holes, Setup, Text};
+use bhs_net::Net;
+use std::alloc::{AllocError, Global};
+
+const TRIANGLE: &str = "version = 1
+nodes = 3
+links = [[0,0,1,0],[1,1,2,0],[2,1,0,1]]
+";
+
+/// A match of two agents on the triangle, with the black hole at node 2, and the links that are held in it.
+fn triangle(alloc: Global) -> Option<(Match, Held)> {
+    let net = read_network(alloc, TRIANGLE).ok()?;
+    let held = Held::new(alloc, &net, &[]).ok()?;
+    Some((Match::new(alloc, net, setup(alloc).ok()?).ok()?, held))
+}
+
+fn setup(alloc: Global) -> Result<Setup, AllocError> {
+    Ok(Setup {
+        home: 0,
+        holes: Holes::from(vec![in alloc; 2]?),
+        dark: DarkLinks::from(Vec::new(alloc)),
+        agents: 2,
+        quota: 10,
+        board: 8,
+    })
+}
+
+fn write(alloc: Global) -> Result<Command, AllocError> {
+    Ok(Command::Write {
+        expect: Text::from(String::new(alloc)),
+        put: Text::from(String::from_str(alloc, "ab")?),
+    })
+}

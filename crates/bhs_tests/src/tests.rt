@@ -1,6 +1,0 @@
-mod draws;
-mod matches;
-mod memory;
-mod model;
-mod pasts;
-mod triangle;

@@ -1,6 +1,0 @@
-//! Tests of what threads share: matches under their locks, servers over loopback sockets, showcases. They stand apart
-//! from the crates that they test, since a crate with tests is proved twice. There is no other code here.
-#![tactic(auto)]
-
-#[cfg(test)]
-mod tests;

@@ -1,5 +1,0 @@
-mod cells;
-mod locks;
-mod paces;
-mod servers;
-mod showcases;
