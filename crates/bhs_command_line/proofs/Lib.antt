@@ -3,4 +3,5 @@ mod AnswerLemmas
 mod NumberLemmas
 mod FoundLemmas
 mod ToldLemmas
+mod ReadLemmas
 mod ServeLemmas

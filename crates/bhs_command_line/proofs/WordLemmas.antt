@@ -1,10 +1,11 @@
 -- Which words the command line takes.
-use Rattle.std.proofs.Common.{◌≡◌, ◌∙◌, ap, subst, sym, refl, inl, inr, true≢false, Bool, true, false, ℕ, codes, List}
+use Rattle.std.proofs.Common.{◌≡◌, ◌∙◌, ap, ap₂, subst, sym, refl, inl, inr, true≢false, Bool, true, false, ℕ, codes, List}
 use Rattle.std.proofs.Common.{[], ◌∷◌, ◌++◌, Option, Some, None}
 use Rattle.std.specs.Prelude.{option_and_then, option_map}
 use Rattle.clap.specs.Words.{Text}
-use Rattle.clap.specs.Simple.{is_simple}
-use Rattle.clap.specs.Kinds.{Kinds}
+use Rattle.clap.specs.Simple.{entered, is_simple}
+use Rattle.clap.specs.Walk.{Walk, idle, option}
+use Rattle.clap.specs.Kinds.{Kinds, or_else}
 use Rattle.clap.specs.Faults.{is_simple_and_free}
 use Rattle.clap.specs.declared.error.kind.ErrorKind.{ErrorKind}
 use Rattle.clap.specs.declared.error.kind.ErrorKind.TheVariants.{DisplayHelp, DisplayHelpOnMissingArgumentOrSubcommand}
@@ -17,7 +18,10 @@ use Rattle.bhs_command_line.specs.declared.orders.Order.TheVariants.{Twin}
 use Rattle.bhs_command_line.specs.declared.orders.Entry.{Entry}
 use Rattle.bhs_command_line.specs.declared.orders.Hosting.{Hosting}
 use Rattle.bhs_command_line.proofs.NumberLemmas.{hosting_plain}
+use Rattle.bhs_command_line.proofs.ReadLemmas.{Enters, leaf_of, line, line_fault, order_read, passed, passed_whole}
+use Rattle.bhs_command_line.proofs.ReadLemmas.{read_plain, reads_more, reads_none}
 use Rattle.bhs_command_line.proofs.ServeLemmas.{serve_found}
+use Rattle.bhs_command_line.specs.CommandLine.{check, explain, judge, rehearse, table, twin}
 
 -- ---- lists of kinds
 
@@ -70,68 +74,129 @@ no_word_fault words is = subst (λ (ws : List Text). faults ws ≡ DisplayHelpOn
 abbrev Gives : List Text → Order → Type 0
 Gives words order = (faults words ≡ []) × (option_and_then order_by (command_in words) ≡ Some order)
 
+rehearse_enters : Enters (codes "rehearse") (leaf_of rehearse)
+unfolding clap_on_literals
+rehearse_enters = record {
+  takes = λ rest none. ap₂ line_fault (passed_whole (codes "rehearse") rest) (passed (codes "rehearse") rest)
+      ∙ ap (λ (kinds : Kinds). or_else kinds []) none;
+  finds = λ rest. ap (λ (w : Walk). entered line w.stopped) (passed (codes "rehearse") rest);
+}
+
 rehearse_alone : Gives (codes "rehearse" ∷ []) (Rehearse None None) × Gives (codes "rehearse" ∷ codes "--" ∷ [])
     (Rehearse None None)
 unfolding clap_on_literals
-rehearse_alone = ((refl, refl), (refl, refl))
+rehearse_alone = (
+  order_read rehearse_enters [] _ _ (reads_none (leaf_of rehearse) _) refl refl,
+  order_read rehearse_enters (codes "--" ∷ []) _ _
+      (reads_more (record { faultless = refl; goes = refl }) (reads_none (leaf_of rehearse) _)) refl refl,
+)
 
 rehearse_named : (name : Text) → is_dashed name ≡ false
     → Gives (codes "rehearse" ∷ name ∷ []) (Rehearse (Some name) None)
 unfolding clap_on_literals
-rehearse_named [] e = (refl, refl)
-rehearse_named (b ∷ bs) e = (simp e, simp e)
+rehearse_named name e =
+    order_read rehearse_enters (name ∷ []) _ _
+    (reads_more (read_plain (leaf_of rehearse) _ 1 idle name e refl) (reads_none (leaf_of rehearse) _)) refl refl
 
 rehearse_written : (prefix : Text) → is_dashed prefix ≡ false
     → Gives (codes "rehearse" ∷ codes "--replay" ∷ prefix ∷ []) (Rehearse None (Some prefix))
 unfolding clap_on_literals
-rehearse_written [] e = (refl, refl)
-rehearse_written (b ∷ bs) e = (simp e, simp e)
+rehearse_written prefix e =
+    order_read rehearse_enters (codes "--replay" ∷ prefix ∷ []) _ _
+    (reads_more (record { faultless = refl; goes = refl })
+    (reads_more (read_plain (leaf_of rehearse) _ 1 (option (codes "prefix")) prefix e refl)
+    (reads_none (leaf_of rehearse) _))) refl refl
 
 rehearse_both : (name prefix : Text) → is_dashed name ≡ false → is_dashed prefix ≡ false
     → Gives (codes "rehearse" ∷ name ∷ codes "--replay" ∷ prefix ∷ []) (Rehearse (Some name) (Some prefix))
 unfolding clap_on_literals
-rehearse_both [] [] e f = (refl, refl)
-rehearse_both [] (c ∷ cs) e f = (simp f, simp f)
-rehearse_both (b ∷ bs) [] e f = (simp e, simp e)
-rehearse_both (b ∷ bs) (c ∷ cs) e f = (simp (e, f), simp (e, f))
+rehearse_both name prefix e f =
+    order_read rehearse_enters (name ∷ codes "--replay" ∷ prefix ∷ []) _ _
+    (reads_more (read_plain (leaf_of rehearse) _ 1 idle name e refl)
+    (reads_more (record { faultless = refl; goes = refl })
+    (reads_more (read_plain (leaf_of rehearse) _ 2 (option (codes "prefix")) prefix f refl)
+    (reads_none (leaf_of rehearse) _)))) refl refl
+
+check_enters : Enters (codes "check") (leaf_of check)
+unfolding clap_on_literals
+check_enters = record {
+  takes = λ rest none. ap₂ line_fault (passed_whole (codes "check") rest) (passed (codes "check") rest)
+      ∙ ap (λ (kinds : Kinds). or_else kinds []) none;
+  finds = λ rest. ap (λ (w : Walk). entered line w.stopped) (passed (codes "check") rest);
+}
 
 check_named : (name : Text) → is_dashed name ≡ false → Gives (codes "check" ∷ name ∷ []) (Check name)
 unfolding clap_on_literals
-check_named [] e = (refl, refl)
-check_named (b ∷ bs) e = (simp e, simp e)
+check_named name e =
+    order_read check_enters (name ∷ []) _ _
+    (reads_more (read_plain (leaf_of check) _ 1 idle name e refl) (reads_none (leaf_of check) _)) refl refl
+
+judge_enters : Enters (codes "judge") (leaf_of judge)
+unfolding clap_on_literals
+judge_enters = record {
+  takes = λ rest none. ap₂ line_fault (passed_whole (codes "judge") rest) (passed (codes "judge") rest)
+      ∙ ap (λ (kinds : Kinds). or_else kinds []) none;
+  finds = λ rest. ap (λ (w : Walk). entered line w.stopped) (passed (codes "judge") rest);
+}
 
 judge_named : (replay : Text) → is_dashed replay ≡ false → Gives (codes "judge" ∷ replay ∷ []) (Judge replay)
 unfolding clap_on_literals
-judge_named [] e = (refl, refl)
-judge_named (b ∷ bs) e = (simp e, simp e)
+judge_named replay e =
+    order_read judge_enters (replay ∷ []) _ _
+    (reads_more (read_plain (leaf_of judge) _ 1 idle replay e refl) (reads_none (leaf_of judge) _)) refl refl
+
+table_enters : Enters (codes "table") (leaf_of table)
+unfolding clap_on_literals
+table_enters = record {
+  takes = λ rest none. ap₂ line_fault (passed_whole (codes "table") rest) (passed (codes "table") rest)
+      ∙ ap (λ (kinds : Kinds). or_else kinds []) none;
+  finds = λ rest. ap (λ (w : Walk). entered line w.stopped) (passed (codes "table") rest);
+}
 
 table_found : (word : Text) → is_dashed word ≡ false
     → (faults (codes "table" ∷ word ∷ []) ≡ [])
     × (option_and_then order_by (command_in (codes "table" ∷ word ∷ [])) ≡ option_map Table
     (entries_in (word ∷ [])))
 unfolding clap_on_literals
-table_found [] e = (refl, refl)
-table_found (b ∷ bs) e = (simp e, simp e)
+table_found word e =
+    order_read table_enters (word ∷ []) _ _
+    (reads_more (read_plain (leaf_of table) _ 1 idle word e refl) (reads_none (leaf_of table) _)) refl refl
+
+explain_enters : Enters (codes "explain") (leaf_of explain)
+unfolding clap_on_literals
+explain_enters = record {
+  takes = λ rest none. ap₂ line_fault (passed_whole (codes "explain") rest) (passed (codes "explain") rest)
+      ∙ ap (λ (kinds : Kinds). or_else kinds []) none;
+  finds = λ rest. ap (λ (w : Walk). entered line w.stopped) (passed (codes "explain") rest);
+}
 
 explain_found : (replay word : Text) → is_dashed replay ≡ false → is_dashed word ≡ false
     → (faults (codes "explain" ∷ replay ∷ word ∷ []) ≡ [])
     × (option_and_then order_by (command_in (codes "explain" ∷ replay ∷ word ∷ [])) ≡ option_map (Explain replay)
     (number_in word))
 unfolding clap_on_literals
-explain_found [] [] e f = (refl, refl)
-explain_found [] (c ∷ cs) e f = (simp f, simp f)
-explain_found (b ∷ bs) [] e f = (simp e, simp e)
-explain_found (b ∷ bs) (c ∷ cs) e f = (simp (e, f), simp (e, f))
+explain_found replay word e f =
+    order_read explain_enters (replay ∷ word ∷ []) _ _
+    (reads_more (read_plain (leaf_of explain) _ 1 idle replay e refl)
+    (reads_more (read_plain (leaf_of explain) _ 2 idle word f refl) (reads_none (leaf_of explain) _))) refl refl
+
+twin_enters : Enters (codes "twin") (leaf_of twin)
+unfolding clap_on_literals
+twin_enters = record {
+  takes = λ rest none. ap₂ line_fault (passed_whole (codes "twin") rest) (passed (codes "twin") rest)
+      ∙ ap (λ (kinds : Kinds). or_else kinds []) none;
+  finds = λ rest. ap (λ (w : Walk). entered line w.stopped) (passed (codes "twin") rest);
+}
 
 twin_found : (replay word : Text) → is_dashed replay ≡ false → is_dashed word ≡ false
     → (faults (codes "twin" ∷ replay ∷ word ∷ []) ≡ [])
     × (option_and_then order_by (command_in (codes "twin" ∷ replay ∷ word ∷ [])) ≡ option_map (Twin replay)
     (number_in word))
 unfolding clap_on_literals
-twin_found [] [] e f = (refl, refl)
-twin_found [] (c ∷ cs) e f = (simp f, simp f)
-twin_found (b ∷ bs) [] e f = (simp e, simp e)
-twin_found (b ∷ bs) (c ∷ cs) e f = (simp (e, f), simp (e, f))
+twin_found replay word e f =
+    order_read twin_enters (replay ∷ word ∷ []) _ _
+    (reads_more (read_plain (leaf_of twin) _ 1 idle replay e refl)
+    (reads_more (read_plain (leaf_of twin) _ 2 idle word f refl) (reads_none (leaf_of twin) _))) refl refl
 
 here : (words given : List Text) (order : Order) → words ≡ given → Gives given order → Gives words order
 here words given order is gives = subst (λ (ws : List Text). Gives ws order) (sym is) gives

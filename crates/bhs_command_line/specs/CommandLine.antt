@@ -7,10 +7,12 @@ use Rattle.std.specs.Str.{bytes_eq}
 use Rattle.std.specs.Char.{is_ascii_digit}
 use Rattle.std.specs.Str.Parse.{digits_value}
 use Rattle.clap.specs.Words.{App, Kinds, Row, Rule, Shape, Text, all_of, fault_of, first_of, new_app, new_rule}
-use Rattle.clap.specs.Words.{subcommand_of, with_subcommand}
+use Rattle.clap.specs.Words.{shape_of, subcommand_of, with_subcommand}
 use Rattle.clap.specs.Simple.{new_shape, on_top}
 use Rattle.clap.specs.Walk.{is_empty}
 use Rattle.clap.specs.declared.builder.action.ArgAction.TheVariants.{Append}
+use Rattle.clap.specs.declared.builder.command.Command.{Command}
+use Rattle.clap.specs.declared.builder.command.Command.TheViews.{out-Command as fields_of}
 use Rattle.clap.specs.declared.error.kind.ErrorKind.{ErrorKind}
 use Rattle.clap.specs.declared.error.kind.ErrorKind.TheVariants.{DisplayHelp, DisplayVersion}
 use Rattle.bhs_teams.specs.Teams.{is_team}
@@ -46,6 +48,11 @@ behind option rule = record rule { long = Some option }
 -- a command with these words
 abbrev pub command : (name : Text) → List Rule → Shape
 command name rules = record (new_shape name) { rules = rules }
+
+-- a command of this shape, with no global argument
+pub record IsTold (command : Command) (is : Shape) : Type 0 where
+  pub shape : shape_of command ≡ is
+  pub local : (fields_of command).has_globals ≡ false
 
 -- one word or more
 abbrev pub entry_words : Rule

@@ -1,9 +1,9 @@
 //! The command line as clap is told it.
 
-ghost use Rattle.std.specs.Prelude.{◌≡◌, IfOk, codes, false};
+ghost use Rattle.std.specs.Prelude.{◌≡◌, ◌++◌, ◌∷◌, [], IfOk, List, codes, false};
 ghost use Rattle.bhs_command_line.specs.CommandLine as specs;
-ghost use Rattle.clap.specs.Words.{app_of, rule_of, shape_of};
-ghost use Rattle.clap.specs.declared.builder.command.Command.TheViews.{out-Command as fields_of};
+ghost use Rattle.bhs_command_line.specs.CommandLine.{IsTold};
+ghost use Rattle.clap.specs.Words.{App, Rule, Text, app_of, rule_of, with_subcommand, Shape};
 
 use crate::help;
 use clap::{Arg, ArgAction, Command};
@@ -17,128 +17,206 @@ const REPLAY_FILE: &str = "The replay's file, as a path from the working directo
 pub(crate) fn command_line<'a>(alloc: Global) -> Result<Command<'a>, AllocError>
     ensures { IfOk result (λ command. app_of command ≡ specs.arena) }
 {
-    program(alloc)?
-        .subcommand(rehearse_command(alloc)?)?
-        .subcommand(check_command(alloc)?)?
-        .subcommand(judge_command(alloc)?)?
-        .subcommand(table_command(alloc)?)?
-        .subcommand(explain_command(alloc)?)?
-        .subcommand(twin_command(alloc)?)?
-        .subcommand(serve_command(alloc)?)
+    let line = program(alloc);
+    let line = with_command(line, rehearse_command(alloc));
+    let line = with_command(line, check_command(alloc));
+    let line = with_command(line, judge_command(alloc));
+    let line = with_command(line, table_command(alloc));
+    let line = with_command(line, explain_command(alloc));
+    let line = with_command(line, twin_command(alloc));
+    with_command(line, serve_command(alloc))
+}
+
+// One command more, where memory lasted for both. It takes results, so that its callers have no `?` while they hold a
+// command: each such one takes long to prove.
+fn with_command<'a>(
+    line: Result<Command<'a>, AllocError>,
+    command: Result<Command<'a>, AllocError>,
+) -> Result<Command<'a>, AllocError>
+    ensures { (app : App) → (shape : Shape) → IfOk line.entry (λ old. app_of old ≡ app)
+        → IfOk command.entry (λ more. IsTold more shape)
+        → IfOk result (λ new. app_of new ≡ with_subcommand app shape) }
+{
+    line?.subcommand(command?)
 }
 
 fn program<'a>(alloc: Global) -> Result<Command<'a>, AllocError>
     ensures { IfOk result (λ command. app_of command ≡ specs.program (codes "arena")) }
 {
-    Ok(
-        Command::new(alloc, "arena")
-            .bin_name("arena")?
-            .about(help::ARENA)
-            .long_about(help::ARENA_AT_LENGTH)
-            .no_binary_name(true)
-            .arg_required_else_help(true)
-            .subcommand_required(true),
-    )
+    Command::new(alloc, "arena")
+        .about(help::ARENA)
+        .long_about(help::ARENA_AT_LENGTH)
+        .no_binary_name(true)
+        .arg_required_else_help(true)
+        .subcommand_required(true)
+        .bin_name("arena")
 }
 
 fn rehearse_command<'a>(alloc: Global) -> Result<Command<'a>, AllocError>
-    ensures shape { IfOk result (λ command. shape_of command ≡ specs.rehearse) }
-    ensures local { IfOk result (λ command. (fields_of command).has_globals ≡ false) }
+    ensures { IfOk result (λ command. IsTold command specs.rehearse) }
 {
-    Command::new(alloc, "rehearse")
-        .about(help::REHEARSE)
-        .long_about(help::REHEARSE_AT_LENGTH)
-        .after_long_help(help::REHEARSE_EXAMPLE)
-        .arg(optional_tournament(alloc))?
-        .arg(replay_option(alloc))
+    let command = command(
+        alloc,
+        "rehearse",
+        help::REHEARSE,
+        help::REHEARSE_AT_LENGTH,
+        help::REHEARSE_EXAMPLE,
+    );
+    with(
+        command.arg(optional_tournament(alloc)),
+        replay_option(alloc),
+    )
 }
 
 fn check_command<'a>(alloc: Global) -> Result<Command<'a>, AllocError>
-    ensures shape { IfOk result (λ command. shape_of command ≡ specs.check) }
-    ensures local { IfOk result (λ command. (fields_of command).has_globals ≡ false) }
+    ensures { IfOk result (λ command. IsTold command specs.check) }
 {
-    Command::new(alloc, "check")
-        .about(help::CHECK)
-        .long_about(help::CHECK_AT_LENGTH)
-        .after_long_help(help::CHECK_EXAMPLE)
-        .arg(must_have(alloc, "tournament", "TOURNAMENT", TOURNAMENT_FILE))
+    let command = command(
+        alloc,
+        "check",
+        help::CHECK,
+        help::CHECK_AT_LENGTH,
+        help::CHECK_EXAMPLE,
+    );
+    command.arg(must_have(alloc, "tournament", "TOURNAMENT", TOURNAMENT_FILE))
 }
 
 fn judge_command<'a>(alloc: Global) -> Result<Command<'a>, AllocError>
-    ensures shape { IfOk result (λ command. shape_of command ≡ specs.judge) }
-    ensures local { IfOk result (λ command. (fields_of command).has_globals ≡ false) }
+    ensures { IfOk result (λ command. IsTold command specs.judge) }
 {
-    Command::new(alloc, "judge")
-        .about(help::JUDGE)
-        .long_about(help::JUDGE_AT_LENGTH)
-        .after_long_help(help::JUDGE_EXAMPLE)
-        .arg(must_have(alloc, "replay", "REPLAY", REPLAY_FILE))
+    let command = command(
+        alloc,
+        "judge",
+        help::JUDGE,
+        help::JUDGE_AT_LENGTH,
+        help::JUDGE_EXAMPLE,
+    );
+    command.arg(must_have(alloc, "replay", "REPLAY", REPLAY_FILE))
 }
 
 fn table_command<'a>(alloc: Global) -> Result<Command<'a>, AllocError>
-    ensures shape { IfOk result (λ command. shape_of command ≡ specs.table) }
-    ensures local { IfOk result (λ command. (fields_of command).has_globals ≡ false) }
+    ensures { IfOk result (λ command. IsTold command specs.table) }
 {
-    Command::new(alloc, "table")
-        .about(help::TABLE)
-        .long_about(help::TABLE_AT_LENGTH)
-        .after_long_help(help::TABLE_EXAMPLE)
-        .arg(entry_words(alloc))
+    let command = command(
+        alloc,
+        "table",
+        help::TABLE,
+        help::TABLE_AT_LENGTH,
+        help::TABLE_EXAMPLE,
+    );
+    command.arg(entry_words(alloc))
 }
 
 fn explain_command<'a>(alloc: Global) -> Result<Command<'a>, AllocError>
-    ensures shape { IfOk result (λ command. shape_of command ≡ specs.explain) }
-    ensures local { IfOk result (λ command. (fields_of command).has_globals ≡ false) }
+    ensures { IfOk result (λ command. IsTold command specs.explain) }
 {
-    Command::new(alloc, "explain")
-        .about(help::EXPLAIN)
-        .long_about(help::EXPLAIN_AT_LENGTH)
-        .after_long_help(help::EXPLAIN_EXAMPLE)
-        .arg(must_have(alloc, "replay", "REPLAY", REPLAY_FILE))?
-        .arg(must_have(alloc, "agent", "AGENT", "The agent's number, from 0"))
+    let command = command(
+        alloc,
+        "explain",
+        help::EXPLAIN,
+        help::EXPLAIN_AT_LENGTH,
+        help::EXPLAIN_EXAMPLE,
+    );
+    let command = command.arg(must_have(alloc, "replay", "REPLAY", REPLAY_FILE));
+    with(
+        command,
+        must_have(alloc, "agent", "AGENT", "The agent's number, from 0"),
+    )
 }
 
 fn twin_command<'a>(alloc: Global) -> Result<Command<'a>, AllocError>
-    ensures shape { IfOk result (λ command. shape_of command ≡ specs.twin) }
-    ensures local { IfOk result (λ command. (fields_of command).has_globals ≡ false) }
+    ensures { IfOk result (λ command. IsTold command specs.twin) }
 {
-    Command::new(alloc, "twin")
-        .about(help::TWIN)
-        .long_about(help::TWIN_AT_LENGTH)
-        .after_long_help(help::TWIN_EXAMPLE)
-        .arg(must_have(alloc, "replay", "REPLAY", REPLAY_FILE))?
-        .arg(must_have(
-            alloc,
-            "node",
-            "NODE",
-            "The node that is the black hole of the twin",
-        ))
+    let command = command(
+        alloc,
+        "twin",
+        help::TWIN,
+        help::TWIN_AT_LENGTH,
+        help::TWIN_EXAMPLE,
+    );
+    let command = command.arg(must_have(alloc, "replay", "REPLAY", REPLAY_FILE));
+    let node = must_have(
+        alloc,
+        "node",
+        "NODE",
+        "The node that is the black hole of the twin",
+    );
+    with(command, node)
 }
 
 fn serve_command<'a>(alloc: Global) -> Result<Command<'a>, AllocError>
-    ensures shape { IfOk result (λ command. shape_of command ≡ specs.serve) }
-    ensures local { IfOk result (λ command. (fields_of command).has_globals ≡ false) }
+    ensures { IfOk result (λ command. IsTold command specs.serve) }
 {
-    Command::new(alloc, "serve")
-        .about(help::SERVE)
-        .long_about(help::SERVE_AT_LENGTH)
-        .after_long_help(help::SERVE_EXAMPLE)
-        .arg(must_have(alloc, "tournament", "TOURNAMENT", TOURNAMENT_FILE))?
-        .arg(must_have_option(alloc, "port", "port", "PORT", help::PORT))?
-        .arg(must_have_option(alloc, "sessions", "sessions", "SESSIONS", help::SESSIONS))?
-        .arg(must_have_option(alloc, "turns", "turns", "TURNS", help::TURNS))?
-        .arg(must_have_option(alloc, "pause", "pause", "PAUSE", help::PAUSE))?
-        .arg(must_have_option(alloc, "replay", "prefix", "PREFIX", help::SERVED_REPLAYS))
+    let command = command(
+        alloc,
+        "serve",
+        help::SERVE,
+        help::SERVE_AT_LENGTH,
+        help::SERVE_EXAMPLE,
+    );
+    let command = command.arg(must_have(alloc, "tournament", "TOURNAMENT", TOURNAMENT_FILE));
+    let command = with(
+        command,
+        must_have_option(alloc, "port", "port", "PORT", help::PORT),
+    );
+    let command = with(
+        command,
+        must_have_option(alloc, "sessions", "sessions", "SESSIONS", help::SESSIONS),
+    );
+    let command = with(
+        command,
+        must_have_option(alloc, "turns", "turns", "TURNS", help::TURNS),
+    );
+    let command = with(
+        command,
+        must_have_option(alloc, "pause", "pause", "PAUSE", help::PAUSE),
+    );
+    with(
+        command,
+        must_have_option(alloc, "replay", "prefix", "PREFIX", help::SERVED_REPLAYS),
+    )
+}
+
+// A command that takes no words yet, with the texts of its help.
+fn command<'a>(
+    alloc: Global,
+    name: &'a str,
+    about: &'a str,
+    at_length: &'a str,
+    example: &'a str,
+) -> Command<'a>
+    ensures { IsTold result (specs.command name.now []) }
+{
+    Command::new(alloc, name)
+        .about(about)
+        .long_about(at_length)
+        .after_long_help(example)
+}
+
+// One argument more, where memory lasted so far. It takes a result as `with_command` does.
+fn with<'a>(
+    command: Result<Command<'a>, AllocError>,
+    arg: Arg<'a>,
+) -> Result<Command<'a>, AllocError>
+    ensures { (name : Text) → (rules : List Rule) → (rule : Rule)
+        → IfOk command.entry (λ old. IsTold old (specs.command name rules)) → rule_of arg.entry ≡ rule
+        → arg.entry.global ≡ false → IfOk result (λ new. IsTold new (specs.command name (rules ++ rule ∷ []))) }
+{
+    command?.arg(arg)
+}
+
+fn may_have<'a>(alloc: Global, id: &'a str, name: &'a str, help: &'a str) -> Arg<'a>
+    ensures rule { rule_of result ≡ specs.may_have id.now }
+    ensures local { result.global ≡ false }
+{
+    Arg::new(alloc, id).value_name(name).help(help)
 }
 
 fn must_have<'a>(alloc: Global, id: &'a str, name: &'a str, help: &'a str) -> Arg<'a>
     ensures rule { rule_of result ≡ specs.must_have id.now }
     ensures local { result.global ≡ false }
 {
-    Arg::new(alloc, id)
-        .required(true)
-        .value_name(name)
-        .help(help)
+    may_have(alloc, id, name, help).required(true)
 }
 
 fn must_have_option<'a>(
@@ -158,7 +236,10 @@ fn optional_tournament<'a>(alloc: Global) -> Arg<'a>
     ensures rule { rule_of result ≡ specs.may_have (codes "tournament") }
     ensures local { result.global ≡ false }
 {
-    Arg::new(alloc, "tournament").value_name("TOURNAMENT").help(
+    may_have(
+        alloc,
+        "tournament",
+        "TOURNAMENT",
         "The tournament's file, as a path from the working directory; without it the built-in one",
     )
 }
@@ -167,19 +248,24 @@ fn replay_option<'a>(alloc: Global) -> Arg<'a>
     ensures rule { rule_of result ≡ specs.behind (codes "replay") (specs.may_have (codes "prefix")) }
     ensures local { result.global ≡ false }
 {
-    Arg::new(alloc, "prefix")
-        .long("replay")
-        .value_name("PREFIX")
-        .help("Writes the replay of each match M that has ended to the file PREFIXM.jsonl")
+    may_have(
+        alloc,
+        "prefix",
+        "PREFIX",
+        "Writes the replay of each match M that has ended to the file PREFIXM.jsonl",
+    )
+    .long("replay")
 }
 
 fn entry_words<'a>(alloc: Global) -> Arg<'a>
     ensures rule { rule_of result ≡ specs.entry_words }
     ensures local { result.global ≡ false }
 {
-    Arg::new(alloc, "entry")
-        .required(true)
-        .action(ArgAction::Append)
-        .value_name("TEAM=REPLAY")
-        .help("A team, and the file of the replay of its match; they are split at the first =")
+    must_have(
+        alloc,
+        "entry",
+        "TEAM=REPLAY",
+        "A team, and the file of the replay of its match; they are split at the first =",
+    )
+    .action(ArgAction::Append)
 }

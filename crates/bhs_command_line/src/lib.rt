@@ -26,7 +26,7 @@ use std::convert::AsStr;
 use unfit::unfit_text;
 
 /// What a command line comes to.
-#[derive(Debug, Drop)]
+#[derive(Drop)]
 pub enum Parsed {
     /// The words give an order.
     Ordered(Order),

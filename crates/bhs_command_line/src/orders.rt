@@ -6,7 +6,7 @@ use bhs_model::Text;
 use std::marker::Model;
 
 /// What the program is to do.
-#[derive(Debug, Drop)]
+#[derive(Drop)]
 pub enum Order {
     /// Plays the script on standard input on the tournament of this file; None is the built-in one. Where there is a
     /// prefix, the replays of the matches that have ended are then written to files whose names begin with it.
@@ -47,7 +47,7 @@ pub enum Order {
 pub const MAX_SESSIONS: u32 = 1024;
 
 /// How a contest is served.
-#[derive(Debug, Drop)]
+#[derive(Drop)]
 pub struct Hosting {
     /// The port to listen on, from 1.
     pub port: u16,
@@ -62,14 +62,14 @@ pub struct Hosting {
 }
 
 /// A team of a table, with the name of the replay of its match.
-#[derive(Debug, Drop)]
+#[derive(Drop)]
 pub struct Entry {
     pub team: Text,
     pub replay: Text,
 }
 
 /// The teams of a table. Contracts see them as a list.
-#[derive(Debug, Drop)]
+#[derive(Drop)]
 pub struct Entries {
     all: Vec<Entry>,
 }
