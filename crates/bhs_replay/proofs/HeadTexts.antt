@@ -39,15 +39,15 @@ head_tokens Two net setup =
     (Token.key (codes "holes") ∷ data_tokens (listed (map whole setup.holes))) (back Two net setup))
 
 -- the tokens of all parts
-pub gathered : (version : Version) (net : Network) (setup : Setup) {a b c d e f g h i j k : List Token}
-    → a ≡ [] → b ≡ a ++ Token.begin_object ∷ [] → c ≡ b ++ member_tokens (codes "agents") setup.agents
+pub gathered : (version : Version) (net : Network) (setup : Setup) (a : List Token) {b c d e f g h i j k : List Token}
+    → b ≡ a ++ Token.begin_object ∷ [] → c ≡ b ++ member_tokens (codes "agents") setup.agents
     → d ≡ c ++ member_tokens (codes "board") setup.board
     → e ≡ d ++ doom_tokens version setup → f ≡ e ++ member_tokens (codes "home") setup.home → g ≡ f ++ links_tokens net
     → h ≡ g ++ member_tokens (codes "nodes") (nodes_of net)
     → i ≡ h ++ member_tokens (codes "quota") setup.quota → j ≡ i ++ member_tokens (codes "replay")
     (version_number version) → k ≡ j ++ Token.end_object ∷ []
-    → k ≡ data_tokens (head_data version net setup)
-gathered version net setup {a} {b} {c} {d} {e} {f} {g} {h} {i} {j} {k} none begun agents board dooms home links nodes
+    → k ≡ a ++ data_tokens (head_data version net setup)
+gathered version net setup a {b} {c} {d} {e} {f} {g} {h} {i} {j} {k} begun agents board dooms home links nodes
     quota replay ended =
     let rest_1 = joined i j k _ _ replay ended in
     let rest_2 = joined h i k _ _ quota rest_1 in
@@ -58,7 +58,4 @@ gathered version net setup {a} {b} {c} {d} {e} {f} {g} {h} {i} {j} {k} none begu
     let rest_7 = joined c d k _ _ board rest_6 in
     let rest_8 = joined b c k _ _ agents rest_7 in
     let all = joined a b k _ _ begun rest_8 in
-    all ∙ ap (λ t. t ++ (Token.begin_object ∷ []
-    ++ (member_tokens (codes "agents") setup.agents
-    ++ (member_tokens (codes "board") setup.board ++ (doom_tokens version setup ++ back version net setup))))) none
-    ∙ head_tokens version net setup
+    all ∙ ap (λ t. a ++ t) (head_tokens version net setup)

@@ -2,6 +2,7 @@ pub mod Each
 pub mod EventData
 pub mod EventTexts
 pub mod EventReads
+pub mod EventSteps
 pub mod Spellings
 pub mod WritingLemmas
 pub mod Fitting

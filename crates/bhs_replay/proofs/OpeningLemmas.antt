@@ -25,7 +25,7 @@ use Rattle.bhs_match.specs.Matches.{Play}
 use Rattle.bhs_replay.specs.declared.heads.Version.{Version}
 use Rattle.bhs_replay.specs.Head.{links_of, head_data, head_line, CanSay}
 use Rattle.bhs_replay.specs.HeadReading.{Says, says_in, head_says}
-use Rattle.bhs_replay.specs.Opening.{IsHead, Starts}
+use Rattle.bhs_replay.specs.Opening.{IsHead, OpensAs, Starts}
 use Rattle.bhs_replay.proofs.HeadReads.{HeadFits, read-head_line, said, says_in-head}
 use Rattle.bhs_replay.proofs.FitLemmas.{head_fits}
 use Rattle.bhs_replay.proofs.HeadUtf8.{head_utf8}
@@ -194,3 +194,16 @@ module _ (line : List ℕ) (says : Says) (is : Some says ≡ head_says line) whe
         fits = starts_so.1;
         normal = normal_too;
       }
+
+  -- a line that says this, judged by whether it is spelled as it would be written
+  pub opens_if : (play : Play) → Starts says (Some play) → IsWithinLimits play.net play.setup
+      → IsNormal play.net play.setup → (version : Version) → version ≡ says.version → CanSay version play.setup
+      → (same : Bool) → same ≡ bytes_eq line (head_line version play.net play.setup)
+      → OpensAs line (if same then Some play else None)
+  opens_if play starts within normal_too version told can true same = (
+    is_head play starts within normal_too (subst (λ v. CanSay v play.setup) told can)
+        (sym (same ∙ ap (λ v. bytes_eq line (head_line v play.net play.setup)) told)),
+    ap (λ (p : Play). p.log) starts.2,
+  )
+  opens_if play starts within normal_too version told can false same =
+      spelled_otherwise play starts (sym (same ∙ ap (λ v. bytes_eq line (head_line v play.net play.setup)) told))

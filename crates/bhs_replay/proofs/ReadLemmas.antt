@@ -13,7 +13,7 @@ use Rattle.bhs_replay.specs.declared.reader.Playing.{Playing}
 use Rattle.bhs_replay.specs.declared.reader.Reader.{Reader}
 use Rattle.bhs_replay.specs.Stages.{Ends, Wrong, with_rest, Comes, ended}
 use Rattle.bhs_replay.specs.Reading.{stage_of, IsSound, fault_at_end, ReadsWhole, EndsShort, MeetsFault, StopsBy}
-use Rattle.bhs_replay.specs.Readers.{stage_by, stage_in, IsOver, Stands, finished_by, finished}
+use Rattle.bhs_replay.specs.Readers.{stage_by, stage_in, IsOver, Stands, IsReadBy, finished_by, finished}
 use Rattle.bhs_replay.proofs.StageLemmas.{IsOfText, IsProper, leads_proper, comes_proper}
 
 -- ---- where a reader stands, nothing is wrong
@@ -128,43 +128,12 @@ module _ {I : Type 0} (gives : I → Chunk → I → Type 0) (start here next : 
     },
   )
 
-  -- ---- the text has ended
-
-  pub ends_whole : (r : Result Play ReplayFault) → r ≡ finished reader → reads < turns → gives here End next
-      → IfOk r (λ play. ReadsWhole gives start turns play next)
-  ends_whole (Ok play) is left given = record {
+  pub has_read : reads < turns → gives here End next → IsReadBy gives start turns reader next
+  has_read left given = record {
     text = so_far.bytes;
     closes = closes End left given;
-    comes = subst (Comes so_far.bytes) (whole_by reader.playing play (sym is))
-        (comes_here so_far.bytes reader so_far.stands);
+    stands = so_far.stands;
   }
-  ends_whole (Err found) is left given = tt
-
-  short : (found : ReplayFault) → finished reader ≡ Err found → reads < turns → gives here End next
-      → EndsShort gives start turns found next
-  short found is left given = record {
-    text = so_far.bytes;
-    stage = stage_in reader;
-    closes = closes End left given;
-    comes = comes_here so_far.bytes reader so_far.stands;
-    short = (short_by reader.playing found (leads_proper (ended so_far.bytes) (stage_in reader) so_far.stands.leads)
-        is).0;
-  }
-
-  stops_at_end : (found : ReplayFault) → (found ≡ fault.Head) ⊎ (found ≡ fault.End)
-      → EndsShort gives start turns found next → StopsBy gives start turns found next
-  stops_at_end found (inl head) ends = subst (λ f. StopsBy gives start turns f next) (sym head)
-      (inl (subst (λ f. EndsShort gives start turns f next) head ends))
-  stops_at_end found (inr end) ends = subst (λ f. StopsBy gives start turns f next) (sym end)
-      (inl (subst (λ f. EndsShort gives start turns f next) end ends))
-
-  pub ends_short : (r : Result Play ReplayFault) → r ≡ finished reader → reads < turns → gives here End next
-      → IfErr r (λ found. StopsBy gives start turns found next)
-  ends_short (Ok play) is left given = tt
-  ends_short (Err found) is left given =
-      stops_at_end found (short_by reader.playing found
-      (leads_proper (ended so_far.bytes) (stage_in reader) so_far.stands.leads) (sym is)).1
-      (short found (sym is) left given)
 
   -- ---- a fault in the midst
 
@@ -204,3 +173,42 @@ module _ {I : Type 0} (gives : I → Chunk → I → Type 0) (start here next : 
       )
   stops_at_fault piece found is_piece left given (inr wrong) =
       by_text found (comes_proper (so_far.bytes ++ piece) (Wrong found) wrong) (meets piece found left given wrong)
+
+-- ---- the text has ended
+
+module _ {I : Type 0} (gives : I → Chunk → I → Type 0) (start next : I) (turns : ℕ) (reader : Reader)
+    (read : IsReadBy gives start turns reader next) where
+  pub ends_whole : (r : Result Play ReplayFault) → r ≡ finished reader
+      → IfOk r (λ play. ReadsWhole gives start turns play next)
+  ends_whole (Ok play) is = record {
+    text = read.text;
+    closes = read.closes;
+    comes = subst (Comes read.text) (whole_by reader.playing play (sym is)) (comes_here read.text reader read.stands);
+  }
+  ends_whole (Err found) is = tt
+
+  short_fault : (found : ReplayFault) → finished reader ≡ Err found
+      → (fault_at_end (stage_in reader) ≡ Some found) × ((found ≡ fault.Head) ⊎ (found ≡ fault.End))
+  short_fault found is =
+      short_by reader.playing found (leads_proper (ended read.text) (stage_in reader) read.stands.leads) is
+
+  short : (found : ReplayFault) → finished reader ≡ Err found → EndsShort gives start turns found next
+  short found is = record {
+    text = read.text;
+    stage = stage_in reader;
+    closes = read.closes;
+    comes = comes_here read.text reader read.stands;
+    short = (short_fault found is).0;
+  }
+
+  stops_at_end : (found : ReplayFault) → (found ≡ fault.Head) ⊎ (found ≡ fault.End)
+      → EndsShort gives start turns found next → StopsBy gives start turns found next
+  stops_at_end found (inl head) ends = subst (λ f. StopsBy gives start turns f next) (sym head)
+      (inl (subst (λ f. EndsShort gives start turns f next) head ends))
+  stops_at_end found (inr end) ends = subst (λ f. StopsBy gives start turns f next) (sym end)
+      (inl (subst (λ f. EndsShort gives start turns f next) end ends))
+
+  pub ends_short : (r : Result Play ReplayFault) → r ≡ finished reader
+      → IfErr r (λ found. StopsBy gives start turns found next)
+  ends_short (Ok play) is = tt
+  ends_short (Err found) is = stops_at_end found (short_fault found (sym is)).1 (short found (sym is))

@@ -1,8 +1,10 @@
 -- Where a reader stands.
-use Rattle.std.specs.Prelude.{ℕ, ◌≡◌, true, ◌&&◌, if◌then◌else◌, List, [], ◌∷◌, ◌++◌, Option, Some, None, Result, Ok}
-use Rattle.std.specs.Prelude.{Err}
+use Rattle.std.specs.Prelude.{ℕ, ◌≡◌, true, ◌&&◌, if◌then◌else◌, List, [], ◌∷◌, ◌++◌, length, Option, Some, None}
+use Rattle.std.specs.Prelude.{Result, Ok, Err}
 use Rattle.bhs_match.specs.Matches.{Play, state_of}
 use Rattle.bhs_wire.specs.Lines.{rest}
+use Rattle.bhs_stream.specs.Streams.{Chunk, End}
+use Rattle.bhs_stream.specs.Reading.{Closes}
 use Rattle.bhs_replay.specs.declared.faults.ReplayFault.{ReplayFault}
 use Rattle.bhs_replay.specs.declared.faults.ReplayFault.TheVariants as fault
 use Rattle.bhs_replay.specs.declared.reader.Playing.{Playing}
@@ -30,6 +32,13 @@ pub record Stands (text : List ℕ) (reader : Reader) : Type 0 where
   pub leads : Leads (ended text) (stage_in reader)
   pub line : rest text ≡ reader.line.items
   pub quiet : IsOver reader.playing → reader.line.items ≡ []
+
+-- reads brought a whole text, and the reader stands behind it
+pub record IsReadBy {I : Type 0} (gives : I → Chunk → I → Type 0) (old : I) (turns : ℕ) (reader : Reader)
+    (new : I) : Type 0 where
+  pub text : List ℕ
+  pub closes : Closes gives old (length text) turns text End new
+  pub stands : Stands text reader
 
 -- it holds bytes more of an unfinished line, and none behind the end line
 pub record Holds (old : Reader) (bytes : List ℕ) (new : Reader) : Type 0 where

@@ -17,7 +17,7 @@ use serde_json::Value;
 use std::alloc::Global;
 
 /// What a head says.
-#[derive(Debug, Drop)]
+#[derive(Drop)]
 pub(crate) struct Says {
     pub version: Version,
     pub nodes: u16,

@@ -3,7 +3,7 @@
 ghost use Rattle.std.specs.Prelude.{◌≡◌, ◌++◌, ◌∷◌, [], List, codes, decimal, string_bytes, map, IfOk, OnOk};
 ghost use Rattle.json.specs.Token.{key, number};
 ghost use Rattle.bhs_net.specs.Network.{nodes_of, IsNetwork};
-ghost use Rattle.bhs_replay.specs.Head.{head_line, links_of, whole, listed, end_data, link_data, hole_data};
+ghost use Rattle.bhs_replay.specs.Head.{head_line, head_data, links_of, whole, listed, end_data, link_data, hole_data};
 ghost use Rattle.bhs_replay.specs.HeadTokens.{data_tokens, doom_tokens, version_number};
 
 use crate::links::links_of;
@@ -34,17 +34,33 @@ pub(crate) fn head_line(
 {
     let links = links_of(alloc, net)?;
     let mut out = Writer::new(Vec::new(alloc));
-    out.begin_object()?;
-    write_number(&mut out, "agents", setup.agents)?;
-    write_number(&mut out, "board", setup.board)?;
-    write_dooms(&mut out, version, setup)?;
-    write_number(&mut out, "home", setup.home)?;
-    write_links(&mut out, &links)?;
-    write_number(&mut out, "nodes", net.nodes())?;
-    write_number(&mut out, "quota", setup.quota)?;
-    write_number(&mut out, "replay", number_of(version))?;
-    out.end_object()?;
+    write_head(&mut out, version, net, setup, &links)?;
     Ok(String::from_utf8(out.into_inner()).unwrap())
+}
+
+fn write_head(
+    out: &mut Writer,
+    version: Version,
+    net: &Net,
+    setup: &Setup,
+    links: &[Link],
+) -> Result<(), Memory>
+    requires { links.now ≡ links_of net.now }
+    ensures ok { OnOk result (out.new.tokens
+        ≡ out.old.tokens ++ data_tokens (head_data version net.now setup.now)) }
+    ensures before { out.new.before ≡ out.old.before }
+    ensures network { OnOk result (IsNetwork net.now) }
+{
+    out.begin_object()?;
+    write_number(out, "agents", setup.agents)?;
+    write_number(out, "board", setup.board)?;
+    write_dooms(out, version, setup)?;
+    write_number(out, "home", setup.home)?;
+    write_links(out, links)?;
+    write_number(out, "nodes", net.nodes())?;
+    write_number(out, "quota", setup.quota)?;
+    write_number(out, "replay", number_of(version))?;
+    Ok(out.end_object()?)
 }
 
 fn number_of(version: Version) -> u16

@@ -1,7 +1,8 @@
 //! The match that the first line of a replay opens.
 
-ghost use Rattle.std.specs.Prelude.{◌≢◌, ◌↔◌, IfOk, OnOk, IsTrue};
+ghost use Rattle.std.specs.Prelude.{◌≡◌, ◌≢◌, ◌↔◌, if◌then◌else◌, Some, None, IfOk, OnOk, IsTrue};
 ghost use Rattle.bhs_replay.specs.Head.{CanSay};
+ghost use Rattle.bhs_replay.specs.HeadReading.{Says as Said, head_says};
 ghost use Rattle.bhs_replay.specs.HeadSeen.{seen};
 ghost use Rattle.bhs_replay.specs.Opening.{OpensAs, Starts};
 
@@ -17,21 +18,50 @@ use std::alloc::Global;
 pub(crate) fn opened(alloc: Global, line: &[u8]) -> Result<Option<Match>, Memory>
     ensures { IfOk result (OpensAs line.now) }
 {
-    let Some(says) = head_says(alloc, line)? else {
-        return Ok(None);
-    };
-    let version = says.version;
-    let Some(game) = started(alloc, says)? else {
-        return Ok(None);
-    };
-    if !can_say(version, game.setup()) {
-        return Ok(None);
+    match head_says(alloc, line)? {
+        Some(says) => opened_by(alloc, line, says),
+        None => Ok(None),
     }
-    let text = head_line(alloc, version, game.net(), game.setup())?;
-    if line == text.as_bytes() {
+}
+
+// The match that a line opens, where it says this.
+fn opened_by(alloc: Global, line: &[u8], says: Says) -> Result<Option<Match>, Memory>
+    requires { Some (seen says) ≡ head_says line.now }
+    ensures { IfOk result (OpensAs line.now) }
+{
+    let version = says.version;
+    match started(alloc, says)? {
+        Some(game) => if_head(alloc, line, version, game),
+        None => Ok(None),
+    }
+}
+
+// The match, if the line is its head.
+fn if_head(
+    alloc: Global,
+    line: &[u8],
+    version: Version,
+    game: Match,
+) -> Result<Option<Match>, Memory>
+    ensures { (says : Said) → Some says ≡ head_says line.now → version ≡ says.version → Starts says (Some game)
+        → IfOk result (OpensAs line.now) }
+{
+    if is_head(alloc, line, version, &game)? {
         return Ok(Some(game));
     }
     Ok(None)
+}
+
+// Whether a line is the head of a match.
+fn is_head(alloc: Global, line: &[u8], version: Version, game: &Match) -> Result<bool, Memory>
+    ensures { (says : Said) → Some says ≡ head_says line.now → version ≡ says.version → Starts says (Some game.now)
+        → IfOk result (λ is. OpensAs line.now (if is then Some game.now else None)) }
+{
+    if !can_say(version, game.setup()) {
+        return Ok(false);
+    }
+    let text = head_line(alloc, version, game.net(), game.setup())?;
+    Ok(line == text.as_bytes())
 }
 
 fn started(alloc: Global, says: Says) -> Result<Option<Match>, Memory>

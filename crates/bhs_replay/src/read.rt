@@ -1,7 +1,8 @@
 //! Reading a replay.
 
-ghost use Rattle.std.specs.Prelude.{IfOk, IfErr};
+ghost use Rattle.std.specs.Prelude.{[], IfOk, IfErr, OnOk};
 ghost use Rattle.bhs_replay.specs.Reading.{ReadsWhole, StopsBy};
+ghost use Rattle.bhs_replay.specs.Readers.{Stands, IsReadBy};
 
 use crate::faults::ReplayFault;
 use crate::reader::Reader;
@@ -23,13 +24,23 @@ pub fn read_replay<R: Input>(
     ensures err { IfErr result (λ fault. StopsBy R.gives reader.old turns fault reader.new) }
 {
     let mut replay = Reader::new(alloc);
+    read_all(reader, &mut replay, turns)?;
+    replay.finish()
+}
+
+// Reads the text to its end.
+fn read_all<R: Input>(reader: &mut R, replay: &mut Reader, turns: u32) -> Result<(), ReplayFault>
+    requires { Stands [] replay.old }
+    ensures ok { OnOk result (IsReadBy R.gives reader.old turns replay.new reader.new) }
+    ensures err { IfErr result (λ fault. StopsBy R.gives reader.old turns fault reader.new) }
+{
     let mut buffer = [0u8; BUFFER];
     for _ in 0..turns {
         let Ok(count) = reader.read_some(&mut buffer) else {
             return Err(ReplayFault::Read);
         };
         if count == 0 {
-            return replay.finish();
+            return Ok(());
         }
         replay.feed(&buffer[..count])?;
     }

@@ -1,11 +1,11 @@
 //! A replay that is read piece by piece.
 
-ghost use Rattle.std.specs.Prelude.{◌≡◌, ◌⊎◌, ℕ, List, ◌++◌, [], false, IfOk, IfErr, OnOk};
+ghost use Rattle.std.specs.Prelude.{◌≡◌, ◌⊎◌, ℕ, List, ◌++◌, [], false, Some, IfOk, IfErr, OnOk};
 ghost use Rattle.std.specs.List.{list_any};
 ghost use Rattle.bhs_wire.specs.Lines.{is_line_feed};
 ghost use Rattle.bhs_replay.specs.declared.faults.ReplayFault.TheVariants.{Memory};
 ghost use Rattle.bhs_replay.specs.Stages.{Wrong, Comes, Follows};
-ghost use Rattle.bhs_replay.specs.Readers.{Stands, stage_by, stage_in, stage_at, finished, Holds, IsPast};
+ghost use Rattle.bhs_replay.specs.Readers.{Stands, stage_by, stage_in, stage_at, finished_by, finished, Holds, IsPast};
 
 use crate::faults::ReplayFault;
 use crate::opening::opened;
@@ -15,7 +15,7 @@ use bhs_wire::split_line;
 use std::alloc::Global;
 
 // The match that the lines so far are of.
-#[derive(Debug, Drop)]
+#[derive(Drop)]
 pub(crate) struct Playing {
     game: Match,
     // Whether the end line came.
@@ -23,7 +23,7 @@ pub(crate) struct Playing {
 }
 
 // A text that was read so far: the match, once its first line has ended, and the unfinished line.
-#[derive(Debug, Drop)]
+#[derive(Drop)]
 pub(crate) struct Reader {
     alloc: Global,
     playing: Option<Playing>,
@@ -88,17 +88,24 @@ impl Reader {
         ensures { result ≡ finished self }
     {
         let Reader { playing, .. } = self;
-        let Some(playing) = playing else {
-            return Err(ReplayFault::Head);
-        };
-        let Playing { game, is_over } = playing;
-        if !is_over {
-            return Err(ReplayFault::End);
+        match playing {
+            Some(playing) => whole(playing),
+            None => Err(ReplayFault::Head),
         }
-        match game.sealed() {
-            Ok(sealed) => Ok(sealed),
-            Err(_) => Err(ReplayFault::End),
-        }
+    }
+}
+
+// The match, if its end line came.
+fn whole(playing: Playing) -> Result<Sealed, ReplayFault>
+    ensures { result ≡ finished_by (Some playing) }
+{
+    let Playing { game, is_over } = playing;
+    if !is_over {
+        return Err(ReplayFault::End);
+    }
+    match game.sealed() {
+        Ok(sealed) => Ok(sealed),
+        Err(_) => Err(ReplayFault::End),
     }
 }
 

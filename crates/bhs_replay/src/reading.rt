@@ -1,9 +1,10 @@
-ghost use Rattle.std.specs.Prelude.{◌≡◌, Some, codes, option_map, string_bytes, IfOk};
+ghost use Rattle.std.specs.Prelude.{◌≡◌, ◌&&◌, Some, bytes_eq, codes, option_map, string_bytes, IfOk};
 ghost use Rattle.serde_json.specs.View.{view};
 ghost use Rattle.bhs_wire.specs.First.{text_at, port_at};
 ghost use Rattle.bhs_replay.specs.Spelling.{spelled, spelled_in, event_in, event_by, agents_by, command_by, answer_in};
 ghost use Rattle.bhs_replay.specs.Spelling.{reply_in, ok_by, refusal_in, here_in, changed_in, why_by, write_in};
 ghost use Rattle.bhs_replay.specs.Spelling.{may_stand, if_spelled};
+ghost use Rattle.bhs_replay.specs.EventLine.{event_line};
 
 use crate::lines::line_of;
 use bhs_model::{Command, Event, Reply, Text, Why};
@@ -43,14 +44,27 @@ fn if_spelled(
 ) -> Result<Option<Spelled>, Memory>
     ensures { IfOk result (λ found. found ≡ if_spelled line.now reply event) }
 {
-    if !may_stand(&event, &reply) {
-        return Ok(None);
-    }
-    let text = line_of(alloc, &event, &reply)?;
-    if line == text.as_bytes() {
+    if is_spelled(alloc, line, &event, &reply)? {
         return Ok(Some((event, reply)));
     }
     Ok(None)
+}
+
+// Whether a line is that of this event and this reply.
+fn is_spelled(
+    alloc: Global,
+    line: &[u8],
+    event: &Event,
+    reply: &Option<Reply>,
+) -> Result<bool, Memory>
+    ensures { IfOk result (λ is. is
+        ≡ may_stand event.now reply.now && bytes_eq line.now (event_line event.now reply.now)) }
+{
+    if !may_stand(event, reply) {
+        return Ok(false);
+    }
+    let text = line_of(alloc, event, reply)?;
+    Ok(line == text.as_bytes())
 }
 
 fn may_stand(event: &Event, reply: &Option<Reply>) -> bool

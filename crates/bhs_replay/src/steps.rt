@@ -2,10 +2,11 @@
 
 ghost use Rattle.std.specs.Prelude.{◌≡◌, ◌<◌, ◌⊎◌, ◌+◌, true, false, bytes_eq, length, IfOk, IfErr, OnOk};
 ghost use Rattle.std.specs.List.{list_all};
-ghost use Rattle.bhs_model.specs.Marks.{events_of};
+ghost use Rattle.bhs_model.specs.Marks.{events_of, read_if};
 ghost use Rattle.bhs_replay.specs.declared.faults.ReplayFault.TheVariants.{Memory as NoMemory};
 ghost use Rattle.bhs_replay.specs.Stages.{Wrong, after_line, after_event, after_other, is_plain, starts_plain};
 ghost use Rattle.bhs_replay.specs.Stages.{is_digit, is_end_line};
+ghost use Rattle.bhs_replay.specs.EventLine.{event_line};
 ghost use Rattle.bhs_replay.specs.Reading.{stage_of};
 
 use crate::faults::ReplayFault;
@@ -13,7 +14,8 @@ use crate::lines::line_of;
 use crate::reading::read_event;
 use crate::writing::end_line;
 use bhs_match::Match;
-use bhs_model::Event;
+use bhs_model::{Event, Kept};
+use bhs_net::Memory;
 use std::alloc::Global;
 
 /// Plays a line, and tells whether it is the end line.
@@ -50,15 +52,23 @@ fn play_event(alloc: Global, game: &mut Match, line: &[u8], event: Event) -> Res
     if answer.place.is_none() {
         return Err(ReplayFault::Event { line: before + 2 });
     }
-    let reply = match &answer.mark {
-        Some(mark) => Some(game.reply(mark)?),
-        None => None,
-    };
-    let text = line_of(alloc, &game.log()[before].event, &reply)?;
-    if line == text.as_bytes() {
+    if is_line_in(alloc, game, &game.log()[before], line)? {
         return Ok(());
     }
     Err(ReplayFault::Differs { line: before + 2 })
+}
+
+// Whether the match writes this line for an event of its log.
+fn is_line_in(alloc: Global, game: &Match, one: &Kept, line: &[u8]) -> Result<bool, Memory>
+    ensures { IfOk result
+        (λ is. is ≡ bytes_eq line.now (event_line one.now.event (read_if game.now.log one.now.mark))) }
+{
+    let reply = match &one.mark {
+        Some(mark) => Some(game.reply(mark)?),
+        None => None,
+    };
+    let text = line_of(alloc, &one.event, &reply)?;
+    Ok(line == text.as_bytes())
 }
 
 // Judges a line that spells no event: it must be the end line, behind a close.
