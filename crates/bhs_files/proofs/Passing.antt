@@ -49,6 +49,20 @@ module _ {P A : Type 0} (make : ℕ → P → Result A FileFault) (i : ℕ) (don
   pub ends : then done (each_in make i []) ≡ total → total ≡ Ok done
   ends so_far = sym so_far ∙ ap (λ (all : List A). Ok all) (append-nil done)
 
+-- held links that are ports of nodes, and what is made with them
+pub made_with : {A B : Type 0} (fault : Option FileFault) (make : A → B) (given held : A)
+    → unless fault (Ok given) ≡ Ok held → unless fault (Ok (make given)) ≡ Ok (make held)
+made_with None make given held is = let same : given ≡ held = cc in ap (λ a. Ok (make a)) same
+made_with (Some found) make given held is = absurd cc
+
+pub not_made : {A B : Type 0} (fault : Option FileFault) (given : A) (made : B) (found : FileFault)
+    → Fails found (unless fault (Ok given)) → Fails found (unless fault (Ok made))
+not_made fault given made found = fails_with found (unless fault (Ok given)) (unless fault (Ok made)) (fails fault)
+  where
+    fails : (f : Option FileFault) → unless f (Ok given) ≡ Err found → unless f (Ok made) ≡ Err found
+    fails None is = absurd cc
+    fails (Some other) is = let same : other ≡ found = cc in ap (λ e. Err e) same
+
 -- the matches of a slice
 pub goes_over : {A : Type 0} (make : ℕ → Planned → Result A FileFault) (fs : List Fixture) (i : ℕ) (done : List A)
     (total : Result (List A) FileFault) (x : Fixture) (a : A) (all : List A) → i < length fs → x ≡ get_or fs i x

@@ -1,6 +1,6 @@
 //! Putting a tournament and its networks together.
 
-ghost use Rattle.std.specs.Prelude.{◌≡◌, ◌<◌, ◌^◌, length, map, option_map, IfOk, Ok, vec_len, IsTrue};
+ghost use Rattle.std.specs.Prelude.{ℕ, List, ◌≡◌, ◌<◌, ◌^◌, length, map, option_map, IfOk, Ok, vec_len, IsTrue};
 ghost use Rattle.std.specs.List.{zip};
 ghost use Rattle.bhs_deal.specs.Links.{first_strange};
 ghost use Rattle.bhs_world.specs.Faults.{first_fault};
@@ -21,7 +21,7 @@ use crate::tournaments::Tournament;
 use bhs_deal::{Held, HeldFault};
 use bhs_lineup::{Lineup, Ready};
 use bhs_match::Match;
-use bhs_model::Setup;
+use bhs_model::{Setup, Text};
 use bhs_net::Net;
 use bhs_world::SetupFault;
 use indexmap::IndexSet;
@@ -65,9 +65,30 @@ fn games(alloc: Global, tournament: &Tournament, networks: &[Net]) -> Result<Vec
         0 (map planned tournament.now.matches.items)) }
 {
     let names = tournament.networks(alloc)?;
+    games_on(alloc, &tournament.matches, &names, networks)
+}
+
+/// The matches before anything happens, each on the network with its name.
+fn games_on(
+    alloc: Global,
+    matches: &[Fixture],
+    names: &IndexSet<&str>,
+    networks: &[Net],
+) -> Result<Vec<Match>, FileFault>
+    requires few { length matches.now < 2 ^ 32 }
+    requires exact { map (λ name. name.now) names.now.keys
+        ≡ first_seen (map (λ fixture. fixture.network) matches.now) }
+    requires all { (name : List ℕ) → is_among (map (λ name. name.now) names.now.keys) name
+        ≡ is_among (map (λ fixture. fixture.network) matches.now) name }
+    requires networks { length networks.now ≡ length names.now.keys }
+    ensures { GivesUnlessMemory (λ games. games.items) result
+        (each_in (begun (λ planned. network_named
+        (first_seen (map (λ fixture. fixture.network) matches.now)) networks.now planned.network))
+        0 (map planned matches.now)) }
+{
     let mut games = Vec::new(alloc);
-    for (game, fixture) in tournament.matches.iter().enumerate() {
-        let net = network_of(&names, networks, fixture.network.as_str());
+    for (game, fixture) in matches.iter().enumerate() {
+        let net = network_of(names, networks, fixture.network.as_str());
         games.push(begun(alloc, game as u32, net, fixture)?)?;
     }
     Ok(games)
@@ -146,12 +167,24 @@ fn ready(alloc: Global, number: u32, fixture: Fixture, game: Match) -> Result<Re
     ensures { GivesUnlessMemory (λ ready. ready) result
         (readied number (fixture, game)) }
 {
-    let held = held(alloc, number, game.net(), &fixture.held)?;
-    Ok(Ready {
-        team: fixture.team,
-        game,
-        held,
-    })
+    let Fixture { team, held, .. } = fixture;
+    with_held(alloc, number, team, game, &held)
+}
+
+/// The match of a team with these links held.
+fn with_held(
+    alloc: Global,
+    number: u32,
+    team: Text,
+    game: Match,
+    pairs: &[(u16, u16)],
+) -> Result<Ready, FileFault>
+    ensures { GivesUnlessMemory (λ ready. ready) result
+        (unless (option_map (faults.Held number) (first_strange game.net pairs.now))
+        (Ok (record { team = team; game = game; held = pairs.now }))) }
+{
+    let held = held(alloc, number, game.net(), pairs)?;
+    Ok(Ready { team, game, held })
 }
 
 /// The held links of a match on a network.

@@ -4,7 +4,7 @@ ghost use Rattle.bhs_files.specs.declared.limits.TheConstants.{MAX_KEYS};
 use bhs_model::{DarkLinks, Holes, Text};
 
 /// One match of a tournament, as its file describes it.
-#[derive(Debug, PartialEq, Eq, Drop)]
+#[derive(Drop)]
 pub struct Fixture {
     /// The team that plays.
     pub team: Text,

@@ -1,6 +1,7 @@
 //! Reading a network file.
 
 ghost use Rattle.std.specs.Prelude.{◌≡◌, None, option_map, IfOk, IfErr};
+ghost use Rattle.toml.specs.Data.{array, item, no_items};
 ghost use Rattle.toml.specs.View.{view, items_view, table_view};
 ghost use Rattle.bhs_files.specs.declared.file_keys.FileKey.TheVariants as keys;
 ghost use Rattle.bhs_files.specs.Shapes.{each};
@@ -19,14 +20,21 @@ fn link(value: &Value) -> Option<Link>
     ensures { result ≡ link (view value.now) }
 {
     match value.as_array()?.as_slice() {
-        [v, p, w, q] => Some(Link {
-            v: shapes::number(v)?,
-            p: shapes::number(p)?,
-            w: shapes::number(w)?,
-            q: shapes::number(q)?,
-        }),
+        [v, p, w, q] => link_of(v, p, w, q),
         _ => None,
     }
+}
+
+fn link_of(v: &Value, p: &Value, w: &Value, q: &Value) -> Option<Link>
+    ensures { result ≡ link (array (item (view v.now) (item (view p.now)
+        (item (view w.now) (item (view q.now) no_items))))) }
+{
+    Some(Link {
+        v: shapes::number(v)?,
+        p: shapes::number(p)?,
+        w: shapes::number(w)?,
+        q: shapes::number(q)?,
+    })
 }
 
 fn each_link(alloc: Global, items: &[Value]) -> Result<Option<Vec<Link>>, Memory>

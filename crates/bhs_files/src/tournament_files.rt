@@ -11,8 +11,17 @@ use crate::fixtures::Fixture;
 use crate::limits::TOURNAMENT_VERSION;
 use crate::tournaments::Tournament;
 use crate::{documents, shapes, tables};
+use bhs_model::Text;
+use bhs_net::Memory;
 use std::alloc::Global;
 use toml::Table;
+
+fn copies(alloc: Global, team: &str, network: &str) -> Result<(Text, Text), Memory>
+    ensures { IfOk result (λ both. both ≡ (team.now, network.now)) }
+{
+    let team = shapes::copied(alloc, team)?;
+    Ok((team, shapes::copied(alloc, network)?))
+}
 
 #[tactic(auto, unfolding(crate::specs::Tournaments::match_in))]
 fn fixture(alloc: Global, version: u16, game: u32, table: &Table) -> Result<Fixture, FileFault>
@@ -27,9 +36,10 @@ fn fixture(alloc: Global, version: u16, game: u32, table: &Table) -> Result<Fixt
     let board = tables::number(place, FileKey::Board, table)?;
     let keys = tables::keys(alloc, place, table)?;
     let held = tables::ends(alloc, place, FileKey::Held, table)?;
+    let (team, network) = copies(alloc, team, network)?;
     Ok(Fixture {
-        team: shapes::copied(alloc, team)?,
-        network: shapes::copied(alloc, network)?,
+        team,
+        network,
         home,
         holes,
         dark,

@@ -9,7 +9,7 @@ use indexmap::IndexSet;
 use std::alloc::Global;
 
 /// What a tournament file says.
-#[derive(Debug, PartialEq, Eq, Drop)]
+#[derive(Drop)]
 pub struct Tournament {
     /// From what the deliveries are drawn.
     pub seed: [u8; SEED_BYTES],

@@ -1,0 +1,23 @@
+use Rattle.std.proofs.Common.{◌∙◌}
+use Rattle.bhs_files.specs.NetworkFiles.{link}
+use Rattle.bhs_files.proofs.Each.{at_first, with_one, without, at_last}
+use Rattle.bhs_files.proofs.network_files.each_link.Goals as goal
+
+pub loop-item-init : goal.loop-item-init
+loop-item-init c = at_first link c.new-links.result.items c.args.items.now c.new-links.ensures.items
+
+pub loop-item-preserved : goal.loop-item-preserved
+loop-item-preserved c =
+    with_one link c.loop-item.links.items c.args.items.now c.loop-item.item-index c.item-item.result
+    c.link.result c.in-Some.link c.push.new.self.items c.loop-item-test.true c.item-item.is
+    c.link.ensures c.in-Some.is c.in_ok-push.ensures.items ∙ c.loop-item.invariant
+
+pub returns-in_default : goal.returns-in_default
+returns-in_default c =
+    without link c.loop-item.links.items c.args.items.now c.loop-item.item-index c.item-item.result
+    c.link.result c.loop-item-test.true c.item-item.is c.link.ensures c.in_default.is ∙ c.loop-item.invariant
+
+pub returns : goal.returns
+returns c =
+    at_last link c.loop-item.links.items c.args.items.now c.loop-item.item-index c.loop-item-test.false
+    ∙ c.loop-item.invariant

@@ -1,0 +1,23 @@
+use Rattle.std.proofs.Common.{◌∙◌}
+use Rattle.bhs_files.specs.Shapes.{pair}
+use Rattle.bhs_files.proofs.Each.{at_first, with_one, without, at_last}
+use Rattle.bhs_files.proofs.shapes.pairs.Goals as goal
+
+pub loop-item-init : goal.loop-item-init
+loop-item-init c = at_first pair c.new-pairs.result.items c.args.items.now c.new-pairs.ensures.items
+
+pub loop-item-preserved : goal.loop-item-preserved
+loop-item-preserved c =
+    with_one pair c.loop-item.pairs.items c.args.items.now c.loop-item.item-index c.item-item.result
+    c.pair.result c.in-Some.pair c.push.new.self.items c.loop-item-test.true c.item-item.is
+    c.pair.ensures c.in-Some.is c.in_ok-push.ensures.items ∙ c.loop-item.invariant
+
+pub returns-in_default : goal.returns-in_default
+returns-in_default c =
+    without pair c.loop-item.pairs.items c.args.items.now c.loop-item.item-index c.item-item.result
+    c.pair.result c.loop-item-test.true c.item-item.is c.pair.ensures c.in_default.is ∙ c.loop-item.invariant
+
+pub returns : goal.returns
+returns c =
+    at_last pair c.loop-item.pairs.items c.args.items.now c.loop-item.item-index c.loop-item-test.false
+    ∙ c.loop-item.invariant
