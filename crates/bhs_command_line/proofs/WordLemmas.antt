@@ -1,6 +1,6 @@
 -- Which words the command line takes.
-use Rattle.std.proofs.Common.{◌≡◌, ◌∙◌, ap, ap₂, subst, sym, refl, inl, inr, true≢false, Bool, true, false, ℕ, codes, List}
-use Rattle.std.proofs.Common.{[], ◌∷◌, ◌++◌, Option, Some, None}
+use Rattle.std.proofs.Common.{◌≡◌, ◌∙◌, ap, ap₂, subst, sym, refl, inl, inr, true≢false, Bool, true, false, ℕ}
+use Rattle.std.proofs.Common.{codes, List, [], ◌∷◌, ◌++◌, Option, Some, None}
 use Rattle.std.specs.Prelude.{option_and_then, option_map}
 use Rattle.clap.specs.Words.{Text}
 use Rattle.clap.specs.Simple.{entered, is_simple}

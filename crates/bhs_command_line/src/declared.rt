@@ -3,7 +3,7 @@
 ghost use Rattle.std.specs.Prelude.{◌≡◌, ◌++◌, ◌∷◌, [], IfOk, List, codes, false};
 ghost use Rattle.bhs_command_line.specs.CommandLine as specs;
 ghost use Rattle.bhs_command_line.specs.CommandLine.{IsTold};
-ghost use Rattle.clap.specs.Words.{App, Rule, Text, app_of, rule_of, with_subcommand, Shape};
+ghost use Rattle.clap.specs.Words.{App, Rule, Shape, Text, app_of, rule_of, with_subcommand};
 
 use crate::help;
 use clap::{Arg, ArgAction, Command};

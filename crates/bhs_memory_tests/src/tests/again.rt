@@ -2,13 +2,16 @@
 //! over is made anew for the second one.
 
 use super::{triangle, write};
+use bhs_lineup::Lineup;
 use bhs_lock::{Cell, Open, Pass};
 use bhs_match::Sealed;
 use bhs_model::{Command, Reply, Text};
+use bhs_net::Memory;
 use bhs_program::built_in;
 use bhs_replay::{read_replay, write_replay};
-use bhs_view::{cut_of, restrict, twin_of};
+use bhs_view::{RestrictFault, TwinFault, cut_of, restrict, twin_of};
 use std::alloc::Global;
+use std::process::Abort;
 use std::sync::Wait;
 use std::test::Fail;
 
@@ -38,18 +41,21 @@ fn sealed(alloc: Global, replay: &str) -> Result<Sealed, Fail> {
     Ok(read_replay(alloc, &mut replay.as_bytes(), 1_000)?)
 }
 
-#[test]
-fn files_are_read_and_put_together_again(rt: HostRuntime) -> Result<(), Fail> {
-    let alloc = rt.alloc();
-    let lineup = match built_in(alloc) {
-        Ok(lineup) => lineup,
-        Err(_) => built_in(alloc).expect(&rt, "memory suffices"),
-    };
+fn is_built_in<R: Abort>(rt: &R, lineup: &Lineup) -> Result<(), Fail> {
     assert_eq!(rt; lineup.ready.len(), 1);
     assert_eq!(rt; lineup.ready[0].game.net().nodes(), 3);
     assert_eq!(rt; lineup.ready[0].game.setup().holes.nodes(), [2].as_slice());
     assert_eq!(rt; lineup.keys.find("kb"), Some((0, 1)));
     Ok(())
+}
+
+#[test]
+fn files_are_read_and_put_together_again(rt: HostRuntime) -> Result<(), Fail> {
+    let lineup = match built_in(rt.alloc()) {
+        Ok(lineup) => lineup,
+        Err(_) => built_in(rt.alloc())?,
+    };
+    is_built_in(&rt, &lineup)
 }
 
 /// A match on the triangle, under its lock.
@@ -72,18 +78,16 @@ fn told<R: Wait>(
     }
 }
 
-#[test]
-fn a_match_is_made_and_commands_are_told_again(rt: HostRuntime) -> Result<(), Fail> {
-    let alloc = rt.alloc();
-    let cell = match cell(alloc) {
-        Some(cell) => cell,
-        None => cell(alloc).expect(&rt, "memory suffices"),
-    };
-    let mut pass = cell.claim(&rt, 0).expect(&rt, "a pass is claimed once");
-    told(&rt, &cell, &mut pass, Command::Enter, Command::Enter)?;
-    let written = told(&rt, &cell, &mut pass, write(alloc)?, write(alloc)?)?;
+fn answers<R: Wait + Abort>(
+    rt: &R,
+    alloc: Global,
+    cell: &Cell,
+    pass: &mut Pass,
+) -> Result<(), Fail> {
+    told(rt, cell, pass, Command::Enter, Command::Enter)?;
+    let written = told(rt, cell, pass, write(alloc)?, write(alloc)?)?;
     assert_eq!(rt; written, Reply::Written);
-    let looked = told(&rt, &cell, &mut pass, Command::Look, Command::Look)?;
+    let looked = told(rt, cell, pass, Command::Look, Command::Look)?;
     let board = Text::from(String::from_str(alloc, "ab")?);
     let here = Reply::Here {
         ports: 2,
@@ -95,54 +99,86 @@ fn a_match_is_made_and_commands_are_told_again(rt: HostRuntime) -> Result<(), Fa
     Ok(())
 }
 
+fn plays<R: Wait + Abort>(rt: &R, alloc: Global, cell: &Cell) -> Result<(), Fail> {
+    match cell.claim(rt, 0) {
+        Some(mut pass) => answers(rt, alloc, cell, &mut pass),
+        None => Err(Fail::from("a pass is claimed once")),
+    }
+}
+
+#[test]
+fn a_match_is_made_and_commands_are_told_again(rt: HostRuntime) -> Result<(), Fail> {
+    let alloc = rt.alloc();
+    match cell(alloc).or_else(|| cell(alloc)) {
+        Some(cell) => plays(&rt, alloc, &cell),
+        None => Err(Fail::from("a match is made where memory suffices")),
+    }
+}
+
+fn written(alloc: Global, sealed: &Sealed) -> Result<Vec<u8>, Fail> {
+    let mut text: Vec<u8> = Vec::new(alloc);
+    if write_replay(alloc, sealed, &mut text).is_err() {
+        text.clear();
+        write_replay(alloc, sealed, &mut text)?;
+    }
+    Ok(text)
+}
+
 #[test]
 fn a_replay_is_read_and_written_again(rt: HostRuntime) -> Result<(), Fail> {
     let alloc = rt.alloc();
     let sealed = match read_replay(alloc, &mut PLAYED.as_bytes(), 1_000) {
         Ok(sealed) => sealed,
-        Err(_) => read_replay(alloc, &mut PLAYED.as_bytes(), 1_000)?,
+        Err(_) => sealed(alloc, PLAYED)?,
     };
-    let mut written: Vec<u8> = Vec::new(alloc);
-    if write_replay(alloc, &sealed, &mut written).is_err() {
-        written.clear();
-        write_replay(alloc, &sealed, &mut written)?;
-    }
-    assert_eq!(rt; written.as_slice(), PLAYED.as_bytes());
+    let text = written(alloc, &sealed)?;
+    assert_eq!(rt; text.as_slice(), PLAYED.as_bytes());
     Ok(())
+}
+
+fn cut(alloc: Global, sealed: &Sealed) -> Result<Vec<u32>, Memory> {
+    match cut_of(alloc, sealed, 0) {
+        Ok(cut) => Ok(cut),
+        Err(_) => cut_of(alloc, sealed, 0),
+    }
 }
 
 #[test]
 fn a_past_is_cut_out_again(rt: HostRuntime) -> Result<(), Fail> {
-    let alloc = rt.alloc();
-    let sealed = sealed(alloc, PLAYED)?;
-    let cut = match cut_of(alloc, &sealed, 0) {
-        Ok(cut) => cut,
-        Err(_) => cut_of(alloc, &sealed, 0)?,
-    };
+    let sealed = sealed(rt.alloc(), PLAYED)?;
+    let cut = cut(rt.alloc(), &sealed)?;
     assert_eq!(rt; cut.as_slice(), [0, 5].as_slice());
     Ok(())
 }
 
+/// How many events the match of some of the events has.
+fn events_left(alloc: Global, sealed: &Sealed) -> Result<usize, RestrictFault> {
+    match restrict(alloc, sealed, &[0, 5]) {
+        Ok(part) => Ok(part.log().len()),
+        Err(_) => Ok(restrict(alloc, sealed, &[0, 5])?.log().len()),
+    }
+}
+
 #[test]
 fn a_match_is_restricted_again(rt: HostRuntime) -> Result<(), Fail> {
-    let alloc = rt.alloc();
-    let sealed = sealed(alloc, PLAYED)?;
-    let part = match restrict(alloc, &sealed, &[0, 5]) {
-        Ok(part) => part,
-        Err(_) => restrict(alloc, &sealed, &[0, 5])?,
-    };
-    assert_eq!(rt; part.log().len(), 3);
+    let sealed = sealed(rt.alloc(), PLAYED)?;
+    let left = events_left(rt.alloc(), &sealed)?;
+    assert_eq!(rt; left, 3);
     Ok(())
+}
+
+/// Whether the black hole of the twin is node 1 alone.
+fn is_moved(alloc: Global, sealed: &Sealed) -> Result<bool, TwinFault> {
+    match twin_of(alloc, sealed, 1) {
+        Ok(twin) => Ok(twin.setup().holes.nodes() == [1].as_slice()),
+        Err(_) => Ok(twin_of(alloc, sealed, 1)?.setup().holes.nodes() == [1].as_slice()),
+    }
 }
 
 #[test]
 fn a_twin_is_made_again(rt: HostRuntime) -> Result<(), Fail> {
-    let alloc = rt.alloc();
-    let sealed = sealed(alloc, ACCUSED)?;
-    let twin = match twin_of(alloc, &sealed, 1) {
-        Ok(twin) => twin,
-        Err(_) => twin_of(alloc, &sealed, 1)?,
-    };
-    assert_eq!(rt; twin.setup().holes.nodes(), [1].as_slice());
+    let sealed = sealed(rt.alloc(), ACCUSED)?;
+    let is_moved = is_moved(rt.alloc(), &sealed)?;
+    assert!(rt; is_moved);
     Ok(())
 }

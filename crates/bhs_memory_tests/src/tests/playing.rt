@@ -1,8 +1,10 @@
 //! Playing takes no memory.
 
 use super::{triangle, write};
+use bhs_match::Match;
 use bhs_model::{Command, Event};
 use std::alloc::Global;
+use std::process::Abort;
 use std::test::Fail;
 
 // Two agents meet at a whiteboard, and one goes on and is lost.
@@ -25,6 +27,15 @@ fn events(alloc: Global) -> Result<Vec<Event>, Fail> {
     ]?)
 }
 
+fn play<R: Abort>(rt: &R, game: &mut Match, events: Vec<Event>) -> Result<(), Fail> {
+    for event in events {
+        let answer = game.apply(event);
+        assert!(rt; answer.place.is_some());
+    }
+    assert_eq!(rt; game.log().len(), 13);
+    Ok(())
+}
+
 /// The first request after the match is made is the one of the last lines.
 #[test]
 fn playing_takes_no_memory(rt: HostRuntime) -> Result<(), Fail> {
@@ -33,11 +44,7 @@ fn playing_takes_no_memory(rt: HostRuntime) -> Result<(), Fail> {
     let Some((mut game, _)) = triangle(alloc) else {
         return Err(Fail::from("memory"));
     };
-    for event in events {
-        let answer = game.apply(event);
-        assert!(rt; answer.place.is_some());
-    }
-    assert_eq!(rt; game.log().len(), 13);
+    play(&rt, &mut game, events)?;
     match Vec::<u8>::with_capacity(alloc, 1) {
         Ok(_) => Ok(()),
         Err(_) => Err(Fail::from("the request for memory after the play was refused")),

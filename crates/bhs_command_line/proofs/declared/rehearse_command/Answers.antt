@@ -3,6 +3,6 @@ use Rattle.bhs_command_line.proofs.declared.rehearse_command.Goals as goal
 
 pub returns : goal.returns
 returns c =
-    let first = all_told c.command-command.ensures c.optional_tournament.result c.optional_tournament.ensures.rule c.optional_tournament.ensures.local c.arg.result
-    c.arg.ensures in
+    let first = all_told c.command-command.ensures c.optional_tournament.result c.optional_tournament.ensures.rule
+    c.optional_tournament.ensures.local c.arg.result c.arg.ensures in
     c.with.ensures _ _ _ first c.replay_option.ensures.rule c.replay_option.ensures.local

@@ -3,8 +3,8 @@ use Rattle.bhs_command_line.proofs.declared.serve_command.Goals as goal
 
 pub returns : goal.returns
 returns c =
-    let tournament = all_told c.command-command.ensures c.must_have.result c.must_have.ensures.rule c.must_have.ensures.local c.arg-command.result
-    c.arg-command.ensures in
+    let tournament = all_told c.command-command.ensures c.must_have.result c.must_have.ensures.rule
+    c.must_have.ensures.local c.arg-command.result c.arg-command.ensures in
     let port = c.with-command.ensures _ _ _ tournament c.must_have_option.ensures.rule
     c.must_have_option.ensures.local in
     let sessions = c.with-command-2.ensures _ _ _ port c.must_have_option-2.ensures.rule
