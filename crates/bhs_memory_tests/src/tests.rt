@@ -1,5 +1,7 @@
 //! Each request for memory is granted here.
 
+ghost use Rattle.std.specs.Prelude.{◌≡◌, [], IfSome};
+
 mod again;
 mod playing;
 mod wanting;
@@ -17,7 +19,9 @@ links = [[0,0,1,0],[1,1,2,0],[2,1,0,1]]
 ";
 
 /// A match of two agents on the triangle, with the black hole at node 2, and the links that are held in it.
-fn triangle(alloc: Global) -> Option<(Match, Held)> {
+fn triangle(alloc: Global) -> Option<(Match, Held)>
+    ensures { IfSome result (λ made. made.0.log ≡ []) }
+{
     let net = read_network(alloc, TRIANGLE).ok()?;
     let held = Held::new(alloc, &net, &[]).ok()?;
     Some((Match::new(alloc, net, setup(alloc).ok()?).ok()?, held))
