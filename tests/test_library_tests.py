@@ -1,4 +1,4 @@
-"""Tests of tools/library_tests.py."""
+"""How tools/library_tests.py makes a crate of the files of tests/library, and counts what its tests say."""
 import contextlib
 import io
 import pathlib
@@ -6,19 +6,15 @@ import sys
 import tempfile
 import unittest
 
-TOP = pathlib.Path(__file__).resolve().parent.parent
-sys.path.insert(0, str(TOP / "tools"))
-
-import library_tests  # noqa: E402
+import library_tests
+from tests import TOP
 
 LINES = "print('test a ... ok'); print('test result: ok. {passed} passed; {failed} failed; 0 ignored'); exit({status})"
 
 
 class LibraryTests(unittest.TestCase):
     def setUp(self) -> None:
-        room = tempfile.TemporaryDirectory()
-        self.addCleanup(room.cleanup)
-        self.folder = pathlib.Path(room.name)
+        self.folder = pathlib.Path(self.enterContext(tempfile.TemporaryDirectory()))
 
     def test_a_crate_is_made_of_the_files(self) -> None:
         folder = library_tests.make(self.folder)

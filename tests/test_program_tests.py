@@ -18,7 +18,6 @@ from tests import TOP
 
 # prints its script, or tells its words and fails
 PROGRAM = f"""#!{sys.executable}
-import subprocess
 import sys
 if len(sys.argv) > 1 and sys.argv[1] == "print":
     sys.stdout.write(sys.stdin.read())

@@ -5,6 +5,7 @@ use bhs_match::{Arena, ArenaFault, Bound, Match};
 use bhs_model::{Command, DarkLinks, Event, Holes, Mark, Reply, Setup, Text, Why};
 use bhs_world::SetupFault;
 use std::alloc::{AllocError, Global};
+use std::process::Abort;
 use std::test::Fail;
 
 /// The triangle with the black hole at node 2.
@@ -53,6 +54,17 @@ fn no(why: Why) -> Option<Mark> {
     Some(Mark::No(why))
 }
 
+/// An event, and the place in the log and the mark that answer it.
+type Step = (Event, Option<u32>, Option<Mark>);
+
+fn plays<R: Abort>(rt: &R, game: &mut Match, steps: Vec<Step>) -> Result<(), Fail> {
+    for (event, place, mark) in steps {
+        let answer = game.apply(event);
+        assert_eq!(rt; (answer.place, answer.mark), (place, mark));
+    }
+    Ok(())
+}
+
 #[test]
 fn a_setup_is_refused(rt: HostRuntime) -> Result<(), Fail> {
     let alloc = rt.alloc();
@@ -68,16 +80,14 @@ fn a_setup_is_refused(rt: HostRuntime) -> Result<(), Fail> {
 #[test]
 fn who_departs_is_away_until_it_arrives_or_leaves(rt: HostRuntime) -> Result<(), Fail> {
     let mut game = triangle(rt.alloc())?;
-    for (event, place, mark) in vec![in rt.alloc();
+    let steps = vec![in rt.alloc();
         (tell(0, Command::Enter), Some(0), here(None, None)),
         (tell(0, depart(0)), Some(1), Some(Mark::Gone)),
         (tell(0, Command::Look), Some(2), no(Why::Away)),
         (tell(0, Command::Leave), Some(3), Some(Mark::Bye)),
         (deliver(0), None, None),
-    ]? {
-        let answer = game.apply(event);
-        assert_eq!(rt; (answer.place, answer.mark), (place, mark));
-    }
+    ]?;
+    plays(&rt, &mut game, steps)?;
     assert!(rt; game.pool().is_empty());
     Ok(())
 }
@@ -85,16 +95,14 @@ fn who_departs_is_away_until_it_arrives_or_leaves(rt: HostRuntime) -> Result<(),
 #[test]
 fn the_destroyed_stay_in_the_pool_until_they_leave(rt: HostRuntime) -> Result<(), Fail> {
     let mut game = triangle(rt.alloc())?;
-    for (event, place, mark) in vec![in rt.alloc();
+    let steps = vec![in rt.alloc();
         (tell(0, Command::Enter), Some(0), here(None, None)),
         (tell(0, depart(1)), Some(1), Some(Mark::Gone)),
         (deliver(0), Some(2), None),
         (deliver(0), None, None),
         (tell(0, Command::Look), Some(3), no(Why::Away)),
-    ]? {
-        let answer = game.apply(event);
-        assert_eq!(rt; (answer.place, answer.mark), (place, mark));
-    }
+    ]?;
+    plays(&rt, &mut game, steps)?;
     let bound = Bound {
         agent: 0,
         node: 0,
@@ -110,7 +118,7 @@ fn the_destroyed_stay_in_the_pool_until_they_leave(rt: HostRuntime) -> Result<()
 fn a_dark_link_destroys_in_both_directions(rt: HostRuntime) -> Result<(), Fail> {
     let alloc = rt.alloc();
     let mut game = dark(alloc)?;
-    for (event, place, mark) in vec![in alloc;
+    let steps = vec![in alloc;
         (tell(0, Command::Enter), Some(0), here(None, None)),
         (tell(0, depart(1)), Some(1), Some(Mark::Gone)),
         (deliver(0), Some(2), None),
@@ -122,10 +130,8 @@ fn a_dark_link_destroys_in_both_directions(rt: HostRuntime) -> Result<(), Fail> 
         (tell(1, depart(1)), Some(8), Some(Mark::Gone)),
         (deliver(1), Some(9), None),
         (deliver(1), None, None),
-    ]? {
-        let answer = game.apply(event);
-        assert_eq!(rt; (answer.place, answer.mark), (place, mark));
-    }
+    ]?;
+    plays(&rt, &mut game, steps)?;
     let bound = |agent, node| Bound {
         agent,
         node,
@@ -182,7 +188,7 @@ fn a_whiteboard_holds_4096_bytes(rt: HostRuntime) -> Result<(), Fail> {
 #[test]
 fn refusals_are_not_kept(rt: HostRuntime) -> Result<(), Fail> {
     let mut game = triangle(rt.alloc())?;
-    for (event, place, mark) in vec![in rt.alloc();
+    let steps = vec![in rt.alloc();
         (tell(2, Command::Look), None, no(Why::Agent)),
         (tell(0, Command::Look), None, no(Why::Outside)),
         (tell(0, Command::Leave), None, no(Why::Outside)),
@@ -203,10 +209,8 @@ fn refusals_are_not_kept(rt: HostRuntime) -> Result<(), Fail> {
         (tell(0, Command::Look), None, Some(Mark::Over)),
         (tell(2, Command::Look), None, no(Why::Agent)),
         (Event::Close, None, None),
-    ]? {
-        let answer = game.apply(event);
-        assert_eq!(rt; (answer.place, answer.mark), (place, mark));
-    }
+    ]?;
+    plays(&rt, &mut game, steps)?;
     assert_eq!(rt; game.log().len(), 6);
     Ok(())
 }

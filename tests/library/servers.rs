@@ -4,9 +4,9 @@ mod clients;
 mod contests;
 mod gates;
 
-use bhs_lock::Open;
+use bhs_lock::{Gate, Open};
 use bhs_match::Sealed;
-use bhs_server::{Served, run_server};
+use bhs_server::{Contest, Served, run_server};
 use bhs_session::Ended;
 use clients::{
     ACCUSE, BYE, COME, Client, DEPART, DEPART_TO_THE_HOLE, GONE, HERE, LEAVE, LOOK, NOTED, OVER,
@@ -16,7 +16,9 @@ use contests::{Patience, contest};
 use gates::Turnstile;
 use std::alloc::Global;
 use std::net::{Ipv4Addr, Net, SocketAddr, TcpListener, TcpStream};
+use std::sync::Wait;
 use std::test::Fail;
+use std::thread::Threads;
 use std::time::Clock;
 use std::{io, thread};
 
@@ -31,6 +33,31 @@ fn lengths(alloc: Global, sealed: &[Sealed]) -> Result<Vec<usize>, Fail> {
         lengths.push(one.log().len())?;
     }
     Ok(lengths)
+}
+
+/// What a server serves of a contest by so many sessions, and what its clients do meanwhile.
+fn served_beside<R, G, T>(
+    rt: &R,
+    alloc: Global,
+    contest: Contest,
+    sessions: u32,
+    pace: &Patience<'_, R>,
+    gate: &G,
+    clients: impl FnOnce(&Client<'_, R>) -> T + Send,
+) -> Result<(Served, T), Fail>
+where
+    R: Threads + Wait + Clock + Net<Listener = TcpListener, Stream = TcpStream> + Sync,
+    G: Gate + Sync,
+    T: Send + Drop,
+{
+    let listener = listener(rt)?;
+    let client = Client::new(rt, alloc, listener.local_addr()?);
+    let (served, told) = thread::join(
+        rt,
+        || run_server(rt, alloc, &listener, contest, sessions, pace, gate),
+        || clients(&client),
+    );
+    Ok((served?, told))
 }
 
 /// What clients hear of whom two enter and leave.
@@ -48,19 +75,21 @@ fn two_visits<R: Net<Listener = TcpListener, Stream = TcpStream> + Clock>(
 #[test]
 fn two_enter_and_leave(rt: HostRuntime) -> Result<(), Fail> {
     let alloc = rt.alloc();
-    let listener = listener(&rt)?;
-    let client = Client::new(&rt, alloc, listener.local_addr()?);
     let pace = Patience::new(&rt, 0, 1);
-    let ready = contest(alloc, 1, 2)?;
-    let (served, heard) = thread::join(
+    let contest = contest(alloc, 1, 2)?;
+    let (served, heard) = served_beside(
         &rt,
-        || run_server(&rt, alloc, &listener, ready, 2, &pace, &Open),
-        || two_visits(&client, &pace),
-    );
+        alloc,
+        contest,
+        2,
+        &pace,
+        &Open,
+        |client| two_visits(client, &pace),
+    )?;
     let visit = format!(in alloc; "{HERE}{BYE}")?;
     let (first, second) = heard?;
     assert!(rt; first == visit && second == visit);
-    let Served { sealed, ended } = served?;
+    let Served { sealed, ended } = served;
     assert_eq!(rt; ended.as_slice(), [Ended::Bye, Ended::Bye].as_slice());
     assert_eq!(rt; lengths(alloc, &sealed)?.as_slice(), [5].as_slice());
     assert!(rt; !pace.gave_up());
@@ -70,18 +99,20 @@ fn two_enter_and_leave(rt: HostRuntime) -> Result<(), Fail> {
 #[test]
 fn sessions_are_served_beside_each_other(rt: HostRuntime) -> Result<(), Fail> {
     let alloc = rt.alloc();
-    let listener = listener(&rt)?;
-    let client = Client::new(&rt, alloc, listener.local_addr()?);
     let pace = Patience::new(&rt, 0, 1);
     let gate = Turnstile::new(&rt);
-    let ready = contest(alloc, 1, 2)?;
-    let (served, heard) = thread::join(
+    let contest = contest(alloc, 1, 2)?;
+    let (served, heard) = served_beside(
         &rt,
-        || run_server(&rt, alloc, &listener, ready, 2, &pace, &gate),
-        || two_visits(&client, &pace),
-    );
+        alloc,
+        contest,
+        2,
+        &pace,
+        &gate,
+        |client| two_visits(client, &pace),
+    )?;
     assert!(rt; heard.is_ok());
-    assert_eq!(rt; lengths(alloc, &served?.sealed)?.as_slice(), [5].as_slice());
+    assert_eq!(rt; lengths(alloc, &served.sealed)?.as_slice(), [5].as_slice());
     assert!(rt; !pace.gave_up() && !gate.gave_up());
     Ok(())
 }
@@ -121,20 +152,22 @@ fn each_ending<R: Net<Listener = TcpListener, Stream = TcpStream> + Clock>(
 #[test]
 fn sessions_end_by_each_cause(rt: HostRuntime) -> Result<(), Fail> {
     let alloc = rt.alloc();
-    let listener = listener(&rt)?;
-    let client = Client::new(&rt, alloc, listener.local_addr()?);
     let pace = Patience::new(&rt, 1, 2);
-    let ready = contest(alloc, 1, 6)?;
-    let (served, heard) = thread::join(
+    let contest = contest(alloc, 1, 6)?;
+    let (served, heard) = served_beside(
         &rt,
-        || run_server(&rt, alloc, &listener, ready, 10, &pace, &Open),
-        || each_ending(&client, &pace, alloc),
-    );
+        alloc,
+        contest,
+        10,
+        &pace,
+        &Open,
+        |client| each_ending(client, &pace, alloc),
+    )?;
     let expected = format!(in alloc;
         "{HERE}{BYE}{HERE}{NOTED}{UNKNOWN}{TAKEN}{STRANGE}{HERE}{HERE}{HERE}{GONE}{OVER}"
     )?;
     assert_eq!(rt; heard?.as_str(), expected.as_str());
-    let Served { sealed, ended } = served?;
+    let Served { sealed, ended } = served;
     let causes = [
         Ended::Bye,
         Ended::Noted,
@@ -172,24 +205,26 @@ fn moves_on<R: Net<Listener = TcpListener, Stream = TcpStream> + Clock>(
 #[test]
 fn sixty_four_sessions_play_eight_matches(rt: HostRuntime) -> Result<(), Fail> {
     let alloc = rt.alloc();
-    let listener = listener(&rt)?;
-    let client = Client::new(&rt, alloc, listener.local_addr()?);
     let pace = Patience::new(&rt, 0, 64);
-    let ready = contest(alloc, 8, 8)?;
-    let (served, heard) = thread::join(
+    let contest = contest(alloc, 8, 8)?;
+    let (served, heard) = served_beside(
         &rt,
-        || run_server(&rt, alloc, &listener, ready, 64, &pace, &Open),
-        || thread::map_indices(
+        alloc,
+        contest,
+        64,
+        &pace,
+        &Open,
+        |client| thread::map_indices(
             &rt,
             alloc,
             64,
-            &|number| moves_on(&client, &pace, alloc, number),
+            &|number| moves_on(client, &pace, alloc, number),
         ),
-    );
+    )?;
     for one in heard? {
         assert!(rt; one?);
     }
-    let Served { sealed, ended } = served?;
+    let Served { sealed, ended } = served;
     assert_eq!(rt; ended.len(), 64);
     assert!(rt; ended.iter().all(|ended| *ended == Ended::Bye));
     assert_eq!(rt; lengths(alloc, &sealed)?.as_slice(), [49; 8].as_slice());
@@ -215,18 +250,20 @@ fn four_visits<R: Net<Listener = TcpListener, Stream = TcpStream> + Clock>(
 #[test]
 fn four_come_one_after_the_other(rt: HostRuntime) -> Result<(), Fail> {
     let alloc = rt.alloc();
-    let listener = listener(&rt)?;
-    let client = Client::new(&rt, alloc, listener.local_addr()?);
     let pace = Patience::new(&rt, 0, 1);
-    let ready = contest(alloc, 1, 2)?;
-    let (served, heard) = thread::join(
+    let contest = contest(alloc, 1, 2)?;
+    let (served, heard) = served_beside(
         &rt,
-        || run_server(&rt, alloc, &listener, ready, 4, &pace, &Open),
-        || four_visits(&client, &pace, alloc),
-    );
+        alloc,
+        contest,
+        4,
+        &pace,
+        &Open,
+        |client| four_visits(client, &pace, alloc),
+    )?;
     let expected = format!(in alloc; "{UNKNOWN}{HERE}{BYE}{TAKEN}")?;
     assert_eq!(rt; heard?.as_str(), expected.as_str());
-    let Served { sealed, ended } = served?;
+    let Served { sealed, ended } = served;
     let causes = [Ended::InputEnded, Ended::Denied, Ended::Bye, Ended::Denied];
     assert_eq!(rt; ended.as_slice(), causes.as_slice());
     assert_eq!(rt; lengths(alloc, &sealed)?.as_slice(), [3].as_slice());
@@ -247,17 +284,19 @@ fn is_gone<R: Net<Listener = TcpListener, Stream = TcpStream> + Clock>(
 #[test]
 fn a_client_is_gone_at_once(rt: HostRuntime) -> Result<(), Fail> {
     let alloc = rt.alloc();
-    let listener = listener(&rt)?;
-    let client = Client::new(&rt, alloc, listener.local_addr()?);
     let pace = Patience::new(&rt, 0, 1);
-    let ready = contest(alloc, 1, 2)?;
-    let (served, gone) = thread::join(
+    let contest = contest(alloc, 1, 2)?;
+    let (served, gone) = served_beside(
         &rt,
-        || run_server(&rt, alloc, &listener, ready, 1, &pace, &Open),
-        || is_gone(&client, &pace),
-    );
+        alloc,
+        contest,
+        1,
+        &pace,
+        &Open,
+        |client| is_gone(client, &pace),
+    )?;
     assert!(rt; gone.is_ok());
-    let Served { sealed, ended } = served?;
+    let Served { sealed, ended } = served;
     let causes = [
         Ended::Over,
         Ended::InputEnded,

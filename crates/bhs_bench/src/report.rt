@@ -1,7 +1,7 @@
 //! What is printed.
 
 use crate::faults::BenchFault;
-use crate::stages::{Stage, of_a_round};
+use crate::stages::{EACH_ROUND, Stage};
 use crate::submitting::{Measured, Sharing};
 use crate::workload::Counts;
 use bhs_stream::send;
@@ -91,7 +91,7 @@ pub fn print_stage<W: Write>(
         Stage::Writing => "written lines",
         Stage::Printing => "printed lines",
     };
-    let number = rounds.saturating_mul(of_a_round());
+    let number = rounds.saturating_mul(EACH_ROUND);
     let text = format!(in alloc; "{what} {number}")?;
     send(writer, text.as_bytes())?;
     if let Some(time) = time {

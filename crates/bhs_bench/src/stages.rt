@@ -47,9 +47,7 @@ const PRINTED: [&[u8]; 4] = [
 ];
 
 /// How many lines, or events, a round has.
-pub fn of_a_round() -> u64 {
-    4
-}
+pub const EACH_ROUND: u64 = 4;
 
 /// How long a stage takes, so many times over.
 pub fn lasted<C: Clock>(
@@ -79,7 +77,7 @@ fn read(alloc: Global, rounds: u64) -> Result<(), Memory> {
 }
 
 fn play(alloc: Global, rounds: u64) -> Result<(), BenchFault> {
-    Workload::new(alloc)?.play(alloc, rounds.saturating_mul(of_a_round()))
+    Workload::new(alloc)?.play(alloc, rounds.saturating_mul(EACH_ROUND))
 }
 
 fn write(alloc: Global, rounds: u64) -> Result<(), Memory> {
