@@ -1,12 +1,11 @@
 -- What is known of a connection, through a draw.
-use Rattle.std.proofs.Common.{◌≡◌, ◌≢◌, ◌∙◌, ℕ, ◌<◌, ◌≤◌, inl, inr, Bool, true, false, cond, not}
-use Rattle.std.proofs.Common.{nat_lt, ◌==◌, Option, Some, None, List, [], ◌∷◌, ◌++◌, length, get_or, refl}
-use Rattle.std.proofs.Common.{sym, ap, ap₂, subst, append-nil, arith}
-use Rattle.std.specs.List.{position, position_or_len}
-use Rattle.std.proofs.lemmas.Bool.{ltb-true, ltb-false, eqb-true, eqb-false, and_parts}
-use Rattle.std.proofs.lemmas.List.{set-get_or, get_or_past, get_or-set_same, get_or-set_other}
+use Rattle.std.proofs.Common.{◌≡◌, ◌≢◌, ◌∙◌, ℕ, ◌<◌, inl, inr, Bool, true, false, not}
+use Rattle.std.proofs.Common.{◌==◌, Option, Some, None, List, [], ◌∷◌, ◌++◌, length, get_or, refl}
+use Rattle.std.proofs.Common.{sym, ap, ap₂, subst, append-nil}
+use Rattle.std.specs.List.{position}
+use Rattle.std.proofs.lemmas.Bool.{eqb-true, eqb-false, and_parts}
+use Rattle.std.proofs.lemmas.List.{set-get_or, get_or-set_same, get_or-set_other}
 use Rattle.std.proofs.lemmas.List.Quantifiers.{position-Some}
-use Rattle.std.proofs.lemmas.List.Sums.{fails_before_first}
 use Rattle.bhs_model.specs.declared.events.Event.{Event}
 use Rattle.bhs_model.specs.declared.events.Event.TheVariants.{Tell, Deliver, Close}
 use Rattle.bhs_model.specs.declared.setups.Setup.{Setup}
@@ -29,7 +28,7 @@ use Rattle.bhs_rehearsal.specs.Clients.{bytes_among}
 use Rattle.bhs_rehearsal.proofs.CuttingLemmas.{by_bool}
 use Rattle.bhs_rehearsal.proofs.TurnLemmas.{placed, turn_of, moves-placed}
 use Rattle.bhs_rehearsal.proofs.ApartLemmas.{seat-has_seat}
-use Rattle.bhs_rehearsal.proofs.SettledLemmas.{has_own}
+use Rattle.bhs_rehearsal.proofs.SettlingLemmas.{nobody_plays}
 use Rattle.bhs_rehearsal.proofs.SlowGameLemmas.{state_of-played}
 use Rattle.bhs_session.specs.Met.{Arrives}
 use Rattle.bhs_rehearsal.specs.Clients.{Fed}
@@ -43,28 +42,6 @@ use Rattle.bhs_rehearsal.proofs.MetMoveLemmas.{Knows, moved}
 use Rattle.bhs_rehearsal.proofs.MetClientLemmas.{nothing_more}
 
 -- ---- a draw
-
--- whom nobody plays
-nobody_plays : (connections : List Connection) (seat : ℕ × ℕ) → position (has_seat seat) connections ≡ None → (conn : ℕ)
-    → (get_or connections conn unfed).seat ≡ Some seat → ⊥
-nobody_plays connections seat none conn theirs =
-    let one = get_or connections conn unfed in
-    let has : has_seat seat one ≡ true = has_own seat one.seat one.unfinished one.queue one.ended theirs in
-    let all : length connections ≤ position_or_len (has_seat seat) connections =
-    passed (position_or_len (has_seat seat) connections) (length connections) _ refl none in
-    by_bool (nat_lt conn (length connections)) (λ (below : Bool). nat_lt conn (length connections) ≡ below → ⊥)
-    (λ first below.
-    let within : conn < length connections = ltb-true conn (length connections) below in
-    let fails : has_seat seat one ≡ false = fails_before_first (has_seat seat) connections conn unfed
-    (omega (arith, all, within)) in
-    cc)
-    (λ first past. let never = ap (λ (it : Connection). it.seat)
-    (sym (get_or_past connections conn unfed (ltb-false conn (length connections) past))) ∙ theirs in cc)
-    refl where
-      passed : (place count : ℕ) (below : Bool) → nat_lt place count ≡ below
-          → cond below (Some place) None ≡ None → count ≤ place
-      passed place count true is some = absurd (cc)
-      passed place count false is some = ltb-false place count is
 
 -- an arrival, of an agent on a link
 pub record Arrival (setup : Setup) (old new : View) (replied : Option Reply) : Type 0 where

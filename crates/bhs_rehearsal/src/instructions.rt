@@ -15,12 +15,13 @@ ghost use Rattle.bhs_rehearsal.specs.Takings.{IsStepped, IsDrawn, after_draw, ma
 use crate::connections::Connection;
 use crate::outs::Out;
 use crate::rehearsals::Rehearsal;
-use crate::takings::{play, push_reply};
+use crate::takings::play;
 use bhs_deal::{Drawn, draw};
 use bhs_lineup::Ready;
 use bhs_match::Match;
 use bhs_model::{Event, Kept, Reply};
 use bhs_net::Memory;
+use bhs_session::push_reply;
 use std::alloc::Global;
 
 impl Rehearsal {

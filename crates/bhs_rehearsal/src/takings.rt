@@ -1,9 +1,8 @@
 //! Taking the items of a connection that plays an agent.
 
-ghost use Rattle.std.specs.Prelude.{◌≡◌, ◌∷◌, ◌++◌, false, List, map, OnOk, IfOk, MatchOption};
+ghost use Rattle.std.specs.Prelude.{◌≡◌, ◌∷◌, ◌++◌, false, List, map, IfOk, MatchOption};
 ghost use Rattle.bhs_model.specs.declared.events.Event.TheVariants.{Tell};
 ghost use Rattle.bhs_model.specs.Marks.{read_if};
-ghost use Rattle.bhs_session.specs.Texts.{text_of};
 ghost use Rattle.bhs_rehearsal.specs.Games.{played, reply_to, is_away};
 ghost use Rattle.bhs_rehearsal.specs.Connections.{Item as ItemData, taken, leaves, answers};
 ghost use Rattle.bhs_rehearsal.specs.Rehearsing.{game_of, team_of, seen_item};
@@ -13,8 +12,8 @@ use crate::items::Item;
 use bhs_lineup::Ready;
 use bhs_model::{Command, Event, Mark, Reply};
 use bhs_net::Memory;
-use bhs_session::{command_in, ending_of};
-use bhs_wire::{LineReader, push_line};
+use bhs_session::{command_in, ending_of, push_reply};
+use bhs_wire::LineReader;
 use std::alloc::Global;
 use std::collections::VecDeque;
 
@@ -122,13 +121,4 @@ pub(crate) fn play(ready: &mut Ready, event: Event) -> Option<Mark>
     ensures team { team_of ready.new ≡ team_of ready.old }
 {
     ready.game.apply(event).mark
-}
-
-// Adds the line of a reply, with its line feed.
-pub(crate) fn push_reply(alloc: Global, reply: &Reply, text: &mut Vec<u8>) -> Result<(), Memory>
-    ensures { OnOk result (text.new.items ≡ text.old.items ++ text_of reply.now) }
-{
-    push_line(alloc, text, reply)?;
-    text.push(b'\n')?;
-    Ok(())
 }

@@ -1,4 +1,4 @@
-ghost use Rattle.std.specs.Prelude.{◌≡◌, ℕ, List, Bool, OnOk, OnErr, IfErr, ◌++◌, ◌∷◌, [], string_bytes, IfOk};
+ghost use Rattle.std.specs.Prelude.{◌≡◌, ℕ, List, Bool, OnOk, OnErr, IfErr, ◌++◌, ◌∷◌, [], IfOk};
 ghost use Rattle.bhs_stream.specs.Sending.{PutsAll, PutsPart};
 ghost use Rattle.bhs_session.specs.Phase.{answered_by, waiting, reached, Sends, Owes, Finished, phase_of};
 ghost use Rattle.bhs_session.specs.Texts.{text_of, denial_text};
@@ -9,8 +9,11 @@ use crate::endings::{Ended, Stop, ending_of};
 use bhs_model::Reply;
 use bhs_net::Memory;
 use bhs_stream::{Output, WriteFault, send};
-use bhs_wire::{Denial, denial_of, line_of};
+use bhs_wire::{Denial, denial_of, push_line};
 use std::alloc::Global;
+
+/// The bytes that the line of a reply takes with a short whiteboard.
+const ROOM: usize = 128;
 
 // Writes the line of an answer. It stops the session where the answer ends it, or a fault does.
 pub(crate) fn write_reply<W: Output>(
@@ -38,19 +41,26 @@ fn send_reply<W: Output>(alloc: Global, writer: &mut W, reply: &Reply) -> Result
     let Ok(text) = reply_text(alloc, reply) else {
         return Err(Ended::Memory);
     };
-    match send(writer, text.as_bytes()) {
+    match send(writer, &text) {
         Ok(()) => Ok(()),
         Err(WriteFault) => Err(Ended::WriteFault),
     }
 }
 
-// The line of a reply, with its line feed.
-fn reply_text(alloc: Global, reply: &Reply) -> Result<String, Memory>
-    ensures { IfOk result (λ text. string_bytes text ≡ text_of reply.now) }
+fn reply_text(alloc: Global, reply: &Reply) -> Result<Vec<u8>, Memory>
+    ensures { IfOk result (λ text. text.items ≡ text_of reply.now) }
 {
-    let mut text = line_of(alloc, reply)?;
-    text.push('\n')?;
+    let mut text = Vec::with_capacity(alloc, ROOM)?;
+    push_reply(alloc, reply, &mut text)?;
     Ok(text)
+}
+
+/// Adds the line of a reply, with its line feed. An `Err` may have added a part of it.
+pub fn push_reply(alloc: Global, reply: &Reply, text: &mut Vec<u8>) -> Result<(), Memory>
+    ensures { OnOk result (text.new.items ≡ text.old.items ++ text_of reply.now) }
+{
+    push_line(alloc, text, reply)?;
+    Ok(text.push(b'\n')?)
 }
 
 // Writes the line that tells a client why it is not let in.

@@ -17,6 +17,6 @@ pub use denials::{Denial, denial_of};
 pub use kinds::{LineKind, kind_of};
 pub use laws::{any_pieces, held_is_enough, line_by_line, one_meaning};
 pub use pieces::{Raw, split_line};
-pub use replies::{line_of, push_line, word_of, write_reply};
+pub use replies::{push_line, word_of, write_reply};
 pub use streams::Lines;
 pub use tokens::{write_number, write_text};

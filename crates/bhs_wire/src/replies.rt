@@ -1,4 +1,4 @@
-ghost use Rattle.std.specs.Prelude.{◌≡◌, ◌++◌, ◌∷◌, [], codes, string_bytes, IfOk, OnOk};
+ghost use Rattle.std.specs.Prelude.{◌≡◌, ◌++◌, ◌∷◌, [], codes, OnOk};
 ghost use Rattle.json.specs.Token.{key};
 ghost use Rattle.bhs_wire.specs.Reply.{line};
 ghost use Rattle.bhs_wire.specs.ReplyTokens.{reply_tokens, label_token, word_tokens, LabelFits, NumbersFit};
@@ -10,15 +10,6 @@ use bhs_net::Memory;
 use json::Writer;
 use std::alloc::Global;
 use std::mem::replace;
-
-/// The line of a reply, without its line feed.
-pub fn line_of(alloc: Global, reply: &Reply) -> Result<String, Memory>
-    ensures { IfOk result (λ text. string_bytes text ≡ line reply.now) }
-{
-    let mut out = Writer::new(Vec::new(alloc));
-    write_reply(&mut out, reply)?;
-    Ok(String::from_utf8(out.into_inner()).unwrap())
-}
 
 /// Adds the line of a reply to a text, without its line feed. An `Err` may have added a part of it.
 pub fn push_line(alloc: Global, text: &mut Vec<u8>, reply: &Reply) -> Result<(), Memory>
