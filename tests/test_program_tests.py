@@ -184,7 +184,7 @@ class Gate(unittest.TestCase):
                              ("library_of", lambda name: crates / name / "out" / "rlib" / f"{name}.rlib")):
                 patches.enter_context(unittest.mock.patch.object(gate, what, by))
             patches.enter_context(unittest.mock.patch.object(gate.subprocess, "run", tries))
-            edits = gate.Edits(crates / "built")
+            edits = gate.Edits(gate.Beside(), crates / "built")
             for line in lines:
                 edits.hear(line)
             counts = edits.ended()
