@@ -1,7 +1,8 @@
 //! Streams that fail, turns that run out, and the names of faults.
 
 use super::streams::{Narrow, Pieces};
-use bhs_program::{Fault, Machine, built_in, rehearse, report, run};
+use bhs_commands::{Fault, built_in, rehearse, report};
+use bhs_program::{Machine, run};
 use std::alloc::Global;
 use std::net::{Net, TcpListener, TcpStream};
 use std::process::Abort;

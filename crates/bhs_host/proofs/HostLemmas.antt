@@ -2,10 +2,11 @@
 use Rattle.std.proofs.Common.{◌≡◌, ◌∙◌, ap, ℕ, ◌+◌, List, [], ◌∷◌, ◌++◌, length, map, append_assoc}
 use Rattle.std.proofs.Common.{length-append}
 use Rattle.rand_chacha.specs.ChaCha.{ChaCha}
+use Rattle.bhs_lineup.specs.Fresh.{AreFresh}
 use Rattle.bhs_lineup.specs.declared.lineups.Ready.{Ready}
 use Rattle.bhs_lock.specs.Cells.{Given}
 use Rattle.bhs_deal.specs.Dealer.{dealer_at}
-use Rattle.bhs_host.specs.Hosting.{AreFresh, dealers_of, given_of}
+use Rattle.bhs_host.specs.Hosting.{dealers_of, given_of}
 
 -- what came of the first matches, and the matches that are left
 pub record Hosts (seed : List ℕ) (all : List Ready) (teams : List (List ℕ)) (cells : List Given) (dealers : List ChaCha)

@@ -1,6 +1,5 @@
 -- The contest that comes of the matches of a tournament, and the table that comes of matches that have ended.
 use Rattle.std.specs.Prelude.{ℕ, ◌≡◌, ◌+◌, List, [], ◌∷◌, string_bytes}
-use Rattle.std.specs.List.{AllByRecursion}
 use Rattle.rand_chacha.specs.ChaCha.{ChaCha}
 use Rattle.bhs_match.specs.Matches.{Play}
 use Rattle.bhs_lineup.specs.declared.lineups.Ready.{Ready}
@@ -10,10 +9,6 @@ use Rattle.bhs_referee.specs.Verdicts.{verdict_of}
 use Rattle.bhs_standings.specs.declared.rows.Row.{Row}
 use Rattle.bhs_standings.specs.Ranks.{IsRanking}
 use Rattle.bhs_standings.specs.Tables.{table_of}
-
--- nothing has happened in any match
-abbrev pub AreFresh : List Ready → Type 0
-AreFresh matches = AllByRecursion (λ ready. ready.game.log ≡ []) matches
 
 -- what the cell of a match is given: its network and its setup
 abbrev pub given_of : Ready → Given

@@ -1,5 +1,6 @@
 ghost use Rattle.std.specs.Prelude.{◌≡◌, IfOk, map};
-ghost use Rattle.bhs_host.specs.Hosting.{AreFresh, dealers_of, given_of};
+ghost use Rattle.bhs_lineup.specs.Fresh.{AreFresh};
+ghost use Rattle.bhs_host.specs.Hosting.{dealers_of, given_of};
 
 use bhs_deal::Dealer;
 use bhs_lineup::{Lineup, Ready};

@@ -1,3 +1,4 @@
 pub mod KeyTable
 pub mod Seats
 pub mod Lineups
+pub mod Fresh

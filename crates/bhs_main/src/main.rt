@@ -3,9 +3,10 @@
 #![tactic(auto)]
 
 ghost use Rattle.std.specs.Prelude.{IfOk};
-ghost use Rattle.bhs_program.specs.Fault.{IsStatus};
+ghost use Rattle.bhs_program.specs.Program.{IsStatus};
 
-use bhs_program::{Fault, Machine, report, run, words_of};
+use bhs_commands::{Fault, report};
+use bhs_program::{Machine, run, words_of};
 use std::alloc::Global;
 use std::io;
 use std::io::{BufWriter, Input, Print, Write};

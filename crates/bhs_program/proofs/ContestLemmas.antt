@@ -1,26 +1,22 @@
--- Contests: as many matches end as there were, why one has no table, and replays that are written one after the other.
-use Rattle.std.proofs.Common.{◌≡◌, ◌⊎◌, inl, inr, refl, sym, subst, ◌∙◌, ap, arith, ℕ, ◌+◌, ◌<◌, ◌≤◌, List, [], ◌∷◌}
-use Rattle.std.proofs.Common.{length, map, drop, get_or, Bool, true, false, if◌then◌else◌, IfOk, OnErr, Result, Ok, Err}
-use Rattle.std.proofs.lemmas.List.{drop_more}
-use Rattle.std.proofs.Math.ListN.{drop_of_length-le}
-use Rattle.std.specs.List.{AllByRecursion}
+-- Contests: as many matches end as there were, why one has no table, and the line that says that the program listens.
+use Rattle.std.proofs.Common.{◌≡◌, refl, sym, subst, ◌∙◌, arith, ℕ, List, [], ◌∷◌, length, map, Bool, true, IfOk}
+use Rattle.std.proofs.Common.{OnErr, Result, Ok, Err}
 use Rattle.bhs_match.specs.Matches.{Play}
 use Rattle.bhs_lineup.specs.declared.lineups.Ready.{Ready}
+use Rattle.bhs_lineup.specs.declared.lineups.Lineup.{Lineup}
 use Rattle.bhs_lock.specs.Cells.{Given}
 use Rattle.bhs_server.specs.Settling.{AreSealed, IsUnsettled}
 use Rattle.bhs_server.specs.declared.settling.ServerFault.{ServerFault}
 use Rattle.bhs_server.specs.declared.settling.ServerFault.TheVariants as servers
 use Rattle.bhs_host.specs.Hosting.{given_of}
 use Rattle.bhs_stream.specs.Streams.{Taken}
-use Rattle.bhs_program.specs.Contests.{IsUnserved, Serves, goes_unheard, refuses_contest, listening}
-use Rattle.bhs_program.specs.Fault.{of_server}
-use Rattle.bhs_program.specs.Showing.{Prints, all, part, held_back, Shows}
-use Rattle.bhs_program.specs.Summary.{IsAssembled}
-use Rattle.bhs_lineup.specs.declared.lineups.Lineup.{Lineup}
-use Rattle.bhs_program.specs.declared.faults.Fault.{Fault}
-use Rattle.bhs_program.specs.declared.faults.Fault.TheVariants.{Write, Memory}
-use Rattle.bhs_program.specs.declared.statuses.TheConstants.{DONE, NO_MEMORY}
-use Rattle.bhs_program.proofs.ReportLemmas.{not_done}
+use Rattle.bhs_commands.specs.Showing.{Prints, all, part, held_back, Shows}
+use Rattle.bhs_commands.specs.Summary.{IsAssembled}
+use Rattle.bhs_commands.specs.declared.faults.Fault.{Fault}
+use Rattle.bhs_commands.specs.declared.faults.Fault.TheVariants.{Write, Memory}
+use Rattle.bhs_commands.specs.declared.statuses.TheConstants.{DONE, NO_MEMORY}
+use Rattle.bhs_commands.proofs.ReportLemmas.{not_done}
+use Rattle.bhs_program.specs.Contests.{IsUnserved, Serves, goes_unheard, refuses_contest, listening, of_server}
 
 pub as_many : (matches : List Ready) (plays : List Play) → AreSealed (map given_of matches) plays
     → length (map (λ ready. ready.team) matches) ≡ length plays
@@ -35,24 +31,6 @@ unserved matches cells are (servers.Unsettled game) first fault is =
     subst (IsUnserved matches) (sym is)
     (subst (λ (given : List Given). IsUnsettled given (servers.Unsettled game)) are first)
 unserved matches cells are servers.Memory none fault is = subst (IsUnserved matches) (sym is) tt
-
--- one thing more of many that were to be done
-module _ (Holds : Play → Type 0) (all : List Play) (number : ℕ) where
-  pub one_more : (play : Play) → number < length all → play ≡ get_or all number play
-      → Holds play → AllByRecursion Holds (drop (number + 1) all) → AllByRecursion Holds (drop number all)
-  one_more play lt is holds others =
-      let rest = drop (number + 1) all in
-      let e : drop number all ≡ play ∷ rest = drop_more all number play lt ∙ ap (λ x. x ∷ rest) (sym is) in
-      subst (AllByRecursion Holds) (sym e) (holds, others)
-
-  pub no_more : length all ≤ number → AllByRecursion Holds (drop number all)
-  no_more le = subst (AllByRecursion Holds) (sym (drop_of_length-le all le)) tt
-
--- a match that is for reading alone is the match as it was
-pub sealed_is : (is_closed : Bool) (play sealed : Play)
-    → ◌≡◌ {A = Result Play Play} (Ok sealed) (if is_closed then Ok play else Err play) → sealed ≡ play
-sealed_is true play sealed is = cc
-sealed_is false play sealed is = absurd cc
 
 -- the line that says that the program listens
 module _ {O : Type 0} (takes : O → List ℕ → Taken → O → Type 0) (flushes : O → Bool → O → Type 0) (port : ℕ)

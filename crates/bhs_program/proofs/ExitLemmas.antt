@@ -7,16 +7,17 @@ use Rattle.bhs_stream.specs.Streams.{Chunk, Taken}
 use Rattle.bhs_rehearsal.specs.Stages.{Stage}
 use Rattle.bhs_command_line.specs.declared.orders.Order.{Order}
 use Rattle.bhs_command_line.specs.declared.orders.Order.TheVariants as order
-use Rattle.bhs_program.specs.declared.faults.Fault.TheVariants.{Write, Memory, Twin}
-use Rattle.bhs_program.specs.declared.statuses.TheConstants.{DONE}
-use Rattle.bhs_program.specs.Fault.{IsStatus}
-use Rattle.bhs_program.specs.Program.{Does, HasNoTwin, Obeys, does, lacks_memory, RehearsesNamed, rehearses_on}
-use Rattle.bhs_program.specs.Program.{refuses_file, Runs, obeys, helps, refuses_words, lacks_room}
-use Rattle.bhs_program.specs.Rehearsal.{Rehearses, done, unfiled, ends}
-use Rattle.bhs_program.specs.Showing.{Prints, all, part, held_back, PrintsByLine, whole, cut_off, kept_back, Reports}
-use Rattle.bhs_program.specs.Showing.{prints, stops}
-use Rattle.bhs_program.specs.Contests.{Files, all_filed, unfiled_one, Ends, Hosts, settles, fails}
-use Rattle.bhs_program.specs.Contests.{Serves, serves_on, goes_unheard, refuses_contest, first_status}
+use Rattle.bhs_commands.specs.declared.faults.Fault.TheVariants.{Write, Memory, Twin}
+use Rattle.bhs_commands.specs.Filing.{Files, all_filed, unfiled_one}
+use Rattle.bhs_commands.specs.Rehearsal.{Rehearses, done, unfiled, ends}
+use Rattle.bhs_commands.specs.RehearsedTournaments.{RehearsesNamed, rehearses_on, refuses_file}
+use Rattle.bhs_commands.specs.Showing.{Prints, all, part, held_back, PrintsByLine, whole, cut_off, kept_back, Reports}
+use Rattle.bhs_commands.specs.Showing.{prints, stops}
+use Rattle.bhs_commands.specs.declared.statuses.TheConstants.{DONE}
+use Rattle.bhs_program.specs.Contests.{Ends, Hosts, settles, fails}
+use Rattle.bhs_program.specs.Contests.{Serves, serves_on, goes_unheard, refuses_contest}
+use Rattle.bhs_program.specs.Program.{Does, IsStatus, Obeys, does, lacks_memory}
+use Rattle.bhs_program.specs.Program.{Runs, obeys, helps, refuses_words, lacks_room}
 
 -- the exit status of what was printed
 module _ {O : Type 0} (takes : O → List ℕ → Taken → O → Type 0) (flushes : O → Bool → O → Type 0) (output output' : O)

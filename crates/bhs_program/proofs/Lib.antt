@@ -1,8 +1,2 @@
-pub mod PlayLemmas
-pub mod TriangleLemmas
-pub mod TextLemmas
-pub mod SummaryLemmas
 pub mod ExitLemmas
-pub mod ReportLemmas
-pub mod FreshLemmas
 pub mod ContestLemmas

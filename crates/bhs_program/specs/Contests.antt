@@ -1,27 +1,28 @@
 -- What a contest over sockets does to its output and to the files of its replays, call by call.
-use Rattle.std.specs.Prelude.{◌≡◌, ◌==◌, if◌then◌else◌, ℕ, Bool, true, List, ◌++◌, codes, decimal, map}
-use Rattle.std.specs.List.{AllByRecursion}
+use Rattle.std.specs.Prelude.{◌≡◌, ℕ, Bool, true, List, ◌++◌, codes, decimal, map}
 use Rattle.bhs_match.specs.Matches.{Play}
 use Rattle.bhs_stream.specs.Streams.{Taken}
 use Rattle.bhs_lineup.specs.declared.lineups.Ready.{Ready}
 use Rattle.bhs_lineup.specs.declared.lineups.Lineup.{Lineup}
-use Rattle.bhs_replay.specs.Replay.{replay_of}
 use Rattle.bhs_server.specs.Settling.{AreSealed, IsFirstUnsettled}
+use Rattle.bhs_server.specs.declared.settling.ServerFault.{ServerFault}
+use Rattle.bhs_server.specs.declared.settling.ServerFault.TheVariants as servers
 use Rattle.bhs_host.specs.Hosting.{IsStandings, given_of}
-use Rattle.bhs_program.specs.Fault.{status}
-use Rattle.bhs_program.specs.Showing.{Prints, Reports, Shows, Took}
-use Rattle.bhs_program.specs.Summary.{IsAssembled}
-use Rattle.bhs_program.specs.declared.faults.Fault.{Fault}
-use Rattle.bhs_program.specs.declared.faults.Fault.TheVariants.{Write, Memory, Unsettled}
-use Rattle.bhs_program.specs.declared.statuses.TheConstants.{DONE}
+use Rattle.bhs_commands.specs.Fault.{status}
+use Rattle.bhs_commands.specs.Filing.{Files, first_status}
+use Rattle.bhs_commands.specs.Showing.{Prints, Reports, Shows}
+use Rattle.bhs_commands.specs.Summary.{IsAssembled}
+use Rattle.bhs_commands.specs.declared.faults.Fault.{Fault}
+use Rattle.bhs_commands.specs.declared.faults.Fault.TheVariants.{Write, Memory, Unsettled}
 
 -- the line that says on which port agents can connect
 abbrev pub listening : (port : ℕ) → List ℕ
 listening port = codes "listening " ++ (decimal port ++ codes "\n")
 
--- the exit status of two things that were both tried: that of the first that failed
-abbrev pub first_status : (one two : ℕ) → ℕ
-first_status one two = if one == DONE then two else one
+-- why a contest was not settled
+abbrev pub of_server : ServerFault → Fault
+of_server (servers.Unsettled game) = Unsettled game
+of_server servers.Memory = Memory
 
 -- why a contest of these matches has no table: one of them, the first of this number, is not what its sessions were
 -- answered, or memory ran out
@@ -29,13 +30,6 @@ abbrev pub IsUnserved : (matches : List Ready) → Fault → Type 0
 IsUnserved matches (Unsettled game) = IsFirstUnsettled (map given_of matches) game
 IsUnserved matches Memory = Unit {0}
 IsUnserved matches fault = ⊥
-
--- what the exit status says of the replays of matches that were to be written to files with these calls
-pub data Files {P : Type 0} (files : P → List ℕ → Taken → P → Type 0) (plays : List Play) (code : ℕ) : Type 0 where
-  -- each was written
-  all_filed : code ≡ DONE → AllByRecursion (λ play. Took files (replay_of play)) plays → Files files plays code
-  -- one was not written
-  unfiled_one : (fault : Fault) → code ≡ status fault → Files files plays code
 
 -- the calls of the files that are written, and of the output
 module _ {P O : Type 0} (files : P → List ℕ → Taken → P → Type 0) (takes : O → List ℕ → Taken → O → Type 0)

@@ -2,20 +2,19 @@
 
 ghost use Rattle.std.specs.Prelude.{◌≡◌, IfOk, IfErr, List, map, length};
 ghost use Rattle.bhs_stream.specs.Streams.{known_takes};
+ghost use Rattle.bhs_lineup.specs.Fresh.{AreFresh};
 ghost use Rattle.bhs_server.specs.Settling.{AreSealed};
-ghost use Rattle.bhs_host.specs.Hosting.{AreFresh, given_of};
-ghost use Rattle.bhs_program.specs.Contests.{Ends, Hosts, IsUnserved, first_status};
+ghost use Rattle.bhs_host.specs.Hosting.{given_of};
+ghost use Rattle.bhs_program.specs.Contests.{Ends, Hosts, IsUnserved, of_server};
 
-use crate::faults::{Fault, report};
-use crate::replays::{first_status, write_sealed};
-use crate::showing::show_made;
 use bhs_command_line::Hosting;
+use bhs_commands::{Fault, first_status, report, show_made, write_sealed};
 use bhs_host::{Hosted, Steady, contest_of, standings};
 use bhs_lineup::Lineup;
 use bhs_lock::Open;
 use bhs_match::Sealed;
 use bhs_model::Text;
-use bhs_server::run_server;
+use bhs_server::{ServerFault, run_server};
 use bhs_stream::Output;
 use std::alloc::Global;
 use std::io::Write;
@@ -75,11 +74,22 @@ fn served<R: Threads + Wait + Clock + Sync>(
 {
     let Hosted { teams, contest } = contest_of(alloc, lineup)?;
     let pace = Steady::new(rt, hosting.turns, hosting.pause);
-    let served = run_server(rt, alloc, listener, contest, hosting.sessions, &pace, &Open)?;
-    Ok(Finished {
-        teams,
-        sealed: served.sealed,
-    })
+    match run_server(rt, alloc, listener, contest, hosting.sessions, &pace, &Open) {
+        Ok(served) => Ok(Finished {
+            teams,
+            sealed: served.sealed,
+        }),
+        Err(fault) => Err(fault_of(fault)),
+    }
+}
+
+fn fault_of(server: ServerFault) -> Fault
+    ensures { result ≡ of_server server }
+{
+    match server {
+        ServerFault::Unsettled { game } => Fault::Unsettled { game },
+        ServerFault::Memory => Fault::Memory,
+    }
 }
 
 // Writes the replays of matches, and shows their table.

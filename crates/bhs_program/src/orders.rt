@@ -1,20 +1,14 @@
 ghost use Rattle.std.specs.Prelude.{map};
 ghost use Rattle.bhs_stream.specs.Streams.{known_takes};
-ghost use Rattle.bhs_program.specs.Fault.{IsStatus};
-ghost use Rattle.bhs_program.specs.Program.{Obeys, Runs};
+ghost use Rattle.bhs_program.specs.Program.{IsStatus, Obeys, Runs};
 
-use crate::checking::check;
-use crate::explaining::print_past;
-use crate::faults::{Fault, report};
-use crate::judging::print_verdict;
 use crate::machines::Machine;
 use crate::serving::serve_named;
-use crate::showing::show_text;
-use crate::statuses::REFUSED_WORDS;
-use crate::tabling::print_table;
-use crate::twinning::print_twin;
-use crate::whole_rehearsals::rehearse_named;
 use bhs_command_line::{Order, Parsed, order_of};
+use bhs_commands::{
+    Fault, REFUSED_WORDS, check, print_past, print_table, print_twin, print_verdict,
+    rehearse_named, report, show_text,
+};
 use bhs_stream::{Input, Output, send};
 use std::alloc::Global;
 use std::convert::AsStr;

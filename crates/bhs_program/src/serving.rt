@@ -4,13 +4,10 @@ ghost use Rattle.std.specs.Prelude.{◌≡◌, IfOk, string_bytes};
 ghost use Rattle.bhs_stream.specs.Streams.{known_takes};
 ghost use Rattle.bhs_program.specs.Contests.{Serves, listening};
 
-use crate::checking::lineup_of;
-use crate::faults::{Fault, report};
 use crate::hosting::host;
 use crate::machines::Machine;
-use crate::showing::show_made;
-use crate::statuses::DONE;
 use bhs_command_line::Hosting;
+use bhs_commands::{DONE, Fault, lineup_of, report, show_made};
 use bhs_net::Memory;
 use bhs_stream::Output;
 use std::alloc::Global;

@@ -1,9 +1,8 @@
 ghost use Rattle.std.specs.Prelude.{◌≡◌, ◌⊎◌, IfErr};
-ghost use Rattle.bhs_program.specs.Fault.{IsStatus};
-ghost use Rattle.bhs_program.specs.declared.statuses.TheConstants.{NO_MEMORY, REFUSED_WORDS};
+ghost use Rattle.bhs_commands.specs.declared.statuses.TheConstants.{NO_MEMORY, REFUSED_WORDS};
+ghost use Rattle.bhs_program.specs.Program.{IsStatus};
 
-use crate::faults::{Fault, report};
-use crate::statuses::REFUSED_WORDS;
+use bhs_commands::{Fault, REFUSED_WORDS, report};
 use bhs_net::Memory;
 use std::alloc::Global;
 use std::env::FillError;

@@ -1,6 +1,6 @@
 use Rattle.std.proofs.Common.{string_bytes}
 use Rattle.bhs_host.specs.Hosting.{IsStandings}
-use Rattle.bhs_program.proofs.ReportLemmas.{reported}
+use Rattle.bhs_commands.proofs.ReportLemmas.{reported}
 use Rattle.bhs_program.proofs.hosting.tell.Goals as goal
 
 pub returns : goal.returns

@@ -1,6 +1,12 @@
-use Rattle.std.proofs.Common.{refl}
-use Rattle.bhs_program.specs.Program.{does}
+use Rattle.std.proofs.Common.{inl, inr, refl}
+use Rattle.bhs_program.specs.Program.{does, lacks_memory}
 use Rattle.bhs_program.proofs.orders.obey.Goals as goal
+
+pub returns-in-Rehearse : goal.returns-in-Rehearse
+returns-in-Rehearse g c = rw c.in-Rehearse.is (elim c.rehearse_named.ensures [
+  | inl deed ↦ does deed
+  | inr (coded, rests) ↦ lacks_memory coded rests
+])
 
 pub returns-in-Check : goal.returns-in-Check
 returns-in-Check g c = rw c.in-Check.is (does (refl, c.check.ensures))

@@ -1,0 +1,9 @@
+pub mod BuiltIn
+pub mod Fault
+pub mod Summary
+pub mod Playing
+pub mod Rehearsal
+pub mod RehearsedTournaments
+pub mod Reports
+pub mod Showing
+pub mod Filing

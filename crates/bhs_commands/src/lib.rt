@@ -1,0 +1,33 @@
+//! What each command of the program reads and prints, but for `serve`: it rehearses the matches of a tournament by a
+//! script, checks its files, and says what came of the matches of replays, and why.
+#![tactic(auto)]
+
+mod built_in_tournament;
+mod checking;
+mod explaining;
+mod faults;
+mod judging;
+mod line_by_line;
+mod names;
+mod playing;
+mod rehearsing;
+mod replays;
+mod showing;
+mod statuses;
+mod summaries;
+mod tabling;
+mod twinning;
+mod whole_rehearsals;
+
+pub use built_in_tournament::built_in;
+pub use checking::{check, lineup_of};
+pub use explaining::print_past;
+pub use faults::{Fault, report};
+pub use judging::print_verdict;
+pub use rehearsing::rehearse;
+pub use replays::{first_status, write_sealed};
+pub use showing::{show_made, show_text};
+pub use statuses::{DONE, FAILED_STREAM, NO_MEMORY, REFUSED_MATCH, REFUSED_TEXT, REFUSED_WORDS};
+pub use tabling::print_table;
+pub use twinning::print_twin;
+pub use whole_rehearsals::rehearse_named;
