@@ -1,9 +1,10 @@
-ghost use Rattle.std.specs.Prelude.{◌≡◌, IfOk, map};
+ghost use Rattle.std.specs.Prelude.{◌≡◌, [], ◌∷◌, ◌++◌, IfOk, length, map};
+ghost use Rattle.bhs_deal.specs.Dealer.{dealer_at};
 ghost use Rattle.bhs_lineup.specs.Fresh.{AreFresh};
 ghost use Rattle.bhs_host.specs.Hosting.{dealers_of, given_of};
 
 use bhs_deal::Dealer;
-use bhs_lineup::{Lineup, Ready};
+use bhs_lineup::{Lineup, Ready, SEED_BYTES};
 use bhs_lock::Cell;
 use bhs_model::Text;
 use bhs_net::Memory;
@@ -29,21 +30,52 @@ pub fn contest_of(alloc: Global, lineup: Lineup) -> Result<Hosted, Memory>
     ensures keys { IfOk result (λ hosted. hosted.contest.keys ≡ lineup.keys) }
 {
     let Lineup { seed, ready, keys } = lineup;
-    let mut teams = Vec::with_capacity(alloc, ready.len())?;
-    let mut cells = Vec::with_capacity(alloc, ready.len())?;
-    let mut dealers = Vec::with_capacity(alloc, ready.len())?;
-    for Ready { team, game, held } in ready {
-        let number = dealers.len();
-        teams.push(team)?;
-        cells.push(Cell::new(alloc, u32::try_from(number).unwrap_or(u32::MAX), game, held)?)?;
-        dealers.push(Dealer::new(seed, number as u64))?;
-    }
-    Ok(Hosted {
+    let (teams, cells, dealers) = rooms(alloc, ready.len())?;
+    let mut hosted = Hosted {
         teams,
         contest: Contest {
             cells,
             dealers,
             keys,
         },
-    })
+    };
+    for one in ready {
+        hosted.add(alloc, seed, one)?;
+    }
+    Ok(hosted)
+}
+
+/// Room for so many matches.
+fn rooms(alloc: Global, games: usize) -> Result<(Vec<Text>, Vec<Cell>, Vec<Dealer>), Memory>
+    ensures { IfOk result (λ rooms. (rooms.0.items ≡ []) × (rooms.1.items ≡ []) × (rooms.2.items ≡ [])) }
+{
+    let dealers = Vec::with_capacity(alloc, games)?;
+    let teams = Vec::with_capacity(alloc, games)?;
+    let cells = Vec::with_capacity(alloc, games)?;
+    Ok((teams, cells, dealers))
+}
+
+impl Hosted {
+    /// Puts a match under its lock, with the dealer that has the stream of its number.
+    fn add(&mut self, alloc: Global, seed: [u8; SEED_BYTES], ready: Ready) -> Result<(), Memory>
+        requires { ready.game.log ≡ [] }
+        ensures teams { IfOk result (λ _. self.new.teams.items ≡ self.old.teams.items ++ ready.team ∷ []) }
+        ensures cells { IfOk result (λ _. self.new.contest.cells.items
+            ≡ self.old.contest.cells.items ++ given_of ready ∷ []) }
+        ensures dealers { IfOk result (λ _. self.new.contest.dealers.items ≡ self.old.contest.dealers.items
+            ++ dealer_at seed (length self.old.contest.dealers.items) 0 ∷ []) }
+        ensures keys { IfOk result (λ _. self.new.contest.keys ≡ self.old.contest.keys) }
+    {
+        let Ready { team, game, held } = ready;
+        let number = self.contest.dealers.len();
+        self.contest.cells.push(Cell::new(
+            alloc,
+            u32::try_from(number).unwrap_or(u32::MAX),
+            game,
+            held,
+        )?)?;
+        self.teams.push(team)?;
+        self.contest.dealers.push(Dealer::new(seed, number as u64))?;
+        Ok(())
+    }
 }

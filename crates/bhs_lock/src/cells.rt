@@ -1,12 +1,13 @@
-ghost use Rattle.std.specs.Prelude.{◌≡◌, [], IfOk, IfSome, OnErr, IsTrue};
+ghost use Rattle.std.specs.Prelude.{◌≡◌, [], IfOk, IfSome, OnErr, IsTrue, replicate};
 ghost use Rattle.bhs_deal.specs.Dealer.{moved_on};
 ghost use Rattle.bhs_lock.specs.Recording.{IsSubmitted};
+ghost use Rattle.bhs_lock.specs.Tallies.{nothing};
 ghost use Rattle.bhs_lock.specs.Unclaimed.{IsFresh};
 ghost use Rattle.bhs_lock.specs.Cells.{IsNews};
 
 use crate::gates::Gate;
-use crate::hall::Hall;
-use crate::model::Answer;
+use crate::hall::{Hall, unheard};
+use crate::model::{Answer, Tally};
 use crate::parts::Parts;
 use crate::pass::Pass;
 use crate::unclaimed::Unclaimed;
@@ -49,14 +50,16 @@ impl Cell {
         requires { play.log ≡ [] }
         ensures { IfOk result (λ cell. cell ≡ record { net = play.net; setup = play.setup }) }
     {
-        let net = play.net().try_clone(alloc)?;
-        let setup = play.setup().try_clone()?;
-        let news = bells(alloc, setup.agents)?;
-        let unclaimed = Unclaimed::new(alloc, game, setup.quota, setup.agents)?;
-        let hall = Hall::alone(alloc, game, play)?;
+        let Beside {
+            net,
+            setup,
+            news,
+            unclaimed,
+            tallies,
+        } = Beside::new(alloc, game, &play)?;
         Ok(Cell {
             game,
-            hall: Mutex::new(hall),
+            hall: Mutex::new(Hall::alone(game, play, tallies)),
             unclaimed: Mutex::new(unclaimed),
             news,
             held,
@@ -160,6 +163,37 @@ impl Cell {
             net,
             setup,
         }
+    }
+}
+
+/// What a new cell takes memory for, beside its match.
+struct Beside {
+    net: Net,
+    setup: Setup,
+    news: Vec<Condvar>,
+    unclaimed: Unclaimed,
+    tallies: Vec<Tally>,
+}
+
+impl Beside {
+    /// What the cell of this match has beside it, where its log is empty.
+    fn new(alloc: Global, game: u32, play: &Match) -> Result<Beside, Memory>
+        ensures net { IfOk result (λ beside. beside.net ≡ play.now.net) }
+        ensures setup { IfOk result (λ beside. beside.setup ≡ play.now.setup) }
+        ensures tallies { IfOk result (λ beside. beside.tallies.items ≡ replicate play.now.setup.agents nothing) }
+    {
+        let agents = play.setup().agents;
+        let tallies = unheard(alloc, agents)?;
+        let news = bells(alloc, agents)?;
+        let setup = play.setup().try_clone()?;
+        let net = play.net().try_clone(alloc)?;
+        Ok(Beside {
+            unclaimed: Unclaimed::new(alloc, game, setup.quota, agents)?,
+            net,
+            setup,
+            news,
+            tallies,
+        })
     }
 }
 

@@ -1,6 +1,6 @@
-ghost use Rattle.std.specs.Prelude.{◌≡◌, [], true, IfOk, OnErr};
+ghost use Rattle.std.specs.Prelude.{◌≡◌, [], true, IfOk, OnErr, replicate};
 ghost use Rattle.bhs_lock.specs.Halls.{agrees, same_tally, is_below, empty_hall, IsAnswered};
-ghost use Rattle.bhs_lock.specs.Tallies.{IsLegalHistory};
+ghost use Rattle.bhs_lock.specs.Tallies.{IsLegalHistory, nothing};
 ghost use Rattle.bhs_lock.specs.Recording.{IsSubmitted};
 ghost use Rattle.bhs_lock.specs.Passes.{passes_of};
 ghost use Rattle.bhs_lock.specs.Cells.{IsNews};
@@ -16,7 +16,7 @@ use crate::model::{Answer, Tally};
 use crate::pass::Pass;
 use bhs_deal::{Drawn, Held, draw};
 use bhs_match::{Match, Sealed};
-use bhs_model::{Command, Event, Reply, Why};
+use bhs_model::{Command, Event, Reply, Setup, Why};
 use bhs_net::Memory;
 use std::alloc::Global;
 use std::marker::Model;
@@ -49,27 +49,23 @@ impl Hall {
         ensures hall { IfOk result (λ made. made.0 ≡ empty_hall game play) }
         ensures passes { IfOk result (λ made. made.1.items ≡ passes_of game play.setup.quota play.setup.agents) }
     {
-        let passes = empty_passes(alloc, game, play.setup().quota, play.setup().agents)?;
-        let hall = Hall::alone(alloc, game, play)?;
-        Ok((hall, passes))
+        let (tallies, passes) = unheard_and_passes(alloc, game, play.setup())?;
+        Ok((Hall::alone(game, play, tallies), passes))
     }
 
-    /// The hall of a match with an empty log.
-    pub(crate) fn alone(alloc: Global, game: u32, play: Match) -> Result<Hall, Memory>
-        requires { play.log ≡ [] }
-        ensures { IfOk result (λ hall. hall ≡ empty_hall game play) }
+    /// The hall of a match with an empty log. The tallies are those of agents that were not heard, so that no memory is
+    /// taken while the match is held.
+    pub(crate) fn alone(game: u32, play: Match, tallies: Vec<Tally>) -> Hall
+        requires log { play.log ≡ [] }
+        requires tallies { tallies.items ≡ replicate play.setup.agents nothing }
+        ensures { result ≡ empty_hall game play }
     {
-        let nothing = Tally {
-            heard: 0,
-            ended: false,
-        };
-        let tallies = Vec::from_elem(alloc, nothing, usize::from(play.setup().agents))?;
         let _legal = play.log();
-        Ok(Hall {
+        Hall {
             game,
             play,
             tallies,
-        })
+        }
     }
 
     /// The match. What stands in a hall is always a legal history.
@@ -172,6 +168,31 @@ impl Hall {
     {
         pass.hear_news(&self.play)
     }
+}
+
+/// What stands under the lock of agents that were not heard yet, and their passes.
+fn unheard_and_passes(
+    alloc: Global,
+    game: u32,
+    setup: &Setup,
+) -> Result<(Vec<Tally>, Vec<Pass>), Memory>
+    ensures tallies { IfOk result (λ made. made.0.items ≡ replicate setup.now.agents nothing) }
+    ensures passes { IfOk result (λ made. made.1.items ≡ passes_of game setup.now.quota setup.now.agents) }
+{
+    let tallies = unheard(alloc, setup.agents)?;
+    let passes = empty_passes(alloc, game, setup.quota, setup.agents)?;
+    Ok((tallies, passes))
+}
+
+/// What stands under the lock of agents that were not heard yet.
+pub(crate) fn unheard(alloc: Global, agents: u16) -> Result<Vec<Tally>, Memory>
+    ensures { IfOk result (λ tallies. tallies.items ≡ replicate agents nothing) }
+{
+    let nothing = Tally {
+        heard: 0,
+        ended: false,
+    };
+    Vec::from_elem(alloc, nothing, usize::from(agents))
 }
 
 /// One pass for each agent, in order.

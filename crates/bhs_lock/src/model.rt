@@ -15,14 +15,14 @@ pub struct Answer {
 }
 
 /// How many commands of an agent were heard, and whether it has ended.
-#[derive(Clone, Copy, Debug, PartialEq, Eq)]
+#[derive(Clone, Copy, Debug)]
 pub(crate) struct Tally {
     pub(crate) heard: usize,
     pub(crate) ended: bool,
 }
 
 /// What came of a command: its place, the mark that stands for its reply, and the reply.
-#[derive(Debug, Drop)]
+#[derive(Drop)]
 pub(crate) struct Step {
     pub(crate) place: Option<u32>,
     pub(crate) mark: Mark,
@@ -30,7 +30,7 @@ pub(crate) struct Step {
 }
 
 /// What is taken from memory before a command is told, so that nothing is taken after it.
-#[derive(Debug, Drop)]
+#[derive(Drop)]
 pub(crate) struct Spare {
     /// The text of the whiteboard that the agent sees, if the reply will speak of it, for the answer.
     pub(crate) text: Text,

@@ -7,7 +7,7 @@ use std::alloc::Global;
 use std::marker::Model;
 
 /// The passes of a match, by agent, without those that were claimed. A pass that is left was told nothing.
-#[derive(Debug, Drop)]
+#[derive(Drop)]
 pub(crate) struct Unclaimed {
     left: Vec<Option<Pass>>,
 }

@@ -1,9 +1,11 @@
+use Rattle.std.proofs.Common.{◌≡◌}
 use Rattle.bhs_host.proofs.HostLemmas.{Hosts}
 use Rattle.bhs_host.proofs.hosting.contest_of.Given as goal
 
-abbrev pub invariant-loop-team : goal.invariant-loop-team
-invariant-loop-team l =
-    (goal.iterator-loop-team).can_next l.team-iterator
-    × (goal.iterator-loop-team).is_finite l.team-iterator
-    × Hosts l.fn.lineup.seed l.fn.lineup.ready.items l.teams.items l.cells.items l.dealers.items
-    l.team-iterator.rest.items
+abbrev pub invariant-loop-one : goal.invariant-loop-one
+invariant-loop-one l =
+    (goal.iterator-loop-one).can_next l.one-iterator
+    × (goal.iterator-loop-one).is_finite l.one-iterator
+    × Hosts l.fn.lineup.seed l.fn.lineup.ready.items l.hosted.teams.items l.hosted.contest.cells.items
+    l.hosted.contest.dealers.items l.one-iterator.rest.items
+    × (l.hosted.contest.keys ≡ l.fn.lineup.keys)
