@@ -4,9 +4,9 @@
     tools/library_tests.py [--prove | --format]
 
 They are compiled together with all crates that they use, into a program that stops at an index out of bounds, an
-overflow, a failed unwrap or a bad access. Neither they nor the crates are proved for it, so this takes a minute or two.
-With --prove the tests are proved too, to stop nowhere and to call each function as its contract asks for: that takes an
-hour or more, and the gate leaves it out. With --format the files are formatted, and nothing is run.
+overflow, a failed unwrap or a bad access. Neither they nor the crates are proved for it, so this takes two or three
+minutes. With --prove the tests are proved too, to stop nowhere and to call each function as its contract asks for: that
+takes an hour or more, and the gate leaves it out. With --format the files are formatted, and nothing is run.
 
 The last line reads `N passed, M failed`.
 """
