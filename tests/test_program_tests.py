@@ -73,6 +73,10 @@ def module(path: pathlib.Path):
 gate = module(TOP / "tools" / "gate")
 
 
+def files_of(folder: pathlib.Path) -> List[str]:
+    return sorted(str(it.relative_to(folder)) for it in folder.rglob("*") if it.is_file())
+
+
 class Played(unittest.TestCase):
     def setUp(self) -> None:
         folder = tempfile.TemporaryDirectory()
@@ -167,12 +171,28 @@ class Gate(unittest.TestCase):
         self.assertEqual(gate.counted(1, (5, 0)), (5, 1))
         self.assertEqual(gate.counted(1, (5, 2)), (5, 2))
 
+    def test_a_copy_is_proved_and_what_was_built_comes_back(self) -> None:
+        tree, room = (pathlib.Path(self.enterContext(tempfile.TemporaryDirectory())) for _ in range(2))
+        for path in ("crates.txt", "HANDLES", "crates/low/src/lib.rt", "crates/low/must-fail/one.edit",
+                     "crates/low/out/rlib/old", "crates/low/out/kept"):
+            (tree / path).parent.mkdir(parents=True, exist_ok=True)
+            (tree / path).write_text("")
+        with contextlib.ExitStack() as patches:
+            for what, by in (("TOP", tree), ("CRATES", tree / "crates")):
+                patches.enter_context(unittest.mock.patch.object(gate, what, by))
+            crates = gate.copy_to(room)
+            self.assertEqual(files_of(room), ["HANDLES", "crates.txt", "crates/low/src/lib.rt"])
+            (crates / "low" / "out" / "rlib").mkdir(parents=True)
+            (crates / "low" / "out" / "rlib" / "new").write_text("")
+            gate.take_from(crates)
+        self.assertEqual(files_of(tree / "crates" / "low" / "out"), ["kept", "rlib/new"])
+
     def edits_after(self, *lines: str):
         """What is tried, and counted, of the edits of two crates after these lines of `rt ci`."""
         crates = pathlib.Path(self.enterContext(tempfile.TemporaryDirectory()))
         for name in ("low", "high"):
-            (crates / name / "edits").mkdir(parents=True)
-            (crates / name / "edits" / "one.edit").write_text("")
+            (crates / name / "must-fail").mkdir(parents=True)
+            (crates / name / "must-fail" / "one.edit").write_text("")
         tried = []
 
         def tries(words, **_):
@@ -180,13 +200,14 @@ class Gate(unittest.TestCase):
             return subprocess.CompletedProcess(words, 0, f"edit {words[-1]}/one: refused\n1 passed, 0 failed\n")
         libraries = {"low": [], "high": ["low"]}
         with contextlib.ExitStack() as patches, contextlib.redirect_stdout(io.StringIO()) as printed:
-            for what, by in (("CRATES", crates), ("libraries_of", lambda: libraries),
-                             ("library_of", lambda name: crates / name / "out" / "rlib" / f"{name}.rlib")):
+            for what, by in (("CRATES", crates), ("libraries_of", lambda: libraries)):
                 patches.enter_context(unittest.mock.patch.object(gate, what, by))
             patches.enter_context(unittest.mock.patch.object(gate.subprocess, "run", tries))
-            edits = gate.Edits(gate.Beside(), crates / "built")
+            background = gate.Background()
+            edits = gate.Edits(background, crates)
             for line in lines:
                 edits.hear(line)
+            background.has_all.set()
             counts = edits.ended()
         return sorted(tried), counts, printed.getvalue()
 

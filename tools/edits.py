@@ -3,7 +3,7 @@
 
     tools/edits.py [--all] [CRATE..]
 
-The gate tries crates/NAME/edits/*.edit. With --all those of crates/NAME/more-edits/ are tried too, which say the same
+The gate tries crates/NAME/must-fail/*.edit. With --all those of crates/NAME/more-edits/ are tried too, which say the same
 of more functions: run it for each crate that you change. An edit has lines `file: PATH`, and then pairs of lines
 `old: TEXT` and `new: TEXT`, where TEXT stands once in that file.
 
@@ -241,7 +241,7 @@ def main(words: List[str]) -> int:
     if strange:
         print(f"tools/edits.py: no crate {strange[0]} stands in crates.txt", file=sys.stderr)
         return 2
-    folders = ["edits", "more-edits"] if "--all" in words else ["edits"]
+    folders = ["must-fail", "more-edits"] if "--all" in words else ["must-fail"]
     edits = {name: edits_of(name, folders) for name in names or libraries}
     for name in libraries:
         is_needed = any(name in below(libraries, it) for it, found in edits.items() if found)

@@ -1,7 +1,7 @@
 //! Streams that fail, turns that run out, and the names of faults.
 
 use super::streams::{Narrow, Pieces};
-use bhs_commands::{Fault, built_in, rehearse, report};
+use bhs_orders::{Fault, built_in, rehearse, report};
 use bhs_program::{Machine, run};
 use std::alloc::Global;
 use std::net::{Net, TcpListener, TcpStream};

@@ -1,6 +1,6 @@
 //! Rehearsals, call by call: what a script cannot say.
 
-use bhs_commands::built_in;
+use bhs_orders::built_in;
 use bhs_rehearsal::{Out, Rehearsal, RehearsalFault};
 use std::alloc::Global;
 use std::test::Fail;

@@ -45,7 +45,7 @@ pub fn contest_of(alloc: Global, lineup: Lineup) -> Result<Hosted, Memory>
     Ok(hosted)
 }
 
-/// Room for so many matches.
+/// Empty vectors with room for the teams, the cells and the dealers of this number of matches.
 fn rooms(alloc: Global, games: usize) -> Result<(Vec<Text>, Vec<Cell>, Vec<Dealer>), Memory>
     ensures { IfOk result (λ rooms. (rooms.0.items ≡ []) × (rooms.1.items ≡ []) × (rooms.2.items ≡ [])) }
 {

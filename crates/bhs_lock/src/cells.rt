@@ -50,13 +50,13 @@ impl Cell {
         requires { play.log ≡ [] }
         ensures { IfOk result (λ cell. cell ≡ record { net = play.net; setup = play.setup }) }
     {
-        let Beside {
+        let Frame {
             net,
             setup,
             news,
             unclaimed,
             tallies,
-        } = Beside::new(alloc, game, &play)?;
+        } = Frame::new(alloc, game, &play)?;
         Ok(Cell {
             game,
             hall: Mutex::new(Hall::alone(game, play, tallies)),
@@ -166,8 +166,8 @@ impl Cell {
     }
 }
 
-/// What a new cell takes memory for, beside its match.
-struct Beside {
+/// What a new cell needs besides its match. All memory of a cell is taken here.
+struct Frame {
     net: Net,
     setup: Setup,
     news: Vec<Condvar>,
@@ -175,19 +175,19 @@ struct Beside {
     tallies: Vec<Tally>,
 }
 
-impl Beside {
-    /// What the cell of this match has beside it, where its log is empty.
-    fn new(alloc: Global, game: u32, play: &Match) -> Result<Beside, Memory>
-        ensures net { IfOk result (λ beside. beside.net ≡ play.now.net) }
-        ensures setup { IfOk result (λ beside. beside.setup ≡ play.now.setup) }
-        ensures tallies { IfOk result (λ beside. beside.tallies.items ≡ replicate play.now.setup.agents nothing) }
+impl Frame {
+    /// The frame for a match in which no agent was heard yet.
+    fn new(alloc: Global, game: u32, play: &Match) -> Result<Frame, Memory>
+        ensures net { IfOk result (λ frame. frame.net ≡ play.now.net) }
+        ensures setup { IfOk result (λ frame. frame.setup ≡ play.now.setup) }
+        ensures tallies { IfOk result (λ frame. frame.tallies.items ≡ replicate play.now.setup.agents nothing) }
     {
         let agents = play.setup().agents;
         let tallies = unheard(alloc, agents)?;
         let news = bells(alloc, agents)?;
         let setup = play.setup().try_clone()?;
         let net = play.net().try_clone(alloc)?;
-        Ok(Beside {
+        Ok(Frame {
             unclaimed: Unclaimed::new(alloc, game, setup.quota, agents)?,
             net,
             setup,

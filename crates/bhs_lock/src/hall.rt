@@ -53,8 +53,7 @@ impl Hall {
         Ok((Hall::alone(game, play, tallies), passes))
     }
 
-    /// The hall of a match with an empty log. The tallies are those of agents that were not heard, so that no memory is
-    /// taken while the match is held.
+    /// The hall of a match with an empty log, with the tallies of agents that were never heard. It takes no memory.
     pub(crate) fn alone(game: u32, play: Match, tallies: Vec<Tally>) -> Hall
         requires log { play.log ≡ [] }
         requires tallies { tallies.items ≡ replicate play.setup.agents nothing }

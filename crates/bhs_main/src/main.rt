@@ -5,7 +5,7 @@
 ghost use Rattle.std.specs.Prelude.{IfOk};
 ghost use Rattle.bhs_program.specs.Program.{IsStatus};
 
-use bhs_commands::{Fault, report};
+use bhs_orders::{Fault, report};
 use bhs_program::{Machine, run, words_of};
 use std::alloc::Global;
 use std::io;

@@ -4,19 +4,15 @@ use Rattle.std.proofs.Common.{OnErr, Result, Ok, Err}
 use Rattle.bhs_match.specs.Matches.{Play}
 use Rattle.bhs_lineup.specs.declared.lineups.Ready.{Ready}
 use Rattle.bhs_lineup.specs.declared.lineups.Lineup.{Lineup}
-use Rattle.bhs_lock.specs.Cells.{Given}
-use Rattle.bhs_server.specs.Settling.{AreSealed, IsUnsettled}
-use Rattle.bhs_server.specs.declared.settling.ServerFault.{ServerFault}
-use Rattle.bhs_server.specs.declared.settling.ServerFault.TheVariants as servers
+use Rattle.bhs_server.specs.Settling.{AreSealed}
 use Rattle.bhs_host.specs.Hosting.{given_of}
 use Rattle.bhs_stream.specs.Streams.{Taken}
-use Rattle.bhs_commands.specs.Showing.{Prints, all, part, held_back, Shows}
-use Rattle.bhs_commands.specs.Summary.{IsAssembled}
-use Rattle.bhs_commands.specs.declared.faults.Fault.{Fault}
-use Rattle.bhs_commands.specs.declared.faults.Fault.TheVariants.{Write, Memory}
-use Rattle.bhs_commands.specs.declared.statuses.TheConstants.{DONE, NO_MEMORY}
-use Rattle.bhs_commands.proofs.ReportLemmas.{not_done}
-use Rattle.bhs_program.specs.Contests.{IsUnserved, Serves, goes_unheard, refuses_contest, listening, of_server}
+use Rattle.bhs_orders.specs.Showing.{Prints, all, part, held_back, Shows}
+use Rattle.bhs_orders.specs.Summary.{IsAssembled}
+use Rattle.bhs_orders.specs.declared.faults.Fault.TheVariants.{Write, Memory}
+use Rattle.bhs_orders.specs.declared.statuses.TheConstants.{DONE, NO_MEMORY}
+use Rattle.bhs_orders.proofs.ReportLemmas.{not_done}
+use Rattle.bhs_program.specs.Contests.{Serves, goes_unheard, refuses_contest, listening}
 
 pub as_many : (matches : List Ready) (plays : List Play) → AreSealed (map given_of matches) plays
     → length (map (λ ready. ready.team) matches) ≡ length plays
@@ -24,13 +20,6 @@ as_many [] [] sealed = refl
 as_many [] (play ∷ plays) sealed = absurd sealed
 as_many (ready ∷ matches) [] sealed = absurd sealed
 as_many (ready ∷ matches) (play ∷ plays) (one, others) = omega (arith, as_many matches plays others)
-
-pub unserved : (matches : List Ready) (cells : List Given) → cells ≡ map given_of matches → (server : ServerFault)
-    → IsUnsettled cells server → (fault : Fault) → fault ≡ of_server server → IsUnserved matches fault
-unserved matches cells are (servers.Unsettled game) first fault is =
-    subst (IsUnserved matches) (sym is)
-    (subst (λ (given : List Given). IsUnsettled given (servers.Unsettled game)) are first)
-unserved matches cells are servers.Memory none fault is = subst (IsUnserved matches) (sym is) tt
 
 -- the line that says that the program listens
 module _ {O : Type 0} (takes : O → List ℕ → Taken → O → Type 0) (flushes : O → Bool → O → Type 0) (port : ℕ)

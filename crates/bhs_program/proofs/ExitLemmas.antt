@@ -1,5 +1,5 @@
 -- The exit statuses of what the program does.
-use Rattle.std.proofs.Common.{◌≡◌, inl, inr, ℕ, List, Option, None, Some, Bool, true, false}
+use Rattle.std.proofs.Common.{inl, inr, ℕ, List, Option, None, Some, Bool, true, false}
 use Rattle.std.specs.Prelude.{◌==◌, if◌then◌else◌}
 use Rattle.bhs_match.specs.Matches.{Play}
 use Rattle.bhs_lineup.specs.declared.lineups.Ready.{Ready}
@@ -7,14 +7,14 @@ use Rattle.bhs_stream.specs.Streams.{Chunk, Taken}
 use Rattle.bhs_rehearsal.specs.Stages.{Stage}
 use Rattle.bhs_command_line.specs.declared.orders.Order.{Order}
 use Rattle.bhs_command_line.specs.declared.orders.Order.TheVariants as order
-use Rattle.bhs_commands.specs.declared.faults.Fault.TheVariants.{Write, Memory, Twin}
-use Rattle.bhs_commands.specs.Filing.{Files, all_filed, unfiled_one}
-use Rattle.bhs_commands.specs.Rehearsal.{Rehearses, done, unfiled, ends}
-use Rattle.bhs_commands.specs.RehearsedTournaments.{RehearsesNamed, rehearses_on, refuses_file}
-use Rattle.bhs_commands.specs.Showing.{Prints, all, part, held_back, PrintsByLine, whole, cut_off, kept_back, Reports}
-use Rattle.bhs_commands.specs.Showing.{prints, stops}
-use Rattle.bhs_commands.specs.declared.statuses.TheConstants.{DONE}
-use Rattle.bhs_program.specs.Contests.{Ends, Hosts, settles, fails}
+use Rattle.bhs_orders.specs.declared.faults.Fault.TheVariants.{Write, Memory, Twin}
+use Rattle.bhs_orders.specs.Filing.{Files, all_filed, unfiled_one}
+use Rattle.bhs_orders.specs.Rehearsal.{Rehearses, done, unfiled, ends}
+use Rattle.bhs_orders.specs.RehearsedTournaments.{RehearsesNamed, rehearses_on, refuses_file}
+use Rattle.bhs_orders.specs.Showing.{Prints, all, part, held_back, PrintsByLine, whole, cut_off, kept_back, Reports}
+use Rattle.bhs_orders.specs.Showing.{prints, stops}
+use Rattle.bhs_orders.specs.declared.statuses.TheConstants.{DONE}
+use Rattle.bhs_program.specs.Contests.{Hosts, settles, fails}
 use Rattle.bhs_program.specs.Contests.{Serves, serves_on, goes_unheard, refuses_contest}
 use Rattle.bhs_program.specs.Program.{Does, IsStatus, Obeys, does, lacks_memory}
 use Rattle.bhs_program.specs.Program.{Runs, obeys, helps, refuses_words, lacks_room}

@@ -8,12 +8,12 @@ use Rattle.bhs_server.specs.Settling.{AreSealed, IsFirstUnsettled}
 use Rattle.bhs_server.specs.declared.settling.ServerFault.{ServerFault}
 use Rattle.bhs_server.specs.declared.settling.ServerFault.TheVariants as servers
 use Rattle.bhs_host.specs.Hosting.{IsStandings, given_of}
-use Rattle.bhs_commands.specs.Fault.{status}
-use Rattle.bhs_commands.specs.Filing.{Files, first_status}
-use Rattle.bhs_commands.specs.Showing.{Prints, Reports, Shows}
-use Rattle.bhs_commands.specs.Summary.{IsAssembled}
-use Rattle.bhs_commands.specs.declared.faults.Fault.{Fault}
-use Rattle.bhs_commands.specs.declared.faults.Fault.TheVariants.{Write, Memory, Unsettled}
+use Rattle.bhs_orders.specs.Fault.{status}
+use Rattle.bhs_orders.specs.Filing.{Files, first_status}
+use Rattle.bhs_orders.specs.Showing.{Prints, Reports, Shows}
+use Rattle.bhs_orders.specs.Summary.{IsAssembled}
+use Rattle.bhs_orders.specs.declared.faults.Fault.{Fault}
+use Rattle.bhs_orders.specs.declared.faults.Fault.TheVariants.{Write, Memory, Unsettled}
 
 -- the line that says on which port agents can connect
 abbrev pub listening : (port : ℕ) → List ℕ

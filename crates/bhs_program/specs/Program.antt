@@ -5,12 +5,12 @@ use Rattle.bhs_stream.specs.Streams.{Chunk, Taken}
 use Rattle.bhs_command_line.specs.CommandLine.{AreRefused, faults, is_asked, order_in}
 use Rattle.bhs_command_line.specs.declared.orders.Order.{Order}
 use Rattle.bhs_command_line.specs.declared.orders.Order.TheVariants as order
-use Rattle.bhs_commands.specs.Fault.{IsOfFault}
-use Rattle.bhs_commands.specs.RehearsedTournaments.{RehearsesEither, Rests}
-use Rattle.bhs_commands.specs.Reports.{IsJudgement, IsTable, IsPast, IsTwinReplay, HasNoTwin}
-use Rattle.bhs_commands.specs.Showing.{Prints, PrintsByLine, Reports}
-use Rattle.bhs_commands.specs.Summary.{IsSummary}
-use Rattle.bhs_commands.specs.declared.statuses.TheConstants.{DONE, NO_MEMORY, REFUSED_WORDS}
+use Rattle.bhs_orders.specs.Fault.{IsOfFault}
+use Rattle.bhs_orders.specs.RehearsedTournaments.{RehearsesEither, Rests}
+use Rattle.bhs_orders.specs.Reports.{IsJudgement, IsTable, IsPast, IsTwinReplay, HasNoTwin}
+use Rattle.bhs_orders.specs.Showing.{Prints, PrintsByLine, Reports}
+use Rattle.bhs_orders.specs.Summary.{IsSummary}
+use Rattle.bhs_orders.specs.declared.statuses.TheConstants.{DONE, NO_MEMORY, REFUSED_WORDS}
 use Rattle.bhs_program.specs.Contests.{Serves}
 
 -- an exit status of the program: all was done, the words are refused, or a fault came

@@ -8,12 +8,12 @@ ghost use Rattle.bhs_host.specs.Hosting.{given_of};
 ghost use Rattle.bhs_program.specs.Contests.{Ends, Hosts, IsUnserved, of_server};
 
 use bhs_command_line::Hosting;
-use bhs_commands::{Fault, first_status, report, show_made, write_sealed};
 use bhs_host::{Hosted, Steady, contest_of, standings};
 use bhs_lineup::Lineup;
 use bhs_lock::Open;
 use bhs_match::Sealed;
 use bhs_model::Text;
+use bhs_orders::{Fault, first_status, report, show_made, write_sealed};
 use bhs_server::{ServerFault, run_server};
 use bhs_stream::Output;
 use std::alloc::Global;

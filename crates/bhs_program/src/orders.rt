@@ -5,7 +5,7 @@ ghost use Rattle.bhs_program.specs.Program.{IsStatus, Obeys, Runs};
 use crate::machines::Machine;
 use crate::serving::serve_named;
 use bhs_command_line::{Order, Parsed, order_of};
-use bhs_commands::{
+use bhs_orders::{
     Fault, REFUSED_WORDS, check, print_past, print_table, print_twin, print_verdict,
     rehearse_named, report, show_text,
 };

@@ -1,9 +1,9 @@
 ghost use Rattle.std.specs.Prelude.{◌≡◌, ◌⊎◌, IfErr};
-ghost use Rattle.bhs_commands.specs.declared.statuses.TheConstants.{NO_MEMORY, REFUSED_WORDS};
+ghost use Rattle.bhs_orders.specs.declared.statuses.TheConstants.{NO_MEMORY, REFUSED_WORDS};
 ghost use Rattle.bhs_program.specs.Program.{IsStatus};
 
-use bhs_commands::{Fault, REFUSED_WORDS, report};
 use bhs_net::Memory;
+use bhs_orders::{Fault, REFUSED_WORDS, report};
 use std::alloc::Global;
 use std::env::FillError;
 use std::io::Write;

@@ -47,8 +47,8 @@ client_settles stage conn connection true false settled as_before below =
 -- ---- a draw
 
 -- whom nobody plays
-pub nobody_plays : (connections : List Connection) (seat : ℕ × ℕ) → position (has_seat seat) connections ≡ None → (conn : ℕ)
-    → (get_or connections conn unfed).seat ≡ Some seat → ⊥
+pub nobody_plays : (connections : List Connection) (seat : ℕ × ℕ) → position (has_seat seat) connections ≡ None
+    → (conn : ℕ) → (get_or connections conn unfed).seat ≡ Some seat → ⊥
 nobody_plays connections seat none conn theirs =
     let one = get_or connections conn unfed in
     let has : has_seat seat one ≡ true = has_own seat one.seat one.unfinished one.queue one.ended theirs in

@@ -1,6 +1,6 @@
 //! Taking the items of a connection that plays an agent.
 
-ghost use Rattle.std.specs.Prelude.{◌≡◌, ◌∷◌, ◌++◌, false, List, map, IfOk, MatchOption};
+ghost use Rattle.std.specs.Prelude.{◌≡◌, ◌∷◌, false, List, map, IfOk, MatchOption};
 ghost use Rattle.bhs_model.specs.declared.events.Event.TheVariants.{Tell};
 ghost use Rattle.bhs_model.specs.Marks.{read_if};
 ghost use Rattle.bhs_rehearsal.specs.Games.{played, reply_to, is_away};

@@ -2,12 +2,12 @@
 //! over is made anew for the second one.
 
 use super::{triangle, write};
-use bhs_commands::built_in;
 use bhs_lineup::Lineup;
 use bhs_lock::{Cell, Open, Pass};
 use bhs_match::Sealed;
 use bhs_model::{Command, Reply, Text};
 use bhs_net::Memory;
+use bhs_orders::built_in;
 use bhs_replay::{read_replay, write_replay};
 use bhs_view::{RestrictFault, TwinFault, cut_of, restrict, twin_of};
 use std::alloc::Global;

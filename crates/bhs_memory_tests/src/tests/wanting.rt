@@ -1,6 +1,6 @@
 //! A rehearsal that wanted memory is at an end.
 
-use bhs_commands::built_in;
+use bhs_orders::built_in;
 use bhs_rehearsal::{Rehearsal, RehearsalFault};
 use std::process::Abort;
 use std::test::Fail;

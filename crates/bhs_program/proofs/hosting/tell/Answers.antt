@@ -1,6 +1,6 @@
 use Rattle.std.proofs.Common.{string_bytes}
 use Rattle.bhs_host.specs.Hosting.{IsStandings}
-use Rattle.bhs_commands.proofs.ReportLemmas.{reported}
+use Rattle.bhs_orders.proofs.ReportLemmas.{reported}
 use Rattle.bhs_program.proofs.hosting.tell.Goals as goal
 
 pub returns : goal.returns
@@ -13,5 +13,5 @@ returns g c = record {
       _ _ _ c.standings.result (rw (c.deref-2.ensures.value, c.deref-3.ensures.value) at c.standings.ensures)
       c.show_made-printed.ensures.shown
       c.show_made-printed.ensures.lacks;
-  coded = c.first_status.ensures.first;
+  coded = c.first_status.ensures;
 }

@@ -1,0 +1,25 @@
+-- Nothing has happened in the matches of a tournament that was put together.
+use Rattle.std.proofs.Common.{◌≡◌, refl, sym, subst, List, [], ◌∷◌, map}
+use Rattle.bhs_net.specs.Network.{Network}
+use Rattle.bhs_lineup.specs.Fresh.{AreFresh}
+use Rattle.bhs_lineup.specs.declared.lineups.Ready.{Ready}
+use Rattle.bhs_lineup.specs.declared.lineups.Lineup.{Lineup}
+use Rattle.bhs_lineup.specs.Lineups.{Contest, contest}
+use Rattle.bhs_files.specs.Tournaments.{Plan, Planned}
+use Rattle.bhs_files.specs.Lineups.{all_ready, network_for, ready_of}
+use Rattle.bhs_orders.specs.BuiltIn.{built_in}
+
+each_fresh : (network : Planned → Network) (matches : List Planned)
+    → AreFresh (map (λ planned. ready_of (network planned) planned) matches)
+each_fresh network [] = tt
+each_fresh network (planned ∷ others) = (refl, each_fresh network others)
+
+-- those of a plan on its networks
+pub fresh : (plan : Plan) (networks : List Network) (matches : List Ready) → matches ≡ all_ready plan networks
+    → AreFresh matches
+fresh plan networks matches are =
+    subst AreFresh (sym are) (each_fresh (network_for plan.matches networks) plan.matches)
+
+-- that of the built-in tournament
+pub fresh_built_in : (lineup : Lineup) → contest lineup ≡ built_in → AreFresh lineup.ready.items
+fresh_built_in lineup is = subst (λ (made : Contest). AreFresh made.matches) (sym is) (refl, tt)

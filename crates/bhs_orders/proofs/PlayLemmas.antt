@@ -1,0 +1,74 @@
+-- A script whose answers go out piece by piece, and what a rehearsal does, of what its playing does.
+use Rattle.std.proofs.Common.{◌≡◌, inr, OnOk, IfOk, IfErr, IsErrAnd, ℕ, List, ◌∷◌, ◌++◌, refl, sym, subst, Result, Ok}
+use Rattle.std.proofs.Common.{Err}
+use Rattle.bhs_stream.specs.Streams.{Chunk, Taken}
+use Rattle.bhs_stream.specs.Sending.{PutsAll}
+use Rattle.bhs_stream.proofs.PutsLemmas.{IsSentUpTo, sent_part, sent_some}
+use Rattle.bhs_rehearsal.specs.Games.{Game}
+use Rattle.bhs_rehearsal.specs.Stages.{Stage, Instruction, step, stands_after}
+use Rattle.bhs_script.specs.Transcript.{all_printed, transcript}
+use Rattle.bhs_orders.specs.Playing.{StopsPlaying}
+use Rattle.bhs_orders.specs.Rehearsal.{Means, Plays, Stops}
+use Rattle.bhs_orders.specs.declared.faults.Fault.{Fault}
+use Rattle.bhs_orders.specs.declared.faults.Fault.TheVariants.{Read, Text, Line, File, Replay, Twin, Write, Memory}
+use Rattle.bhs_orders.specs.declared.faults.Fault.TheVariants.{Turns, Listen, Unsettled}
+
+-- a fault at the next bytes of a text
+pub stopped_at : {O : Type 0} (takes : O → List ℕ → Taken → O → Type 0) (a b c : O)
+    (text bytes left : List ℕ) (fault : Fault)
+    → IsSentUpTo takes a b text (bytes ++ left) → StopsPlaying takes bytes b c fault → StopsPlaying takes text a c fault
+stopped_at takes a b c text bytes left Write so_far part = sent_part takes a b c text bytes left so_far part
+stopped_at takes a b c text bytes left Memory so_far (count, some) =
+    sent_some takes a b c text bytes left count so_far some
+stopped_at takes a b c text bytes left Read so_far none = absurd none
+stopped_at takes a b c text bytes left Text so_far none = absurd none
+stopped_at takes a b c text bytes left (Line line) so_far none = absurd none
+stopped_at takes a b c text bytes left Turns so_far none = absurd none
+stopped_at takes a b c text bytes left (File fault) so_far none = absurd none
+stopped_at takes a b c text bytes left (Replay fault) so_far none = absurd none
+stopped_at takes a b c text bytes left (Twin fault) so_far none = absurd none
+stopped_at takes a b c text bytes left Listen so_far none = absurd none
+stopped_at takes a b c text bytes left (Unsettled game) so_far none = absurd none
+
+-- the fault that comes through a `?` is this one
+pub fault_is : {T : Type 0} (r : Result T Fault) (fault : Fault) (P : Fault → Type 0) → IsErrAnd r (λ e. e ≡ fault)
+    → P fault → IfErr r P
+fault_is (Ok x) fault P is holds = tt
+fault_is (Err e) fault P is holds = subst P (sym is) holds
+
+-- what the first instruction of a script prints, and what the others print after it
+pub transcript-turn : (stage : Stage) (script : List Instruction) (one : Instruction) (others : List Instruction)
+    → script ≡ one ∷ others
+    → transcript stage script ≡ all_printed (step stage one).outs ++ transcript (step stage one).stage others
+transcript-turn stage script one others turn = rw turn refl
+
+module _ {I O : Type 0} (gives : I → Chunk → I → Type 0) (takes : O → List ℕ → Taken → O → Type 0) (turns : ℕ)
+    (stage : Stage) (input input' : I) (output output' : O) (instructions : List Instruction)
+    (means : Means gives takes turns stage input input' instructions) where
+  pub plays_all : {T : Type 0} (games_in : T → List Game) (r : Result T Fault)
+      → OnOk r (PutsAll takes output (transcript stage instructions) output')
+      → IfOk r (λ x. games_in x ≡ (stands_after stage instructions).games)
+      → IfOk r (λ x. Plays gives takes turns stage input input' output output' (games_in x))
+  plays_all games_in (Ok x) written left = record
+      { instructions = instructions; means = means; written = written; left = left }
+  plays_all games_in (Err fault) written left = tt
+
+  stops_at : (fault : Fault) → StopsPlaying takes (transcript stage instructions) output output' fault
+      → Stops gives takes turns stage input input' output output' fault
+  stops_at Write stopped = record { instructions = instructions; means = means; stopped = stopped }
+  stops_at Memory stopped = inr (inr (record { instructions = instructions; means = means; stopped = stopped }))
+  stops_at Read stopped = absurd stopped
+  stops_at Text stopped = absurd stopped
+  stops_at (Line line) stopped = absurd stopped
+  stops_at Turns stopped = absurd stopped
+  stops_at (File fault) stopped = absurd stopped
+  stops_at (Replay fault) stopped = absurd stopped
+  stops_at (Twin fault) stopped = absurd stopped
+  stops_at Listen stopped = absurd stopped
+  stops_at (Unsettled game) stopped = absurd stopped
+
+  pub stops_all : {T : Type 0} (r : Result T Fault)
+      → IfErr r (StopsPlaying takes (transcript stage instructions) output output')
+      → IfErr r (Stops gives takes turns stage input input' output output')
+  stops_all (Ok x) stopped = tt
+  stops_all (Err fault) stopped = stops_at fault stopped

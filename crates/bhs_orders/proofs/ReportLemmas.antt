@@ -1,0 +1,124 @@
+-- Reports that are made, and that are printed line by line.
+use Rattle.std.proofs.Common.{◌≡◌, ◌⊎◌, inl, inr, refl, ℕ, List, [], ◌∷◌, ◌++◌, ◌+◌, ◌<◌, Bool, true, false, true≢false}
+use Rattle.std.proofs.Common.{sym, subst, ◌∙◌, is_ok, length, drop, take, get_or, OnOk, OnErr, IfOk, Result, Ok}
+use Rattle.std.proofs.Common.{Err, Some, ap, arith}
+use Rattle.std.specs.Prelude.{if◌then◌else◌}
+use Rattle.std.specs.Result.{is_err}
+use Rattle.std.proofs.lemmas.List.{drop_more, take_more}
+use Rattle.bhs_stream.specs.Streams.{Taken}
+use Rattle.bhs_stream.specs.Sending.{PutsAll}
+use Rattle.bhs_match.specs.Matches.{Play}
+use Rattle.bhs_replay.specs.Writing.{Breaks}
+use Rattle.bhs_replay.specs.declared.faults.ReplayFault.TheVariants as replays
+use Rattle.bhs_replay.specs.declared.faults.WritingFault.{WritingFault}
+use Rattle.bhs_replay.specs.declared.faults.WritingFault.TheVariants as writing
+use Rattle.bhs_view.specs.Twins.{twin_fault}
+use Rattle.bhs_view.specs.declared.twins.TwinFault.{TwinFault}
+use Rattle.bhs_view.specs.declared.twins.TwinFault.TheVariants as twins
+use Rattle.bhs_orders.specs.declared.faults.Fault.{Fault}
+use Rattle.bhs_orders.specs.declared.faults.Fault.TheVariants.{Read, Text, Turns, Line, File, Replay, Twin, Write}
+use Rattle.bhs_orders.specs.declared.faults.Fault.TheVariants.{Memory, Listen, Unsettled}
+use Rattle.bhs_orders.specs.declared.statuses.TheConstants.{DONE, NO_MEMORY}
+use Rattle.bhs_orders.specs.Fault.{of_twin, of_writing, status}
+use Rattle.bhs_orders.specs.Playing.{StopsPlaying}
+use Rattle.bhs_standings.specs.declared.rows.Row.{Row}
+use Rattle.bhs_command_line.specs.declared.orders.Entry.{Entry}
+use Rattle.bhs_orders.specs.Reports.{AreRows, one_more, HasNoTwin, IsReplayed, IsRow, line_at, lines_at}
+use Rattle.bhs_orders.specs.Showing.{Prints, Reports, prints, stops}
+
+-- a report that was printed if there was memory to make it
+pub reported : {O S E : Type 0} (takes : O → List ℕ → Taken → O → Type 0) (flushes : O → Bool → O → Type 0)
+    (IsReport : List ℕ → Type 0) (bytes : S → List ℕ)
+    (output output' : O) (code : ℕ) (made : Result S E) → IfOk made (λ text. IsReport (bytes text))
+    → IfOk made (λ text. Prints takes flushes (bytes text) output output' code)
+    → OnErr made ((code ≡ NO_MEMORY) × (output' ≡ output))
+    → Reports (Prints takes flushes) IsReport output output' code
+reported takes flushes IsReport bytes output output' code (Ok text) is printed lacks = prints (bytes text) is printed
+reported takes flushes IsReport bytes output output' code (Err e) is printed lacks = stops Memory lacks.0 lacks.1
+
+-- a file that took the whole text
+pub filed : {O T E : Type 0} (takes : O → List ℕ → Taken → O → Type 0) (old new : O) (text : List ℕ) (r : Result T E)
+    → OnOk r (PutsAll takes old text new)
+    → OnOk r ((x : O) × (y : O) × PutsAll takes x text y)
+filed takes old new text (Ok x) puts = (old, new, puts)
+filed takes old new text (Err e) puts = tt
+
+-- no fault has the status of what was done
+pub not_done : (fault : Fault) → status fault ≡ DONE → ⊥
+not_done Read e = omega arith
+not_done Text e = omega arith
+not_done Turns e = omega arith
+not_done (Line line) e = omega arith
+not_done (File fault) e = omega arith
+not_done (Replay (replays.Event line)) e = omega arith
+not_done (Replay (replays.Differs line)) e = omega arith
+not_done (Replay replays.Head) e = omega arith
+not_done (Replay (replays.Line line)) e = omega arith
+not_done (Replay replays.End) e = omega arith
+not_done (Replay replays.Read) e = omega arith
+not_done (Replay replays.Memory) e = omega arith
+not_done (Replay replays.Turns) e = omega arith
+not_done (Twin fault) e = omega arith
+not_done Listen e = omega arith
+not_done (Unsettled game) e = omega arith
+not_done Write e = omega arith
+not_done Memory e = omega arith
+
+-- why there is no twin
+module _ {O : Type 0} (Printing : List ℕ → O → O → ℕ → Type 0) (IsReport : List ℕ → Type 0) (play : Play) (node : ℕ)
+    (replayed : IsReplayed play)
+    (output output' : O) (code : ℕ) (kept : output' ≡ output) where
+  told_none : (fault : TwinFault) → (twin_fault play node ≡ Some fault) → code ≡ status (Twin fault)
+      → Reports Printing IsReport output output' code ⊎ HasNoTwin node output output' code
+  told_none fault told is = inr (record {
+    play = play;
+    fault = fault;
+    replayed = replayed;
+    told = told;
+    coded = is;
+    unwritten = kept;
+  })
+
+  pub untwinned : (fault : TwinFault) → (fault ≡ twins.Memory) ⊎ (twin_fault play node ≡ Some fault)
+      → code ≡ status (of_twin fault)
+      → Reports Printing IsReport output output' code ⊎ HasNoTwin node output output' code
+  untwinned twins.Memory which is = inl (stops Memory is kept)
+  untwinned twins.Node (inl e) is = cc
+  untwinned twins.Node (inr told) is = told_none twins.Node told is
+  untwinned twins.Home (inl e) is = cc
+  untwinned twins.Home (inr told) is = told_none twins.Home told is
+  untwinned twins.Same (inl e) is = cc
+  untwinned twins.Same (inr told) is = told_none twins.Same told is
+  untwinned (twins.Reached place) (inl e) is = cc
+  untwinned (twins.Reached place) (inr told) is = told_none (twins.Reached place) told is
+
+-- the fault of a replay that was not written whole
+pub broken : {O : Type 0} (takes : O → List ℕ → Taken → O → Type 0) (text : List ℕ) (output output' : O)
+    (fault : WritingFault)
+    → Breaks takes output text fault output' → StopsPlaying takes text output output' (of_writing fault)
+broken takes text output output' writing.Write breaks = breaks
+broken takes text output output' writing.Memory breaks = breaks
+
+-- the line of the next place, and those of the others
+pub next_line : (play : Play) (places : List ℕ) (index d : ℕ) → index < length places
+    → lines_at play (drop index places) ≡ line_at play (get_or places index d)
+    ++ lines_at play (drop (index + 1) places)
+next_line play places index d within = ap (lines_at play) (drop_more places index d within)
+
+-- one row more
+pushed : {T E : Type 0} (r : Result T E) → is_err r ≡ false → is_ok r ≡ true
+pushed (Ok x) e = refl
+pushed (Err x) e = absurd (true≢false e)
+
+pub row_more : {T E : Type 0} (entries : List Entry) (place : ℕ) (entry : Entry) (rows new : List Row) (row : Row)
+    (r : Result T E) → is_err r ≡ false
+    → new ≡ (if is_ok r then rows ++ row ∷ [] else rows) → place < length entries → entry ≡ get_or entries place entry
+    → AreRows (take place entries) rows → IsRow entry row → AreRows (take (place + 1) entries) new
+row_more entries place entry rows new row r fine grown within at all one =
+    let all_grown : new ≡ rows ++ row ∷ [] = grown ∙ ap (λ (b : Bool). if b then rows ++ row ∷ [] else rows)
+    (pushed r fine) in
+    let front : take (place + 1) entries ≡ take place entries ++ entry ∷ [] =
+    take_more entries place entry within ∙ ap (λ (e : Entry). take place entries ++ e ∷ []) (sym at) in
+    subst (λ (es : List Entry). AreRows es new) (sym front)
+    (subst (λ (rs : List Row). AreRows (take place entries ++ entry ∷ []) rs) (sym all_grown)
+    (one_more (take place entries) rows entry row all one))

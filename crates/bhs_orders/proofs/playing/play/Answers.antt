@@ -1,0 +1,39 @@
+use Rattle.std.proofs.Common.{◌≡◌, rules, refl, ap, map, List}
+use Rattle.std.specs.Vec.Iter.{into_iter_items}
+use Rattle.bhs_script.specs.declared.instructions.Instruction.{Instruction}
+use Rattle.bhs_orders.specs.declared.faults.Fault.TheVariants.{Memory}
+use Rattle.bhs_script.specs.Instructions.{seen}
+use Rattle.bhs_stream.proofs.PutsLemmas.{sent_none, sent_more, sent_so_far}
+use Rattle.bhs_orders.proofs.PlayLemmas.{stopped_at, fault_is, transcript-turn}
+use Rattle.bhs_orders.proofs.playing.play.Goals as goal
+
+pub returns-in_err-outs-clause-stopped : goal.returns-in_err-outs-clause-stopped
+returns-in_err-outs-clause-stopped g c =
+    fault_is c.from_residual.result Memory _ c.from_residual.ensures.1
+    (sent_so_far g.W.Output.takes _ _ _ _ c.loop-instruction.invariant.1)
+
+pub returns-in_err-print-clause-stopped : goal.returns-in_err-print-clause-stopped
+returns-in_err-print-clause-stopped g c =
+    let turn = ap (λ (left : List Instruction). map seen left) c.in-Some.ensures.steps.0 in
+    let here = rw (transcript-turn c.loop-instruction.rehearsal.stage _ (seen c.in-Some.instruction)
+    (map seen (into_iter_items c.next.new.self)) turn) at c.loop-instruction.invariant.1 in
+    let stopped = rw (c.deref.ensures.value, c.in_ok-outs.ensures.outs) at c.in_err-print.ensures.err in
+    fault_is c.from_residual-in_err-print.result c.in_err-print.field-0.0 _ c.from_residual-in_err-print.ensures.1
+    (stopped_at g.W.Output.takes _ _ _ _ _ _ _ here stopped)
+
+pub loop-instruction-preserved : goal.loop-instruction-preserved
+loop-instruction-preserved g c =
+    let turn = ap (λ (left : List Instruction). map seen left) c.in-Some.ensures.steps.0 in
+    let here = rw (transcript-turn c.loop-instruction.rehearsal.stage _ (seen c.in-Some.instruction)
+    (map seen (into_iter_items c.next.new.self)) turn) at c.loop-instruction.invariant.1 in
+    let printed = rw (c.deref.ensures.value, c.in_ok-outs.ensures.outs) at c.in_ok-print.ensures.ok in
+    let stands = rw turn at c.loop-instruction.invariant.0 in (
+      rw c.in_ok-outs.ensures.stage stands,
+      rw c.in_ok-outs.ensures.stage
+          (sent_more g.W.Output.takes _ _ _ _ _ _ here printed),
+    )
+
+pub loop-instruction-init : goal.loop-instruction-init
+loop-instruction-init g c =
+    let all : into_iter_items c.into_iter-instruction-iterator.result ≡ c.args.script.items = search rules in
+    rw all (refl, sent_none g.W.Output.takes _ _)

@@ -1,0 +1,83 @@
+-- Why an order was not done.
+use Rattle.std.specs.Prelude.{◌≡◌, ℕ}
+use Rattle.std.specs.declared.io.ErrorKind.{ErrorKind}
+use Rattle.std.specs.declared.io.ErrorKind.TheVariants.{OutOfMemory}
+use Rattle.bhs_stream.specs.declared.reading.ReadFault.{ReadFault}
+use Rattle.bhs_stream.specs.declared.reading.ReadFault.TheVariants as reads
+use Rattle.bhs_files.specs.declared.faults.FileFault.{FileFault}
+use Rattle.bhs_files.specs.declared.faults.FileFault.TheVariants as files
+use Rattle.bhs_script.specs.declared.faults.ScriptFault.{ScriptFault}
+use Rattle.bhs_script.specs.declared.faults.ScriptFault.TheVariants as scripts
+use Rattle.bhs_replay.specs.declared.faults.ReplayFault.{ReplayFault}
+use Rattle.bhs_replay.specs.declared.faults.ReplayFault.TheVariants as replays
+use Rattle.bhs_replay.specs.declared.faults.WritingFault.{WritingFault}
+use Rattle.bhs_replay.specs.declared.faults.WritingFault.TheVariants as writing
+use Rattle.bhs_view.specs.declared.twins.TwinFault.{TwinFault}
+use Rattle.bhs_view.specs.declared.twins.TwinFault.TheVariants as twins
+use Rattle.bhs_orders.specs.declared.faults.Fault.{Fault}
+use Rattle.bhs_orders.specs.declared.faults.Fault.TheVariants.{Read, Text, Turns, Line, File, Replay, Twin, Write}
+use Rattle.bhs_orders.specs.declared.faults.Fault.TheVariants.{Memory, Listen, Unsettled}
+use Rattle.bhs_orders.specs.declared.statuses.TheConstants as statuses
+
+-- an error of opening or reading
+abbrev pub of_kind : ErrorKind → Fault
+of_kind OutOfMemory = Memory
+of_kind kind = Read
+
+-- a fault of reading
+abbrev pub of_read : ReadFault → Fault
+of_read reads.Read = Read
+of_read reads.Text = Text
+of_read reads.Memory = Memory
+of_read reads.Turns = Turns
+
+-- a fault of a file
+abbrev pub of_file : FileFault → Fault
+of_file files.Memory = Memory
+of_file fault = File fault
+
+-- a fault of a script
+abbrev pub of_script : ScriptFault → Fault
+of_script (scripts.Line line) = Line line
+of_script scripts.Memory = Memory
+
+-- a fault of a replay
+abbrev pub of_replay : ReplayFault → Fault
+of_replay replays.Read = Read
+of_replay replays.Memory = Memory
+of_replay replays.Turns = Turns
+of_replay fault = Replay fault
+
+-- why a replay was not written whole
+abbrev pub of_writing : WritingFault → Fault
+of_writing writing.Write = Write
+of_writing writing.Memory = Memory
+
+-- why there is no twin
+abbrev pub of_twin : TwinFault → Fault
+of_twin twins.Memory = Memory
+of_twin fault = Twin fault
+
+-- the exit status of a text that is no replay: it is not spelled as one, or its events are those of no match
+abbrev pub replay_status : ReplayFault → ℕ
+replay_status (replays.Event line) = statuses.REFUSED_MATCH
+replay_status (replays.Differs line) = statuses.REFUSED_MATCH
+replay_status fault = statuses.REFUSED_TEXT
+
+-- the exit status of a fault
+abbrev pub status : Fault → ℕ
+status Read = statuses.FAILED_STREAM
+status Text = statuses.REFUSED_TEXT
+status Turns = statuses.FAILED_STREAM
+status (Line line) = statuses.REFUSED_TEXT
+status (File fault) = statuses.REFUSED_TEXT
+status (Replay fault) = replay_status fault
+status (Twin fault) = statuses.REFUSED_MATCH
+status Listen = statuses.FAILED_STREAM
+status (Unsettled game) = statuses.REFUSED_MATCH
+status Write = statuses.FAILED_STREAM
+status Memory = statuses.NO_MEMORY
+
+-- the exit status of some fault
+abbrev pub IsOfFault : ℕ → Type 0
+IsOfFault code = (fault : Fault) × (code ≡ status fault)

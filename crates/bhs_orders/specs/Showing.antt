@@ -1,0 +1,46 @@
+-- Texts that are written to an output and passed on.
+use Rattle.std.specs.Prelude.{◌≡◌, ℕ, Bool, true, false, List}
+use Rattle.bhs_stream.specs.Streams.{Taken}
+use Rattle.bhs_stream.specs.Sending.{PutsAll, PutsPart}
+use Rattle.bhs_orders.specs.declared.faults.Fault.{Fault}
+use Rattle.bhs_orders.specs.declared.faults.Fault.TheVariants.{Write}
+use Rattle.bhs_orders.specs.declared.statuses.TheConstants.{DONE}
+use Rattle.bhs_orders.specs.Fault.{status}
+use Rattle.bhs_orders.specs.Playing.{StopsPlaying}
+
+-- some file took the whole of a text
+abbrev pub Took : {P : Type 0} → (P → List ℕ → Taken → P → Type 0) → (text : List ℕ) → Type 0
+Took {P} files text = (old new : P) × PutsAll files old text new
+
+module _ {O : Type 0} (takes : O → List ℕ → Taken → O → Type 0) (flushes : O → Bool → O → Type 0) where
+  -- all of a text was written, and whether what was held back was passed on
+  pub record Shows (text : List ℕ) (is_out : Bool) (output output' : O) : Type 0 where
+    pub held : O
+    pub written : PutsAll takes output text held
+    pub flushed : flushes held is_out output'
+
+  -- what the exit status says of a text that was to be shown
+  pub data Prints (text : List ℕ) (output output' : O) (code : ℕ) : Type 0 where
+    -- it was written and passed on
+    all : code ≡ DONE → Shows text true output output' → Prints text output output' code
+    -- a write failed, or took nothing, before all of it was out
+    part : code ≡ status Write → PutsPart takes output text output' → Prints text output output' code
+    -- it was written, and not passed on
+    held_back : code ≡ status Write → Shows text false output output' → Prints text output output' code
+
+  -- what the exit status says of a text that was made and written line by line
+  pub data PrintsByLine (text : List ℕ) (output output' : O) (code : ℕ) : Type 0 where
+    -- it was written and passed on
+    whole : code ≡ DONE → Shows text true output output' → PrintsByLine text output output' code
+    -- this fault came before all of it was out
+    cut_off : (fault : Fault) → code ≡ status fault → StopsPlaying takes text output output' fault
+        → PrintsByLine text output output' code
+    -- it was written, and not passed on
+    kept_back : code ≡ status Write → Shows text false output output' → PrintsByLine text output output' code
+
+-- A report was to be printed, and is one of these texts; or a fault came before, and nothing was written.
+pub data Reports {O : Type 0} (Printing : List ℕ → O → O → ℕ → Type 0) (IsReport : List ℕ → Type 0) (output output' : O)
+    (code : ℕ) : Type 0 where
+  prints : (text : List ℕ) → IsReport text → Printing text output output' code
+      → Reports Printing IsReport output output' code
+  stops : (fault : Fault) → code ≡ status fault → output' ≡ output → Reports Printing IsReport output output' code

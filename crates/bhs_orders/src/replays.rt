@@ -1,0 +1,166 @@
+//! Reading the replays that words name, and writing those of a rehearsal.
+
+ghost use Rattle.std.specs.Prelude.{◌≡◌, ◌⊎◌, IfOk, IfErr, OnOk, map};
+ghost use Rattle.std.specs.List.{AllByRecursion};
+ghost use Rattle.bhs_stream.specs.Streams.{known_takes};
+ghost use Rattle.bhs_stream.specs.Sending.{PutsAll};
+ghost use Rattle.bhs_rehearsal.specs.Rehearsing.{game_of};
+ghost use Rattle.bhs_replay.specs.Replay.{replay_of};
+ghost use Rattle.bhs_orders.specs.Fault.{IsOfFault};
+ghost use Rattle.bhs_orders.specs.Filing.{Files, first_status};
+ghost use Rattle.bhs_orders.specs.Playing.{StopsPlaying};
+ghost use Rattle.bhs_orders.specs.Rehearsal.{IsFiled};
+ghost use Rattle.bhs_orders.specs.Reports.{IsReplayed};
+ghost use Rattle.bhs_orders.specs.Showing.{Took};
+ghost use Rattle.bhs_orders.specs.declared.statuses.TheConstants.{DONE};
+
+use crate::faults::{Fault, report};
+use crate::statuses::DONE;
+use bhs_lineup::Ready;
+use bhs_match::Sealed;
+use bhs_model::MAX_TURNS;
+use bhs_net::Memory;
+use bhs_replay::{read_replay, write_replay};
+use bhs_stream::Output;
+use std::alloc::Global;
+use std::fs;
+use std::io::Write;
+use std::rt::Files;
+
+/// The match of a replay's file, or the exit status of a fault that was reported.
+pub(crate) fn match_of<F: Files, E: Write>(
+    alloc: Global,
+    files: &F,
+    name: &str,
+    errors: &mut E,
+) -> Result<Sealed, u8>
+    ensures read { IfOk result IsReplayed }
+    ensures fault { IfErr result IsOfFault }
+{
+    match read_match(alloc, files, name) {
+        Ok(sealed) => Ok(sealed),
+        Err(fault) => Err(report(name, fault, errors)),
+    }
+}
+
+fn read_match<F: Files>(alloc: Global, files: &F, name: &str) -> Result<Sealed, Fault>
+    ensures { IfOk result IsReplayed }
+{
+    let mut file = fs::open(files, name)?;
+    Ok(read_replay(alloc, &mut file, MAX_TURNS)?)
+}
+
+/// Writes the replay of each match that has ended, as `write_sealed` does.
+pub(crate) fn write_replays<F: Files, E: Write>(
+    alloc: Global,
+    files: &F,
+    prefix: &str,
+    ready: Vec<Ready>,
+    errors: &mut E,
+) -> u8
+    ensures filed { result ≡ DONE → AllByRecursion (IsFiled (known_takes F.File.contents)) (map game_of ready.items) }
+    ensures status { result ≡ DONE ⊎ IsOfFault result }
+{
+    let mut status = DONE;
+    let mut number: usize = 0;
+    for one in ready {
+        let code = write_ended(alloc, files, prefix, number, one, errors);
+        status = first_status(status, code);
+        number = number.saturating_add(1);
+    }
+    status
+}
+
+/// Writes the replay of each match to a file, whose name is the prefix with the match's number, counted from 0, and
+/// `.jsonl`. One that cannot be written is reported, and keeps no other from being written. The answer is the exit
+/// status of the first of these, and `DONE` where there is none.
+pub fn write_sealed<F: Files, E: Write>(
+    alloc: Global,
+    files: &F,
+    prefix: &str,
+    sealed: &[Sealed],
+    errors: &mut E,
+) -> u8
+    ensures { Files (known_takes F.File.contents) sealed.now result }
+{
+    let mut status = DONE;
+    for (number, one) in sealed.iter().enumerate() {
+        let code = write_numbered(alloc, files, prefix, number, one, errors);
+        status = first_status(status, code);
+    }
+    status
+}
+
+/// The exit status of two things that were both tried: that of the first that failed, and `DONE` where none did.
+pub fn first_status(first: u8, second: u8) -> u8
+    ensures { result ≡ first_status first second }
+{
+    if first == DONE { second } else { first }
+}
+
+// Writes the replay of a match, if it has ended.
+fn write_ended<F: Files, E: Write>(
+    alloc: Global,
+    files: &F,
+    prefix: &str,
+    number: usize,
+    ready: Ready,
+    errors: &mut E,
+) -> u8
+    ensures filed { result ≡ DONE → IsFiled (known_takes F.File.contents) (game_of ready) }
+    ensures status { result ≡ DONE ⊎ IsOfFault result }
+{
+    match ready.game.sealed() {
+        Ok(sealed) => write_numbered(alloc, files, prefix, number, &sealed, errors),
+        Err(_) => DONE,
+    }
+}
+
+// Writes the replay of the match of this number.
+fn write_numbered<F: Files, E: Write>(
+    alloc: Global,
+    files: &F,
+    prefix: &str,
+    number: usize,
+    sealed: &Sealed,
+    errors: &mut E,
+) -> u8
+    ensures filed { result ≡ DONE → Took (known_takes F.File.contents) (replay_of sealed.now) }
+    ensures status { result ≡ DONE ⊎ IsOfFault result }
+{
+    let Ok(name) = file_name(alloc, prefix, number) else {
+        return report(prefix, Fault::Memory, errors);
+    };
+    match write_file(alloc, files, name.as_str(), sealed) {
+        Ok(()) => DONE,
+        Err(fault) => report(name.as_str(), fault, errors),
+    }
+}
+
+fn file_name(alloc: Global, prefix: &str, number: usize) -> Result<String, Memory> {
+    format!(in alloc; "{prefix}{number}.jsonl")
+}
+
+// Writes a replay to a new file of this name.
+fn write_file<F: Files>(alloc: Global, files: &F, name: &str, sealed: &Sealed) -> Result<(), Fault>
+    ensures { OnOk result (Took (known_takes F.File.contents) (replay_of sealed.now)) }
+{
+    let mut file = match fs::create(files, name) {
+        Ok(file) => file,
+        Err(_) => return Err(Fault::Write),
+    };
+    write_match(alloc, sealed, &mut file)
+}
+
+/// Writes the replay of a match.
+pub(crate) fn write_match<W: Output>(
+    alloc: Global,
+    sealed: &Sealed,
+    writer: &mut W,
+) -> Result<(), Fault>
+    ensures ok { OnOk result (PutsAll W.takes writer.old (replay_of sealed.now) writer.new) }
+    ensures err { IfErr result (StopsPlaying W.takes (replay_of sealed.now) writer.old writer.new) }
+{
+    write_replay(alloc, sealed, writer)?;
+    Ok(())
+}
