@@ -80,10 +80,19 @@ fn played<C: Clock>(
     events: u64,
 ) -> Result<(Counts, Duration), BenchFault> {
     let mut workload = Workload::new(alloc)?;
+    let time = time_of_playing(alloc, clock, &mut workload, events)?;
+    Ok((workload.counts(), time))
+}
+
+fn time_of_playing<C: Clock>(
+    alloc: Global,
+    clock: &C,
+    workload: &mut Workload,
+    events: u64,
+) -> Result<Duration, BenchFault> {
     let begin = Instant::now(clock).map_err(|_| BenchFault::Clock)?;
     workload.play(alloc, events)?;
-    let time = begin.elapsed(clock).map_err(|_| BenchFault::Clock)?;
-    Ok((workload.counts(), time))
+    begin.elapsed(clock).map_err(|_| BenchFault::Clock)
 }
 
 fn submit<R: Threads + Wait + Clock + Sync, W: Write>(

@@ -123,14 +123,23 @@ fn command_of(alloc: Global, place: u16) -> Result<Command, Memory> {
 
 fn told_without_lock<C: Clock>(clock: &C, alloc: Global) -> Result<Measured, BenchFault> {
     let (mut hall, mut passes) = Hall::new(alloc, 0, game(alloc, AGENTS)?)?;
-    let begin = Instant::now(clock).map_err(|_| BenchFault::Clock)?;
-    tell_all(alloc, &mut hall, &mut passes)?;
-    let time = begin.elapsed(clock).map_err(|_| BenchFault::Clock)?;
+    let time = time_of_telling(clock, alloc, &mut hall, &mut passes)?;
     Ok(Measured {
         commands: commands(),
         kept: hall.state().log().len() as u64,
         time,
     })
+}
+
+fn time_of_telling<C: Clock>(
+    clock: &C,
+    alloc: Global,
+    hall: &mut Hall,
+    passes: &mut [Pass],
+) -> Result<Duration, BenchFault> {
+    let begin = Instant::now(clock).map_err(|_| BenchFault::Clock)?;
+    tell_all(alloc, hall, passes)?;
+    begin.elapsed(clock).map_err(|_| BenchFault::Clock)
 }
 
 fn tell_all(alloc: Global, hall: &mut Hall, passes: &mut [Pass]) -> Result<(), Memory> {
