@@ -4,9 +4,11 @@
     python3 bench/compare.py PROGRAM OTHER
 
 Makes tournaments, networks and scripts by a seeded generator, and runs both programs on each of them in turn, seven
-times. Prints for each input the median time of both, the time of PROGRAM divided by that of OTHER, and the peak memory
-of both. The tournaments are of version 1, so that older builds take them too. Both programs must print the same bytes;
-an input on which they do not is told, and the exit status is then 1. Nothing is written outside a temporary folder.
+times. Prints for each input the median time of both, the processor's time of both, which other work on the machine
+changes less, of each the time of PROGRAM divided by that of OTHER, and the peak memory of both. What they print goes to
+memory, so that they wait for no reader. The tournaments are of version 1, so that older builds take them too. Both
+programs must print the same bytes; an input on which they do not is told, and the exit status is then 1. Nothing is
+written outside a temporary folder.
 """
 import pathlib
 import statistics
@@ -125,6 +127,12 @@ def made(folder: pathlib.Path) -> List[Input]:
     return inputs
 
 
+def compared(seconds: List[List[float]]) -> str:
+    """The medians of two programs' times, and their ratio."""
+    one, two = (statistics.median(times) for times in zip(*seconds))
+    return f"{one * 1000:.1f} ms, {two * 1000:.1f} ms, ratio {one / two:.2f}"
+
+
 def main() -> int:
     words = sys.argv[1:]
     if len(words) != 2 or any(word in ("-h", "--help") for word in words):
@@ -134,17 +142,12 @@ def main() -> int:
     with tempfile.TemporaryDirectory() as name:
         folder = pathlib.Path(name)
         for title, words, source in made(folder):
-            times = [[], []]
-            printed = [None, None]
-            for _ in range(ROUNDS):
-                for place, program in enumerate(programs):
-                    seconds, printed[place] = run(program, words, source, folder)
-                    times[place].append(seconds)
-            one, two = (statistics.median(each) for each in times)
+            runs = [[run(program, words, source, folder) for program in programs] for _ in range(ROUNDS)]
             peaks = [peak_of(program, words, source, folder) for program in programs]
-            print(f"{title}: {one * 1000:.1f} ms, {two * 1000:.1f} ms, ratio {one / two:.2f}; "
-                  f"peak {peaks[0]} KiB, {peaks[1]} KiB", flush=True)
-            if printed[0] != printed[1]:
+            times = compared([[it.seconds for it in both] for both in runs])
+            processors = compared([[it.processor for it in both] for both in runs])
+            print(f"{title}: {times}; processor {processors}; peak {peaks[0]} KiB, {peaks[1]} KiB", flush=True)
+            if any(one.printed != two.printed for one, two in runs):
                 differs = True
                 print(f"{title}: the programs do not print the same")
     return 1 if differs else 0

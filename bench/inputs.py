@@ -1,8 +1,9 @@
 """What the benchmarks share: networks and tournaments as texts, and how long and how large one run of a program is."""
+import os
 import pathlib
 import subprocess
 import time
-from typing import Callable, Iterable, List, Sequence, Tuple
+from typing import Callable, Iterable, List, NamedTuple, Sequence, Tuple
 
 MAX_SCRIPT = 1_048_576
 MAX_QUOTA = 1000
@@ -57,12 +58,25 @@ def tournament(name: str, matches: int, agents: int, board: int, version: int = 
     return "".join(parts)
 
 
-def run(program: str, words: Sequence[str], source: pathlib.Path, folder: pathlib.Path) -> Tuple[float, bytes]:
-    """How long one run takes, and what it prints."""
-    with open(source, "rb") as given:
+class Run(NamedTuple):
+    """One run of a program: how many seconds it took, how many of them a processor worked for it, what it printed."""
+    seconds: float
+    processor: float
+    printed: bytes
+
+
+def run(program: str, words: Sequence[str], source: pathlib.Path, folder: pathlib.Path) -> Run:
+    """One run of a program that prints to a file in memory, so that it waits for no reader and no disk."""
+    with open(source, "rb") as given, open(os.memfd_create("printed"), "w+b") as taken:
         start = time.perf_counter()
-        ran = subprocess.run([program, *words], stdin=given, stdout=subprocess.PIPE, cwd=folder, check=True)
-        return time.perf_counter() - start, ran.stdout
+        child = subprocess.Popen([program, *words], stdin=given, stdout=taken, cwd=folder)
+        _, status, used = os.wait4(child.pid, 0)
+        seconds = time.perf_counter() - start
+        child.returncode = os.waitstatus_to_exitcode(status)
+        if child.returncode != 0:
+            raise subprocess.CalledProcessError(child.returncode, [program, *words])
+        taken.seek(0)
+        return Run(seconds, used.ru_utime + used.ru_stime, taken.read())
 
 
 def seconds_of(program: str, words: Sequence[str], source: pathlib.Path, folder: pathlib.Path) -> float:

@@ -1,5 +1,6 @@
 """The inputs of the benchmarks, the words of deliveries, and the table that the contest reads."""
 import pathlib
+import subprocess
 import tempfile
 import tomllib
 import unittest
@@ -36,9 +37,14 @@ class Inputs(unittest.TestCase):
         with tempfile.TemporaryDirectory() as name:
             folder = pathlib.Path(name)
             (folder / "in").write_text("text")
-            seconds, printed = inputs.run("cat", [], folder / "in", folder)
-            self.assertEqual(printed, b"text")
-            self.assertGreater(seconds, 0)
+            ran = inputs.run("cat", [], folder / "in", folder)
+            self.assertEqual(ran.printed, b"text")
+            self.assertGreater(ran.seconds, 0)
+            self.assertGreater(ran.processor, 0)
+            with self.assertRaises(subprocess.CalledProcessError):
+                inputs.run("false", [], folder / "in", folder)
+            self.assertEqual(compare.compared([[0.001, 0.002], [0.003, 0.004], [0.002, 0.008]]),
+                             "2.0 ms, 4.0 ms, ratio 0.50")
             self.assertGreater(inputs.peak_of("sleep", ["0.5"], folder / "in", folder), 100)
 
 
