@@ -3,23 +3,23 @@
 
     python3 bench/compare.py PROGRAM OTHER
 
-Makes tournaments, networks and scripts by a seeded generator, and runs both programs on each of them in turn, seven
-times. Prints for each input the median time of both, the processor's time of both, which other work on the machine
-changes less, of each the time of PROGRAM divided by that of OTHER, and the peak memory of both. What they print goes to
-memory, so that they wait for no reader. The tournaments are of version 1, so that older builds take them too. Both
-programs must print the same bytes; an input on which they do not is told, and the exit status is then 1. Nothing is
-written outside a temporary folder.
+Makes tournaments, networks and scripts by a seeded generator, and runs both programs on each of them in turn, 21
+times. Prints for each input the median time of both, the least time that a processor took for them, which other work
+on the machine changes less, of each the time of PROGRAM divided by that of OTHER, and the peak memory of both. What
+they print goes to memory, so that they wait for no reader. The tournaments are of version 1, so that older builds take
+them too. Both programs must print the same bytes; an input on which they do not is told, and the exit status is then 1.
+Nothing is written outside a temporary folder.
 """
 import pathlib
 import statistics
 import sys
 import tempfile
-from typing import Iterable, Iterator, List, Tuple
+from typing import Callable, Iterable, Iterator, List, Sequence, Tuple
 
 import rehearse
 from inputs import MAX_SCRIPT, key, network, peak_of, run, torus, tournament
 
-ROUNDS = 7
+ROUNDS = 21
 BOARD = 1000
 
 Pair = Tuple[int, int]
@@ -127,9 +127,9 @@ def made(folder: pathlib.Path) -> List[Input]:
     return inputs
 
 
-def compared(seconds: List[List[float]]) -> str:
-    """The medians of two programs' times, and their ratio."""
-    one, two = (statistics.median(times) for times in zip(*seconds))
+def compared(chosen: Callable[[Sequence[float]], float], seconds: List[List[float]]) -> str:
+    """What is chosen of the times of each of two programs, and the ratio."""
+    one, two = map(chosen, zip(*seconds))
     return f"{one * 1000:.1f} ms, {two * 1000:.1f} ms, ratio {one / two:.2f}"
 
 
@@ -144,8 +144,8 @@ def main() -> int:
         for title, words, source in made(folder):
             runs = [[run(program, words, source, folder) for program in programs] for _ in range(ROUNDS)]
             peaks = [peak_of(program, words, source, folder) for program in programs]
-            times = compared([[it.seconds for it in both] for both in runs])
-            processors = compared([[it.processor for it in both] for both in runs])
+            times = compared(statistics.median, [[it.seconds for it in both] for both in runs])
+            processors = compared(min, [[it.processor for it in both] for both in runs])
             print(f"{title}: {times}; processor {processors}; peak {peaks[0]} KiB, {peaks[1]} KiB", flush=True)
             if any(one.printed != two.printed for one, two in runs):
                 differs = True

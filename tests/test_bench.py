@@ -43,8 +43,7 @@ class Inputs(unittest.TestCase):
             self.assertGreater(ran.processor, 0)
             with self.assertRaises(subprocess.CalledProcessError):
                 inputs.run("false", [], folder / "in", folder)
-            self.assertEqual(compare.compared([[0.001, 0.002], [0.003, 0.004], [0.002, 0.008]]),
-                             "2.0 ms, 4.0 ms, ratio 0.50")
+            self.assertEqual(compare.compared(min, [[0.002, 0.004], [0.003, 0.008]]), "2.0 ms, 4.0 ms, ratio 0.50")
             self.assertGreater(inputs.peak_of("sleep", ["0.5"], folder / "in", folder), 100)
 
 
