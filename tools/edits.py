@@ -3,8 +3,8 @@
 
     tools/edits.py [--all] [CRATE..]
 
-The gate tries crates/NAME/must-fail/*.edit. With --all those of crates/NAME/more-edits/ are tried too, which say the same
-of more functions: run it for each crate that you change. An edit has lines `file: PATH`, and then pairs of lines
+The gate tries crates/NAME/must-fail/*.edit. With --all those of crates/NAME/more-edits/ are tried too, which say the
+same of more functions: run it for each crate that you change. An edit has lines `file: PATH`, and then pairs of lines
 `old: TEXT` and `new: TEXT`, where TEXT stands once in that file.
 
 Of an edited crate the function that is edited is checked, against its contract and those of what it calls, or what a
