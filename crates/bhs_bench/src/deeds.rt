@@ -5,7 +5,7 @@ use crate::torus::PORTS;
 const AGENTS: u16 = 16;
 
 /// What is done next.
-#[derive(Clone, Copy, Debug, PartialEq, Eq)]
+#[derive(Clone, Copy)]
 pub enum Deed {
     /// An agent looks.
     Look { agent: u16 },

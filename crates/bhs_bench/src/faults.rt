@@ -6,7 +6,7 @@ use std::alloc::AllocFailed;
 use thiserror::Error;
 
 /// Why the benchmark stopped.
-#[derive(Clone, Copy, Debug, PartialEq, Eq, Error)]
+#[derive(Clone, Copy, Debug, Error)]
 pub enum BenchFault {
     /// The torus was refused.
     #[error("network: {0}")]

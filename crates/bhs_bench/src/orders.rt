@@ -23,7 +23,7 @@ lines; and it prints these replies as those of a rehearsed connection. A line sa
 ";
 
 /// What the program is to do.
-#[derive(Clone, Copy, Debug, PartialEq, Eq)]
+#[derive(Clone, Copy)]
 pub enum Order {
     /// Shows the usage.
     Help,

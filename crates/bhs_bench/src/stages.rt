@@ -10,7 +10,7 @@ use std::alloc::Global;
 use std::time::{Clock, Duration, Instant};
 
 /// What is done with a line.
-#[derive(Clone, Copy, Debug, PartialEq, Eq)]
+#[derive(Clone, Copy)]
 pub enum Stage {
     /// The line is read.
     Reading,

@@ -27,7 +27,7 @@ fn commands() -> u64 {
 }
 
 /// Who tells the commands of a run.
-#[derive(Clone, Copy, Debug, PartialEq, Eq)]
+#[derive(Clone, Copy)]
 pub enum Sharing {
     /// One thread tells them to one match that is under no lock.
     Unlocked,
@@ -48,7 +48,7 @@ pub const RUNS: [Sharing; 6] = [
 ];
 
 /// What was measured in a run.
-#[derive(Clone, Copy, Debug, PartialEq, Eq)]
+#[derive(Clone, Copy)]
 pub struct Measured {
     /// The commands that were told.
     pub commands: u64,
@@ -80,7 +80,7 @@ impl Measured {
 }
 
 /// Some passes of one match, which one thread plays.
-#[derive(Debug, Drop)]
+#[derive(Drop)]
 struct Share {
     cell: usize,
     passes: Vec<Pass>,
@@ -123,23 +123,23 @@ fn command_of(alloc: Global, place: u16) -> Result<Command, Memory> {
 
 fn told_without_lock<C: Clock>(clock: &C, alloc: Global) -> Result<Measured, BenchFault> {
     let (mut hall, mut passes) = Hall::new(alloc, 0, game(alloc, AGENTS)?)?;
-    let time = time_of_telling(clock, alloc, &mut hall, &mut passes)?;
+    told_in(clock, alloc, &mut hall, &mut passes)
+}
+
+fn told_in<C: Clock>(
+    clock: &C,
+    alloc: Global,
+    hall: &mut Hall,
+    passes: &mut [Pass],
+) -> Result<Measured, BenchFault> {
+    let begin = Instant::now(clock).map_err(|_| BenchFault::Clock)?;
+    tell_all(alloc, hall, passes)?;
+    let time = begin.elapsed(clock).map_err(|_| BenchFault::Clock)?;
     Ok(Measured {
         commands: commands(),
         kept: hall.state().log().len() as u64,
         time,
     })
-}
-
-fn time_of_telling<C: Clock>(
-    clock: &C,
-    alloc: Global,
-    hall: &mut Hall,
-    passes: &mut [Pass],
-) -> Result<Duration, BenchFault> {
-    let begin = Instant::now(clock).map_err(|_| BenchFault::Clock)?;
-    tell_all(alloc, hall, passes)?;
-    begin.elapsed(clock).map_err(|_| BenchFault::Clock)
 }
 
 fn tell_all(alloc: Global, hall: &mut Hall, passes: &mut [Pass]) -> Result<(), Memory> {
@@ -213,15 +213,24 @@ fn played<R: Wait>(
     cells: &[Cell],
     mut share: Share,
 ) -> Result<Share, Memory> {
-    let Some(cell) = cells.get(share.cell) else {
-        return Ok(share);
-    };
+    if let Some(cell) = cells.get(share.cell) {
+        submit_all(rt, alloc, cell, &mut share.passes)?;
+    }
+    Ok(share)
+}
+
+fn submit_all<R: Wait>(
+    rt: &R,
+    alloc: Global,
+    cell: &Cell,
+    passes: &mut [Pass],
+) -> Result<(), Memory> {
     for place in 0..COMMANDS {
-        for pass in share.passes.iter_mut() {
+        for pass in passes.iter_mut() {
             cell.submit(rt, &Open, pass, command_of(alloc, place)?)?;
         }
     }
-    Ok(share)
+    Ok(())
 }
 
 /// Ends and settles the matches, and answers how many events were kept.
@@ -247,18 +256,28 @@ fn handed(
     cells: usize,
     shares: Vec<Result<Share, Memory>>,
 ) -> Result<Vec<Vec<Pass>>, Memory> {
-    let mut handed: Vec<Vec<Pass>> = Vec::new(alloc);
+    let mut handed = no_passes(alloc, cells)?;
+    for share in shares {
+        hand(&mut handed, share?)?;
+    }
+    Ok(handed)
+}
+
+fn no_passes(alloc: Global, cells: usize) -> Result<Vec<Vec<Pass>>, Memory> {
+    let mut handed = Vec::new(alloc);
     for _ in 0..cells {
         handed.push(Vec::new(alloc))?;
     }
-    for share in shares {
-        let Share { cell, passes } = share?;
-        let Some(all) = handed.get_mut(cell) else {
-            continue;
-        };
-        for pass in passes {
-            all.push(pass)?;
-        }
-    }
     Ok(handed)
+}
+
+fn hand(handed: &mut [Vec<Pass>], share: Share) -> Result<(), Memory> {
+    let Share { cell, passes } = share;
+    let Some(all) = handed.get_mut(cell) else {
+        return Ok(());
+    };
+    for pass in passes {
+        all.push(pass)?;
+    }
+    Ok(())
 }

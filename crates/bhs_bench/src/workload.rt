@@ -1,5 +1,7 @@
 //! Matches on a large torus, one after the other, whose events are picked by words.
 
+ghost use Rattle.std.specs.Prelude.{◌≡◌, OnOk};
+
 use crate::deeds::{Deed, deed_of};
 use crate::faults::BenchFault;
 use crate::torus::{NODES, PORTS, setup, torus};
@@ -20,7 +22,7 @@ const AGENTS: u16 = 16;
 const SEED: [u8; 32] = [7; 32];
 
 /// What was counted. A count that would need more than 64 bits stays at the most that they hold.
-#[derive(Clone, Copy, Debug, PartialEq, Eq)]
+#[derive(Clone, Copy)]
 pub struct Counts {
     /// The events that were kept in the logs.
     pub kept: u64,
@@ -46,7 +48,7 @@ impl Counts {
 }
 
 /// A match that is played, and what was counted in those before it.
-#[derive(Debug, Drop)]
+#[derive(Drop)]
 pub struct Workload {
     net: Net,
     held: Held,
@@ -84,12 +86,20 @@ impl Workload {
         Ok(())
     }
 
+    /// Begins the next match, with what was counted in this one.
+    fn begin_next(&mut self, alloc: Global) -> Result<(), BenchFault>
+        ensures { OnOk result (self.new.events ≡ 0) }
+    {
+        let next = Match::new(alloc, self.net.try_clone(alloc)?, setup(alloc, AGENTS))?;
+        self.before = self.before.with(&self.game);
+        self.game = next;
+        self.events = 0;
+        Ok(())
+    }
+
     fn step(&mut self, alloc: Global) -> Result<(), BenchFault> {
         if self.events >= EVENTS_OF_A_MATCH {
-            let next = Match::new(alloc, self.net.try_clone(alloc)?, setup(alloc, AGENTS))?;
-            self.before = self.before.with(&self.game);
-            self.game = next;
-            self.events = 0;
+            self.begin_next(alloc)?;
         }
         self.events += 1;
         if self.events <= AGENTS {

@@ -3,7 +3,7 @@
 use crate::orders::MAX_SESSIONS;
 
 /// A number that a command must have: which word says it, and from where to where it goes.
-#[derive(Clone, Copy, Debug)]
+#[derive(Clone, Copy)]
 pub(crate) struct Number {
     /// By what clap finds the word.
     pub(crate) id: &'static str,

@@ -9,7 +9,7 @@ use bhs_net::{MAX_NODES, Net};
 
 /// What the walk over a log keeps of an agent: its standing, the link that it accused, by the node where it was and the
 /// port, and whether it is lost.
-#[derive(Clone, Copy, Debug)]
+#[derive(Clone, Copy)]
 pub(crate) struct Track {
     pub(crate) standing: Standing,
     pub(crate) accused: Option<(u16, u16)>,
@@ -18,7 +18,7 @@ pub(crate) struct Track {
 
 /// What the walk over a log keeps: of each agent its track, of each node whether an agent arrived there, and how many
 /// Departs were answered Gone.
-#[derive(Clone, Copy, Debug)]
+#[derive(Clone, Copy)]
 pub(crate) struct Walk {
     pub(crate) agents: [Track; MAX_AGENTS as usize],
     pub(crate) reached: [bool; MAX_NODES as usize],

@@ -11,7 +11,7 @@ use bhs_session::key_in;
 use bhs_wire::{Denial, First, LineReader};
 
 // What the first item of a connection that was not let in comes to.
-#[derive(Clone, Copy, Debug, PartialEq, Eq)]
+#[derive(Clone, Copy)]
 pub(crate) enum Entry {
     // There is none.
     Waits,

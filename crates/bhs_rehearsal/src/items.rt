@@ -1,7 +1,7 @@
 use bhs_wire::Raw;
 
 // What a connection's input brings.
-#[derive(Debug, Drop)]
+#[derive(Drop)]
 pub(crate) enum Item {
     // A line.
     Says(Raw),

@@ -10,7 +10,7 @@ use bhs_session::Ended;
 use std::alloc::Global;
 
 /// The passes that sessions played by, by the numbers of their matches, and how the sessions ended, in order.
-#[derive(Debug, Drop)]
+#[derive(Drop)]
 pub(crate) struct Returned {
     pub(crate) passes: Vec<Vec<Pass>>,
     pub(crate) ended: Vec<Ended>,

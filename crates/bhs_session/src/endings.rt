@@ -27,7 +27,7 @@ pub enum Ended {
 }
 
 // A session takes no more lines.
-#[derive(Clone, Copy, Debug, PartialEq, Eq)]
+#[derive(Clone, Copy)]
 pub(crate) enum Stop {
     // All is done.
     Finished(Ended),

@@ -9,7 +9,7 @@ use std::alloc::Global;
 use std::marker::Model;
 
 /// What the chosen places of a log need of the earlier ones: a mark per agent and per node.
-#[derive(Debug, Drop)]
+#[derive(Drop)]
 pub(crate) struct Needed {
     agents: Vec<bool>,
     nodes: Vec<bool>,

@@ -15,7 +15,7 @@ use bhs_net::{Memory, Net};
 use std::alloc::Global;
 
 /// Where an agent is.
-#[derive(Clone, Copy, Debug, PartialEq, Eq)]
+#[derive(Clone, Copy)]
 pub(crate) enum Spot {
     /// Not in the network.
     Off,
