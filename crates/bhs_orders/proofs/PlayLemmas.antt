@@ -1,13 +1,17 @@
 -- A script whose answers go out piece by piece, and what a rehearsal does, of what its playing does.
 use Rattle.std.proofs.Common.{◌≡◌, inr, OnOk, IfOk, IfErr, IsErrAnd, ℕ, List, ◌∷◌, ◌++◌, refl, sym, subst, Result, Ok}
-use Rattle.std.proofs.Common.{Err}
+use Rattle.std.proofs.Common.{Err, None, Some, Bool, true, false, nat_lt, length, if◌then◌else◌, ◌∙◌, ap, append-nil}
 use Rattle.bhs_stream.specs.Streams.{Chunk, Taken}
 use Rattle.bhs_stream.specs.Sending.{PutsAll}
 use Rattle.bhs_stream.proofs.PutsLemmas.{IsSentUpTo, sent_part, sent_some}
 use Rattle.bhs_rehearsal.specs.Games.{Game}
-use Rattle.bhs_rehearsal.specs.Stages.{Stage, Instruction, step, stands_after}
+use Rattle.bhs_rehearsal.specs.Rehearsing.{Rehearsing, Follows, Refuses, fault_of}
+use Rattle.bhs_rehearsal.specs.Stages.{Stage, Instruction, Feeds, EndsInput, Draws, Closes, Stepped, nothing, step}
+use Rattle.bhs_rehearsal.specs.Stages.{stands_after}
+use Rattle.bhs_rehearsal.specs.declared.faults.RehearsalFault.{RehearsalFault}
+use Rattle.bhs_rehearsal.specs.declared.faults.RehearsalFault.TheVariants as rehearsals
 use Rattle.bhs_script.specs.Transcript.{all_printed, transcript}
-use Rattle.bhs_orders.specs.Playing.{StopsPlaying}
+use Rattle.bhs_orders.specs.Playing.{IsPushed, StopsPlaying}
 use Rattle.bhs_orders.specs.Rehearsal.{Means, Plays, Stops}
 use Rattle.bhs_orders.specs.declared.faults.Fault.{Fault}
 use Rattle.bhs_orders.specs.declared.faults.Fault.TheVariants.{Read, Text, Line, File, Replay, Twin, Write, Memory}
@@ -35,6 +39,39 @@ pub fault_is : {T : Type 0} (r : Result T Fault) (fault : Fault) (P : Fault → 
     → P fault → IfErr r P
 fault_is (Ok x) fault P is holds = tt
 fault_is (Err e) fault P is holds = subst P (sym is) holds
+
+-- a call that names nothing that is there is an instruction that does nothing
+still_if : (is_there : Bool) (fault other : RehearsalFault) (does still : Stepped)
+    → (if is_there then None else Some other) ≡ Some fault → (if is_there then does else still) ≡ still
+still_if true fault other does still is = cc
+still_if false fault other does still is = refl
+
+still : (stage : Stage) (instruction : Instruction) (fault : RehearsalFault)
+    → fault_of stage instruction ≡ Some fault → step stage instruction ≡ nothing stage
+still stage (Feeds conn bytes) fault is = still_if (nat_lt conn (length stage.connections)) fault _ _ _ is
+still stage (EndsInput conn) fault is = still_if (nat_lt conn (length stage.connections)) fault _ _ _ is
+still stage (Draws game word) fault is = still_if (nat_lt game (length stage.games)) fault _ _ _ is
+still stage (Closes game) fault is = still_if (nat_lt game (length stage.games)) fault _ _ _ is
+
+-- what is printed of a call is what its instruction prints, and the rehearsal stands as that leaves it
+module _ {T : Type 0} (sent : T → List (ℕ × List ℕ)) (old new : Rehearsing) (instruction : Instruction)
+    (text text' : List ℕ) where
+  abbrev Prints : Type 0
+  Prints = (text' ≡ text ++ all_printed (step old.stage instruction).outs)
+      × (new.stage ≡ (step old.stage instruction).stage)
+
+  of_refused : (fault : RehearsalFault) → Refuses old instruction fault new → text' ≡ text → Prints
+  of_refused fault refuses same =
+      let is_still = still old.stage instruction fault refuses.names in
+      rw (is_still, refuses.same) (same ∙ sym (append-nil text), refl)
+
+  pub prints_call : (r : Result T RehearsalFault) → Follows sent old instruction r new → IsPushed sent r text text'
+      → Prints
+  prints_call (Ok outs) follows pushed =
+      (pushed ∙ ap (λ all. text ++ all_printed all) follows.outs, ap (λ one. one.stage) follows.stands)
+  prints_call (Err rehearsals.Conn) follows pushed = of_refused rehearsals.Conn follows pushed
+  prints_call (Err rehearsals.NoGame) follows pushed = of_refused rehearsals.NoGame follows pushed
+  prints_call (Err rehearsals.Memory) follows pushed = absurd pushed
 
 -- what the first instruction of a script prints, and what the others print after it
 pub transcript-turn : (stage : Stage) (script : List Instruction) (one : Instruction) (others : List Instruction)

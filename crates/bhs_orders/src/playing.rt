@@ -1,10 +1,10 @@
-ghost use Rattle.std.specs.Prelude.{◌≡◌, ◌++◌, map, IfOk, IfErr, OnOk, length};
+ghost use Rattle.std.specs.Prelude.{◌≡◌, ◌++◌, map, IfOk, IfErr, OnOk};
 ghost use Rattle.bhs_stream.specs.Sending.{PutsAll};
 ghost use Rattle.bhs_rehearsal.specs.Stages.{step, stands_after};
-ghost use Rattle.bhs_rehearsal.specs.Rehearsing.{game_of, seen_out};
+ghost use Rattle.bhs_rehearsal.specs.Rehearsing.{game_of, seen_out, sent_all, sent_once};
 ghost use Rattle.bhs_script.specs.Instructions.{seen};
 ghost use Rattle.bhs_script.specs.Transcript.{all_printed, transcript};
-ghost use Rattle.bhs_orders.specs.Playing.{StopsPlaying};
+ghost use Rattle.bhs_orders.specs.Playing.{IsPushed, StopsPlaying};
 
 use crate::faults::Fault;
 use bhs_lineup::Ready;
@@ -18,55 +18,67 @@ use std::alloc::Global;
 pub fn play<W: Output>(
     alloc: Global,
     mut rehearsal: Rehearsal,
-    script: Vec<Instruction>,
+    script: Vec<Instruction<'_>>,
     writer: &mut W,
 ) -> Result<Vec<Ready>, Fault>
     ensures printed { OnOk result (PutsAll W.takes writer.old
-        (transcript rehearsal.stage (map seen script.items)) writer.new) }
+        (transcript rehearsal.stage (map seen script.entry.items)) writer.new) }
     ensures played { IfOk result (λ ready. map game_of ready.items
-        ≡ (stands_after rehearsal.stage (map seen script.items)).games) }
-    ensures stopped { IfErr result (StopsPlaying W.takes (transcript rehearsal.stage (map seen script.items))
+        ≡ (stands_after rehearsal.stage (map seen script.entry.items)).games) }
+    ensures stopped { IfErr result (StopsPlaying W.takes (transcript rehearsal.stage (map seen script.entry.items))
         writer.old writer.new) }
 {
-    let mut buffer = Vec::new(alloc);
+    let mut text = Vec::new(alloc);
     for instruction in script {
-        let outs = obey(alloc, &mut rehearsal, instruction)?;
-        print(&outs, &mut buffer, writer)?;
+        text.clear();
+        obey(&mut rehearsal, instruction, &mut text)?;
+        send(writer, &text)?;
     }
     Ok(rehearsal.into_ready())
 }
 
-// Carries out an instruction. One for a connection or a match that is not there does nothing.
+// Carries out an instruction, and adds what is printed of it. One for a connection or a match that is not there does
+// nothing.
 fn obey(
-    alloc: Global,
     rehearsal: &mut Rehearsal,
-    instruction: Instruction,
-) -> Result<Vec<Out>, Memory>
-    ensures outs { IfOk result (λ outs. map seen_out outs.items ≡ (step rehearsal.old.stage (seen instruction)).outs) }
-    ensures stage { OnOk result (rehearsal.new.stage ≡ (step rehearsal.old.stage (seen instruction)).stage) }
+    instruction: Instruction<'_>,
+    text: &mut Vec<u8>,
+) -> Result<(), Memory>
+    ensures text { OnOk result (text.new.items ≡ text.old.items
+        ++ all_printed (step rehearsal.old.stage (seen instruction.entry)).outs) }
+    ensures stage { OnOk result (rehearsal.new.stage ≡ (step rehearsal.old.stage (seen instruction.entry)).stage) }
 {
-    let outs = match instruction {
-        Instruction::Feed { conn, bytes } => rehearsal.feed(conn, &bytes),
-        Instruction::End { conn } => rehearsal.end(conn),
-        Instruction::Draw { game, word } => rehearsal.draw(game, word),
-        Instruction::Close { game } => rehearsal.close(game),
-    };
-    match outs {
-        Ok(outs) => Ok(outs),
-        Err(RehearsalFault::Memory) => Err(Memory),
-        Err(RehearsalFault::Conn | RehearsalFault::NoGame) => Ok(Vec::new(alloc)),
+    match instruction {
+        Instruction::Feed { conn, bytes } => push_once(
+            text,
+            rehearsal.feed(conn, bytes.as_slice()),
+        ),
+        Instruction::End { conn } => push_once(text, rehearsal.end(conn)),
+        Instruction::Draw { game, word } => push_once(text, rehearsal.draw(game, word)),
+        Instruction::Close { game } => push_all(text, rehearsal.close(game)),
     }
 }
 
-// Prints what an instruction sends. The buffer holds nothing that is needed again.
-fn print<W: Output>(outs: &[Out], buffer: &mut Vec<u8>, writer: &mut W) -> Result<(), Fault>
-    ensures ok { OnOk result (PutsAll W.takes writer.old (all_printed (map seen_out outs.now)) writer.new) }
-    ensures err { IfErr result (StopsPlaying W.takes (all_printed (map seen_out outs.now)) writer.old writer.new) }
+// Adds what is printed of a call that sends to one connection at most.
+fn push_once(text: &mut Vec<u8>, sent: Result<Option<Out>, RehearsalFault>) -> Result<(), Memory>
+    ensures { OnOk result (IsPushed sent_once sent text.old.items text.new.items) }
 {
-    buffer.clear();
-    push_outs(buffer, outs)?;
-    send(writer, buffer)?;
-    Ok(())
+    match sent {
+        Ok(Some(out)) => push_printed(text, out.conn, &out.bytes),
+        Err(RehearsalFault::Memory) => Err(Memory),
+        Ok(None) | Err(RehearsalFault::Conn | RehearsalFault::NoGame) => Ok(()),
+    }
+}
+
+// Adds what is printed of a call that sends to any number of connections.
+fn push_all(text: &mut Vec<u8>, sent: Result<Vec<Out>, RehearsalFault>) -> Result<(), Memory>
+    ensures { OnOk result (IsPushed sent_all sent text.old.items text.new.items) }
+{
+    match sent {
+        Ok(outs) => push_outs(text, &outs),
+        Err(RehearsalFault::Memory) => Err(Memory),
+        Err(RehearsalFault::Conn | RehearsalFault::NoGame) => Ok(()),
+    }
 }
 
 fn push_outs(text: &mut Vec<u8>, outs: &[Out]) -> Result<(), Memory>

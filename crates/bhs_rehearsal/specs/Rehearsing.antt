@@ -41,6 +41,14 @@ seen_item items.Ends = Ends
 abbrev pub seen_out : Out → ℕ × List ℕ
 seen_out out = (out.conn, out.bytes.items)
 
+-- what is sent to one connection, if anything is, and to several
+abbrev pub sent_once : Option Out → List (ℕ × List ℕ)
+sent_once None = []
+sent_once (Some out) = seen_out out ∷ []
+
+abbrev pub sent_all : Vec Out Global → List (ℕ × List ℕ)
+sent_all outs = map seen_out outs.items
+
 -- matches, keys and connections
 abbrev pub stage_of : List Ready → List Seat → List Connection → Stage
 stage_of ready keys connections = record { games = map game_of ready; keys = keys; connections = connections }
@@ -97,12 +105,14 @@ pub record Refuses (old : Rehearsing) (instruction : Instruction) (fault : Rehea
   pub names : fault_of old.stage instruction ≡ Some fault
   pub same : new ≡ old
 
--- What a call makes of a rehearsal. One that has failed, or fails now for want of memory, has failed for good.
-abbrev pub Follows : Rehearsing → Instruction → Result (Vec Out Global) RehearsalFault → Rehearsing → Type 0
-Follows old instruction (Ok outs) new = Obeys old instruction (map seen_out outs.items) new
-Follows old instruction (Err Conn) new = Refuses old instruction Conn new
-Follows old instruction (Err NoGame) new = Refuses old instruction NoGame new
-Follows old instruction (Err Memory) new = new.has_failed ≡ true
+-- What a call makes of a rehearsal; by `sent` its answer is read. One that has failed, or fails now for want of memory,
+-- has failed for good.
+abbrev pub Follows : {T : Type 0} (sent : T → List (ℕ × List ℕ)) → Rehearsing → Instruction → Result T RehearsalFault
+    → Rehearsing → Type 0
+Follows sent old instruction (Ok outs) new = Obeys old instruction (sent outs) new
+Follows sent old instruction (Err Conn) new = Refuses old instruction Conn new
+Follows sent old instruction (Err NoGame) new = Refuses old instruction NoGame new
+Follows sent old instruction (Err Memory) new = new.has_failed ≡ true
 
 -- ---- a rehearsal stands for the script of its calls
 

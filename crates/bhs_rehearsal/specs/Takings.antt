@@ -1,5 +1,5 @@
 -- How the code takes items, move by move. Only contracts of private functions cite it.
-use Rattle.std.specs.Prelude.{ℕ, ◌≡◌, Bool, true, false, Option, Some, None, List, [], ◌++◌, map, option_map}
+use Rattle.std.specs.Prelude.{ℕ, ◌≡◌, Bool, true, false, Option, Some, None, List, [], ◌++◌, option_map}
 use Rattle.std.specs.Prelude.{option_and_then, slice_get, if◌then◌else◌, Vec, Ok, Err}
 use Rattle.std.specs.declared.alloc.Global.{Global}
 use Rattle.std.specs.declared.alloc.AllocError.{AllocError}
@@ -12,10 +12,9 @@ use Rattle.bhs_model.specs.declared.replies.Reply.{Reply}
 use Rattle.bhs_rehearsal.specs.Games.{Game, played, reply_to}
 use Rattle.bhs_rehearsal.specs.Connections.{Item, Taken, taken}
 use Rattle.bhs_rehearsal.specs.Stages.{Entry, Waits, Sits, IsDenied, Goes, Moved, Stepped, with_game}
-use Rattle.bhs_rehearsal.specs.Rehearsing.{Rehearsing, on_stage, seen_out}
+use Rattle.bhs_rehearsal.specs.Rehearsing.{Rehearsing, on_stage}
 use Rattle.bhs_rehearsal.specs.declared.entries.Entry.{Entry as EntryOfCode}
 use Rattle.bhs_rehearsal.specs.declared.entries.Entry.TheVariants as entries
-use Rattle.bhs_rehearsal.specs.declared.outs.Out.{Out}
 use Rattle.bhs_rehearsal.specs.declared.faults.RehearsalFault.{RehearsalFault}
 use Rattle.bhs_rehearsal.specs.declared.faults.RehearsalFault.TheVariants.{Memory}
 
@@ -44,14 +43,14 @@ abbrev pub IsMoved : Rehearsing → Moved → Result (Vec ℕ Global) AllocError
 IsMoved old moved (Ok text) new = (text.items ≡ moved.text) × (new ≡ on_stage old moved.stage)
 IsMoved old moved (Err memory) new = Unit {0}
 
--- and what an instruction makes
-abbrev pub IsStepped : Rehearsing → Stepped → Result (Vec Out Global) AllocError → Rehearsing → Type 0
-IsStepped old stepped (Ok outs) new = (map seen_out outs.items ≡ stepped.outs) × (new ≡ on_stage old stepped.stage)
-IsStepped old stepped (Err memory) new = Unit {0}
+-- and what an instruction makes; by `sent` its answer is read
+abbrev pub IsStepped : {T : Type 0} (sent : T → List (ℕ × List ℕ)) → Rehearsing → Stepped → Result T AllocError
+    → Rehearsing → Type 0
+IsStepped sent old stepped (Ok outs) new = (sent outs ≡ stepped.outs) × (new ≡ on_stage old stepped.stage)
+IsStepped sent old stepped (Err memory) new = Unit {0}
 
 -- what a call gives of it: a rehearsal without memory has failed
-abbrev pub IsConcluded : Rehearsing → Result (Vec Out Global) AllocError → Result (Vec Out Global) RehearsalFault →
-    Rehearsing → Type 0
+abbrev pub IsConcluded : {T : Type 0} → Rehearsing → Result T AllocError → Result T RehearsalFault → Rehearsing → Type 0
 IsConcluded old (Ok outs) result new = (result ≡ Ok outs) × (new ≡ old)
 IsConcluded old (Err memory) result new = (result ≡ Err Memory) × (new.has_failed ≡ true)
 

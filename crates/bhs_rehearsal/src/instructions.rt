@@ -9,7 +9,7 @@ ghost use Rattle.bhs_model.specs.declared.events.Event.TheVariants.{Close};
 ghost use Rattle.bhs_rehearsal.specs.Games.{drawn, played};
 ghost use Rattle.bhs_rehearsal.specs.Stages.{feeds, ends, delivers, tells_arrival, closes, game_at, with_game};
 ghost use Rattle.bhs_rehearsal.specs.Stages.{has_seat, sent_to, told_over, shut_in};
-ghost use Rattle.bhs_rehearsal.specs.Rehearsing.{game_of, team_of, seen_out, on_stage};
+ghost use Rattle.bhs_rehearsal.specs.Rehearsing.{game_of, team_of, seen_out, sent_all, sent_once, on_stage};
 ghost use Rattle.bhs_rehearsal.specs.Takings.{IsStepped, IsDrawn, after_draw, mark_at};
 
 use crate::connections::Connection;
@@ -26,48 +26,48 @@ use std::alloc::Global;
 
 impl Rehearsal {
     // Bytes are fed to a connection.
-    pub(crate) fn fed(&mut self, conn: u16, bytes: &[u8]) -> Result<Vec<Out>, Memory>
+    pub(crate) fn fed(&mut self, conn: u16, bytes: &[u8]) -> Result<Option<Out>, Memory>
         requires { conn < length self.old.stage.connections }
-        ensures { IsStepped self.old (feeds self.old.stage conn bytes.now) result self.new }
+        ensures { IsStepped sent_once self.old (feeds self.old.stage conn bytes.now) result self.new }
     {
         let alloc = *self.connections.allocator();
         let connection = &mut self.connections[usize::from(conn)];
         if connection.has_ended() {
-            return Ok(Vec::new(alloc));
+            return Ok(None);
         }
         connection.receive(bytes)?;
         let text = self.moves(alloc, conn)?;
-        sent_to(alloc, conn, text)
+        Ok(sent_to(conn, text))
     }
 
     // The input of a connection ends.
-    pub(crate) fn ended(&mut self, conn: u16) -> Result<Vec<Out>, Memory>
+    pub(crate) fn ended(&mut self, conn: u16) -> Result<Option<Out>, Memory>
         requires { conn < length self.old.stage.connections }
-        ensures { IsStepped self.old (ends self.old.stage conn) result self.new }
+        ensures { IsStepped sent_once self.old (ends self.old.stage conn) result self.new }
     {
         let alloc = *self.connections.allocator();
         let connection = &mut self.connections[usize::from(conn)];
         if connection.has_ended() {
-            return Ok(Vec::new(alloc));
+            return Ok(None);
         }
         connection.end(alloc)?;
         let text = self.moves(alloc, conn)?;
-        sent_to(alloc, conn, text)
+        Ok(sent_to(conn, text))
     }
 
     // A word is drawn in a match.
-    pub(crate) fn drawn(&mut self, game: u32, word: u32) -> Result<Vec<Out>, Memory>
+    pub(crate) fn drawn(&mut self, game: u32, word: u32) -> Result<Option<Out>, Memory>
         requires { game < length self.old.stage.games }
-        ensures { IsStepped self.old (delivers self.old.stage game (drawn (game_at self.old.stage game) word))
+        ensures { IsStepped sent_once self.old (delivers self.old.stage game (drawn (game_at self.old.stage game) word))
             result self.new }
     {
         let alloc = *self.connections.allocator();
         let Some((agent, reply)) = self.delivered(game, word)? else {
-            return Ok(Vec::new(alloc));
+            return Ok(None);
         };
         match self.holder((game, agent)) {
             Some(conn) => self.tells_arrival(alloc, conn, &reply),
-            None => Ok(Vec::new(alloc)),
+            None => Ok(None),
         }
     }
 
@@ -93,21 +93,26 @@ impl Rehearsal {
     }
 
     // An arrival is told to the connection that plays the agent, which then takes of its items what it can.
-    fn tells_arrival(&mut self, alloc: Global, conn: u16, reply: &Reply) -> Result<Vec<Out>, Memory>
+    fn tells_arrival(
+        &mut self,
+        alloc: Global,
+        conn: u16,
+        reply: &Reply,
+    ) -> Result<Option<Out>, Memory>
         requires { conn < length self.old.stage.connections }
-        ensures { IsStepped self.old (tells_arrival self.old.stage (Some reply.now) (Some conn)) result self.new }
+        ensures { IsStepped sent_once self.old (tells_arrival self.old.stage (Some reply.now) (Some conn)) result self.new }
     {
         let mut text = Vec::new(alloc);
         push_reply(alloc, reply, &mut text)?;
         let more = self.moves(alloc, conn)?;
         text.extend_from_slice(&more)?;
-        sent_to(alloc, conn, text)
+        Ok(sent_to(conn, text))
     }
 
     // A match is ended.
     pub(crate) fn closed(&mut self, game: u32) -> Result<Vec<Out>, Memory>
         requires { game < length self.old.stage.games }
-        ensures { IsStepped self.old (closes self.old.stage game) result self.new }
+        ensures { IsStepped sent_all self.old (closes self.old.stage game) result self.new }
     {
         let alloc = *self.connections.allocator();
         if self.game(game).game.closed() {
@@ -151,14 +156,14 @@ impl Rehearsal {
 }
 
 // Nothing is sent where there is no text.
-fn sent_to(alloc: Global, conn: u16, bytes: Vec<u8>) -> Result<Vec<Out>, Memory>
-    ensures { IfOk result (λ outs. map seen_out outs.items ≡ sent_to conn bytes.items) }
+fn sent_to(conn: u16, bytes: Vec<u8>) -> Option<Out>
+    ensures { sent_once result ≡ sent_to conn bytes.items }
 {
-    let mut outs = Vec::new(alloc);
-    if !bytes.is_empty() {
-        outs.push(Out { conn, bytes })?;
+    if bytes.is_empty() {
+        None
+    } else {
+        Some(Out { conn, bytes })
     }
-    Ok(outs)
 }
 
 // Draws a word in a match. Gives the agent that arrives, and what it is told.

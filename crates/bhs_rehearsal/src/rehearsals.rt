@@ -1,7 +1,7 @@
 ghost use Rattle.std.specs.Prelude.{◌≡◌, false, map, IfOk, replicate};
 ghost use Rattle.bhs_rehearsal.specs.Connections.{unfed};
 ghost use Rattle.bhs_rehearsal.specs.Stages.{Feeds, EndsInput, Draws, Closes};
-ghost use Rattle.bhs_rehearsal.specs.Rehearsing.{Follows, first_stage, game_of, team_of};
+ghost use Rattle.bhs_rehearsal.specs.Rehearsing.{Follows, first_stage, game_of, sent_all, sent_once, team_of};
 ghost use Rattle.bhs_rehearsal.specs.Takings.{IsConcluded};
 
 use crate::connections::Connection;
@@ -71,8 +71,8 @@ impl Rehearsal {
     }
 
     /// Feeds bytes to a connection. `Conn` where there is no such connection.
-    pub fn feed(&mut self, conn: u16, bytes: &[u8]) -> Result<Vec<Out>, RehearsalFault>
-        ensures { Follows self.old (Feeds conn bytes.now) result self.new }
+    pub fn feed(&mut self, conn: u16, bytes: &[u8]) -> Result<Option<Out>, RehearsalFault>
+        ensures { Follows sent_once self.old (Feeds conn bytes.now) result self.new }
     {
         if self.has_failed {
             return Err(RehearsalFault::Memory);
@@ -85,8 +85,8 @@ impl Rehearsal {
     }
 
     /// Ends the input of a connection. `Conn` where there is no such connection.
-    pub fn end(&mut self, conn: u16) -> Result<Vec<Out>, RehearsalFault>
-        ensures { Follows self.old (EndsInput conn) result self.new }
+    pub fn end(&mut self, conn: u16) -> Result<Option<Out>, RehearsalFault>
+        ensures { Follows sent_once self.old (EndsInput conn) result self.new }
     {
         if self.has_failed {
             return Err(RehearsalFault::Memory);
@@ -99,8 +99,8 @@ impl Rehearsal {
     }
 
     /// Draws a word in a match. `NoGame` where there is no such match.
-    pub fn draw(&mut self, game: u32, word: u32) -> Result<Vec<Out>, RehearsalFault>
-        ensures { Follows self.old (Draws game word) result self.new }
+    pub fn draw(&mut self, game: u32, word: u32) -> Result<Option<Out>, RehearsalFault>
+        ensures { Follows sent_once self.old (Draws game word) result self.new }
     {
         if self.has_failed {
             return Err(RehearsalFault::Memory);
@@ -114,7 +114,7 @@ impl Rehearsal {
 
     /// Ends a match. Only the first time does something. `NoGame` where there is no such match.
     pub fn close(&mut self, game: u32) -> Result<Vec<Out>, RehearsalFault>
-        ensures { Follows self.old (Closes game) result self.new }
+        ensures { Follows sent_all self.old (Closes game) result self.new }
     {
         if self.has_failed {
             return Err(RehearsalFault::Memory);
@@ -142,7 +142,7 @@ impl Rehearsal {
     }
 
     // What a call gives. Where memory ran out the rehearsal has failed.
-    fn settled(&mut self, outs: Result<Vec<Out>, Memory>) -> Result<Vec<Out>, RehearsalFault>
+    fn settled<T: Drop>(&mut self, outs: Result<T, Memory>) -> Result<T, RehearsalFault>
         ensures { IsConcluded self.old outs result self.new }
     {
         match outs {

@@ -1,11 +1,13 @@
+use std::borrow::CowSlice;
+
 /// How many connections the program's rehearsal has.
 pub const CONNECTIONS: u16 = 256;
 
 /// What a line of a script does.
-#[derive(Clone, Debug, PartialEq, Eq, Drop)]
-pub enum Instruction {
-    /// Feeds these bytes to a connection.
-    Feed { conn: u16, bytes: Vec<u8> },
+#[derive(Drop)]
+pub enum Instruction<'s> {
+    /// Feeds these bytes to a connection: those of a line and its line feed as they stand in the script.
+    Feed { conn: u16, bytes: CowSlice<'s, u8> },
     /// Ends the input of a connection.
     End { conn: u16 },
     /// Draws a delivery in a match by a word.

@@ -1,12 +1,12 @@
 use crate::instructions::Instruction;
 
 /// What a line of a script means.
-#[derive(Clone, Debug, PartialEq, Eq, Drop)]
-pub enum Meaning {
+#[derive(Drop)]
+pub(crate) enum Meaning<'s> {
     /// It is skipped.
     Skipped,
     /// It gives this instruction.
-    Gives(Instruction),
+    Gives(Instruction<'s>),
     /// It is no line of a script.
     Refused,
 }

@@ -1,9 +1,9 @@
-ghost use Rattle.std.specs.Prelude.{◌≡◌, ◌+◌, ◌<◌, ◌≤◌, ◌∷◌, [], length, IfOk, IfSome, MatchResult, option_map, map};
+ghost use Rattle.std.specs.Prelude.{◌≡◌, ◌+◌, ◌<◌, ◌≤◌, ◌∷◌, ◌++◌, [], length, IfOk, IfSome, MatchResult, option_map, map};
 ghost use Rattle.std.specs.List.{position};
 ghost use Rattle.std.specs.Option.{option_map_or};
 ghost use Rattle.bhs_script.specs.Script.{meaning, lines_of, is_space, instructions_of, instruction_in, parted};
 ghost use Rattle.bhs_script.specs.Script.{number_below, bytes_of, feeds_line, feeds_bytes, ends_input, draws, closes};
-ghost use Rattle.bhs_script.specs.Instructions.{seen, seen_as};
+ghost use Rattle.bhs_script.specs.Instructions.{IsEnded, seen, seen_as};
 ghost use Rattle.bhs_script.specs.declared.instructions.TheConstants.{CONNECTIONS};
 ghost use Rattle.bhs_script.specs.ScriptFault.{Refuses};
 
@@ -15,21 +15,35 @@ use bhs_net::Memory;
 use bhs_wire::split_line;
 use hex::FromHexError;
 use std::alloc::Global;
+use std::borrow::CowSlice;
 
-/// What a line of a script means in a rehearsal of so many matches. The line is given without its line feed.
-pub fn meaning_of(alloc: Global, games: usize, line: &[u8]) -> Result<Meaning, Memory>
+// What a line of a script means in a rehearsal of this number of matches. `ended` is the line with its line feed, if it
+// has one.
+fn meaning_of<'s>(
+    alloc: Global,
+    games: usize,
+    line: &'s [u8],
+    ended: &'s [u8],
+) -> Result<Meaning<'s>, Memory>
+    requires { IsEnded line.now ended.now }
     ensures { IfOk result (λ m. seen_as m ≡ meaning games line.now) }
 {
     if let [] | [b'#', ..] = line {
         return Ok(Meaning::Skipped);
     }
-    Ok(match instruction_in(alloc, games, line)? {
+    Ok(match instruction_in(alloc, games, line, ended)? {
         Some(instruction) => Meaning::Gives(instruction),
         None => Meaning::Refused,
     })
 }
 
-fn instruction_in(alloc: Global, games: usize, line: &[u8]) -> Result<Option<Instruction>, Memory>
+fn instruction_in<'s>(
+    alloc: Global,
+    games: usize,
+    line: &'s [u8],
+    ended: &'s [u8],
+) -> Result<Option<Instruction<'s>>, Memory>
+    requires { IsEnded line.now ended.now }
     ensures { IfOk result (λ found. option_map seen found ≡ instruction_in games line.now) }
 {
     let Some((word, rest)) = parted(line) else {
@@ -44,13 +58,14 @@ fn instruction_in(alloc: Global, games: usize, line: &[u8]) -> Result<Option<Ins
     } else if word == b"close".as_slice() {
         Ok(close(games, rest))
     } else {
-        feed_line(alloc, word, rest)
+        feed_line(alloc, word, rest, &ended[word.len() + 1..])
     }
 }
 
 // What stands before the first space, and behind it.
 fn parted(text: &[u8]) -> Option<(&[u8], &[u8])>
-    ensures { option_map (λ parts. (parts.0.now, parts.1.now)) result ≡ parted text.now }
+    ensures whole { IfSome result (λ parts. text.now ≡ parts.0.now ++ 32 ∷ parts.1.now) }
+    ensures parts { option_map (λ parts. (parts.0.now, parts.1.now)) result ≡ parted text.now }
 {
     match space_in(text) {
         Some(end) => Some((&text[..end], &text[end + 1..])),
@@ -65,19 +80,37 @@ fn space_in(text: &[u8]) -> Option<usize>
     text.iter().position(|byte| *byte == b' ')
 }
 
-fn feed_line(alloc: Global, word: &[u8], rest: &[u8]) -> Result<Option<Instruction>, Memory>
+// Feeds what stands behind a word. `ended` is the same with its line feed, if it has one.
+fn feed_line<'s>(
+    alloc: Global,
+    word: &[u8],
+    rest: &[u8],
+    ended: &'s [u8],
+) -> Result<Option<Instruction<'s>>, Memory>
+    requires { IsEnded rest.now ended.now }
     ensures { IfOk result (λ found. option_map seen found ≡ feeds_line word.now rest.now) }
 {
     let Some(conn) = connection_in(word) else {
         return Ok(None);
     };
-    let mut bytes = Vec::with_capacity(alloc, rest.len() + 1)?;
-    bytes.extend_from_slice(rest)?;
-    bytes.push(b'\n')?;
+    let bytes = if ended.len() > rest.len() {
+        CowSlice::Borrowed(ended)
+    } else {
+        CowSlice::Owned(with_line_feed(alloc, rest)?)
+    };
     Ok(Some(Instruction::Feed { conn, bytes }))
 }
 
-fn feed_bytes(alloc: Global, rest: &[u8]) -> Result<Option<Instruction>, Memory>
+fn with_line_feed(alloc: Global, line: &[u8]) -> Result<Vec<u8>, Memory>
+    ensures { IfOk result (λ bytes. bytes.items ≡ line.now ++ 10 ∷ []) }
+{
+    let mut bytes = Vec::with_capacity(alloc, line.len() + 1)?;
+    bytes.extend_from_slice(line)?;
+    bytes.push(b'\n')?;
+    Ok(bytes)
+}
+
+fn feed_bytes<'s>(alloc: Global, rest: &[u8]) -> Result<Option<Instruction<'s>>, Memory>
     ensures { IfOk result (λ found. option_map seen found ≡ feeds_bytes rest.now) }
 {
     let Some((number, digits)) = parted(rest) else {
@@ -89,6 +122,7 @@ fn feed_bytes(alloc: Global, rest: &[u8]) -> Result<Option<Instruction>, Memory>
     let Some(bytes) = bytes_of(alloc, digits)? else {
         return Ok(None);
     };
+    let bytes = CowSlice::Owned(bytes);
     Ok(Some(Instruction::Feed { conn, bytes }))
 }
 
@@ -105,14 +139,14 @@ fn bytes_of(alloc: Global, digits: &[u8]) -> Result<Option<Vec<u8>>, Memory>
     }
 }
 
-fn end_input(rest: &[u8]) -> Option<Instruction>
+fn end_input<'s>(rest: &[u8]) -> Option<Instruction<'s>>
     ensures { option_map seen result ≡ ends_input rest.now }
 {
     let conn = connection_in(rest)?;
     Some(Instruction::End { conn })
 }
 
-fn draw(games: usize, rest: &[u8]) -> Option<Instruction>
+fn draw<'s>(games: usize, rest: &[u8]) -> Option<Instruction<'s>>
     ensures { option_map seen result ≡ draws games rest.now }
 {
     let (number, digits) = parted(rest)?;
@@ -121,7 +155,7 @@ fn draw(games: usize, rest: &[u8]) -> Option<Instruction>
     Some(Instruction::Draw { game, word })
 }
 
-fn close(games: usize, rest: &[u8]) -> Option<Instruction>
+fn close<'s>(games: usize, rest: &[u8]) -> Option<Instruction<'s>>
     ensures { option_map seen result ≡ closes games rest.now }
 {
     let game = number_below(games, rest)?;
@@ -143,11 +177,11 @@ fn number_below(bound: usize, text: &[u8]) -> Option<u32>
 }
 
 /// The instructions of a script in a rehearsal of so many matches, or its first line that is none of a script.
-pub fn instructions_in(
+pub fn instructions_in<'s>(
     alloc: Global,
     games: usize,
-    script: &[u8],
-) -> Result<Vec<Instruction>, ScriptFault>
+    script: &'s [u8],
+) -> Result<Vec<Instruction<'s>>, ScriptFault>
     ensures { MatchResult result (λ found. instructions_of games script.now ≡ Ok (map seen found.items))
         (Refuses (instructions_of games script.now)) }
 {
@@ -155,9 +189,9 @@ pub fn instructions_in(
     let mut rest = Some(script);
     let mut number = 0;
     while let Some(text) = rest {
-        let (line, others) = first_line(text);
+        let (line, ended, others) = first_line(text);
         number += 1;
-        match meaning_of(alloc, games, line)? {
+        match meaning_of(alloc, games, line, ended)? {
             Meaning::Skipped => {}
             Meaning::Gives(instruction) => found.push(instruction)?,
             Meaning::Refused => return Err(ScriptFault::Line { line: number }),
@@ -167,12 +201,14 @@ pub fn instructions_in(
     Ok(found)
 }
 
-fn first_line(text: &[u8]) -> (&[u8], Option<&[u8]>)
-    ensures lines { lines_of text.now ≡ result.0.now ∷ option_map_or (λ rest. lines_of rest.now) result.1 [] }
-    ensures shorter { IfSome result.1 (λ rest. length rest.now < length text.now) }
+// The first line, the same with its line feed, if it has one, and what stands behind that.
+fn first_line(text: &[u8]) -> (&[u8], &[u8], Option<&[u8]>)
+    ensures lines { lines_of text.now ≡ result.0.now ∷ option_map_or (λ rest. lines_of rest.now) result.2 [] }
+    ensures ended { IsEnded result.0.now result.1.now }
+    ensures shorter { IfSome result.2 (λ rest. length rest.now < length text.now) }
 {
     match split_line(text) {
-        Some((line, rest)) => (line, Some(rest)),
-        None => (text, None),
+        Some((line, rest)) => (line, &text[..line.len() + 1], Some(rest)),
+        None => (text, text, None),
     }
 }

@@ -10,11 +10,10 @@ use crate::replies::write_reply;
 use bhs_model::Reply;
 use bhs_net::Memory;
 use bhs_stream::Output;
-use std::alloc::Global;
 
-// Writes an answer, and the news that it waits for.
+// Writes an answer, and the news that it waits for, each by `text`, in which nothing is kept.
 pub(crate) fn answer<W: Output, P: Port>(
-    alloc: Global,
+    text: &mut Vec<u8>,
     writer: &mut W,
     port: &mut P,
     reply: &Reply,
@@ -28,9 +27,9 @@ pub(crate) fn answer<W: Output, P: Port>(
         })
         writer.new port.new p.taken (λ _. Ready) result }
 {
-    write_reply(alloc, writer, reply)?;
+    write_reply(text, writer, reply)?;
     if waits_for_news(reply) {
-        write_news(alloc, writer, port)
+        write_news(text, writer, port)
     } else {
         Ok(())
     }
@@ -44,7 +43,11 @@ fn waits_for_news(reply: &Reply) -> bool
 }
 
 // Asks for news, and writes them.
-fn write_news<W: Output, P: Port>(alloc: Global, writer: &mut W, port: &mut P) -> Result<(), Stop>
+fn write_news<W: Output, P: Port>(
+    text: &mut Vec<u8>,
+    writer: &mut W,
+    port: &mut P,
+) -> Result<(), Stop>
     ensures { (p : Point W P) → Ends W.takes P.calls
         (record p {
           output = writer.old;
@@ -53,7 +56,7 @@ fn write_news<W: Output, P: Port>(alloc: Global, writer: &mut W, port: &mut P) -
         }) writer.new port.new p.taken (λ _. Ready) result }
 {
     match port.news() {
-        Ok(news) => write_reply(alloc, writer, &news),
+        Ok(news) => write_reply(text, writer, &news),
         Err(Memory) => Err(Stop::Leaves(Ended::Memory)),
     }
 }

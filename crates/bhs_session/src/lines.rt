@@ -14,11 +14,10 @@ use bhs_model::{Command, Text};
 use bhs_net::Memory;
 use bhs_stream::Output;
 use bhs_wire::{Denial, First, LineReader, Raw};
-use std::alloc::Global;
 
 // Takes lines in order. Says whether the session has entered.
 pub(crate) fn take_lines<W: Output, P: Port>(
-    alloc: Global,
+    text: &mut Vec<u8>,
     line_reader: &mut LineReader,
     writer: &mut W,
     port: &mut P,
@@ -32,7 +31,7 @@ pub(crate) fn take_lines<W: Output, P: Port>(
 {
     let mut entered = has_entered;
     for line in found {
-        take_line(alloc, line_reader, writer, port, entered, line)?;
+        take_line(text, line_reader, writer, port, entered, line)?;
         entered = true;
     }
     Ok(entered)
@@ -40,7 +39,7 @@ pub(crate) fn take_lines<W: Output, P: Port>(
 
 // Takes one line, with the news that its answer waits for.
 fn take_line<W: Output, P: Port>(
-    alloc: Global,
+    text: &mut Vec<u8>,
     line_reader: &mut LineReader,
     writer: &mut W,
     port: &mut P,
@@ -56,15 +55,15 @@ fn take_line<W: Output, P: Port>(
         return Err(Stop::between_lines(has_entered, Ended::Memory));
     };
     if has_entered {
-        take_later(alloc, writer, port, first)
+        take_later(text, writer, port, first)
     } else {
-        take_first(alloc, writer, port, first)
+        take_first(text, writer, port, first)
     }
 }
 
 // Takes the first line, which lets the session in or not.
 fn take_first<W: Output, P: Port>(
-    alloc: Global,
+    text: &mut Vec<u8>,
     writer: &mut W,
     port: &mut P,
     first: First,
@@ -79,7 +78,7 @@ fn take_first<W: Output, P: Port>(
         Err(denial) => return Err(write_denial(writer, denial)),
     };
     match port.enter(key.as_str()) {
-        Ok(Entered::In(reply)) => answer(alloc, writer, port, &reply),
+        Ok(Entered::In(reply)) => answer(text, writer, port, &reply),
         Ok(Entered::Key) => Err(write_denial(writer, Denial::Key)),
         Ok(Entered::Taken) => Err(write_denial(writer, Denial::Taken)),
         Err(Memory) => Err(Stop::Finished(Ended::Memory)),
@@ -88,7 +87,7 @@ fn take_first<W: Output, P: Port>(
 
 // Takes a line after the first.
 fn take_later<W: Output, P: Port>(
-    alloc: Global,
+    text: &mut Vec<u8>,
     writer: &mut W,
     port: &mut P,
     first: First,
@@ -99,7 +98,7 @@ fn take_later<W: Output, P: Port>(
         writer.new port.new (p.taken ++ line ∷ []) (λ _. Ready) result }
 {
     match port.tell(command_in(first)) {
-        Ok(reply) => answer(alloc, writer, port, &reply),
+        Ok(reply) => answer(text, writer, port, &reply),
         Err(Memory) => Err(Stop::Leaves(Ended::Memory)),
     }
 }

@@ -12,12 +12,12 @@ use bhs_stream::{Output, WriteFault, send};
 use bhs_wire::{Denial, denial_of, push_line};
 use std::alloc::Global;
 
-/// The bytes that the line of a reply takes with a short whiteboard.
+/// The bytes that the line of a reply takes at most besides its whiteboard.
 const ROOM: usize = 128;
 
-// Writes the line of an answer. It stops the session where the answer ends it, or a fault does.
+// Writes the line of an answer, by a text whose memory is kept for the next. It stops the session where the answer ends it, or a fault does.
 pub(crate) fn write_reply<W: Output>(
-    alloc: Global,
+    text: &mut Vec<u8>,
     writer: &mut W,
     reply: &Reply,
 ) -> Result<(), Stop>
@@ -26,7 +26,7 @@ pub(crate) fn write_reply<W: Output>(
         (reached (waiting waits reply.now) result) }
     ensures cause { IfErr result StopsAtLines }
 {
-    match (send_reply(alloc, writer, reply), ending_of(reply)) {
+    match (send_reply(text, writer, reply), ending_of(reply)) {
         (Ok(()), None) => Ok(()),
         (Ok(()), Some(ended)) => Err(Stop::Finished(ended)),
         (Err(cause), None) => Err(Stop::Leaves(cause)),
@@ -34,33 +34,38 @@ pub(crate) fn write_reply<W: Output>(
     }
 }
 
-fn send_reply<W: Output>(alloc: Global, writer: &mut W, reply: &Reply) -> Result<(), Ended>
+fn send_reply<W: Output>(text: &mut Vec<u8>, writer: &mut W, reply: &Reply) -> Result<(), Ended>
     ensures ok { OnOk result (PutsAll W.takes writer.old (text_of reply.now) writer.new) }
     ensures err { IfErr result (λ cause. SentBut W.takes cause writer.old (text_of reply.now) writer.new) }
 {
-    let Ok(text) = reply_text(alloc, reply) else {
+    text.clear();
+    let alloc = *text.allocator();
+    if push_reply(alloc, reply, text).is_err() {
         return Err(Ended::Memory);
-    };
-    match send(writer, &text) {
+    }
+    match send(writer, text) {
         Ok(()) => Ok(()),
         Err(WriteFault) => Err(Ended::WriteFault),
     }
-}
-
-fn reply_text(alloc: Global, reply: &Reply) -> Result<Vec<u8>, Memory>
-    ensures { IfOk result (λ text. text.items ≡ text_of reply.now) }
-{
-    let mut text = Vec::with_capacity(alloc, ROOM)?;
-    push_reply(alloc, reply, &mut text)?;
-    Ok(text)
 }
 
 /// Adds the line of a reply, with its line feed. An `Err` may have added a part of it.
 pub fn push_reply(alloc: Global, reply: &Reply, text: &mut Vec<u8>) -> Result<(), Memory>
     ensures { OnOk result (text.new.items ≡ text.old.items ++ text_of reply.now) }
 {
+    text.reserve(room_of(reply))?;
     push_line(alloc, text, reply)?;
     Ok(text.push(b'\n')?)
+}
+
+// How many bytes the line of a reply takes, unless its whiteboard has characters that JSON escapes.
+fn room_of(reply: &Reply) -> usize {
+    match reply {
+        Reply::Here { board, .. } | Reply::Changed { board } => ROOM.saturating_add(
+            board.as_str().len(),
+        ),
+        _ => ROOM,
+    }
 }
 
 // Writes the line that tells a client why it is not let in.

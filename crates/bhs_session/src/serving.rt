@@ -53,6 +53,7 @@ fn play<R: Input, W: Output, P: Port>(
 {
     let mut lines = Lines::new(alloc);
     let mut line_reader = LineReader::new(alloc);
+    let mut text = Vec::new(alloc);
     let mut buffer = [0u8; BUFFER];
     let mut has_entered = false;
     for _ in 0..turns {
@@ -60,7 +61,14 @@ fn play<R: Input, W: Output, P: Port>(
             Ok(found) => found,
             Err(cause) => return Stop::between_lines(has_entered, cause),
         };
-        match take_lines(alloc, &mut line_reader, writer, port, has_entered, &found) {
+        match take_lines(
+            &mut text,
+            &mut line_reader,
+            writer,
+            port,
+            has_entered,
+            &found,
+        ) {
             Ok(entered) => has_entered = entered,
             Err(stop) => return stop,
         }

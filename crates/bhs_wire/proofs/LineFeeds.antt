@@ -1,6 +1,6 @@
--- Where a line feed stands.
+-- Where a byte stands, and a line feed.
 use Rattle.std.proofs.Common.{◌≡◌, ℕ, ◌+◌, ◌-◌, ◌<◌, ◌≤◌, List, ◌∷◌, ◌++◌, length, get_or, take, drop, Bool, true}
-use Rattle.std.proofs.Common.{false, cond, nat_lt, Some, None, refl, sym, ap, ap₂, ◌∙◌, arith, add-one, length-take}
+use Rattle.std.proofs.Common.{◌==◌, false, cond, nat_lt, Some, None, refl, sym, ap, ap₂, ◌∙◌, arith, add-one, length-take}
 use Rattle.std.proofs.Common.{length-drop, drop-cons}
 use Rattle.std.proofs.lemmas.Bool.Decides.{nat_tests}
 use Rattle.std.proofs.lemmas.List.{take-append-drop, take_all, get_or-take}
@@ -28,15 +28,15 @@ no_line_feed_before bytes end found =
     let here : k < end = omega (arith, length-take end bytes) in
     rw get_or-take ((position-Some is_line_feed bytes end d found).2 k here))
 
--- the bytes are those before it, itself, and those after it
-pub around_line_feed : (bytes : List ℕ) (end : ℕ) → position is_line_feed bytes ≡ Some end → bytes ≡ take end bytes
-    ++ 10 ∷ take (length bytes - (end + 1)) (drop (end + 1) bytes)
-around_line_feed bytes end found =
-    let at_end = position-Some is_line_feed bytes end 0 found in
+-- where a byte is found first, the bytes are those before it, itself, and those after it
+pub around : (mark : ℕ) (bytes : List ℕ) (end : ℕ) → position (λ byte. byte == mark) bytes ≡ Some end
+    → bytes ≡ take end bytes ++ mark ∷ take (length bytes - (end + 1)) (drop (end + 1) bytes)
+around mark bytes end found =
+    let at_end = position-Some (λ byte. byte == mark) bytes end 0 found in
     let within : end < length bytes = at_end.0 in
-    let feed : get_or bytes end 0 ≡ 10 = grind (arith, nat_tests, at_end.1) in
+    let first : get_or bytes end 0 ≡ mark = grind (arith, nat_tests, at_end.1) in
     let whole : take (length bytes - (end + 1)) (drop (end + 1) bytes) ≡ drop (end + 1) bytes =
     take_all _ _ (omega (arith, length-drop (end + 1) bytes)) in
-    let behind : drop end bytes ≡ 10 ∷ drop (end + 1) bytes = drop-cons bytes end 0 within
-    ∙ ap₂ (λ byte rest. byte ∷ rest) feed (ap (λ n. drop n bytes) (sym (add-one end))) in
-    sym (take-append-drop end bytes) ∙ ap (λ more. take end bytes ++ more) (behind ∙ ap (λ rest. 10 ∷ rest) (sym whole))
+    let behind : drop end bytes ≡ mark ∷ drop (end + 1) bytes = drop-cons bytes end 0 within
+    ∙ ap₂ (λ byte rest. byte ∷ rest) first (ap (λ n. drop n bytes) (sym (add-one end))) in
+    sym (take-append-drop end bytes) ∙ ap (λ more. take end bytes ++ more) (behind ∙ ap (λ rest. mark ∷ rest) (sym whole))

@@ -1,35 +1,41 @@
-use Rattle.std.proofs.Common.{◌≡◌, rules, refl, ap, map, List}
+use Rattle.std.proofs.Common.{◌≡◌, rules, refl, ap, map, List, ◌++◌, ◌∙◌}
 use Rattle.std.specs.Vec.Iter.{into_iter_items}
+use Rattle.bhs_rehearsal.specs.Stages.{step}
 use Rattle.bhs_script.specs.declared.instructions.Instruction.{Instruction}
-use Rattle.bhs_orders.specs.declared.faults.Fault.TheVariants.{Memory}
 use Rattle.bhs_script.specs.Instructions.{seen}
+use Rattle.bhs_script.specs.Transcript.{all_printed}
+use Rattle.bhs_orders.specs.declared.faults.Fault.TheVariants.{Write, Memory}
 use Rattle.bhs_stream.proofs.PutsLemmas.{sent_none, sent_more, sent_so_far}
 use Rattle.bhs_orders.proofs.PlayLemmas.{stopped_at, fault_is, transcript-turn}
 use Rattle.bhs_orders.proofs.playing.play.Goals as goal
 
-pub returns-in_err-outs-clause-stopped : goal.returns-in_err-outs-clause-stopped
-returns-in_err-outs-clause-stopped g c =
+pub returns-in_err-obey-clause-stopped : goal.returns-in_err-obey-clause-stopped
+returns-in_err-obey-clause-stopped g c =
     fault_is c.from_residual.result Memory _ c.from_residual.ensures.1
     (sent_so_far g.W.Output.takes _ _ _ _ c.loop-instruction.invariant.1)
 
-pub returns-in_err-print-clause-stopped : goal.returns-in_err-print-clause-stopped
-returns-in_err-print-clause-stopped g c =
+pub returns-in_err-send-clause-stopped : goal.returns-in_err-send-clause-stopped
+returns-in_err-send-clause-stopped g c =
     let turn = ap (λ (left : List Instruction). map seen left) c.in-Some.ensures.steps.0 in
     let here = rw (transcript-turn c.loop-instruction.rehearsal.stage _ (seen c.in-Some.instruction)
     (map seen (into_iter_items c.next.new.self)) turn) at c.loop-instruction.invariant.1 in
-    let stopped = rw (c.deref.ensures.value, c.in_ok-outs.ensures.outs) at c.in_err-print.ensures.err in
-    fault_is c.from_residual-in_err-print.result c.in_err-print.field-0.0 _ c.from_residual-in_err-print.ensures.1
-    (stopped_at g.W.Output.takes _ _ _ _ _ _ _ here stopped)
+    let text = c.in_ok-obey.ensures.text ∙ ap (λ items. items ++ all_printed
+    (step c.loop-instruction.rehearsal.stage (seen c.in-Some.instruction)).outs) c.clear.ensures.items in
+    let stopped = rw (c.deref.ensures.value, text) at c.in_err-send.ensures.err in
+    fault_is c.from_residual-in_err-send.result Write _ c.from_residual-in_err-send.ensures.1
+    (stopped_at g.W.Output.takes _ _ _ _ _ _ Write here stopped)
 
 pub loop-instruction-preserved : goal.loop-instruction-preserved
 loop-instruction-preserved g c =
     let turn = ap (λ (left : List Instruction). map seen left) c.in-Some.ensures.steps.0 in
     let here = rw (transcript-turn c.loop-instruction.rehearsal.stage _ (seen c.in-Some.instruction)
     (map seen (into_iter_items c.next.new.self)) turn) at c.loop-instruction.invariant.1 in
-    let printed = rw (c.deref.ensures.value, c.in_ok-outs.ensures.outs) at c.in_ok-print.ensures.ok in
+    let text = c.in_ok-obey.ensures.text ∙ ap (λ items. items ++ all_printed
+    (step c.loop-instruction.rehearsal.stage (seen c.in-Some.instruction)).outs) c.clear.ensures.items in
+    let printed = rw (c.deref.ensures.value, text) at c.in_ok-send.ensures.ok in
     let stands = rw turn at c.loop-instruction.invariant.0 in (
-      rw c.in_ok-outs.ensures.stage stands,
-      rw c.in_ok-outs.ensures.stage
+      rw c.in_ok-obey.ensures.stage stands,
+      rw c.in_ok-obey.ensures.stage
           (sent_more g.W.Output.takes _ _ _ _ _ _ here printed),
     )
 

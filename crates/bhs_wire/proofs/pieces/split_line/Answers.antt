@@ -1,5 +1,5 @@
 use Rattle.std.proofs.Common.{sym, ◌∙◌}
-use Rattle.bhs_wire.proofs.LineFeeds.{no_line_feed, no_line_feed_before, around_line_feed}
+use Rattle.bhs_wire.proofs.LineFeeds.{no_line_feed, no_line_feed_before, around}
 use Rattle.bhs_wire.proofs.pieces.split_line.Goals as goal
 
 pub returns-in_err-end : goal.returns-in_err-end
@@ -9,7 +9,7 @@ returns-in_err-end c = rw c.from_residual.ensures
 pub returns : goal.returns
 returns c =
     let found = sym c.line_end.ensures ∙ c.in_ok-end.was in (
-      around_line_feed c.args.bytes.now c.in_ok-end.end found,
+      around 10 c.args.bytes.now c.in_ok-end.end found,
       no_line_feed_before c.args.bytes.now
           c.in_ok-end.end found,
     )
