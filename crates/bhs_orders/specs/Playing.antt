@@ -17,8 +17,8 @@ StopsPlaying takes text output output' Write = PutsPart takes output text output
 StopsPlaying takes text output output' Memory = (count : ℕ) × Puts takes output text count output'
 StopsPlaying takes text output output' fault = ⊥
 
--- What is printed of a call is added to a text: nothing of a call that named no connection and no match. By `sent` its
--- answer is read. Only contracts of private functions cite it.
+-- What is printed of a call is added to a text: nothing of a call that named no connection and no match. By `sent` the
+-- call's answer gives what is sent. Only contracts of private functions cite it.
 abbrev pub IsPushed : {T : Type 0} (sent : T → List (ℕ × List ℕ)) → Result T RehearsalFault → (text text' : List ℕ)
     → Type 0
 IsPushed sent (Ok outs) text text' = text' ≡ text ++ all_printed (sent outs)

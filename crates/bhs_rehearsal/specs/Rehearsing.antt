@@ -105,8 +105,8 @@ pub record Refuses (old : Rehearsing) (instruction : Instruction) (fault : Rehea
   pub names : fault_of old.stage instruction ≡ Some fault
   pub same : new ≡ old
 
--- What a call makes of a rehearsal; by `sent` its answer is read. One that has failed, or fails now for want of memory,
--- has failed for good.
+-- What a call makes of a rehearsal. By `sent` the call's answer gives what is sent. A rehearsal that has failed, or
+-- fails now for want of memory, has failed for good.
 abbrev pub Follows : {T : Type 0} (sent : T → List (ℕ × List ℕ)) → Rehearsing → Instruction → Result T RehearsalFault
     → Rehearsing → Type 0
 Follows sent old instruction (Ok outs) new = Obeys old instruction (sent outs) new

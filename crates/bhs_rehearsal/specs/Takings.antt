@@ -43,7 +43,7 @@ abbrev pub IsMoved : Rehearsing → Moved → Result (Vec ℕ Global) AllocError
 IsMoved old moved (Ok text) new = (text.items ≡ moved.text) × (new ≡ on_stage old moved.stage)
 IsMoved old moved (Err memory) new = Unit {0}
 
--- and what an instruction makes; by `sent` its answer is read
+-- and what an instruction makes; by `sent` the answer gives what is sent
 abbrev pub IsStepped : {T : Type 0} (sent : T → List (ℕ × List ℕ)) → Rehearsing → Stepped → Result T AllocError
     → Rehearsing → Type 0
 IsStepped sent old stepped (Ok outs) new = (sent outs ≡ stepped.outs) × (new ≡ on_stage old stepped.stage)

@@ -100,7 +100,8 @@ impl Rehearsal {
         reply: &Reply,
     ) -> Result<Option<Out>, Memory>
         requires { conn < length self.old.stage.connections }
-        ensures { IsStepped sent_once self.old (tells_arrival self.old.stage (Some reply.now) (Some conn)) result self.new }
+        ensures { IsStepped sent_once self.old (tells_arrival self.old.stage (Some reply.now) (Some conn))
+            result self.new }
     {
         let mut text = Vec::new(alloc);
         push_reply(alloc, reply, &mut text)?;

@@ -11,7 +11,7 @@ use bhs_model::Reply;
 use bhs_net::Memory;
 use bhs_stream::Output;
 
-// Writes an answer, and the news that it waits for, each by `text`, in which nothing is kept.
+// Writes an answer, and the news that it waits for. Each is put together in `text`.
 pub(crate) fn answer<W: Output, P: Port>(
     text: &mut Vec<u8>,
     writer: &mut W,

@@ -15,7 +15,8 @@ use std::alloc::Global;
 /// The bytes that the line of a reply takes at most besides its whiteboard.
 const ROOM: usize = 128;
 
-// Writes the line of an answer, by a text whose memory is kept for the next. It stops the session where the answer ends it, or a fault does.
+// Writes the line of an answer. It stops the session where the answer ends it, or a fault does. The line is put
+// together in `text`, whose memory is kept for the next.
 pub(crate) fn write_reply<W: Output>(
     text: &mut Vec<u8>,
     writer: &mut W,

@@ -1,7 +1,7 @@
 -- Where a byte stands, and a line feed.
 use Rattle.std.proofs.Common.{◌≡◌, ℕ, ◌+◌, ◌-◌, ◌<◌, ◌≤◌, List, ◌∷◌, ◌++◌, length, get_or, take, drop, Bool, true}
-use Rattle.std.proofs.Common.{◌==◌, false, cond, nat_lt, Some, None, refl, sym, ap, ap₂, ◌∙◌, arith, add-one, length-take}
-use Rattle.std.proofs.Common.{length-drop, drop-cons}
+use Rattle.std.proofs.Common.{◌==◌, false, cond, nat_lt, Some, None, refl, sym, ap, ap₂, ◌∙◌, arith, add-one}
+use Rattle.std.proofs.Common.{length-take, length-drop, drop-cons}
 use Rattle.std.proofs.lemmas.Bool.Decides.{nat_tests}
 use Rattle.std.proofs.lemmas.List.{take-append-drop, take_all, get_or-take}
 use Rattle.std.proofs.lemmas.List.Folds.{list_any_none}
@@ -39,4 +39,5 @@ around mark bytes end found =
     take_all _ _ (omega (arith, length-drop (end + 1) bytes)) in
     let behind : drop end bytes ≡ mark ∷ drop (end + 1) bytes = drop-cons bytes end 0 within
     ∙ ap₂ (λ byte rest. byte ∷ rest) first (ap (λ n. drop n bytes) (sym (add-one end))) in
-    sym (take-append-drop end bytes) ∙ ap (λ more. take end bytes ++ more) (behind ∙ ap (λ rest. mark ∷ rest) (sym whole))
+    sym (take-append-drop end bytes)
+    ∙ ap (λ more. take end bytes ++ more) (behind ∙ ap (λ rest. mark ∷ rest) (sym whole))
