@@ -63,12 +63,9 @@ fn row_of<F: Files, E: Write>(
     ensures fault { IfErr result IsOfFault }
 {
     let name = entry.replay.as_str();
-    let sealed = match_of(alloc, files, name, errors)?;
+    let verdict = judge(&match_of(alloc, files, name, errors)?);
     let Ok(team) = String::from_str(alloc, entry.team.as_str()) else {
         return Err(report(name, Fault::Memory, errors));
     };
-    Ok(Row {
-        team,
-        verdict: judge(&sealed),
-    })
+    Ok(Row { team, verdict })
 }

@@ -1,12 +1,13 @@
 //! The replay of a twin.
 
 ghost use Rattle.std.specs.Prelude.{◌⊎◌};
-ghost use Rattle.bhs_orders.specs.Reports.{HasNoTwin, IsTwinReplay};
+ghost use Rattle.bhs_orders.specs.Reports.{HasNoTwin, IsReplayed, IsTwinReplay};
 ghost use Rattle.bhs_orders.specs.Showing.{PrintsByLine, Reports};
 
 use crate::faults::{Fault, report};
 use crate::line_by_line::passed_on;
 use crate::replays::{match_of, write_match};
+use bhs_match::Sealed;
 use bhs_stream::Output;
 use bhs_view::twin_of;
 use std::alloc::Global;
@@ -27,10 +28,25 @@ pub fn print_twin<F: Files, W: Output, E: Write>(
         ⊎ HasNoTwin node writer.old writer.new result }
 {
     match match_of(alloc, files, name, errors) {
-        Ok(sealed) => match twin_of(alloc, &sealed, node) {
-            Ok(twin) => passed_on(write_match(alloc, &twin, writer), writer, errors),
-            Err(fault) => report("twin", Fault::from(fault), errors),
-        },
+        Ok(sealed) => print_twin_of(alloc, &sealed, node, writer, errors),
         Err(status) => status,
+    }
+}
+
+// Prints the replay of the twin of a match that was read, or reports why there is none.
+fn print_twin_of<W: Output, E: Write>(
+    alloc: Global,
+    sealed: &Sealed,
+    node: u16,
+    writer: &mut W,
+    errors: &mut E,
+) -> u8
+    requires { IsReplayed sealed.now }
+    ensures { Reports (PrintsByLine W.takes W.flushes) (IsTwinReplay node) writer.old writer.new result
+        ⊎ HasNoTwin node writer.old writer.new result }
+{
+    match twin_of(alloc, sealed, node) {
+        Ok(twin) => passed_on(write_match(alloc, &twin, writer), writer, errors),
+        Err(fault) => report("twin", Fault::from(fault), errors),
     }
 }
