@@ -187,11 +187,6 @@ class Gate(unittest.TestCase):
             gate.take_from(crates)
         self.assertEqual(files_of(tree / "crates" / "low" / "out"), ["kept", "rlib/new"])
 
-    def test_a_quarter_of_the_processors_is_left_to_the_background(self) -> None:
-        for processors, left in (({0, 1}, [0, 1]), ({0, 1, 2, 3}, [1, 2, 3]), ({2, 5, 6, 7, 8}, [5, 6, 7, 8])):
-            with unittest.mock.patch.object(gate.os, "sched_getaffinity", lambda _: processors):
-                self.assertEqual(gate.for_proofs(), left)
-
     def edits_after(self, *lines: str):
         """What is tried, and counted, of the edits of two crates after these lines of `rt ci`."""
         crates = pathlib.Path(self.enterContext(tempfile.TemporaryDirectory()))

@@ -1,8 +1,7 @@
 -- Seeing names one after the other, as a loop does.
-use Rattle.std.proofs.Common.{◌≡◌, ℕ, zero, suc, ◌+◌, ◌<◌, ◌≤◌, Bool, true, false, not, cond, ◌&&◌, ◌||◌, List, [], ◌∷◌}
-use Rattle.std.proofs.Common.{◌++◌, length, map, drop, get_or, filter, nat_eq, nat_lt, Bor, Some, None, refl, sym, ap}
-use Rattle.std.proofs.Common.{◌∙◌, append_assoc, arith}
-use Rattle.std.specs.List.{list_any, position, position_or_len}
+use Rattle.std.proofs.Common.{◌≡◌, ℕ, ◌+◌, ◌<◌, ◌≤◌, Bool, true, false, not, cond, ◌&&◌, ◌||◌, List, [], ◌∷◌, ◌++◌}
+use Rattle.std.proofs.Common.{length, map, drop, get_or, filter, nat_eq, Bor, refl, sym, ap, ◌∙◌, append_assoc}
+use Rattle.std.specs.List.{list_any}
 use Rattle.std.specs.Cmp.Lexicographic.{pointwise, bytes_decides}
 use Rattle.std.proofs.lemmas.Bool.{false≢true}
 use Rattle.std.proofs.lemmas.List.{append-nil, map_push, drop_more}
@@ -147,37 +146,3 @@ ends fs i names total le so_far =
     let e : after names (map name_of (drop i fs)) ≡ names =
     ap (λ (l : List Fixture). after names (map name_of l)) (drop_of_length-le fs le) ∙ append-nil names in
     sym e ∙ so_far
-
--- where a name is among names that are borrowed
-place_among : (ks : List (Bor (List ℕ))) (name : List ℕ)
-    → position_or_len (λ (y : Bor (List ℕ)). pointwise nat_eq name y.now) ks ≡ position_or_len (same_name name)
-    (map (λ y. y.now) ks)
-place_among [] name = refl
-place_among (y ∷ ks) name = ap (λ n. cond (not (pointwise nat_eq name y.now)) (1 + n) 0) (place_among ks name)
-
-pub place_named : (ks : List (Bor (List ℕ))) (name : List ℕ) (place : ℕ)
-    → Some place ≡ position (λ (y : Bor (List ℕ)). pointwise nat_eq name y.now) ks
-    → place ≡ position_or_len (same_name name) (map (λ y. y.now) ks)
-place_named ks name place is = go (nat_lt (position_or_len (λ (y : Bor (List ℕ)). pointwise nat_eq name y.now) ks)
-    (length ks)) is ∙ place_among ks name
-  where
-    go : (b : Bool) → Some place ≡ cond b (Some
-        (position_or_len (λ (y : Bor (List ℕ)). pointwise nat_eq name y.now) ks)) None
-        → place ≡ position_or_len (λ (y : Bor (List ℕ)). pointwise nat_eq name y.now) ks
-    go true e = cc
-    go false e = absurd cc
-
--- the name of a match is one of the names of the matches
-pub among_names : (fs : List Fixture) (i : ℕ) (x : Fixture) → i < length fs → x ≡ get_or fs i x
-    → is_among (map name_of fs) x.network ≡ true
-among_names [] i x lt is = absurd (omega arith)
-among_names (f ∷ fs) zero x lt is = by (same_name x.network f.network) refl
-  where
-    by : (b : Bool) → same_name x.network f.network ≡ b → (b || is_among (map name_of fs) x.network) ≡ true
-    by true e = refl
-    by false e = absurd (false≢true (sym e ∙ (bytes_decides x.network f.network).1 (ap name_of is)))
-among_names (f ∷ fs) (suc i) x lt is = by (same_name x.network f.network) (among_names fs i x (omega arith) is)
-  where
-    by : (b : Bool) → is_among (map name_of fs) x.network ≡ true → (b || is_among (map name_of fs) x.network) ≡ true
-    by true e = refl
-    by false e = e

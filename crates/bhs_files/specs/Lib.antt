@@ -4,7 +4,4 @@ pub mod Reading
 pub mod Documents
 pub mod Tournaments
 pub mod Names
-pub mod KeyTable
 pub mod NetworkFiles
-pub mod Lineups
-pub mod Passes

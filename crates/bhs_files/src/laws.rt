@@ -6,7 +6,7 @@ ghost use Rattle.toml.specs.Data.{string};
 ghost use Rattle.hex.specs.Hex.{is_hex_digit};
 ghost use Rattle.bhs_files.specs.Shapes.{seed};
 
-use bhs_lineup::SEED_BYTES;
+use bhs_model::SEED_BYTES;
 
 /// A seed is spelled by twice `SEED_BYTES` hexadecimal digits of either case, and by no other text.
 pub fn a_seed_is_hexadecimal_digits()

@@ -1,12 +1,10 @@
-//! The files of a tournament: networks and matches in TOML, and what they make together.
+//! The files of a tournament: networks and matches in TOML.
 #![tactic(auto)]
 
-mod assembling;
 mod documents;
 mod faults;
 mod file_keys;
 mod fixtures;
-mod key_table;
 pub mod laws;
 mod limits;
 mod network_files;
@@ -15,7 +13,6 @@ mod tables;
 mod tournament_files;
 mod tournaments;
 
-pub use assembling::assemble;
 pub use faults::FileFault;
 pub use file_keys::FileKey;
 pub use fixtures::Fixture;

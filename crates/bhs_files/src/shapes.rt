@@ -5,8 +5,7 @@ ghost use Rattle.bhs_files.specs.Shapes.{number, is_sized, is_network_name, team
 ghost use Rattle.bhs_files.specs.Shapes.{network_name, key, seed, hole, holes, pair, each, ends, keys, matches};
 
 use crate::limits::{MAX_KEY, MAX_KEYS, MAX_MATCHES, MAX_NETWORK_NAME};
-use bhs_lineup::SEED_BYTES;
-use bhs_model::Text;
+use bhs_model::{SEED_BYTES, Text};
 use bhs_net::Memory;
 use bhs_teams::is_team;
 use hex::FromHex;

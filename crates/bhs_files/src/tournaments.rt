@@ -3,7 +3,7 @@ ghost use Rattle.bhs_files.specs.declared.limits.TheConstants.{MAX_MATCHES};
 ghost use Rattle.bhs_files.specs.Names.{first_seen, is_among};
 
 use crate::fixtures::Fixture;
-use bhs_lineup::SEED_BYTES;
+use bhs_model::SEED_BYTES;
 use bhs_net::Memory;
 use indexmap::IndexSet;
 use std::alloc::Global;

@@ -4,9 +4,9 @@ ghost use Rattle.bhs_lineup.specs.Fresh.{AreFresh};
 ghost use Rattle.bhs_host.specs.Hosting.{dealers_of, given_of};
 
 use bhs_deal::Dealer;
-use bhs_lineup::{Lineup, Ready, SEED_BYTES};
+use bhs_lineup::{Lineup, Ready};
 use bhs_lock::Cell;
-use bhs_model::Text;
+use bhs_model::{SEED_BYTES, Text};
 use bhs_net::Memory;
 use bhs_server::Contest;
 use std::alloc::Global;

@@ -3,9 +3,7 @@
 #![tactic(auto)]
 
 mod key_table;
-mod limits;
 mod lineups;
 
 pub use key_table::Keys;
-pub use limits::SEED_BYTES;
 pub use lineups::{Lineup, Ready};

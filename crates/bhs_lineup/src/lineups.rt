@@ -1,8 +1,7 @@
 use crate::key_table::Keys;
-use crate::limits::SEED_BYTES;
 use bhs_deal::Held;
 use bhs_match::Match;
-use bhs_model::Text;
+use bhs_model::{SEED_BYTES, Text};
 
 /// A match that can be played.
 #[derive(Debug, Drop)]

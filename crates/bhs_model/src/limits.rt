@@ -15,3 +15,6 @@ pub const MAX_TEXT: usize = 1_048_576;
 
 /// The most reads of one rehearsal or one session.
 pub const MAX_TURNS: u32 = 16_777_216;
+
+/// How many bytes the seed of a tournament has.
+pub const SEED_BYTES: usize = 32;

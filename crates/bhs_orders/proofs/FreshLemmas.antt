@@ -6,7 +6,7 @@ use Rattle.bhs_lineup.specs.declared.lineups.Ready.{Ready}
 use Rattle.bhs_lineup.specs.declared.lineups.Lineup.{Lineup}
 use Rattle.bhs_lineup.specs.Lineups.{Contest, contest}
 use Rattle.bhs_files.specs.Tournaments.{Plan, Planned}
-use Rattle.bhs_files.specs.Lineups.{all_ready, network_for, ready_of}
+use Rattle.bhs_assembly.specs.Lineups.{all_ready, network_for, ready_of}
 use Rattle.bhs_orders.specs.BuiltIn.{built_in}
 
 each_fresh : (network : Planned → Network) (matches : List Planned)

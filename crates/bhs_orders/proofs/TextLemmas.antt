@@ -13,7 +13,7 @@ use Rattle.bhs_files.specs.Names.{first_seen}
 use Rattle.bhs_files.specs.NetworkFiles.{Listing, listing_in, listing_of, IsNetworkOf, RefusesFile}
 use Rattle.bhs_files.specs.Tournaments as tournaments
 use Rattle.bhs_files.specs.Tournaments.{tournament_in, plan_in, matches_in, match_in}
-use Rattle.bhs_files.specs.Lineups.{contest_in}
+use Rattle.bhs_assembly.specs.Lineups.{contest_in}
 use Rattle.bhs_orders.specs.BuiltIn.{triangle, plan, built_in}
 use Rattle.bhs_orders.specs.declared.built_in_tournament.TheConstants.{NETWORK, TOURNAMENT}
 use Rattle.bhs_orders.proofs.TriangleLemmas.{links, no_fault, is_triangle}

@@ -2,7 +2,7 @@
 use Rattle.std.specs.Prelude.{[], ◌∷◌, codes, replicate}
 use Rattle.bhs_net.specs.Network.{Network}
 use Rattle.bhs_files.specs.Tournaments.{Planned, Plan}
-use Rattle.bhs_files.specs.Lineups.{ready_of}
+use Rattle.bhs_assembly.specs.Lineups.{ready_of}
 use Rattle.bhs_lineup.specs.Lineups.{Contest}
 
 -- three nodes, each joined to the others: per node the far ends of its ports

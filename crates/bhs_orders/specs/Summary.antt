@@ -6,7 +6,7 @@ use Rattle.bhs_lineup.specs.declared.lineups.Ready.{Ready}
 use Rattle.bhs_lineup.specs.declared.lineups.Lineup.{Lineup}
 use Rattle.bhs_files.specs.NetworkFiles.{listing_in, IsNetworkOf}
 use Rattle.bhs_files.specs.Tournaments.{Plan, tournament_in}
-use Rattle.bhs_files.specs.Lineups.{contest_in}
+use Rattle.bhs_assembly.specs.Lineups.{contest_in}
 use Rattle.bhs_lineup.specs.Lineups.{contest}
 
 -- how many links there are: each has two ports

@@ -5,7 +5,8 @@ ghost use Rattle.bhs_files.specs.Tournaments.{plan};
 ghost use Rattle.bhs_lineup.specs.Fresh.{AreFresh};
 ghost use Rattle.bhs_orders.specs.BuiltIn as texts;
 
-use bhs_files::{FileFault, Tournament, assemble, read_network, read_tournament};
+use bhs_assembly::assemble;
+use bhs_files::{FileFault, Tournament, read_network, read_tournament};
 use bhs_lineup::Lineup;
 use bhs_net::{Memory, Net};
 use std::alloc::Global;

@@ -131,54 +131,57 @@ fn a_replay_is_read_and_written_again(rt: HostRuntime) -> Result<(), Fail> {
         Ok(sealed) => sealed,
         Err(_) => sealed(alloc, PLAYED)?,
     };
-    let text = written(alloc, &sealed)?;
+    is_written(&rt, alloc, &sealed)
+}
+
+fn is_written<R: Abort>(rt: &R, alloc: Global, sealed: &Sealed) -> Result<(), Fail> {
+    let text = written(alloc, sealed)?;
     assert_eq!(rt; text.as_slice(), PLAYED.as_bytes());
     Ok(())
 }
 
 fn cut(alloc: Global, sealed: &Sealed) -> Result<Vec<u32>, Memory> {
-    match cut_of(alloc, sealed, 0) {
-        Ok(cut) => Ok(cut),
-        Err(_) => cut_of(alloc, sealed, 0),
-    }
+    cut_of(alloc, sealed, 0).or_else(|_| cut_of(alloc, sealed, 0))
 }
 
-#[test]
-fn a_past_is_cut_out_again(rt: HostRuntime) -> Result<(), Fail> {
-    let sealed = sealed(rt.alloc(), PLAYED)?;
-    let cut = cut(rt.alloc(), &sealed)?;
+fn is_cut_out<R: Abort>(rt: &R, alloc: Global, sealed: &Sealed) -> Result<(), Fail> {
+    let cut = cut(alloc, sealed)?;
     assert_eq!(rt; cut.as_slice(), [0, 5].as_slice());
     Ok(())
 }
 
-/// How many events the match of some of the events has.
-fn events_left(alloc: Global, sealed: &Sealed) -> Result<usize, RestrictFault> {
-    match restrict(alloc, sealed, &[0, 5]) {
-        Ok(part) => Ok(part.log().len()),
-        Err(_) => Ok(restrict(alloc, sealed, &[0, 5])?.log().len()),
-    }
+#[test]
+fn a_past_is_cut_out_again(rt: HostRuntime) -> Result<(), Fail> {
+    is_cut_out(&rt, rt.alloc(), &sealed(rt.alloc(), PLAYED)?)
 }
 
-#[test]
-fn a_match_is_restricted_again(rt: HostRuntime) -> Result<(), Fail> {
-    let sealed = sealed(rt.alloc(), PLAYED)?;
-    let left = events_left(rt.alloc(), &sealed)?;
+fn part(alloc: Global, sealed: &Sealed) -> Result<Sealed, RestrictFault> {
+    restrict(alloc, sealed, &[0, 5]).or_else(|_| restrict(alloc, sealed, &[0, 5]))
+}
+
+fn is_restricted<R: Abort>(rt: &R, alloc: Global, sealed: &Sealed) -> Result<(), Fail> {
+    let left = part(alloc, sealed)?.log().len();
     assert_eq!(rt; left, 3);
     Ok(())
 }
 
-/// Whether the black hole of the twin is node 1 alone.
-fn is_moved(alloc: Global, sealed: &Sealed) -> Result<bool, TwinFault> {
-    match twin_of(alloc, sealed, 1) {
-        Ok(twin) => Ok(twin.setup().holes.nodes() == [1].as_slice()),
-        Err(_) => Ok(twin_of(alloc, sealed, 1)?.setup().holes.nodes() == [1].as_slice()),
-    }
+#[test]
+fn a_match_is_restricted_again(rt: HostRuntime) -> Result<(), Fail> {
+    is_restricted(&rt, rt.alloc(), &sealed(rt.alloc(), PLAYED)?)
+}
+
+fn twin(alloc: Global, sealed: &Sealed) -> Result<Sealed, TwinFault> {
+    twin_of(alloc, sealed, 1).or_else(|_| twin_of(alloc, sealed, 1))
+}
+
+/// The black hole of the twin is node 1 alone.
+fn has_a_twin<R: Abort>(rt: &R, alloc: Global, sealed: &Sealed) -> Result<(), Fail> {
+    let is_moved = twin(alloc, sealed)?.setup().holes.nodes() == [1].as_slice();
+    assert!(rt; is_moved);
+    Ok(())
 }
 
 #[test]
 fn a_twin_is_made_again(rt: HostRuntime) -> Result<(), Fail> {
-    let sealed = sealed(rt.alloc(), ACCUSED)?;
-    let is_moved = is_moved(rt.alloc(), &sealed)?;
-    assert!(rt; is_moved);
-    Ok(())
+    has_a_twin(&rt, rt.alloc(), &sealed(rt.alloc(), ACCUSED)?)
 }

@@ -37,16 +37,25 @@ fn play<R: Abort>(rt: &R, game: &mut Match, events: Vec<Event>) -> Result<(), Fa
 }
 
 /// The first request after the match is made is the one of the last lines.
+fn play_and_ask<R: Abort>(
+    rt: &R,
+    alloc: Global,
+    game: &mut Match,
+    events: Vec<Event>,
+) -> Result<(), Fail> {
+    play(rt, game, events)?;
+    match Vec::<u8>::with_capacity(alloc, 1) {
+        Ok(_) => Ok(()),
+        Err(_) => Err(Fail::from("the request for memory after the play was refused")),
+    }
+}
+
 #[test]
 fn playing_takes_no_memory(rt: HostRuntime) -> Result<(), Fail> {
     let alloc = rt.alloc();
     let events = events(alloc)?;
-    let Some((mut game, _)) = triangle(alloc) else {
-        return Err(Fail::from("memory"));
-    };
-    play(&rt, &mut game, events)?;
-    match Vec::<u8>::with_capacity(alloc, 1) {
-        Ok(_) => Ok(()),
-        Err(_) => Err(Fail::from("the request for memory after the play was refused")),
+    match triangle(alloc) {
+        Some((mut game, _)) => play_and_ask(&rt, alloc, &mut game, events),
+        None => Err(Fail::from("memory")),
     }
 }

@@ -4,7 +4,7 @@ use Rattle.std.specs.Result.{result_ok}
 use Rattle.hex.specs.declared.error.FromHexError.{FromHexError}
 use Rattle.hex.specs.Hex.{decode_sized}
 use Rattle.hex.proofs.HexLemmas.{IsOk-decode_sized}
-use Rattle.bhs_lineup.specs.declared.limits.TheConstants.{SEED_BYTES}
+use Rattle.bhs_model.specs.declared.limits.TheConstants.{SEED_BYTES}
 use Rattle.bhs_files.proofs.laws.a_seed_is_hexadecimal_digits.Goals as goal
 
 some_where_ok : (r : Result (List ℕ) FromHexError) → is_some (result_ok r) ≡ is_ok r

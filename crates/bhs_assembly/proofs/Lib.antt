@@ -1,0 +1,4 @@
+pub mod KeyTableLemmas
+pub mod KeysFind
+pub mod Passing
+pub mod PlaceLemmas

@@ -1,0 +1,3 @@
+pub mod KeyTable
+pub mod Lineups
+pub mod Passes
