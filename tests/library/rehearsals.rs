@@ -15,7 +15,7 @@ const GONE: &[u8] = b"{\"ok\":\"gone\"}\n";
 
 const COME: &[u8] = b"{\"board\":\"\",\"from\":0,\"ok\":\"here\",\"ports\":2}\n";
 
-fn rehearsal(alloc: Global) -> Result<Rehearsal, Fail> {
+fn rehearsal(alloc: Global) -> Result<Rehearsal<'static>, Fail> {
     Ok(Rehearsal::new(alloc, built_in(alloc)?, 256)?)
 }
 

@@ -1,6 +1,8 @@
 -- A script whose answers go out piece by piece, and what a rehearsal does, of what its playing does.
 use Rattle.std.proofs.Common.{◌≡◌, inr, OnOk, IfOk, IfErr, IsErrAnd, ℕ, List, ◌∷◌, ◌++◌, refl, sym, subst, Result, Ok}
 use Rattle.std.proofs.Common.{Err, None, Some, Bool, true, false, nat_lt, length, if◌then◌else◌, ◌∙◌, ap, append-nil}
+use Rattle.std.proofs.Common.{◌+◌, ◌<◌, map, drop, get_or}
+use Rattle.std.proofs.lemmas.List.{drop_more}
 use Rattle.bhs_stream.specs.Streams.{Chunk, Taken}
 use Rattle.bhs_stream.specs.Sending.{PutsAll}
 use Rattle.bhs_stream.proofs.PutsLemmas.{IsSentUpTo, sent_part, sent_some}
@@ -10,7 +12,9 @@ use Rattle.bhs_rehearsal.specs.Stages.{Stage, Instruction, Feeds, EndsInput, Dra
 use Rattle.bhs_rehearsal.specs.Stages.{stands_after}
 use Rattle.bhs_rehearsal.specs.declared.faults.RehearsalFault.{RehearsalFault}
 use Rattle.bhs_rehearsal.specs.declared.faults.RehearsalFault.TheVariants as rehearsals
+use Rattle.bhs_script.specs.Instructions.{seen}
 use Rattle.bhs_script.specs.Transcript.{all_printed, transcript}
+use Rattle.bhs_script.specs.declared.instructions.Instruction.{Instruction as InstructionOfCode}
 use Rattle.bhs_orders.specs.Playing.{IsPushed, StopsPlaying}
 use Rattle.bhs_orders.specs.Rehearsal.{Means, Plays, Stops}
 use Rattle.bhs_orders.specs.declared.faults.Fault.{Fault}
@@ -72,6 +76,12 @@ module _ {T : Type 0} (sent : T → List (ℕ × List ℕ)) (old new : Rehearsin
   prints_call (Err rehearsals.Conn) follows pushed = of_refused rehearsals.Conn follows pushed
   prints_call (Err rehearsals.NoGame) follows pushed = of_refused rehearsals.NoGame follows pushed
   prints_call (Err rehearsals.Memory) follows pushed = absurd pushed
+
+-- the instructions from a place on are the one there and those behind it
+pub one_by_one : (script : List InstructionOfCode) (i : ℕ) (one : InstructionOfCode) → i < length script
+    → one ≡ get_or script i one → map seen (drop i script) ≡ seen one ∷ map seen (drop (i + 1) script)
+one_by_one script i one within is = ap (map seen)
+    (drop_more script i one within ∙ ap (λ (y : InstructionOfCode). y ∷ drop (i + 1) script) (sym is))
 
 -- what the first instruction of a script prints, and what the others print after it
 pub transcript-turn : (stage : Stage) (script : List Instruction) (one : Instruction) (others : List Instruction)

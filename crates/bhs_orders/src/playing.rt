@@ -15,17 +15,17 @@ use bhs_stream::{Output, send};
 use std::alloc::Global;
 
 /// Plays a script, and prints what each instruction sends before the next. Gives the matches back.
-pub fn play<W: Output>(
+pub fn play<'s, W: Output>(
     alloc: Global,
-    mut rehearsal: Rehearsal,
-    script: Vec<Instruction<'_>>,
+    mut rehearsal: Rehearsal<'s>,
+    script: &'s [Instruction<'s>],
     writer: &mut W,
 ) -> Result<Vec<Ready>, Fault>
     ensures printed { OnOk result (PutsAll W.takes writer.old
-        (transcript rehearsal.stage (map seen script.entry.items)) writer.new) }
+        (transcript rehearsal.entry.stage (map seen script.now)) writer.new) }
     ensures played { IfOk result (λ ready. map game_of ready.items
-        ≡ (stands_after rehearsal.stage (map seen script.entry.items)).games) }
-    ensures stopped { IfErr result (StopsPlaying W.takes (transcript rehearsal.stage (map seen script.entry.items))
+        ≡ (stands_after rehearsal.entry.stage (map seen script.now)).games) }
+    ensures stopped { IfErr result (StopsPlaying W.takes (transcript rehearsal.entry.stage (map seen script.now))
         writer.old writer.new) }
 {
     let mut text = Vec::new(alloc);
@@ -39,23 +39,23 @@ pub fn play<W: Output>(
 
 // Carries out an instruction, and adds what is printed of it. One for a connection or a match that is not there does
 // nothing.
-fn obey(
-    rehearsal: &mut Rehearsal,
-    instruction: Instruction<'_>,
+fn obey<'s>(
+    rehearsal: &mut Rehearsal<'s>,
+    instruction: &'s Instruction<'s>,
     text: &mut Vec<u8>,
 ) -> Result<(), Memory>
     ensures text { OnOk result (text.new.items ≡ text.old.items
-        ++ all_printed (step rehearsal.old.stage (seen instruction.entry)).outs) }
-    ensures stage { OnOk result (rehearsal.new.stage ≡ (step rehearsal.old.stage (seen instruction.entry)).stage) }
+        ++ all_printed (step rehearsal.old.stage (seen instruction.now)).outs) }
+    ensures stage { OnOk result (rehearsal.new.stage ≡ (step rehearsal.old.stage (seen instruction.now)).stage) }
 {
     match instruction {
         Instruction::Feed { conn, bytes } => push_once(
             text,
-            rehearsal.feed(conn, bytes.as_slice()),
+            rehearsal.feed(*conn, bytes.as_slice()),
         ),
-        Instruction::End { conn } => push_once(text, rehearsal.end(conn)),
-        Instruction::Draw { game, word } => push_once(text, rehearsal.draw(game, word)),
-        Instruction::Close { game } => push_all(text, rehearsal.close(game)),
+        Instruction::End { conn } => push_once(text, rehearsal.end(*conn)),
+        Instruction::Draw { game, word } => push_once(text, rehearsal.draw(*game, *word)),
+        Instruction::Close { game } => push_all(text, rehearsal.close(*game)),
     }
 }
 

@@ -31,5 +31,5 @@ pub fn rehearse<R: Input, W: Output>(
     let script = read_text(alloc, reader, MAX_TEXT, turns)?;
     let instructions = instructions_in(alloc, lineup.ready.len(), &script)?;
     let rehearsal = Rehearsal::new(alloc, lineup, CONNECTIONS)?;
-    play(alloc, rehearsal, instructions, writer)
+    play(alloc, rehearsal, &instructions, writer)
 }

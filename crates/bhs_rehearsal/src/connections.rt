@@ -17,14 +17,14 @@ use std::marker::Model;
 // A connection of a rehearsal: the numbers of the match and of the agent that it plays, its unfinished line,
 // the items that were not taken, and whether its input has ended.
 #[derive(Drop)]
-pub(crate) struct Connection {
+pub(crate) struct Connection<'s> {
     seat: Option<(u32, u16)>,
     lines: Lines,
-    queue: VecDeque<Item>,
+    queue: VecDeque<Item<'s>>,
     ended: bool,
 }
 
-impl Model for Connection {
+impl<'s> Model for Connection<'s> {
     ghost use Rattle.std.specs.Prelude.{map};
     ghost use Rattle.bhs_rehearsal.specs.Connections.{Connection};
     ghost use Rattle.bhs_rehearsal.specs.Rehearsing.{seen_item};
@@ -39,9 +39,9 @@ impl Model for Connection {
     } };
 }
 
-impl Connection {
+impl<'s> Connection<'s> {
     // It was fed nothing. Takes no memory.
-    pub(crate) fn new(alloc: Global) -> Connection
+    pub(crate) fn new(alloc: Global) -> Connection<'s>
         ensures { result ≡ unfed }
     {
         Connection {
@@ -65,7 +65,7 @@ impl Connection {
     }
 
     // The first item that was not taken.
-    pub(crate) fn first(&self) -> Option<&Item>
+    pub(crate) fn first(&self) -> Option<&Item<'s>>
         ensures { option_map (λ item. seen_item item.now) result ≡ slice_get self.now.queue 0 }
     {
         self.queue.front()
@@ -92,7 +92,7 @@ impl Connection {
     }
 
     // Takes the next bytes of its input, and queues the lines that end in them.
-    pub(crate) fn receive(&mut self, bytes: &[u8]) -> Result<(), Memory>
+    pub(crate) fn receive(&mut self, bytes: &'s [u8]) -> Result<(), Memory>
         ensures queued { OnOk result (self.new ≡ record self.old {
           unfinished = left_by self.old.unfinished bytes.now;
           queue = self.old.queue ++ map Says (found_in self.old.unfinished bytes.now);
@@ -155,9 +155,9 @@ impl Connection {
     }
 }
 
-fn queue_lines(queue: &mut VecDeque<Item>, found: Vec<Raw>) -> Result<(), Memory>
+fn queue_lines<'s>(queue: &mut VecDeque<Item<'s>>, found: Vec<Raw<'s>>) -> Result<(), Memory>
     ensures { OnOk result (map seen_item queue.new.items ≡ map seen_item queue.old.items
-        ++ map Says (map seen found.items)) }
+        ++ map Says (map seen found.entry.items)) }
 {
     for line in found {
         queue.push_back(Item::Says(line))?;

@@ -28,7 +28,7 @@ pub(crate) fn first_entry(
     line_reader: &mut LineReader,
     games: usize,
     keys: &Keys,
-    connections: &[Connection],
+    connections: &[Connection<'_>],
     conn: usize,
 ) -> Result<Entry, Memory>
     requires { conn < length connections.now }
@@ -46,7 +46,7 @@ pub(crate) fn first_entry(
 }
 
 // What the first line comes to.
-fn entry_by(games: usize, keys: &Keys, connections: &[Connection], first: First) -> Entry
+fn entry_by(games: usize, keys: &Keys, connections: &[Connection<'_>], first: First) -> Entry
     ensures { (stage : Stage) → length stage.games ≡ games → stage.keys ≡ keys.now → stage.connections ≡ connections.now
         → seen_entry result ≡ entry_by stage first }
 {
@@ -57,7 +57,7 @@ fn entry_by(games: usize, keys: &Keys, connections: &[Connection], first: First)
 }
 
 // Whom a key lets in that belongs to this seat.
-fn let_in(games: usize, connections: &[Connection], seat: Option<(u32, u16)>) -> Entry
+fn let_in(games: usize, connections: &[Connection<'_>], seat: Option<(u32, u16)>) -> Entry
     ensures { (stage : Stage) → length stage.games ≡ games → stage.connections ≡ connections.now
         → seen_entry result ≡ let_in stage seat }
 {
@@ -73,7 +73,7 @@ fn let_in(games: usize, connections: &[Connection], seat: Option<(u32, u16)>) ->
     }
 }
 
-fn is_taken(connections: &[Connection], seat: (u32, u16)) -> bool
+fn is_taken(connections: &[Connection<'_>], seat: (u32, u16)) -> bool
     ensures { result ≡ list_any (has_seat seat) connections.now }
 {
     connections

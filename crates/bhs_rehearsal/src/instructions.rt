@@ -24,9 +24,9 @@ use bhs_net::Memory;
 use bhs_session::push_reply;
 use std::alloc::Global;
 
-impl Rehearsal {
+impl<'s> Rehearsal<'s> {
     // Bytes are fed to a connection.
-    pub(crate) fn fed(&mut self, conn: u16, bytes: &[u8]) -> Result<Option<Out>, Memory>
+    pub(crate) fn fed(&mut self, conn: u16, bytes: &'s [u8]) -> Result<Option<Out>, Memory>
         requires { conn < length self.old.stage.connections }
         ensures { IsStepped sent_once self.old (feeds self.old.stage conn bytes.now) result self.new }
     {
@@ -116,10 +116,11 @@ impl Rehearsal {
         ensures { IsStepped sent_all self.old (closes self.old.stage game) result self.new }
     {
         let alloc = *self.connections.allocator();
-        if self.game(game).game.closed() {
+        let is_closed = self.game(game).game.closed();
+        if is_closed {
             return Ok(Vec::new(alloc));
         }
-        let outs = told_over(alloc, game, self.game(game), &self.connections)?;
+        let outs = self.tells_over(alloc, game)?;
         self.shuts_waiting(alloc, game);
         self.plays_close(game);
         Ok(outs)
@@ -131,6 +132,15 @@ impl Rehearsal {
         ensures { game_of result.now ≡ game_at self.now.stage game }
     {
         &self.ready[game as usize]
+    }
+
+    // What each connection is sent that waits in a match when it ends.
+    fn tells_over(&self, alloc: Global, game: u32) -> Result<Vec<Out>, Memory>
+        requires { game < length self.now.stage.games }
+        ensures { IfOk result (λ outs. map seen_out outs.items
+            ≡ told_over game (game_at self.now.stage game) 0 self.now.stage.connections) }
+    {
+        told_over(alloc, game, self.game(game), &self.connections)
     }
 
     // Nothing more is taken of the connections that wait in a match.
@@ -200,7 +210,7 @@ fn reply_at(game: &Match, place: usize) -> Result<Option<Reply>, Memory>
     Ok(Some(reply))
 }
 
-fn holder_place(connections: &[Connection], seat: (u32, u16)) -> Option<usize>
+fn holder_place(connections: &[Connection<'_>], seat: (u32, u16)) -> Option<usize>
     ensures { result ≡ position (has_seat seat) connections.now }
 {
     connections
@@ -213,7 +223,7 @@ fn told_over(
     alloc: Global,
     number: u32,
     ready: &Ready,
-    connections: &[Connection],
+    connections: &[Connection<'_>],
 ) -> Result<Vec<Out>, Memory>
     requires { length connections.now < 2 ^ 16 }
     ensures { IfOk result (λ outs. map seen_out outs.items ≡ told_over number (game_of ready.now) 0 connections.now) }
@@ -236,7 +246,7 @@ fn over_to(alloc: Global, conn: u16) -> Result<Out, Memory>
 }
 
 // Nothing more is taken of the connections that wait in a match.
-fn shut_waiting(alloc: Global, number: u32, ready: &Ready, connections: &mut [Connection])
+fn shut_waiting(alloc: Global, number: u32, ready: &Ready, connections: &mut [Connection<'_>])
     ensures { connections.new ≡ shut_in number (game_of ready.now) connections.old }
 {
     for connection in connections.iter_mut() {

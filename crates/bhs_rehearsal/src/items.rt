@@ -2,9 +2,9 @@ use bhs_wire::Raw;
 
 // What a connection's input brings.
 #[derive(Drop)]
-pub(crate) enum Item {
+pub(crate) enum Item<'s> {
     // A line.
-    Says(Raw),
+    Says(Raw<'s>),
     // Its end.
     Ends,
 }

@@ -12,7 +12,7 @@ use bhs_net::Memory;
 use bhs_session::denial_text;
 use std::alloc::Global;
 
-impl Rehearsal {
+impl<'s> Rehearsal<'s> {
     // A connection takes of its items what it can, and is sent the text.
     pub(crate) fn moves(&mut self, alloc: Global, conn: u16) -> Result<Vec<u8>, Memory>
         requires { conn < length self.old.stage.connections }

@@ -20,18 +20,20 @@ use std::marker::Model;
 /// and then its end are taken in order, while its agent is not on a link. After its end nothing of it is looked
 /// at. Contracts see the stage, which is the matches, the keys and the connections.
 ///
+/// What connections are fed is borrowed, and not copied, while lines of it wait.
+///
 /// Once memory ran out in a call, the rehearsal has failed: this call and each later one are answered `Memory`.
 /// A call that is answered another fault has changed nothing.
 #[derive(Drop)]
-pub struct Rehearsal {
+pub struct Rehearsal<'s> {
     pub(crate) ready: Vec<Ready>,
     pub(crate) keys: Keys,
-    pub(crate) connections: Vec<Connection>,
+    pub(crate) connections: Vec<Connection<'s>>,
     pub(crate) line_reader: LineReader,
     pub(crate) has_failed: bool,
 }
 
-impl Model for Rehearsal {
+impl<'s> Model for Rehearsal<'s> {
     ghost use Rattle.std.specs.Prelude.{◌<◌, ◌^◌, length, map};
     ghost use Rattle.std.specs.List.{All};
     ghost use Rattle.bhs_rehearsal.specs.Rehearsing.{Rehearsing, stage_of, team_of, IsSeated};
@@ -49,10 +51,10 @@ impl Model for Rehearsal {
         × All (λ connection. IsSeated (length one.ready.items) connection.seat) one.connections.items };
 }
 
-impl Rehearsal {
+impl<'s> Rehearsal<'s> {
     /// A rehearsal of these matches, with so many connections that were fed nothing. A key of a match that is not
     /// in the list lets nobody in.
-    pub fn new(alloc: Global, lineup: Lineup, conns: u16) -> Result<Rehearsal, Memory>
+    pub fn new(alloc: Global, lineup: Lineup, conns: u16) -> Result<Rehearsal<'s>, Memory>
         ensures { IfOk result (λ rehearsal. rehearsal ≡ record {
           stage = first_stage lineup conns;
           teams = map team_of lineup.ready.items;
@@ -71,7 +73,7 @@ impl Rehearsal {
     }
 
     /// Feeds bytes to a connection. `Conn` where there is no such connection.
-    pub fn feed(&mut self, conn: u16, bytes: &[u8]) -> Result<Option<Out>, RehearsalFault>
+    pub fn feed(&mut self, conn: u16, bytes: &'s [u8]) -> Result<Option<Out>, RehearsalFault>
         ensures { Follows sent_once self.old (Feeds conn bytes.now) result self.new }
     {
         if self.has_failed {
@@ -135,8 +137,8 @@ impl Rehearsal {
 
     /// The matches, given back.
     pub fn into_ready(self) -> Vec<Ready>
-        ensures games { map game_of result.items ≡ self.stage.games }
-        ensures teams { map team_of result.items ≡ self.teams }
+        ensures games { map game_of result.items ≡ self.entry.stage.games }
+        ensures teams { map team_of result.items ≡ self.entry.teams }
     {
         self.ready
     }
@@ -155,7 +157,7 @@ impl Rehearsal {
     }
 }
 
-fn no_connections(alloc: Global, count: u16) -> Result<Vec<Connection>, Memory>
+fn no_connections<'s>(alloc: Global, count: u16) -> Result<Vec<Connection<'s>>, Memory>
     ensures { IfOk result (λ connections. connections.items ≡ replicate count unfed) }
 {
     let mut connections = Vec::with_capacity(alloc, usize::from(count))?;

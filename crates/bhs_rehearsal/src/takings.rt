@@ -24,7 +24,7 @@ pub(crate) fn take_items(
     line_reader: &mut LineReader,
     ready: &mut Ready,
     agent: u16,
-    queue: &mut VecDeque<Item>,
+    queue: &mut VecDeque<Item<'_>>,
     text: &mut Vec<u8>,
 ) -> Result<bool, Memory>
     ensures taken { IfOk result (λ is_done. behind text.old.items
@@ -46,7 +46,7 @@ pub(crate) fn take_items(
 }
 
 // The next item, unless the agent is away.
-fn next_item(ready: &Ready, agent: u16, queue: &mut VecDeque<Item>) -> Option<Item>
+fn next_item<'s>(ready: &Ready, agent: u16, queue: &mut VecDeque<Item<'s>>) -> Option<Item<'s>>
     ensures { MatchOption result
         ((queue.new.items ≡ queue.old.items)
         × (taken (game_of ready.now) agent (map seen_item queue.old.items)
@@ -65,11 +65,12 @@ fn take_item(
     line_reader: &mut LineReader,
     ready: &mut Ready,
     agent: u16,
-    item: Item,
+    item: Item<'_>,
     text: &mut Vec<u8>,
 ) -> Result<bool, Memory>
     ensures taken { (others : List ItemData) → is_away (game_of ready.old) agent ≡ false
-        → IfOk result (λ is_done. behind text.old.items (taken (game_of ready.old) agent (seen_item item ∷ others))
+        → IfOk result (λ is_done.
+        behind text.old.items (taken (game_of ready.old) agent (seen_item item.entry ∷ others))
         ≡ goes_on is_done (game_of ready.new) agent others text.new.items) }
     ensures team { team_of ready.new ≡ team_of ready.old }
 {

@@ -22,7 +22,7 @@ pub(crate) fn take_lines<W: Output, P: Port>(
     writer: &mut W,
     port: &mut P,
     has_entered: bool,
-    found: &[Raw],
+    found: &[Raw<'_>],
 ) -> Result<bool, Stop>
     ensures { (p : Point W P) → lines p.read ≡ p.taken ++ map seen found.now
         → Ends W.takes P.calls
@@ -44,7 +44,7 @@ fn take_line<W: Output, P: Port>(
     writer: &mut W,
     port: &mut P,
     has_entered: bool,
-    line: &Raw,
+    line: &Raw<'_>,
 ) -> Result<(), Stop>
     ensures { (p : Point W P) → IsNext p.read p.taken (seen line.now)
         → Ends W.takes P.calls

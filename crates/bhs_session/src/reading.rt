@@ -7,11 +7,11 @@ use bhs_stream::{BUFFER, Input};
 use bhs_wire::{Lines, Raw};
 
 // Reads once, and gives the lines that end in what came.
-pub(crate) fn read_lines<I: Input>(
+pub(crate) fn read_lines<'p, I: Input>(
     reader: &mut I,
     lines: &mut Lines,
-    buffer: &mut [u8; BUFFER],
-) -> Result<Vec<Raw>, Ended>
+    buffer: &'p mut [u8; BUFFER],
+) -> Result<Vec<Raw<'p>>, Ended>
     ensures brings { (stream : List ℕ) → lines.old ≡ held_of stream
         → IfOk result (λ found. Brings I.gives reader.old reader.new stream (map seen found.items) lines.new) }
     ensures err { IfErr result (BringsNone I.gives reader.old reader.new) }

@@ -1,5 +1,6 @@
 -- A client's bytes, cut into lines.
 use Rattle.std.specs.Prelude.{ℕ, Bool, List, [], ◌∷◌, ◌++◌, length, ◌==◌, nat_lt, if◌then◌else◌, Option, Some, None}
+use Rattle.std.specs.Cow.{cow_slice_items}
 use Rattle.bhs_model.specs.declared.commands.Command.TheVariants.{Bad}
 use Rattle.bhs_wire.specs.First.{first_of}
 use Rattle.bhs_wire.specs.LineKind.{line_kind}
@@ -18,7 +19,7 @@ pub data Line : Type 0 where
 
 -- a line of the code, without where it lies in memory
 abbrev pub seen : Raw → Line
-seen (raw.Whole bytes) = Whole bytes.items
+seen (raw.Whole bytes) = Whole (cow_slice_items bytes)
 seen raw.Over = Over
 
 -- what a line of this kind gives: a blank one nothing

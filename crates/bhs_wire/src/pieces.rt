@@ -2,6 +2,7 @@ ghost use Rattle.std.specs.Prelude.{◌≡◌, ◌+◌, ◌≤◌, ◌∷◌, �
 ghost use Rattle.std.specs.Prelude.{MatchOption, IsOk, IfOk, OnOk, OnErr};
 ghost use Rattle.std.specs.List.{list_any, position};
 ghost use Rattle.std.specs.Option.{ForSome};
+ghost use Rattle.std.specs.Cow.{cow_slice_items};
 ghost use Rattle.bhs_wire.specs.Lines.{seen, given, is_line_feed, kept, lines, rest, ended_by};
 
 use crate::commands::{First, LineReader};
@@ -9,17 +10,19 @@ use crate::kinds::is_blank;
 use bhs_model::{Command, MAX_LINE};
 use bhs_net::Memory;
 use std::alloc::Global;
+use std::borrow::CowSlice;
 
 /// A line that a client sent, without its line feed.
-#[derive(Clone, Debug, PartialEq, Eq, Drop)]
-pub enum Raw {
-    /// The bytes of a line that is neither blank nor too long.
-    Whole(Vec<u8>),
+#[derive(Drop)]
+pub enum Raw<'p> {
+    /// The bytes of a line that is neither blank nor too long. They are those of the piece that it ended in, where it
+    /// began there too.
+    Whole(CowSlice<'p, u8>),
     /// A line of more than `MAX_LINE` bytes.
     Over,
 }
 
-impl Raw {
+impl Raw<'_> {
     ghost use Rattle.bhs_wire.specs.Lines.{said_by};
 
     /// What the client means by the line.
@@ -29,7 +32,7 @@ impl Raw {
         ensures unread { self.now ≡ Raw.Over → IsOk result }
     {
         match self {
-            Raw::Whole(line) => reader.command_of(line),
+            Raw::Whole(line) => reader.command_of(line.as_slice()),
             Raw::Over => Ok(First::Tell(Command::Bad)),
         }
     }
@@ -51,11 +54,11 @@ fn line_end(bytes: &[u8]) -> Option<usize>
 }
 
 // Adds what the line gives that was held in part, and ends here.
-pub(crate) fn push_first(
+pub(crate) fn push_first<'p>(
     alloc: Global,
-    found: &mut Vec<Raw>,
+    found: &mut Vec<Raw<'p>>,
     held: &Option<Vec<u8>>,
-    end: &[u8],
+    end: &'p [u8],
 ) -> Result<(), Memory>
     requires { ForSome held.now (λ line. length line.items ≤ MAX_LINE) }
     ensures { OnOk result (map seen found.new.items ≡ map seen found.old.items
@@ -69,11 +72,11 @@ pub(crate) fn push_first(
 }
 
 // Adds the lines that end in the bytes, and gives what stands after the last line feed.
-pub(crate) fn push_lines<'b>(
+pub(crate) fn push_lines<'p>(
     alloc: Global,
-    found: &mut Vec<Raw>,
-    bytes: &'b [u8],
-) -> Result<&'b [u8], Memory>
+    found: &mut Vec<Raw<'p>>,
+    bytes: &'p [u8],
+) -> Result<&'p [u8], Memory>
     ensures found { OnOk result (map seen found.new.items ≡ map seen found.old.items ++ lines bytes.now) }
     ensures rest { IfOk result (λ after. after.now ≡ rest bytes.now) }
 {
@@ -86,7 +89,12 @@ pub(crate) fn push_lines<'b>(
 }
 
 // Adds what a line gives that lies in two parts. One that is too long is not put together.
-fn push_line(alloc: Global, found: &mut Vec<Raw>, front: &[u8], end: &[u8]) -> Result<(), Memory>
+fn push_line<'p>(
+    alloc: Global,
+    found: &mut Vec<Raw<'p>>,
+    front: &[u8],
+    end: &'p [u8],
+) -> Result<(), Memory>
     requires { length front.now ≤ MAX_LINE }
     ensures { OnOk result (map seen found.new.items ≡ map seen found.old.items ++ given (front.now ++ end.now)) }
 {
@@ -102,14 +110,18 @@ fn push_line(alloc: Global, found: &mut Vec<Raw>, front: &[u8], end: &[u8]) -> R
     Ok(())
 }
 
-fn joined(alloc: Global, front: &[u8], end: &[u8]) -> Result<Vec<u8>, Memory>
+// A line in two parts. It is copied only where there is a first one.
+fn joined<'p>(alloc: Global, front: &[u8], end: &'p [u8]) -> Result<CowSlice<'p, u8>, Memory>
     requires { length front.now + length end.now ≤ MAX_LINE }
-    ensures { IfOk result (λ line. line.items ≡ front.now ++ end.now) }
+    ensures { IfOk result (λ line. cow_slice_items line ≡ front.now ++ end.now) }
 {
+    if front.is_empty() {
+        return Ok(CowSlice::Borrowed(end));
+    }
     let mut line = Vec::with_capacity(alloc, front.len() + end.len())?;
     line.extend_from_slice(front)?;
     line.extend_from_slice(end)?;
-    Ok(line)
+    Ok(CowSlice::Owned(line))
 }
 
 // Holds more of an unfinished line, or none of it once it is too long.

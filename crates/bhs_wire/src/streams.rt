@@ -51,9 +51,9 @@ impl Lines {
         }
     }
 
-    /// Takes the next piece, and gives the lines that end in it. A blank line is skipped, and an overlong
-    /// one given once, at its line feed. An `Err` changes nothing.
-    pub fn feed(&mut self, piece: &[u8]) -> Result<Vec<Raw>, Memory>
+    /// Takes the next piece, and gives the lines that end in it; those that begin in it too are not copied. A blank
+    /// line is skipped, and an overlong one given once, at its line feed. An `Err` changes nothing.
+    pub fn feed<'p>(&mut self, piece: &'p [u8]) -> Result<Vec<Raw<'p>>, Memory>
         ensures found { IfOk result (λ found. map seen found.items ≡ found_in self.old piece.now) }
         ensures left { OnOk result (self.new ≡ left_by self.old piece.now) }
 

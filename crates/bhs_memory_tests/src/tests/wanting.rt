@@ -9,7 +9,7 @@ const ENTER: &[u8] = b"{\"do\":\"enter\",\"key\":\"ka\"}\n";
 
 const DEPART: &[u8] = b"{\"do\":\"depart\",\"port\":0}\n";
 
-fn is_at_an_end<R: Abort>(rt: &R, stage: &mut Rehearsal) -> Result<(), Fail> {
+fn is_at_an_end<R: Abort>(rt: &R, stage: &mut Rehearsal<'_>) -> Result<(), Fail> {
     assert_eq!(rt; stage.feed(256, b"\n"), Err(RehearsalFault::Memory));
     assert_eq!(rt; stage.end(0), Err(RehearsalFault::Memory));
     assert_eq!(rt; stage.draw(0, 0), Err(RehearsalFault::Memory));
@@ -17,7 +17,7 @@ fn is_at_an_end<R: Abort>(rt: &R, stage: &mut Rehearsal) -> Result<(), Fail> {
     Ok(())
 }
 
-fn plays<R: Abort>(rt: &R, stage: &mut Rehearsal) -> Result<(), Fail> {
+fn plays<R: Abort>(rt: &R, stage: &mut Rehearsal<'_>) -> Result<(), Fail> {
     let _ = stage.feed(0, ENTER);
     let _ = stage.feed(0, DEPART);
     let _ = stage.draw(0, 0);

@@ -1,12 +1,12 @@
-use Rattle.std.proofs.Common.{◌≡◌, rules, refl, ap, map, List, ◌++◌, ◌∙◌}
-use Rattle.std.specs.Vec.Iter.{into_iter_items}
+use Rattle.std.proofs.Common.{◌≡◌, ◌+◌, ◌∷◌, refl, sym, ap, map, drop, List, ◌++◌, ◌∙◌}
+use Rattle.std.proofs.lemmas.List.{drop_more}
 use Rattle.bhs_rehearsal.specs.Stages.{step}
 use Rattle.bhs_script.specs.declared.instructions.Instruction.{Instruction}
 use Rattle.bhs_script.specs.Instructions.{seen}
 use Rattle.bhs_script.specs.Transcript.{all_printed}
 use Rattle.bhs_orders.specs.declared.faults.Fault.TheVariants.{Write, Memory}
 use Rattle.bhs_stream.proofs.PutsLemmas.{sent_none, sent_more, sent_so_far}
-use Rattle.bhs_orders.proofs.PlayLemmas.{stopped_at, fault_is, transcript-turn}
+use Rattle.bhs_orders.proofs.PlayLemmas.{stopped_at, fault_is, one_by_one, transcript-turn}
 use Rattle.bhs_orders.proofs.playing.play.Goals as goal
 
 pub returns-in_err-obey-clause-stopped : goal.returns-in_err-obey-clause-stopped
@@ -16,22 +16,26 @@ returns-in_err-obey-clause-stopped g c =
 
 pub returns-in_err-send-clause-stopped : goal.returns-in_err-send-clause-stopped
 returns-in_err-send-clause-stopped g c =
-    let turn = ap (λ (left : List Instruction). map seen left) c.in-Some.ensures.steps.0 in
-    let here = rw (transcript-turn c.loop-instruction.rehearsal.stage _ (seen c.in-Some.instruction)
-    (map seen (into_iter_items c.next.new.self)) turn) at c.loop-instruction.invariant.1 in
+    let turn = one_by_one c.args.script.now c.loop-instruction.instruction-index c.instruction-item.result
+    c.loop-instruction-test.true c.instruction-item.is in
+    let here = rw (transcript-turn c.loop-instruction.rehearsal.stage _ (seen c.instruction-item.result)
+    (map seen (drop (c.loop-instruction.instruction-index + 1) c.args.script.now)) turn)
+    at c.loop-instruction.invariant.1 in
     let text = c.in_ok-obey.ensures.text ∙ ap (λ items. items ++ all_printed
-    (step c.loop-instruction.rehearsal.stage (seen c.in-Some.instruction)).outs) c.clear.ensures.items in
+    (step c.loop-instruction.rehearsal.stage (seen c.instruction-item.result)).outs) c.clear.ensures.items in
     let stopped = rw (c.deref.ensures.value, text) at c.in_err-send.ensures.err in
     fault_is c.from_residual-in_err-send.result Write _ c.from_residual-in_err-send.ensures.1
     (stopped_at g.W.Output.takes _ _ _ _ _ _ Write here stopped)
 
 pub loop-instruction-preserved : goal.loop-instruction-preserved
 loop-instruction-preserved g c =
-    let turn = ap (λ (left : List Instruction). map seen left) c.in-Some.ensures.steps.0 in
-    let here = rw (transcript-turn c.loop-instruction.rehearsal.stage _ (seen c.in-Some.instruction)
-    (map seen (into_iter_items c.next.new.self)) turn) at c.loop-instruction.invariant.1 in
+    let turn = one_by_one c.args.script.now c.loop-instruction.instruction-index c.instruction-item.result
+    c.loop-instruction-test.true c.instruction-item.is in
+    let here = rw (transcript-turn c.loop-instruction.rehearsal.stage _ (seen c.instruction-item.result)
+    (map seen (drop (c.loop-instruction.instruction-index + 1) c.args.script.now)) turn)
+    at c.loop-instruction.invariant.1 in
     let text = c.in_ok-obey.ensures.text ∙ ap (λ items. items ++ all_printed
-    (step c.loop-instruction.rehearsal.stage (seen c.in-Some.instruction)).outs) c.clear.ensures.items in
+    (step c.loop-instruction.rehearsal.stage (seen c.instruction-item.result)).outs) c.clear.ensures.items in
     let printed = rw (c.deref.ensures.value, text) at c.in_ok-send.ensures.ok in
     let stands = rw turn at c.loop-instruction.invariant.0 in (
       rw c.in_ok-obey.ensures.stage stands,
@@ -40,6 +44,4 @@ loop-instruction-preserved g c =
     )
 
 pub loop-instruction-init : goal.loop-instruction-init
-loop-instruction-init g c =
-    let all : into_iter_items c.into_iter-instruction-iterator.result ≡ c.args.script.items = search rules in
-    rw all (refl, sent_none g.W.Output.takes _ _)
+loop-instruction-init g c = (refl, sent_none g.W.Output.takes _ _)

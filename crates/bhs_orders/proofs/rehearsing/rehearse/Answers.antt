@@ -22,7 +22,8 @@ returns-clause-played g c =
     } in
     plays_all g.R.Input.gives g.W.Output.takes c.args.turns stage _ _ _ _ instructions means
     (λ ready. map game_of ready.items) c.play.result
-    (rw same at c.play.ensures.printed) (rw same at c.play.ensures.played)
+    (rw (same, c.deref-2.ensures.value) at c.play.ensures.printed)
+    (rw (same, c.deref-2.ensures.value) at c.play.ensures.played)
 
 pub returns-clause-stopped : goal.returns-clause-stopped
 returns-clause-stopped g c =
@@ -39,4 +40,4 @@ returns-clause-stopped g c =
           (rw (c.deref.ensures.value, counted) at c.in_ok-instructions.ensures);
     } in
     stops_all g.R.Input.gives g.W.Output.takes c.args.turns stage _ _ _ _ instructions means c.play.result
-    (rw same at c.play.ensures.stopped)
+    (rw (same, c.deref-2.ensures.value) at c.play.ensures.stopped)

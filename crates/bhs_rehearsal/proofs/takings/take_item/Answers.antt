@@ -1,5 +1,6 @@
-use Rattle.std.proofs.Common.{◌≡◌, ◌∷◌, IfOk, sym, ap, ◌∙◌, subst}
+use Rattle.std.proofs.Common.{◌≡◌, ◌∷◌, ℕ, [], true, List, IfOk, sym, ap, ◌∙◌, subst, append-nil}
 use Rattle.bhs_model.specs.declared.commands.Command.{Command}
+use Rattle.bhs_model.specs.declared.commands.Command.TheVariants.{Leave}
 use Rattle.bhs_model.specs.declared.events.Event.TheVariants.{Tell}
 use Rattle.bhs_wire.specs.Lines.{seen, said_by}
 use Rattle.bhs_wire.specs.declared.commands.First.{First}
@@ -11,7 +12,7 @@ use Rattle.bhs_rehearsal.specs.Connections.{Taken, taken, answers}
 use Rattle.bhs_rehearsal.specs.Rehearsing.{game_of, seen_item}
 use Rattle.bhs_rehearsal.specs.Takings.{behind, goes_on}
 use Rattle.bhs_rehearsal.specs.declared.items.Item.{Item as ItemOfCode}
-use Rattle.bhs_rehearsal.proofs.TakeLemmas.{same_command, takes_line}
+use Rattle.bhs_rehearsal.proofs.TakeLemmas.{same_command, takes_end, takes_line}
 use Rattle.bhs_rehearsal.proofs.takings.take_item.Goals as goal
 
 pub returns-in_ok-first-in-Says-clause-taken : goal.returns-in_ok-first-in-Says-clause-taken
@@ -33,3 +34,14 @@ returns-in_ok-first-in-Says-clause-taken c others here =
     (λ is_done. behind c.args.text.now.items taken ≡ goes_on is_done (game_of c.tell.new.ready) agent others
     c.tell.new.text.items))
     (sym told) (c.tell.ensures.taken others)
+
+pub returns-in-Ends-clause-taken : goal.returns-in-Ends-clause-taken
+returns-in-Ends-clause-taken c others here =
+    let game : Game = game_of c.args.ready.now in
+    let agent = c.args.agent in
+    let text = c.args.text.now.items in
+    ap (λ (item : ItemOfCode). behind text (taken game agent (seen_item item ∷ others))) c.in-Ends.is
+    ∙ ap (behind text) (takes_end game agent others here)
+    ∙ ap (λ (all : List ℕ). record
+    { game = played game (Tell agent Leave); is_done = true; left = []; text = all }) (append-nil text)
+    ∙ ap (λ (after : Game). record { game = after; is_done = true; left = []; text = text }) (sym c.play.ensures.game)
