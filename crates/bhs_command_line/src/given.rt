@@ -8,7 +8,7 @@ ghost use Rattle.clap.specs.Words.{first_of, found_of, rows_of, subcommand_rows_
 use crate::numbers::{AGENT, NODE, Number, PAUSE, PORT, SESSIONS, TURNS};
 use crate::orders::{Entries, Hosting, Order};
 use crate::words::{entries_in, number_within, text};
-use bhs_model::Text;
+use bhs_text::Text;
 use clap::ArgMatches;
 use std::alloc::{AllocError, Global};
 

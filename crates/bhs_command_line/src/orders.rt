@@ -2,7 +2,7 @@
 
 ghost use Rattle.std.specs.Prelude.{◌≡◌};
 
-use bhs_model::Text;
+use bhs_text::Text;
 use std::marker::Model;
 
 /// What the program is to do.

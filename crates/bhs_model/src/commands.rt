@@ -1,4 +1,4 @@
-use crate::texts::Text;
+use bhs_text::Text;
 
 /// What an agent may say.
 #[derive(Clone, Debug, PartialEq, Eq, Drop)]

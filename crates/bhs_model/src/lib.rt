@@ -14,8 +14,8 @@ mod marks;
 mod port_marks;
 mod replies;
 mod setups;
-mod texts;
 
+pub use bhs_text::Text;
 pub use commands::Command;
 pub use dark_links::DarkLinks;
 pub use dooms::Dooms;
@@ -26,4 +26,3 @@ pub use marks::{Kept, Mark, read, text_at};
 pub use port_marks::{is_port_marked, mark_port, no_port_marks};
 pub use replies::{Reply, Why};
 pub use setups::Setup;
-pub use texts::Text;

@@ -4,8 +4,8 @@ ghost use Rattle.bhs_model.specs.Marks.{text_at, read};
 use crate::commands::Command;
 use crate::events::Event;
 use crate::replies::{Reply, Why};
-use crate::texts::Text;
 use bhs_net::Memory;
+use bhs_text::Text;
 use std::alloc::Global;
 
 /// A reply as a match stores it: the text of a whiteboard is named by the place of the event that wrote

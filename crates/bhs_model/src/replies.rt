@@ -1,4 +1,4 @@
-use crate::texts::Text;
+use bhs_text::Text;
 
 /// What an agent is answered.
 #[derive(Clone, Debug, PartialEq, Eq, Drop)]

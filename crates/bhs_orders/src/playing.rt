@@ -28,13 +28,29 @@ pub fn play<'s, W: Output>(
     ensures stopped { IfErr result (StopsPlaying W.takes (transcript rehearsal.entry.stage (map seen script.now))
         writer.old writer.new) }
 {
+    play_all(alloc, &mut rehearsal, script, writer)?;
+    Ok(rehearsal.into_ready())
+}
+
+fn play_all<'s, W: Output>(
+    alloc: Global,
+    rehearsal: &mut Rehearsal<'s>,
+    script: &'s [Instruction<'s>],
+    writer: &mut W,
+) -> Result<(), Fault>
+    ensures printed { OnOk result (PutsAll W.takes writer.old
+        (transcript rehearsal.old.stage (map seen script.now)) writer.new) }
+    ensures played { OnOk result (rehearsal.new.stage ≡ stands_after rehearsal.old.stage (map seen script.now)) }
+    ensures stopped { IfErr result (StopsPlaying W.takes (transcript rehearsal.old.stage (map seen script.now))
+        writer.old writer.new) }
+{
     let mut text = Vec::new(alloc);
     for instruction in script {
         text.clear();
-        obey(&mut rehearsal, instruction, &mut text)?;
+        obey(rehearsal, instruction, &mut text)?;
         send(writer, &text)?;
     }
-    Ok(rehearsal.into_ready())
+    Ok(())
 }
 
 // Carries out an instruction, and adds what is printed of it. One for a connection or a match that is not there does

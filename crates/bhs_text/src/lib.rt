@@ -1,11 +1,15 @@
+//! Texts of agents and of words.
+#![tactic(auto)]
+
 ghost use Rattle.std.specs.Prelude.{◌≡◌, string_bytes, nat_eq};
 ghost use Rattle.std.specs.Cmp.{partial_equiv_from_equiv};
 ghost use Rattle.std.specs.Cmp.Lexicographic.{pointwise, nat_list_eq_equiv};
 
-use bhs_net::Memory;
+use std::alloc::AllocError;
 use std::marker::Model;
 
-/// A text of an agent: what a whiteboard shows, or a client says. Contracts see it as its bytes in UTF-8.
+/// A text of an agent or of a word: what a whiteboard shows, a client says or a file is named. Contracts see it as its
+/// bytes in UTF-8.
 #[derive(Debug, Drop)]
 pub struct Text {
     string: String,
@@ -47,7 +51,7 @@ impl From<String> for Text {
 impl Clone for Text {
     ghost is_clone = { λ old new. new ≡ old };
 
-    fn clone(&self) -> Result<Text, Memory> {
+    fn clone(&self) -> Result<Text, AllocError> {
         Ok(Text {
             string: self.string.clone()?,
         })

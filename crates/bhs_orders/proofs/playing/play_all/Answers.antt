@@ -7,7 +7,7 @@ use Rattle.bhs_script.specs.Transcript.{all_printed}
 use Rattle.bhs_orders.specs.declared.faults.Fault.TheVariants.{Write, Memory}
 use Rattle.bhs_stream.proofs.PutsLemmas.{sent_none, sent_more, sent_so_far}
 use Rattle.bhs_orders.proofs.PlayLemmas.{stopped_at, fault_is, one_by_one, transcript-turn}
-use Rattle.bhs_orders.proofs.playing.play.Goals as goal
+use Rattle.bhs_orders.proofs.playing.play_all.Goals as goal
 
 pub returns-in_err-obey-clause-stopped : goal.returns-in_err-obey-clause-stopped
 returns-in_err-obey-clause-stopped g c =

@@ -3,7 +3,7 @@ use Rattle.bhs_rehearsal.specs.Stages.{stands_after}
 use Rattle.bhs_script.specs.Instructions.{seen}
 use Rattle.bhs_script.specs.Transcript.{transcript}
 use Rattle.bhs_stream.proofs.PutsLemmas.{IsSentUpTo}
-use Rattle.bhs_orders.proofs.playing.play.Given as goal
+use Rattle.bhs_orders.proofs.playing.play_all.Given as goal
 
 abbrev pub invariant-loop-instruction : goal.invariant-loop-instruction
 invariant-loop-instruction g l =
