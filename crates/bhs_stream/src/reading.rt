@@ -8,7 +8,7 @@ use std::alloc::Global;
 use thiserror::Error;
 
 /// The most bytes that one read asks for.
-pub const BUFFER: usize = 8 * 1024;
+pub const BUFFER: usize = 16 * 1024;
 
 /// Why a text was not read.
 #[derive(Clone, Copy, Debug, PartialEq, Eq, Drop, Error)]

@@ -1,9 +1,10 @@
-ghost use Rattle.std.specs.Prelude.{◌≡◌, ◌≢◌, IsOk, IfOk, option_map};
+ghost use Rattle.std.specs.Prelude.{◌≡◌, ◌≢◌, IsOk, IfOk, IfSome, option_map};
 ghost use Rattle.bhs_wire.specs.LineKind.{line_kind};
 ghost use Rattle.bhs_wire.specs.First.{first_of, says, first_with, write_with, depart_by, accuse_by};
 ghost use Rattle.bhs_wire.specs.Said.{told, text_in, port_in};
 
 use crate::kinds::{LineKind, kind_of};
+use crate::recall::Remembered;
 use crate::said::{Content, Said, read_object};
 use bhs_model::{Command, Text};
 use bhs_net::Memory;
@@ -19,11 +20,13 @@ pub enum First {
     Tell(Command),
 }
 
-/// Reads lines, one after the other. It keeps the memory that a line took for the next one.
+/// Reads lines, one after the other. It keeps the memory that a line took for the next one, and reads a short line that
+/// comes again only once.
 #[derive(Drop)]
 pub struct LineReader {
     alloc: Global,
     scratch: Scratch,
+    last: Option<Remembered>,
 }
 
 impl LineReader {
@@ -32,6 +35,7 @@ impl LineReader {
         LineReader {
             alloc,
             scratch: Scratch::new(alloc),
+            last: None,
         }
     }
 
@@ -52,6 +56,36 @@ impl LineReader {
     /// What a line of a client says that is not too long and not blank. What is no JSON object in UTF-8, or
     /// lacks what its command needs, is the command `Bad`. Other keys of the object are not looked at.
     pub fn command_of(&mut self, line: &[u8]) -> Result<First, Memory>
+        ensures { IfOk result (λ first. first ≡ first_of line.now) }
+    {
+        if let Some(command) = self.recall(line) {
+            return Ok(First::Tell(command));
+        }
+        let first = self.read(line)?;
+        if let First::Tell(command) = &first {
+            self.remember(line, command);
+        }
+        Ok(first)
+    }
+
+    // What a line says, if it is the one that is remembered.
+    fn recall(&self, line: &[u8]) -> Option<Command>
+        ensures { IfSome result (λ command. first_of line.now ≡ First.Tell command) }
+    {
+        self.last.as_ref()?.recall(line)
+    }
+
+    // Remembers a line that can be, instead of the one before.
+    fn remember(&mut self, line: &[u8], command: &Command)
+        requires { first_of line.now ≡ First.Tell command.now }
+    {
+        if let Some(remembered) = Remembered::new(line, command) {
+            self.last = Some(remembered);
+        }
+    }
+
+    // What a line says that is not remembered.
+    fn read(&mut self, line: &[u8]) -> Result<First, Memory>
         ensures { IfOk result (λ first. first ≡ first_of line.now) }
     {
         let alloc = self.alloc;

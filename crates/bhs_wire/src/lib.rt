@@ -7,6 +7,7 @@ mod kinds;
 mod laws;
 mod numbers;
 mod pieces;
+mod recall;
 mod replies;
 mod said;
 mod streams;

@@ -3,7 +3,7 @@ use Rattle.json.specs.Lex.{tokens}
 use Rattle.bhs_wire.specs.Said.{said_by_tokens}
 use Rattle.bhs_wire.specs.declared.commands.First.{First}
 use Rattle.bhs_wire.proofs.FirstLines.{first_of-text, first_of-no_text}
-use Rattle.bhs_wire.proofs.commands.LineReader.command_of.Goals as goal
+use Rattle.bhs_wire.proofs.commands.LineReader.read.Goals as goal
 
 pub returns-in_default : goal.returns-in_default
 returns-in_default c = sym (first_of-no_text c.args.line.now c.in_default.ensures.cases.0)
