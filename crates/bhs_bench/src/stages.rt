@@ -5,7 +5,7 @@ use crate::workload::Workload;
 use bhs_model::{Reply, Text, Why};
 use bhs_net::Memory;
 use bhs_script::push_printed;
-use bhs_wire::{First, LineReader, push_line};
+use bhs_wire::{First, LentReply, LineReader, push_line};
 use std::alloc::Global;
 use std::time::{Clock, Duration, Instant};
 
@@ -86,7 +86,7 @@ fn write(alloc: Global, rounds: u64) -> Result<(), Memory> {
     for _ in 0..rounds {
         text.clear();
         for reply in &replies {
-            push_line(alloc, &mut text, reply)?;
+            push_line(alloc, &mut text, LentReply::of_reply(reply))?;
         }
     }
     Ok(())

@@ -65,22 +65,37 @@ fn obey<'s>(
     ensures stage { OnOk result (rehearsal.new.stage ≡ (step rehearsal.old.stage (seen instruction.now)).stage) }
 {
     match instruction {
-        Instruction::Feed { conn, bytes } => push_once(
-            text,
-            rehearsal.feed(*conn, bytes.as_slice()),
-        ),
-        Instruction::End { conn } => push_once(text, rehearsal.end(*conn)),
-        Instruction::Draw { game, word } => push_once(text, rehearsal.draw(*game, *word)),
+        Instruction::Feed { conn, bytes } => {
+            let sent = rehearsal.feed(*conn, bytes.as_slice());
+            push_once(rehearsal, text, sent)
+        }
+        Instruction::End { conn } => {
+            let sent = rehearsal.end(*conn);
+            push_once(rehearsal, text, sent)
+        }
+        Instruction::Draw { game, word } => {
+            let sent = rehearsal.draw(*game, *word);
+            push_once(rehearsal, text, sent)
+        }
         Instruction::Close { game } => push_all(text, rehearsal.close(*game)),
     }
 }
 
-// Adds what is printed of a call that sends to one connection at most.
-fn push_once(text: &mut Vec<u8>, sent: Result<Option<Out>, RehearsalFault>) -> Result<(), Memory>
-    ensures { OnOk result (IsPushed sent_once sent text.old.items text.new.items) }
+// Adds what is printed of a call that sends to one connection at most, and gives its memory back.
+fn push_once(
+    rehearsal: &mut Rehearsal<'_>,
+    text: &mut Vec<u8>,
+    sent: Result<Option<Out>, RehearsalFault>,
+) -> Result<(), Memory>
+    ensures text { OnOk result (IsPushed sent_once sent text.old.items text.new.items) }
+    ensures same { rehearsal.new ≡ rehearsal.old }
 {
     match sent {
-        Ok(Some(out)) => push_printed(text, out.conn, &out.bytes),
+        Ok(Some(out)) => {
+            push_printed(text, out.conn, &out.bytes)?;
+            rehearsal.take_back(out);
+            Ok(())
+        }
         Err(RehearsalFault::Memory) => Err(Memory),
         Ok(None) | Err(RehearsalFault::Conn | RehearsalFault::NoGame) => Ok(()),
     }

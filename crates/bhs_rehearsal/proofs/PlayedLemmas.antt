@@ -27,7 +27,7 @@ use Rattle.bhs_deal.specs.Drawing.{IsPlayedIf, event_of}
 use Rattle.bhs_deal.specs.Drawing as drawing
 use Rattle.bhs_deal.proofs.DrawLemmas.{draws_are_those}
 use Rattle.bhs_rehearsal.specs.Games.{Game, played, reply_to, drawn}
-use Rattle.bhs_rehearsal.specs.Takings.{after_draw, mark_at}
+use Rattle.bhs_rehearsal.specs.Takings.{Drawn, after_draw, mark_at, told_to}
 
 -- a match and its held links
 abbrev pub game_in : Play → List (ℕ × ℕ) → Game
@@ -114,3 +114,9 @@ one_drawn old new held word agent found told is played_if this read =
           (λ (reply : Reply). (agent, reply)) one;
     }) reply
     ∙ ap (after_draw (game_in old held)) (sym event)
+
+-- whom a draw tells what, by what it makes of the match
+pub told_drawn : (one other : Drawn) (before : List ℕ) → one ≡ other
+    → (one.game ≡ other.game) × (told_to before one.arrival ≡ told_to before other.arrival)
+told_drawn one other before same =
+    (ap (λ (drawn : Drawn). drawn.game) same, ap (λ (drawn : Drawn). told_to before drawn.arrival) same)

@@ -1,20 +1,24 @@
 -- A rehearsal of which one match or one connection is changed.
-use Rattle.std.proofs.Common.{◌≡◌, ℕ, ◌<◌, ◌^◌, Bool, true, false, Option, Some, Result, Ok, Err, IfOk, OnOk, List}
-use Rattle.std.proofs.Common.{length, map, get_or, slice_set, refl, sym, ap, ◌∙◌, subst, if◌then◌else◌, arith, Vec}
-use Rattle.std.proofs.Common.{Global}
+use Rattle.std.proofs.Common.{◌≡◌, ℕ, ◌<◌, ◌^◌, Bool, true, false, Option, Some, None, Result, Ok, Err, IfOk, OnOk, List}
+use Rattle.std.proofs.Common.{length, map, get_or, slice_set, refl, sym, ap, ◌∙◌, subst, if◌then◌else◌, arith, ◌++◌}
+use Rattle.std.proofs.Common.{Vec, Global, []}
 use Rattle.std.specs.List.{All}
 use Rattle.std.specs.Vec.{with_items}
 use Rattle.std.specs.declared.alloc.AllocError.{AllocError}
-use Rattle.std.proofs.lemmas.List.{get_or-map, get_or_read, map-set, length-map, with_items_is}
+use Rattle.std.specs.Prelude.{option_map}
+use Rattle.std.proofs.lemmas.List.{get_or-map, get_or_read, map-set, length-map, set-get_or, with_items_is}
 use Rattle.std.proofs.Math.Seq.{map-set_same}
+use Rattle.bhs_model.specs.declared.events.Event.{Event}
+use Rattle.bhs_model.specs.declared.events.Event.TheVariants.{Tell, Deliver, Close}
 use Rattle.bhs_model.specs.declared.replies.Reply.{Reply}
 use Rattle.bhs_lineup.specs.KeyTable.{Seat}
 use Rattle.bhs_lineup.specs.declared.lineups.Ready.{Ready}
 use Rattle.bhs_rehearsal.specs.Games.{Game, drawn}
 use Rattle.bhs_rehearsal.specs.Connections.{Connection, unfed, shut, Taken, taken, after}
-use Rattle.bhs_rehearsal.specs.Stages.{game_at, connection_at, with_game, plays, waits_in, shut_in}
+use Rattle.bhs_rehearsal.specs.Stages.{Stage, Stepped, game_at, connection_at, with_game, plays, waits_in, shut_in}
+use Rattle.bhs_rehearsal.specs.Stages.{delivers, nothing, tells_arrival}
 use Rattle.bhs_rehearsal.specs.Rehearsing.{Rehearsing, stage_of, game_of, team_of, on_stage, IsSeated}
-use Rattle.bhs_rehearsal.specs.Takings.{IsMoved, IsDrawn, Drawn, after_draw}
+use Rattle.bhs_rehearsal.specs.Takings.{IsMoved, IsDrawn, Drawn, after_draw, told_to}
 
 -- what the fields of a rehearsal show
 abbrev pub rehearsing : List Ready → List Seat → List Connection → Bool → Rehearsing
@@ -89,38 +93,72 @@ with_ready ready keys connections failed place one new game read is team =
     (teams_same ready place one new read team)
 
 pub draws_lemma : (ready : List Ready) (keys : List Seat) (connections : List Connection) (failed : Bool)
-    (place word : ℕ) (one new : Ready) (result : Result (Option (ℕ × Reply)) AllocError) →
+    (place word : ℕ) (one new : Ready) (before text : List ℕ) (result : Result (Option ℕ) AllocError) →
     place < length ready → one ≡ get_or ready place one →
-    IfOk result (λ arrival. record { game = game_of new; arrival = arrival } ≡ after_draw (game_of one)
-    (drawn (game_of one) word)) → team_of new ≡ team_of one →
+    IfOk result (λ agent. (game_of new ≡ (after_draw (game_of one) (drawn (game_of one) word)).game)
+    × ((agent, text) ≡ told_to before (after_draw (game_of one) (drawn (game_of one) word)).arrival))
+    → team_of new ≡ team_of one →
     IsDrawn (rehearsing ready keys connections failed) place
     (after_draw (game_at (stage_of ready keys connections) place)
-    (drawn (game_at (stage_of ready keys connections) place) word)) result
+    (drawn (game_at (stage_of ready keys connections) place) word)) before result text
     (rehearsing (slice_set ready place new) keys connections failed)
-draws_lemma ready keys connections failed place word one new (Ok arrival) within read is team =
-    let here : ◌≡◌ {A = Drawn} (record { game = game_of new; arrival = arrival })
-    (after_draw (game_at (stage_of ready keys connections) place)
-    (drawn (game_at (stage_of ready keys connections) place) word)) =
-    is ∙ ap (λ (game : Game). after_draw game (drawn game word))
+draws_lemma ready keys connections failed place word one new before text (Ok agent) within read is team =
+    let same : after_draw (game_of one) (drawn (game_of one) word)
+    ≡ after_draw (game_at (stage_of ready keys connections) place)
+    (drawn (game_at (stage_of ready keys connections) place) word) =
+    ap (λ (game : Game). after_draw game (drawn game word))
     (sym (game_read ready keys connections place one within read)) in (
-      ap (λ (drawn : Drawn). drawn.arrival) here,
+      is.1 ∙ ap (λ (drawn : Drawn). told_to before drawn.arrival) same,
       with_ready ready keys connections failed place one new _ read
-          (ap (λ (drawn : Drawn). drawn.game) here) team,
+          (is.0 ∙ ap (λ (drawn : Drawn). drawn.game) same) team,
     )
-draws_lemma ready keys connections failed place word one new (Err memory) within read is team = tt
+draws_lemma ready keys connections failed place word one new before text (Err memory) within read is team = tt
+
+-- a stage with the match that it has
+same_game : (stage : Stage) (game : ℕ) → with_game stage game (game_at stage game) ≡ stage
+same_game stage game = ap (λ (games : List Game). record stage { games = games }) (set-get_or stage.games game _)
+
+-- what a draw sends that tells nobody, and the stage that it leaves
+told_nobody : (stage : Stage) (game agent : ℕ) (holder : Option ℕ) (reply : Option Reply) (before text : List ℕ)
+    → ◌≡◌ {A = Option ℕ × List ℕ} (None, text) (told_to before (option_map (λ (one : Reply). (agent, one)) reply))
+    → tells_arrival stage reply holder ≡ nothing stage
+told_nobody stage game agent holder None before text is = refl
+told_nobody stage game agent holder (Some reply) before text is =
+    absurd (not_some agent (ap (λ (one : Option ℕ × List ℕ). one.0) is)) where
+  not_some : (agent : ℕ) → ◌≡◌ {A = Option ℕ} None (Some agent) → ⊥
+  not_some agent is = cc
+
+silent_step : (stage : Stage) (game : ℕ) (event : Option Event) (before text : List ℕ)
+    → (None, text) ≡ told_to before (after_draw (game_at stage game) event).arrival
+    → delivers stage game event ≡ nothing (with_game stage game (after_draw (game_at stage game) event).game)
+silent_step stage game (Some (Deliver agent)) before text is = told_nobody _ game agent _ _ before text is
+silent_step stage game (Some (Tell agent command)) before text is = ap nothing (sym (same_game stage game))
+silent_step stage game (Some Close) before text is = ap nothing (sym (same_game stage game))
+silent_step stage game None before text is = ap nothing (sym (same_game stage game))
+
+pub silent_lemma : (old new : Rehearsing) (game : ℕ) (event : Option Event) (before text : List ℕ)
+    → (None, text) ≡ told_to before (after_draw (game_at old.stage game) event).arrival
+    → new ≡ on_stage old (with_game old.stage game (after_draw (game_at old.stage game) event).game)
+    → ([] ≡ (delivers old.stage game event).outs) × (new ≡ on_stage old (delivers old.stage game event).stage)
+silent_lemma old new game event before text is stands =
+    let same = silent_step old.stage game event before text is in (
+      ap (λ (stepped : Stepped). stepped.outs) (sym same),
+      stands ∙ ap (λ (stepped : Stepped). on_stage old stepped.stage) (sym same),
+    )
 
 pub plays_lemma : (ready : List Ready) (keys : List Seat) (connections : List Connection) (failed : Bool) (conn : ℕ)
-    (seat : ℕ × ℕ) (one new : Ready) (before changed : Connection) (result : Result (Vec ℕ Global) AllocError) →
+    (seat : ℕ × ℕ) (one new : Ready) (before changed : Connection) (told text : List ℕ)
+    (result : Result (Unit {0}) AllocError) →
     seat.0 < length ready → one ≡ get_or ready seat.0 one → conn < length connections
     → before ≡ get_or connections conn before →
     OnOk result (game_of new ≡ (taken (game_of one) seat.1 before.queue).game) →
-    IfOk result (λ text. text.items ≡ (taken (game_of one) seat.1 before.queue).text) →
+    OnOk result (text ≡ told ++ (taken (game_of one) seat.1 before.queue).text) →
     OnOk result (changed ≡ after (record before { seat = Some seat }) (taken (game_of one) seat.1 before.queue)) →
     team_of new ≡ team_of one →
-    IsMoved (rehearsing ready keys connections failed) (plays (stage_of ready keys connections) conn seat) result
-    (rehearsing (slice_set ready seat.0 new) keys (slice_set connections conn changed) failed)
-plays_lemma ready keys connections failed conn seat one new before changed (Ok text) game_within game_is conn_within
-    conn_is game told connection team =
+    IsMoved (rehearsing ready keys connections failed) (plays (stage_of ready keys connections) conn seat) told result
+    text (rehearsing (slice_set ready seat.0 new) keys (slice_set connections conn changed) failed)
+plays_lemma ready keys connections failed conn seat one new before changed told text (Ok done) game_within game_is
+    conn_within conn_is game more connection team =
     let at : connection_at (stage_of ready keys connections) conn ≡ before =
     sym (get_or_read connections conn before conn_within conn_is unfed) in
     let same : taken (game_of one) seat.1 before.queue ≡ taken (game_at (stage_of ready keys connections) seat.0) seat.1
@@ -128,7 +166,7 @@ plays_lemma ready keys connections failed conn seat one new before changed (Ok t
     ap (λ (game : Game). taken game seat.1 before.queue)
     (sym (game_read ready keys connections seat.0 one game_within game_is))
     ∙ ap (λ (one : Connection). taken (game_at (stage_of ready keys connections) seat.0) seat.1 one.queue) (sym at) in (
-      told ∙ ap (λ (taken : Taken). taken.text) same,
+      more ∙ ap (λ (taken : Taken). told ++ taken.text) same,
       same_parts keys failed _ _ _ _ _ _
           (map-set game_of ready seat.0 new ∙ ap (λ (one : Game). slice_set (map game_of ready) seat.0 one)
           (game ∙ ap (λ (taken : Taken). taken.game) same))
@@ -139,8 +177,8 @@ plays_lemma ready keys connections failed conn seat one new before changed (Ok t
           (connection_at (stage_of ready keys connections) conn).queue)) (sym at)))
           (teams_same ready seat.0 one new game_is team),
     )
-plays_lemma ready keys connections failed conn seat one new before changed (Err memory) game_within game_is conn_within
-    conn_is game told connection team = tt
+plays_lemma ready keys connections failed conn seat one new before changed told text (Err memory) game_within game_is
+    conn_within conn_is game more connection team = tt
 
 -- ---- connections that are shut
 

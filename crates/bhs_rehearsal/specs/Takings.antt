@@ -1,7 +1,6 @@
 -- How the code takes items, move by move. Only contracts of private functions cite it.
 use Rattle.std.specs.Prelude.{ℕ, ◌≡◌, Bool, true, false, Option, Some, None, List, [], ◌++◌, option_map}
-use Rattle.std.specs.Prelude.{option_and_then, slice_get, if◌then◌else◌, Vec, Ok, Err}
-use Rattle.std.specs.declared.alloc.Global.{Global}
+use Rattle.std.specs.Prelude.{option_and_then, slice_get, if◌then◌else◌, Ok, Err}
 use Rattle.std.specs.declared.alloc.AllocError.{AllocError}
 use Rattle.std.specs.declared.result.Result.{Result}
 use Rattle.bhs_model.specs.declared.events.Event.{Event}
@@ -9,6 +8,7 @@ use Rattle.bhs_model.specs.declared.events.Event.TheVariants.{Deliver}
 use Rattle.bhs_model.specs.declared.marks.Kept.{Kept}
 use Rattle.bhs_model.specs.declared.marks.Mark.{Mark}
 use Rattle.bhs_model.specs.declared.replies.Reply.{Reply}
+use Rattle.bhs_session.specs.Texts.{text_of}
 use Rattle.bhs_rehearsal.specs.Games.{Game, played, reply_to}
 use Rattle.bhs_rehearsal.specs.Connections.{Item, Taken, taken}
 use Rattle.bhs_rehearsal.specs.Stages.{Entry, Waits, Sits, IsDenied, Goes, Moved, Stepped, with_game}
@@ -38,10 +38,11 @@ seen_entry (entries.Sits seat) = Sits seat
 seen_entry (entries.Denied denial) = IsDenied denial
 seen_entry entries.Goes = Goes
 
--- what a move makes of a rehearsal, unless memory runs out
-abbrev pub IsMoved : Rehearsing → Moved → Result (Vec ℕ Global) AllocError → Rehearsing → Type 0
-IsMoved old moved (Ok text) new = (text.items ≡ moved.text) × (new ≡ on_stage old moved.stage)
-IsMoved old moved (Err memory) new = Unit {0}
+-- what a move makes of a rehearsal, and of a text that the move's is added to, unless memory runs out
+abbrev pub IsMoved : Rehearsing → Moved → (before : List ℕ) → Result (Unit {0}) AllocError → (text : List ℕ)
+    → Rehearsing → Type 0
+IsMoved old moved before (Ok done) text new = (text ≡ before ++ moved.text) × (new ≡ on_stage old moved.stage)
+IsMoved old moved before (Err memory) text new = Unit {0}
 
 -- and what an instruction makes; by `sent` the answer gives what is sent
 abbrev pub IsStepped : {T : Type 0} (sent : T → List (ℕ × List ℕ)) → Rehearsing → Stepped → Result T AllocError
@@ -68,11 +69,17 @@ after_draw game (Some (Deliver agent)) =
     }
 after_draw game event = record { game = game; arrival = None }
 
--- what a draw makes of a rehearsal, and gives
-abbrev pub IsDrawn : Rehearsing → (game : ℕ) → Drawn → Result (Option (ℕ × Reply)) AllocError → Rehearsing → Type 0
-IsDrawn old game drawn (Ok arrival) new = (arrival ≡ drawn.arrival) ×
-    (new ≡ on_stage old (with_game old.stage game drawn.game))
-IsDrawn old game drawn (Err memory) new = Unit {0}
+-- whom an arrival tells, and the text with what it tells behind it
+abbrev pub told_to : (before : List ℕ) → Option (ℕ × Reply) → Option ℕ × List ℕ
+told_to before None = (None, before)
+told_to before (Some arrival) = (Some arrival.0, before ++ text_of arrival.1)
+
+-- what a draw makes of a rehearsal and of a text, and gives
+abbrev pub IsDrawn : Rehearsing → (game : ℕ) → Drawn → (before : List ℕ) → Result (Option ℕ) AllocError
+    → (text : List ℕ) → Rehearsing → Type 0
+IsDrawn old game drawn before (Ok agent) text new =
+    ((agent, text) ≡ told_to before drawn.arrival) × (new ≡ on_stage old (with_game old.stage game drawn.game))
+IsDrawn old game drawn before (Err memory) text new = Unit {0}
 
 -- the mark at a place of a log; none behind its end
 abbrev pub mark_at : List Kept → (place : ℕ) → Option Mark

@@ -91,15 +91,21 @@ impl<'s> Connection<'s> {
         }
     }
 
-    // Takes the next bytes of its input, and queues the lines that end in them.
-    pub(crate) fn receive(&mut self, bytes: &'s [u8]) -> Result<(), Memory>
+    // Takes the next bytes of its input, and queues the lines that end in them. They are found in `found`, whose memory
+    // is kept for the next.
+    pub(crate) fn receive(
+        &mut self,
+        bytes: &'s [u8],
+        found: &mut VecDeque<Raw<'s>>,
+    ) -> Result<(), Memory>
         ensures queued { OnOk result (self.new ≡ record self.old {
           unfinished = left_by self.old.unfinished bytes.now;
           queue = self.old.queue ++ map Says (found_in self.old.unfinished bytes.now);
         }) }
         ensures seat { self.new.seat ≡ self.old.seat }
     {
-        let found = self.lines.feed(bytes)?;
+        found.clear();
+        self.lines.feed_into(bytes, found)?;
         queue_lines(&mut self.queue, found)
     }
 
@@ -124,42 +130,36 @@ impl<'s> Connection<'s> {
         self.ended = true;
     }
 
-    // Takes items, as one that plays this agent of this match, and gives the text that it is sent.
+    // Takes items, as one that plays this agent of this match, and adds the text that it is sent.
     pub(crate) fn play(
         &mut self,
         alloc: Global,
         line_reader: &mut LineReader,
         ready: &mut Ready,
         seat: (u32, u16),
-    ) -> Result<Vec<u8>, Memory>
+        text: &mut Vec<u8>,
+    ) -> Result<(), Memory>
         ensures game { OnOk result (game_of ready.new ≡ (taken (game_of ready.old) seat.1 self.old.queue).game) }
-        ensures text { IfOk result (λ text. text.items ≡ (taken (game_of ready.old) seat.1 self.old.queue).text) }
+        ensures text { OnOk result (text.new.items
+            ≡ text.old.items ++ (taken (game_of ready.old) seat.1 self.old.queue).text) }
         ensures connection { OnOk result (self.new
             ≡ after (record self.old { seat = Some seat }) (taken (game_of ready.old) seat.1 self.old.queue)) }
         ensures seat { self.new.seat ≡ Some seat }
         ensures team { team_of ready.new ≡ team_of ready.old }
     {
         self.seat = Some(seat);
-        let mut text = Vec::new(alloc);
-        if take_items(
-            alloc,
-            line_reader,
-            ready,
-            seat.1,
-            &mut self.queue,
-            &mut text,
-        )? {
+        if take_items(alloc, line_reader, ready, seat.1, &mut self.queue, text)? {
             self.shut(alloc);
         }
-        Ok(text)
+        Ok(())
     }
 }
 
-fn queue_lines<'s>(queue: &mut VecDeque<Item<'s>>, found: Vec<Raw<'s>>) -> Result<(), Memory>
+fn queue_lines<'s>(queue: &mut VecDeque<Item<'s>>, found: &mut VecDeque<Raw<'s>>) -> Result<(), Memory>
     ensures { OnOk result (map seen_item queue.new.items ≡ map seen_item queue.old.items
-        ++ map Says (map seen found.entry.items)) }
+        ++ map Says (map seen found.old.items)) }
 {
-    for line in found {
+    while let Some(line) = found.pop_front() {
         queue.push_back(Item::Says(line))?;
     }
     Ok(())

@@ -1,16 +1,18 @@
 //! What each instruction of a script makes of a rehearsal.
 
-ghost use Rattle.std.specs.Prelude.{◌<◌, ◌≡◌, ◌^◌, [], ◌∷◌, length, map, Some, IfOk, IfSome};
+ghost use Rattle.std.specs.Prelude.{◌<◌, ◌≡◌, ◌^◌, [], ◌∷◌, length, map, option_map, Some, IfOk, IfSome};
 ghost use Rattle.std.specs.List.{position};
 ghost use Rattle.bhs_model.specs.Marks.{read_if};
+ghost use Rattle.bhs_model.specs.declared.replies.Reply.{Reply};
 ghost use Rattle.bhs_model.specs.declared.replies.Reply.TheVariants.{Over};
+ghost use Rattle.bhs_wire.specs.LentReply.{reply_of};
 ghost use Rattle.bhs_session.specs.Texts.{text_of};
 ghost use Rattle.bhs_model.specs.declared.events.Event.TheVariants.{Close};
 ghost use Rattle.bhs_rehearsal.specs.Games.{drawn, played};
 ghost use Rattle.bhs_rehearsal.specs.Stages.{feeds, ends, delivers, tells_arrival, closes, game_at, with_game};
 ghost use Rattle.bhs_rehearsal.specs.Stages.{has_seat, sent_to, told_over, shut_in};
 ghost use Rattle.bhs_rehearsal.specs.Rehearsing.{game_of, team_of, seen_out, sent_all, sent_once, on_stage};
-ghost use Rattle.bhs_rehearsal.specs.Takings.{IsStepped, IsDrawn, after_draw, mark_at};
+ghost use Rattle.bhs_rehearsal.specs.Takings.{IsStepped, IsDrawn, after_draw, mark_at, told_to};
 
 use crate::connections::Connection;
 use crate::outs::Out;
@@ -19,9 +21,10 @@ use crate::takings::play;
 use bhs_deal::{Drawn, draw};
 use bhs_lineup::Ready;
 use bhs_match::Match;
-use bhs_model::{Event, Kept, Reply};
+use bhs_model::{Event, Kept};
 use bhs_net::Memory;
 use bhs_session::push_reply;
+use bhs_wire::LentReply;
 use std::alloc::Global;
 
 impl<'s> Rehearsal<'s> {
@@ -35,9 +38,10 @@ impl<'s> Rehearsal<'s> {
         if connection.has_ended() {
             return Ok(None);
         }
-        connection.receive(bytes)?;
-        let text = self.moves(alloc, conn)?;
-        Ok(sent_to(conn, text))
+        connection.receive(bytes, &mut self.found)?;
+        let mut text = self.empty_text(alloc);
+        self.moves(alloc, conn, &mut text)?;
+        Ok(self.sent_to(conn, text))
     }
 
     // The input of a connection ends.
@@ -51,8 +55,9 @@ impl<'s> Rehearsal<'s> {
             return Ok(None);
         }
         connection.end(alloc)?;
-        let text = self.moves(alloc, conn)?;
-        Ok(sent_to(conn, text))
+        let mut text = self.empty_text(alloc);
+        self.moves(alloc, conn, &mut text)?;
+        Ok(self.sent_to(conn, text))
     }
 
     // A word is drawn in a match.
@@ -62,23 +67,31 @@ impl<'s> Rehearsal<'s> {
             result self.new }
     {
         let alloc = *self.connections.allocator();
-        let Some((agent, reply)) = self.delivered(game, word)? else {
+        let mut text = self.empty_text(alloc);
+        let Some(agent) = self.delivered(alloc, game, word, &mut text)? else {
+            self.keep(text);
             return Ok(None);
         };
         match self.holder((game, agent)) {
-            Some(conn) => self.tells_arrival(alloc, conn, &reply),
+            Some(conn) => self.tells_arrival(alloc, conn, text),
             None => Ok(None),
         }
     }
 
-    // What the draw makes of the match. Gives the agent that arrives, and what it is told.
-    fn delivered(&mut self, game: u32, word: u32) -> Result<Option<(u16, Reply)>, Memory>
+    // What the draw makes of the match. Gives the agent that arrives, and adds the text that it is told.
+    fn delivered(
+        &mut self,
+        alloc: Global,
+        game: u32,
+        word: u32,
+        text: &mut Vec<u8>,
+    ) -> Result<Option<u16>, Memory>
         requires { game < length self.old.stage.games }
         ensures { IsDrawn self.old game (after_draw (game_at self.old.stage game)
-            (drawn (game_at self.old.stage game) word)) result self.new }
+            (drawn (game_at self.old.stage game) word)) text.old.items result text.new.items self.new }
     {
         let ready = &mut self.ready[game as usize];
-        deliver(ready, word)
+        deliver(alloc, ready, word, text)
     }
 
     // The first connection that plays this agent of this match.
@@ -97,17 +110,27 @@ impl<'s> Rehearsal<'s> {
         &mut self,
         alloc: Global,
         conn: u16,
-        reply: &Reply,
+        mut text: Vec<u8>,
     ) -> Result<Option<Out>, Memory>
         requires { conn < length self.old.stage.connections }
-        ensures { IsStepped sent_once self.old (tells_arrival self.old.stage (Some reply.now) (Some conn))
-            result self.new }
+        ensures { (reply : Reply) → text.items ≡ text_of reply
+            → IsStepped sent_once self.old (tells_arrival self.old.stage (Some reply) (Some conn)) result self.new }
     {
-        let mut text = Vec::new(alloc);
-        push_reply(alloc, reply, &mut text)?;
-        let more = self.moves(alloc, conn)?;
-        text.extend_from_slice(&more)?;
-        Ok(sent_to(conn, text))
+        self.moves(alloc, conn, &mut text)?;
+        Ok(self.sent_to(conn, text))
+    }
+
+    // Nothing is sent where there is no text.
+    fn sent_to(&mut self, conn: u16, bytes: Vec<u8>) -> Option<Out>
+        ensures sent { sent_once result ≡ sent_to conn bytes.items }
+        ensures same { self.new ≡ self.old }
+    {
+        if bytes.is_empty() {
+            self.keep(bytes);
+            None
+        } else {
+            Some(Out { conn, bytes })
+        }
     }
 
     // A match is ended.
@@ -166,36 +189,34 @@ impl<'s> Rehearsal<'s> {
     }
 }
 
-// Nothing is sent where there is no text.
-fn sent_to(conn: u16, bytes: Vec<u8>) -> Option<Out>
-    ensures { sent_once result ≡ sent_to conn bytes.items }
-{
-    if bytes.is_empty() {
-        None
-    } else {
-        Some(Out { conn, bytes })
-    }
-}
-
-// Draws a word in a match. Gives the agent that arrives, and what it is told.
-fn deliver(ready: &mut Ready, word: u32) -> Result<Option<(u16, Reply)>, Memory>
-    ensures drawn { IfOk result (λ arrival. record { game = game_of ready.new; arrival = arrival }
-        ≡ after_draw (game_of ready.old) (drawn (game_of ready.old) word)) }
+// Draws a word in a match. Gives the agent that arrives, and adds the text that it is told.
+fn deliver(
+    alloc: Global,
+    ready: &mut Ready,
+    word: u32,
+    text: &mut Vec<u8>,
+) -> Result<Option<u16>, Memory>
+    ensures drawn { let drawn = after_draw (game_of ready.old) (drawn (game_of ready.old) word) in
+        IfOk result (λ agent. (game_of ready.new ≡ drawn.game)
+        × ((agent, text.new.items) ≡ told_to text.old.items drawn.arrival)) }
     ensures team { team_of ready.new ≡ team_of ready.old }
 {
     let before = ready.game.log().len();
     let Drawn::Delivered { agent } = draw(&mut ready.game, &ready.held, word) else {
         return Ok(None);
     };
-    match reply_at(&ready.game, before)? {
-        Some(reply) => Ok(Some((agent, reply))),
+    match reply_at(&ready.game, before) {
+        Some(reply) => {
+            push_reply(alloc, reply, text)?;
+            Ok(Some(agent))
+        }
         None => Ok(None),
     }
 }
 
 // The reply to the event at a place of the log, if one stands there and was answered.
-fn reply_at(game: &Match, place: usize) -> Result<Option<Reply>, Memory>
-    ensures { IfOk result (λ reply. reply ≡ read_if game.now.log (mark_at game.now.log place)) }
+fn reply_at(game: &Match, place: usize) -> Option<LentReply<'_>>
+    ensures { option_map reply_of result ≡ read_if game.now.log (mark_at game.now.log place) }
 {
     let Some(
         Kept {
@@ -204,10 +225,9 @@ fn reply_at(game: &Match, place: usize) -> Result<Option<Reply>, Memory>
         },
     ) = game.log().get(place)
     else {
-        return Ok(None);
+        return None;
     };
-    let reply = game.reply(mark)?;
-    Ok(Some(reply))
+    Some(LentReply::of_mark(*mark, game.text(mark)))
 }
 
 fn holder_place(connections: &[Connection<'_>], seat: (u32, u16)) -> Option<usize>
@@ -241,7 +261,7 @@ fn over_to(alloc: Global, conn: u16) -> Result<Out, Memory>
     ensures { IfOk result (λ out. seen_out out ∷ [] ≡ sent_to conn (text_of Over)) }
 {
     let mut bytes = Vec::new(alloc);
-    push_reply(alloc, &Reply::Over, &mut bytes)?;
+    push_reply(alloc, LentReply::Over, &mut bytes)?;
     Ok(Out { conn, bytes })
 }
 

@@ -1,7 +1,6 @@
 //! What a connection's items make of a rehearsal.
 
 ghost use Rattle.std.specs.Prelude.{◌<◌, ◌≡◌, [], length, IfOk};
-ghost use Rattle.bhs_session.specs.Texts.{denial_text};
 ghost use Rattle.bhs_rehearsal.specs.Rehearsing.{on_stage};
 ghost use Rattle.bhs_rehearsal.specs.Stages.{moves, enters, entry, plays, shuts, connection_at};
 ghost use Rattle.bhs_rehearsal.specs.Takings.{IsMoved, seen_entry};
@@ -9,27 +8,28 @@ ghost use Rattle.bhs_rehearsal.specs.Takings.{IsMoved, seen_entry};
 use crate::entries::{Entry, first_entry};
 use crate::rehearsals::Rehearsal;
 use bhs_net::Memory;
-use bhs_session::denial_text;
+use bhs_session::push_denial;
 use std::alloc::Global;
 
 impl<'s> Rehearsal<'s> {
-    // A connection takes of its items what it can, and is sent the text.
-    pub(crate) fn moves(&mut self, alloc: Global, conn: u16) -> Result<Vec<u8>, Memory>
+    // A connection takes of its items what it can. Adds the text that it is sent.
+    pub(crate) fn moves(&mut self, alloc: Global, conn: u16, text: &mut Vec<u8>) -> Result<(), Memory>
         requires { conn < length self.old.stage.connections }
-        ensures { IsMoved self.old (moves self.old.stage conn) result self.new }
+        ensures { IsMoved self.old (moves self.old.stage conn) text.old.items result text.new.items self.new }
     {
         let connection = &self.connections[usize::from(conn)];
         match connection.seat() {
-            Some(seat) => self.plays(alloc, conn, seat),
-            None => self.enters(alloc, conn),
+            Some(seat) => self.plays(alloc, conn, seat, text),
+            None => self.enters(alloc, conn, text),
         }
     }
 
     // The first item of a connection that was not let in.
-    fn enters(&mut self, alloc: Global, conn: u16) -> Result<Vec<u8>, Memory>
+    fn enters(&mut self, alloc: Global, conn: u16, text: &mut Vec<u8>) -> Result<(), Memory>
         requires { conn < length self.old.stage.connections }
         ensures { IsMoved self.old (enters self.old.stage conn
-            (entry self.old.stage (connection_at self.old.stage conn).queue)) result self.new }
+            (entry self.old.stage (connection_at self.old.stage conn).queue)) text.old.items result text.new.items
+            self.new }
     {
         let entry = first_entry(
             &mut self.line_reader,
@@ -39,28 +39,34 @@ impl<'s> Rehearsal<'s> {
             usize::from(conn),
         )?;
         match entry {
-            Entry::Waits => Ok(Vec::new(alloc)),
-            Entry::Sits(seat) => self.plays(alloc, conn, seat),
+            Entry::Waits => Ok(()),
+            Entry::Sits(seat) => self.plays(alloc, conn, seat, text),
             Entry::Denied(denial) => {
                 self.shuts(alloc, conn);
-                denial_text(alloc, denial)
+                push_denial(denial, text)
             }
             Entry::Goes => {
                 self.shuts(alloc, conn);
-                Ok(Vec::new(alloc))
+                Ok(())
             }
         }
     }
 
     // The items are taken as of one that plays this agent of this match.
-    fn plays(&mut self, alloc: Global, conn: u16, seat: (u32, u16)) -> Result<Vec<u8>, Memory>
+    fn plays(
+        &mut self,
+        alloc: Global,
+        conn: u16,
+        seat: (u32, u16),
+        text: &mut Vec<u8>,
+    ) -> Result<(), Memory>
         requires conn { conn < length self.old.stage.connections }
         requires game { seat.0 < length self.old.stage.games }
-        ensures { IsMoved self.old (plays self.old.stage conn seat) result self.new }
+        ensures { IsMoved self.old (plays self.old.stage conn seat) text.old.items result text.new.items self.new }
     {
         let ready = &mut self.ready[seat.0 as usize];
         let connection = &mut self.connections[conn as usize];
-        connection.play(alloc, &mut self.line_reader, ready, seat)
+        connection.play(alloc, &mut self.line_reader, ready, seat, text)
     }
 
     // The connection takes no more.

@@ -1,4 +1,4 @@
-ghost use Rattle.std.specs.Prelude.{◌≡◌, false, map, IfOk, replicate};
+ghost use Rattle.std.specs.Prelude.{◌≡◌, [], false, map, IfOk, replicate};
 ghost use Rattle.bhs_rehearsal.specs.Connections.{unfed};
 ghost use Rattle.bhs_rehearsal.specs.Stages.{Feeds, EndsInput, Draws, Closes};
 ghost use Rattle.bhs_rehearsal.specs.Rehearsing.{Follows, first_stage, game_of, sent_all, sent_once, team_of};
@@ -9,9 +9,11 @@ use crate::faults::RehearsalFault;
 use crate::outs::Out;
 use bhs_lineup::{Keys, Lineup, Ready};
 use bhs_net::Memory;
-use bhs_wire::LineReader;
+use bhs_wire::{LineReader, Raw};
 use std::alloc::Global;
+use std::collections::VecDeque;
 use std::marker::Model;
+use std::mem::replace;
 
 /// A rehearsal of a tournament in memory: connections are fed bytes, words are drawn and matches are ended, and
 /// each call gives what the connections are sent.
@@ -30,6 +32,10 @@ pub struct Rehearsal<'s> {
     pub(crate) keys: Keys,
     pub(crate) connections: Vec<Connection<'s>>,
     pub(crate) line_reader: LineReader,
+    // The lines that end in what a connection is fed, before they are queued.
+    pub(crate) found: VecDeque<Raw<'s>>,
+    // The memory of a text that was sent, for the next one.
+    pub(crate) spare: Vec<u8>,
     pub(crate) has_failed: bool,
 }
 
@@ -68,6 +74,8 @@ impl<'s> Rehearsal<'s> {
             keys,
             connections,
             line_reader: LineReader::new(alloc),
+            found: VecDeque::new(alloc),
+            spare: Vec::new(alloc),
             has_failed: false,
         })
     }
@@ -128,6 +136,13 @@ impl<'s> Rehearsal<'s> {
         self.settled(outs)
     }
 
+    /// Takes back the memory of what a connection was sent, for what the next call gives.
+    pub fn take_back(&mut self, out: Out)
+        ensures { self.new ≡ self.old }
+    {
+        self.keep(out.bytes);
+    }
+
     /// Whether memory ran out in a call. Each call after it is answered `Memory`.
     pub fn failed(&self) -> bool
         ensures { result ≡ self.now.has_failed }
@@ -141,6 +156,23 @@ impl<'s> Rehearsal<'s> {
         ensures teams { map team_of result.items ≡ self.entry.teams }
     {
         self.ready
+    }
+
+    // Keeps the memory of a text for the next one.
+    pub(crate) fn keep(&mut self, text: Vec<u8>)
+        ensures { self.new ≡ self.old }
+    {
+        self.spare = text;
+    }
+
+    // A text without a byte, in the memory that was kept.
+    pub(crate) fn empty_text(&mut self, alloc: Global) -> Vec<u8>
+        ensures text { result.items ≡ [] }
+        ensures same { self.new ≡ self.old }
+    {
+        let mut text = replace(&mut self.spare, Vec::new(alloc));
+        text.clear();
+        text
     }
 
     // What a call gives. Where memory ran out the rehearsal has failed.

@@ -10,10 +10,10 @@ ghost use Rattle.bhs_rehearsal.specs.Takings.{behind, goes_on, left_if};
 
 use crate::items::Item;
 use bhs_lineup::Ready;
-use bhs_model::{Command, Event, Mark, Reply};
+use bhs_model::{Command, Event, Mark};
 use bhs_net::Memory;
 use bhs_session::{command_in, ending_of, push_reply};
-use bhs_wire::LineReader;
+use bhs_wire::{LentReply, LineReader};
 use std::alloc::Global;
 use std::collections::VecDeque;
 
@@ -110,9 +110,9 @@ fn tell(
     let Some(mark) = play(ready, Event::Tell { agent, command }) else {
         return Ok(false);
     };
-    let reply = ready.game.reply(&mark)?;
-    push_reply(alloc, &reply, text)?;
-    Ok(ending_of(&reply).is_some())
+    let reply = LentReply::of_mark(mark, ready.game.text(&mark));
+    push_reply(alloc, reply, text)?;
+    Ok(ending_of(reply).is_some())
 }
 
 // Plays an event of a match. Takes no memory.

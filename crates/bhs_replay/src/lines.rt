@@ -9,7 +9,7 @@ ghost use Rattle.bhs_replay.specs.Spelling.{CommandFits, EventFits, ReplyFits, R
 use bhs_match::Sealed;
 use bhs_model::{Command, Event, Kept, Reply};
 use bhs_net::Memory;
-use bhs_wire::{write_number, write_reply, write_text};
+use bhs_wire::{LentReply, write_number, write_reply, write_text};
 use json::Writer;
 use std::alloc::Global;
 
@@ -106,7 +106,7 @@ fn write_answer(out: &mut Writer, reply: &Option<Reply>) -> Result<(), Memory>
     ensures fits { ReplyFits reply.now }
 {
     match reply {
-        Some(reply) => write_reply(out, reply),
+        Some(reply) => write_reply(out, LentReply::of_reply(reply)),
         None => Ok(out.null()?),
     }
 }

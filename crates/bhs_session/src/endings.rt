@@ -1,7 +1,8 @@
 ghost use Rattle.std.specs.Prelude.{◌≡◌};
+ghost use Rattle.bhs_wire.specs.LentReply.{reply_of};
 ghost use Rattle.bhs_session.specs.Phase.{ended_by, phase_of, stopped, between};
 
-use bhs_model::Reply;
+use bhs_wire::LentReply;
 
 /// How a session ended.
 #[derive(Clone, Copy, Debug, PartialEq, Eq)]
@@ -49,13 +50,13 @@ impl Stop {
 }
 
 /// How an answer ends a session, if it does.
-pub fn ending_of(reply: &Reply) -> Option<Ended>
-    ensures { result ≡ ended_by reply.now }
+pub fn ending_of(reply: LentReply<'_>) -> Option<Ended>
+    ensures { result ≡ ended_by (reply_of reply.entry) }
 {
     match reply {
-        Reply::Bye => Some(Ended::Bye),
-        Reply::Noted => Some(Ended::Noted),
-        Reply::Over => Some(Ended::Over),
+        LentReply::Bye => Some(Ended::Bye),
+        LentReply::Noted => Some(Ended::Noted),
+        LentReply::Over => Some(Ended::Over),
         _ => None,
     }
 }

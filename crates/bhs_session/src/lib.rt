@@ -14,5 +14,5 @@ pub use endings::{Ended, ending_of};
 pub use laws::{histories_answer_by_pasts, lines_in_order, no_turns, written_as_met};
 pub use lines::{command_in, key_in};
 pub use port::{Entered, Port};
-pub use replies::{denial_text, push_reply};
+pub use replies::{push_denial, push_reply};
 pub use serving::serve;

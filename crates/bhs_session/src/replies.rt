@@ -1,5 +1,6 @@
-ghost use Rattle.std.specs.Prelude.{◌≡◌, ℕ, List, Bool, OnOk, OnErr, IfErr, ◌++◌, ◌∷◌, [], IfOk};
+ghost use Rattle.std.specs.Prelude.{◌≡◌, ℕ, List, Bool, OnOk, OnErr, IfErr, ◌++◌, ◌∷◌, []};
 ghost use Rattle.bhs_stream.specs.Sending.{PutsAll, PutsPart};
+ghost use Rattle.bhs_wire.specs.LentReply.{reply_of};
 ghost use Rattle.bhs_session.specs.Phase.{answered_by, waiting, reached, Sends, Owes, Finished, phase_of};
 ghost use Rattle.bhs_session.specs.Texts.{text_of, denial_text};
 ghost use Rattle.bhs_session.specs.Moves.{StopsAtLines};
@@ -9,7 +10,7 @@ use crate::endings::{Ended, Stop, ending_of};
 use bhs_model::Reply;
 use bhs_net::Memory;
 use bhs_stream::{Output, WriteFault, send};
-use bhs_wire::{Denial, denial_of, push_line};
+use bhs_wire::{Denial, LentReply, denial_of, push_line};
 use std::alloc::Global;
 
 /// The bytes that the line of a reply takes at most besides its whiteboard.
@@ -27,7 +28,7 @@ pub(crate) fn write_reply<W: Output>(
         (reached (waiting waits reply.now) result) }
     ensures cause { IfErr result StopsAtLines }
 {
-    match (send_reply(text, writer, reply), ending_of(reply)) {
+    match (send_reply(text, writer, reply), ending_of(LentReply::of_reply(reply))) {
         (Ok(()), None) => Ok(()),
         (Ok(()), Some(ended)) => Err(Stop::Finished(ended)),
         (Err(cause), None) => Err(Stop::Leaves(cause)),
@@ -41,7 +42,7 @@ fn send_reply<W: Output>(text: &mut Vec<u8>, writer: &mut W, reply: &Reply) -> R
 {
     text.clear();
     let alloc = *text.allocator();
-    if push_reply(alloc, reply, text).is_err() {
+    if push_reply(alloc, LentReply::of_reply(reply), text).is_err() {
         return Err(Ended::Memory);
     }
     match send(writer, text) {
@@ -51,8 +52,8 @@ fn send_reply<W: Output>(text: &mut Vec<u8>, writer: &mut W, reply: &Reply) -> R
 }
 
 /// Adds the line of a reply, with its line feed. An `Err` may have added a part of it.
-pub fn push_reply(alloc: Global, reply: &Reply, text: &mut Vec<u8>) -> Result<(), Memory>
-    ensures { OnOk result (text.new.items ≡ text.old.items ++ text_of reply.now) }
+pub fn push_reply(alloc: Global, reply: LentReply<'_>, text: &mut Vec<u8>) -> Result<(), Memory>
+    ensures { OnOk result (text.new.items ≡ text.old.items ++ text_of (reply_of reply.entry)) }
 {
     text.reserve(room_of(reply))?;
     push_line(alloc, text, reply)?;
@@ -60,10 +61,10 @@ pub fn push_reply(alloc: Global, reply: &Reply, text: &mut Vec<u8>) -> Result<()
 }
 
 // How many bytes the line of a reply takes, unless its whiteboard has characters that JSON escapes.
-fn room_of(reply: &Reply) -> usize {
+fn room_of(reply: LentReply<'_>) -> usize {
     match reply {
-        Reply::Here { board, .. } | Reply::Changed { board } => ROOM.saturating_add(
-            board.as_str().len(),
+        LentReply::Here { board, .. } | LentReply::Changed { board } => ROOM.saturating_add(
+            board.len(),
         ),
         _ => ROOM,
     }
@@ -90,11 +91,10 @@ fn send_denial<W: Output>(writer: &mut W, denial: Denial) -> Result<(), WriteFau
     send(writer, b"\n")
 }
 
-/// The line that tells a client why it is not let in, with its line feed.
-pub fn denial_text(alloc: Global, denial: Denial) -> Result<Vec<u8>, Memory>
-    ensures { IfOk result (λ text. text.items ≡ denial_text denial) }
+/// Adds the line that tells a client why it is not let in, with its line feed. An `Err` may have added a part of it.
+pub fn push_denial(denial: Denial, text: &mut Vec<u8>) -> Result<(), Memory>
+    ensures { OnOk result (text.new.items ≡ text.old.items ++ denial_text denial) }
 {
-    let mut text = Vec::from_slice(alloc, denial_of(denial).as_bytes())?;
-    text.push(b'\n')?;
-    Ok(text)
+    text.extend_from_slice(denial_of(denial).as_bytes())?;
+    Ok(text.push(b'\n')?)
 }

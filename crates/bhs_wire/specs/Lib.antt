@@ -3,6 +3,7 @@ pub mod First
 pub mod Said
 pub mod Why
 pub mod Reply
+pub mod LentReply
 pub mod ReplyTokens
 pub mod Denial
 pub mod Lines

@@ -11,6 +11,7 @@ use bhs_model::{Command, MAX_LINE};
 use bhs_net::Memory;
 use std::alloc::Global;
 use std::borrow::CowSlice;
+use std::collections::VecDeque;
 
 /// A line that a client sent, without its line feed.
 #[derive(Drop)]
@@ -56,7 +57,7 @@ fn line_end(bytes: &[u8]) -> Option<usize>
 // Adds what the line gives that was held in part, and ends here.
 pub(crate) fn push_first<'p>(
     alloc: Global,
-    found: &mut Vec<Raw<'p>>,
+    found: &mut VecDeque<Raw<'p>>,
     held: &Option<Vec<u8>>,
     end: &'p [u8],
 ) -> Result<(), Memory>
@@ -66,7 +67,7 @@ pub(crate) fn push_first<'p>(
 {
     match held {
         Some(front) => push_line(alloc, found, front, end)?,
-        None => found.push(Raw::Over)?,
+        None => found.push_back(Raw::Over)?,
     }
     Ok(())
 }
@@ -74,7 +75,7 @@ pub(crate) fn push_first<'p>(
 // Adds the lines that end in the bytes, and gives what stands after the last line feed.
 pub(crate) fn push_lines<'p>(
     alloc: Global,
-    found: &mut Vec<Raw<'p>>,
+    found: &mut VecDeque<Raw<'p>>,
     bytes: &'p [u8],
 ) -> Result<&'p [u8], Memory>
     ensures found { OnOk result (map seen found.new.items ≡ map seen found.old.items ++ lines bytes.now) }
@@ -91,7 +92,7 @@ pub(crate) fn push_lines<'p>(
 // Adds what a line gives that lies in two parts. One that is too long is not put together.
 fn push_line<'p>(
     alloc: Global,
-    found: &mut Vec<Raw<'p>>,
+    found: &mut VecDeque<Raw<'p>>,
     front: &[u8],
     end: &'p [u8],
 ) -> Result<(), Memory>
@@ -99,14 +100,14 @@ fn push_line<'p>(
     ensures { OnOk result (map seen found.new.items ≡ map seen found.old.items ++ given (front.now ++ end.now)) }
 {
     if end.len() > MAX_LINE - front.len() {
-        found.push(Raw::Over)?;
+        found.push_back(Raw::Over)?;
         return Ok(());
     }
     if is_blank(front) && is_blank(end) {
         return Ok(());
     }
     let line = joined(alloc, front, end)?;
-    found.push(Raw::Whole(line))?;
+    found.push_back(Raw::Whole(line))?;
     Ok(())
 }
 

@@ -1,19 +1,22 @@
 ghost use Rattle.std.specs.Prelude.{◌≡◌, ◌++◌, ◌∷◌, [], codes, OnOk};
 ghost use Rattle.json.specs.Token.{key};
+ghost use Rattle.bhs_model.specs.declared.replies.Reply.TheVariants.{Here, Changed};
+ghost use Rattle.bhs_wire.specs.LentReply.{reply_of};
 ghost use Rattle.bhs_wire.specs.Reply.{line};
 ghost use Rattle.bhs_wire.specs.ReplyTokens.{reply_tokens, label_token, word_tokens, LabelFits, NumbersFit};
 ghost use Rattle.bhs_wire.specs.Why.{word};
 
+use crate::lent::LentReply;
 use crate::tokens::{write_number, write_text};
-use bhs_model::{Reply, Text, Why};
+use bhs_model::Why;
 use bhs_net::Memory;
 use json::Writer;
 use std::alloc::Global;
 use std::mem::replace;
 
 /// Adds the line of a reply to a text, without its line feed. An `Err` may have added a part of it.
-pub fn push_line(alloc: Global, text: &mut Vec<u8>, reply: &Reply) -> Result<(), Memory>
-    ensures { OnOk result (text.new.items ≡ text.old.items ++ line reply.now) }
+pub fn push_line(alloc: Global, text: &mut Vec<u8>, reply: LentReply<'_>) -> Result<(), Memory>
+    ensures { OnOk result (text.new.items ≡ text.old.items ++ line (reply_of reply.entry)) }
 {
     let mut out = Writer::new(replace(text, Vec::new(alloc)));
     let written = write_reply(&mut out, reply);
@@ -22,42 +25,42 @@ pub fn push_line(alloc: Global, text: &mut Vec<u8>, reply: &Reply) -> Result<(),
 }
 
 /// Writes a reply as a part of JSON. An `Err` may have written a part of it.
-pub fn write_reply(out: &mut Writer, reply: &Reply) -> Result<(), Memory>
-    ensures ok { OnOk result (out.new.tokens ≡ out.old.tokens ++ reply_tokens reply.now) }
+pub fn write_reply(out: &mut Writer, reply: LentReply<'_>) -> Result<(), Memory>
+    ensures ok { OnOk result (out.new.tokens ≡ out.old.tokens ++ reply_tokens (reply_of reply.entry)) }
     ensures before { out.new.before ≡ out.old.before }
-    ensures fits { NumbersFit reply.now }
+    ensures fits { NumbersFit (reply_of reply.entry) }
 {
     match reply {
-        Reply::Here { ports, came, board } => write_here(out, *ports, *came, board),
-        Reply::Written => write_word(out, "ok", "written"),
-        Reply::Changed { board } => write_changed(out, board),
-        Reply::Gone => write_word(out, "ok", "gone"),
-        Reply::Noted => write_word(out, "ok", "noted"),
-        Reply::Bye => write_word(out, "ok", "bye"),
-        Reply::Over => write_word(out, "ok", "over"),
-        Reply::No(why) => write_word(out, "no", word_of(*why)),
+        LentReply::Here { ports, came, board } => write_here(out, ports, came, board),
+        LentReply::Written => write_word(out, "ok", "written"),
+        LentReply::Changed { board } => write_changed(out, board),
+        LentReply::Gone => write_word(out, "ok", "gone"),
+        LentReply::Noted => write_word(out, "ok", "noted"),
+        LentReply::Bye => write_word(out, "ok", "bye"),
+        LentReply::Over => write_word(out, "ok", "over"),
+        LentReply::No(why) => write_word(out, "no", word_of(why)),
     }
 }
 
-fn write_here(out: &mut Writer, ports: u16, came: Option<u16>, board: &Text) -> Result<(), Memory>
-    ensures ok { OnOk result (out.new.tokens ≡ out.old.tokens ++ reply_tokens (Reply.Here ports came board.now)) }
+fn write_here(out: &mut Writer, ports: u16, came: Option<u16>, board: &str) -> Result<(), Memory>
+    ensures ok { OnOk result (out.new.tokens ≡ out.old.tokens ++ reply_tokens (Here ports came board.now)) }
     ensures before { out.new.before ≡ out.old.before }
-    ensures fits { NumbersFit (Reply.Here ports came board.now) }
+    ensures fits { NumbersFit (Here ports came board.now) }
 {
     out.begin_object()?;
-    write_text(out, "board", board.as_str())?;
+    write_text(out, "board", board)?;
     write_label(out, came)?;
     write_text(out, "ok", "here")?;
     write_number(out, "ports", ports)?;
     Ok(out.end_object()?)
 }
 
-fn write_changed(out: &mut Writer, board: &Text) -> Result<(), Memory>
-    ensures ok { OnOk result (out.new.tokens ≡ out.old.tokens ++ reply_tokens (Reply.Changed board.now)) }
+fn write_changed(out: &mut Writer, board: &str) -> Result<(), Memory>
+    ensures ok { OnOk result (out.new.tokens ≡ out.old.tokens ++ reply_tokens (Changed board.now)) }
     ensures before { out.new.before ≡ out.old.before }
 {
     out.begin_object()?;
-    write_text(out, "board", board.as_str())?;
+    write_text(out, "board", board)?;
     write_text(out, "ok", "changed")?;
     Ok(out.end_object()?)
 }

@@ -5,6 +5,7 @@ use crate::pieces::{Raw, hold, keep, push_first, push_lines, split_line};
 use bhs_model::MAX_LINE;
 use bhs_net::Memory;
 use std::alloc::Global;
+use std::collections::VecDeque;
 use std::marker::Model;
 
 /// Cuts the bytes that a client sends into lines, in whatever pieces they come. Contracts see the bytes of
@@ -64,14 +65,30 @@ impl Lines {
             → OnOk result (self.new ≡ held_of (stream ++ piece.now)) }
         ensures err { OnErr result (self.new ≡ self.old) }
     {
+        let mut found = VecDeque::new(self.alloc);
+        self.feed_into(piece, &mut found)?;
+        Ok(Vec::from(found))
+    }
+
+    /// The same, but the lines are added to those that were found before. An `Err` may have added some of them, and
+    /// changes nothing of what is held.
+    pub fn feed_into<'p>(
+        &mut self,
+        piece: &'p [u8],
+        found: &mut VecDeque<Raw<'p>>,
+    ) -> Result<(), Memory>
+        ensures found { OnOk result (map seen found.new.items
+            ≡ map seen found.old.items ++ found_in self.old piece.now) }
+        ensures left { OnOk result (self.new ≡ left_by self.old piece.now) }
+        ensures err { OnErr result (self.new ≡ self.old) }
+    {
         let Some((end, more)) = split_line(piece) else {
             hold(&mut self.held, piece)?;
-            return Ok(Vec::new(self.alloc));
+            return Ok(());
         };
-        let mut found = Vec::new(self.alloc);
-        push_first(self.alloc, &mut found, &self.held, end)?;
-        let rest = push_lines(self.alloc, &mut found, more)?;
+        push_first(self.alloc, found, &self.held, end)?;
+        let rest = push_lines(self.alloc, found, more)?;
         self.held = keep(self.alloc, rest)?;
-        Ok(found)
+        Ok(())
     }
 }

@@ -1,24 +1,32 @@
-use Rattle.std.proofs.Common.{List, length, Some, None, sym, ap, ◌∙◌}
+use Rattle.std.proofs.Common.{List, ℕ, length, Some, None, sym, ap, ◌∙◌}
 use Rattle.bhs_model.specs.Marks.{read_if}
 use Rattle.bhs_model.specs.declared.marks.Kept.{Kept}
-use Rattle.bhs_rehearsal.specs.Takings.{mark_at}
-use Rattle.bhs_rehearsal.proofs.PlayedLemmas.{one_drawn}
+use Rattle.bhs_wire.specs.LentReply.{reply_of}
+use Rattle.bhs_rehearsal.specs.Games.{drawn}
+use Rattle.bhs_rehearsal.specs.Rehearsing.{game_of}
+use Rattle.bhs_rehearsal.specs.Takings.{after_draw, mark_at}
+use Rattle.bhs_rehearsal.proofs.PlayedLemmas.{one_drawn, told_drawn}
 use Rattle.bhs_rehearsal.proofs.instructions.deliver.Goals as goal
 
-pub returns-in-Some-clause-drawn : goal.returns-in-Some-clause-drawn
-returns-in-Some-clause-drawn c =
+pub returns-in_ok-push_reply-in-Some-clause-drawn : goal.returns-in_ok-push_reply-in-Some-clause-drawn
+returns-in_ok-push_reply-in-Some-clause-drawn c =
     let log = c.draw.new.game.log in
-    one_drawn c.args.ready.now.game c.draw.new.game c.args.ready.now.held c.args.word c.in-Delivered.agent c.draw.result
-    (Some c.in-Some.reply)
+    let told = told_drawn _ (after_draw (game_of c.args.ready.now) (drawn (game_of c.args.ready.now) c.args.word))
+    c.args.text.now.items
+    (one_drawn c.args.ready.now.game c.draw.new.game c.args.ready.now.held c.args.word c.in-Delivered.agent c.draw.result
+    (Some (reply_of c.in-Some.reply))
     c.draw.ensures.drawn c.draw.ensures.played c.in-Delivered.is
-    (sym c.in-Some.is ∙ c.in_ok-reply.ensures ∙ ap (λ (before : List Kept). read_if log (mark_at log (length before)))
-    c.log-before.ensures.log)
+    (c.in-Some.ensures ∙ ap (λ (before : List Kept). read_if log (mark_at log (length before)))
+    c.log-before.ensures.log)) in
+    (told.0, ap (λ (text : List ℕ). (Some c.in-Delivered.agent, text)) c.in_ok-push_reply-in-Some.ensures ∙ told.1)
 
 pub returns-in-None-clause-drawn : goal.returns-in-None-clause-drawn
 returns-in-None-clause-drawn c =
     let log = c.draw.new.game.log in
-    one_drawn c.args.ready.now.game c.draw.new.game c.args.ready.now.held c.args.word c.in-Delivered.agent
-    c.draw.result None
+    told_drawn _ (after_draw (game_of c.args.ready.now) (drawn (game_of c.args.ready.now) c.args.word))
+    c.args.text.now.items
+    (one_drawn c.args.ready.now.game c.draw.new.game c.args.ready.now.held c.args.word c.in-Delivered.agent c.draw.result
+    None
     c.draw.ensures.drawn c.draw.ensures.played c.in-Delivered.is
-    (sym c.in-None.is ∙ c.in_ok-reply.ensures ∙ ap (λ (before : List Kept). read_if log (mark_at log (length before)))
-    c.log-before.ensures.log)
+    (c.in-None.ensures ∙ ap (λ (before : List Kept). read_if log (mark_at log (length before)))
+    c.log-before.ensures.log))

@@ -1,5 +1,6 @@
 use Rattle.std.proofs.Common.{◌++◌, ap, ◌∙◌, OnOk, Result, Ok, Err}
 use Rattle.json.specs.Print.{print}
+use Rattle.bhs_wire.specs.LentReply.{reply_of}
 use Rattle.bhs_wire.specs.ReplyTokens.{reply_tokens}
 use Rattle.bhs_wire.proofs.ReplyLines.{print-reply_tokens}
 use Rattle.bhs_wire.proofs.replies.push_line.Goals as goal
@@ -10,9 +11,9 @@ on_ok (Err error) gives holds = holds
 
 pub returns : goal.returns
 returns c = on_ok c.write_reply-written.result (λ written.
-    let all = written ∙ ap (λ t. t ++ reply_tokens c.args.reply.now) c.new-out.ensures.tokens in
+    let all = written ∙ ap (λ t. t ++ reply_tokens (reply_of c.args.reply)) c.new-out.ensures.tokens in
     let before = c.write_reply-written.ensures.before
     ∙ (c.new-out.ensures.before ∙ ap (λ v. v.items) c.replace.ensures.value) in
     c.into_inner.ensures.items ∙ (ap (λ b. b ++ print c.write_reply-written.new.out.tokens) before
-    ∙ ap (λ t. c.args.text.now.items ++ t) (ap print all ∙ print-reply_tokens c.args.reply.now)))
+    ∙ ap (λ t. c.args.text.now.items ++ t) (ap print all ∙ print-reply_tokens (reply_of c.args.reply))))
     c.write_reply-written.ensures.ok

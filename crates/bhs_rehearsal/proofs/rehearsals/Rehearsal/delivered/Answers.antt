@@ -11,10 +11,11 @@ returns c =
     let inside = c.self.inside in
     let game = c.args.game in
     subst (λ (old : Rehearsing). IsDrawn old game
-    (after_draw (game_at old.stage game) (drawn (game_at old.stage game) c.args.word)) c.deliver.result
+    (after_draw (game_at old.stage game) (drawn (game_at old.stage game) c.args.word)) c.args.text.now.items
+    c.deliver.result c.deliver.new.text.items
     (rehearsing (slice_set inside.ready.items game c.deliver.new.ready) inside.keys inside.connections.items
     inside.has_failed)) c.self.view_is
     (draws_lemma inside.ready.items inside.keys inside.connections.items inside.has_failed game c.args.word
-    c.index_mut-ready.result.now c.deliver.new.ready c.deliver.result
+    c.index_mut-ready.result.now c.deliver.new.ready c.args.text.now.items c.deliver.new.text.items c.deliver.result
     (game_within inside.ready.items inside.keys inside.connections.items inside.has_failed c.args.self.now game
     c.self.view_is c.requires) c.index_mut-ready.ensures.value c.deliver.ensures.drawn c.deliver.ensures.team)

@@ -9,11 +9,13 @@ pub returns : goal.returns
 returns c =
     let inside = c.self.inside in
     let seat = c.args.seat in
-    subst (λ (old : Rehearsing). IsMoved old (plays old.stage c.args.conn seat) c.play.result
+    subst (λ (old : Rehearsing). IsMoved old (plays old.stage c.args.conn seat) c.args.text.now.items
+    c.play.result c.play.new.text.items
     (rehearsing (slice_set inside.ready.items seat.0 c.play.new.ready) inside.keys
     (slice_set inside.connections.items c.args.conn c.play.new.self) inside.has_failed)) c.self.view_is
     (plays_lemma inside.ready.items inside.keys inside.connections.items inside.has_failed c.args.conn seat
-    c.index_mut-ready.result.now c.play.new.ready c.index_mut-connection.result.now c.play.new.self c.play.result
+    c.index_mut-ready.result.now c.play.new.ready c.index_mut-connection.result.now c.play.new.self
+    c.args.text.now.items c.play.new.text.items c.play.result
     (game_within inside.ready.items inside.keys inside.connections.items inside.has_failed c.args.self.now seat.0
     c.self.view_is c.requires.game) c.index_mut-ready.ensures.value
     (connection_within inside.ready.items inside.keys inside.connections.items inside.has_failed c.args.self.now
