@@ -6,6 +6,7 @@ pub mod EventLemmas
 pub mod FeedLemmas
 pub mod FitLemmas
 pub mod HeldLemmas
+pub mod HolderLemmas
 pub mod IsolationLemmas
 pub mod KnownLemmas
 pub mod MetExample

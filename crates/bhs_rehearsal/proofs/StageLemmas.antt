@@ -1,12 +1,15 @@
 -- A rehearsal of which one match or one connection is changed.
 use Rattle.std.proofs.Common.{◌≡◌, ℕ, ◌<◌, ◌^◌, Bool, true, false, Option, Some, None, Result, Ok, Err, IfOk, OnOk, List}
 use Rattle.std.proofs.Common.{length, map, get_or, slice_set, refl, sym, ap, ◌∙◌, subst, if◌then◌else◌, arith, ◌++◌}
-use Rattle.std.proofs.Common.{Vec, Global, []}
+use Rattle.std.proofs.Common.{Vec, Global, [], ◌==◌, ◌≢◌}
 use Rattle.std.specs.List.{All}
 use Rattle.std.specs.Vec.{with_items}
 use Rattle.std.specs.declared.alloc.AllocError.{AllocError}
 use Rattle.std.specs.Prelude.{option_map}
-use Rattle.std.proofs.lemmas.List.{get_or-map, get_or_read, map-set, length-map, set-get_or, with_items_is}
+use Rattle.std.proofs.lemmas.List.{get_or-map, get_or_read, map-set, length-map, length-set, set-get_or, with_items_is}
+use Rattle.std.proofs.lemmas.List.{get_or-set_other}
+use Rattle.std.proofs.lemmas.Grind.{get_or-set_at}
+use Rattle.std.proofs.lemmas.Bool.Decides.{nat_tests}
 use Rattle.std.proofs.Math.Seq.{map-set_same}
 use Rattle.bhs_model.specs.declared.events.Event.{Event}
 use Rattle.bhs_model.specs.declared.events.Event.TheVariants.{Tell, Deliver, Close}
@@ -16,9 +19,12 @@ use Rattle.bhs_lineup.specs.declared.lineups.Ready.{Ready}
 use Rattle.bhs_rehearsal.specs.Games.{Game, drawn}
 use Rattle.bhs_rehearsal.specs.Connections.{Connection, unfed, shut, Taken, taken, after}
 use Rattle.bhs_rehearsal.specs.Stages.{Stage, Stepped, game_at, connection_at, with_game, plays, waits_in, shut_in}
-use Rattle.bhs_rehearsal.specs.Stages.{delivers, nothing, tells_arrival}
-use Rattle.bhs_rehearsal.specs.Rehearsing.{Rehearsing, stage_of, game_of, team_of, on_stage, IsSeated}
-use Rattle.bhs_rehearsal.specs.Takings.{IsMoved, IsDrawn, Drawn, after_draw, told_to}
+use Rattle.bhs_rehearsal.specs.Stages.{delivers, has_seat, nothing, tells_arrival}
+use Rattle.bhs_rehearsal.specs.declared.outs.Out.{Out}
+use Rattle.bhs_session.specs.Texts.{text_of}
+use Rattle.std.specs.List.{position}
+use Rattle.bhs_rehearsal.specs.Rehearsing.{Rehearsing, stage_of, game_of, team_of, on_stage, sent_once, IsSeated}
+use Rattle.bhs_rehearsal.specs.Takings.{IsMoved, IsDrawn, IsStepped, Drawn, after_draw, told_to}
 
 -- what the fields of a rehearsal show
 abbrev pub rehearsing : List Ready → List Seat → List Connection → Bool → Rehearsing
@@ -146,6 +152,67 @@ silent_lemma old new game event before text is stands =
       stands ∙ ap (λ (stepped : Stepped). on_stage old stepped.stage) (sym same),
     )
 
+-- the seat of the connection that is read
+pub seat_read : (ready : List Ready) (keys : List Seat) (connections : List Connection) (failed : Bool)
+    (old : Rehearsing) (conn : ℕ) (one : Connection) (seat : Option (ℕ × ℕ)) →
+    rehearsing ready keys connections failed ≡ old → conn < length connections → one ≡ get_or connections conn one
+    → (connection_at old.stage conn).seat ≡ seat → one.seat ≡ seat
+seat_read ready keys connections failed old conn one seat is within read at =
+    ap (λ (connection : Connection). connection.seat) (get_or_read connections conn one within read unfed)
+    ∙ subst (λ (now : Rehearsing). (connection_at now.stage conn).seat ≡ seat) (sym is) at
+
+-- ---- a draw that tells an agent
+
+tells_none : (agent : ℕ) (text : List ℕ) → ◌≡◌ {A = Option ℕ × List ℕ} (Some agent, text) (None, []) → ⊥
+tells_none agent text is = not_none agent (ap (λ (one : Option ℕ × List ℕ). one.0) is) where
+  not_none : (agent : ℕ) → ◌≡◌ {A = Option ℕ} (Some agent) None → ⊥
+  not_none agent is = cc
+
+on_old : (old new : Rehearsing) (stage : Stage) (stepped : Stepped) (result : Result (Option Out) AllocError)
+    → IsStepped sent_once (on_stage old stage) stepped result new → IsStepped sent_once old stepped result new
+on_old old new stage stepped (Ok out) is = is
+on_old old new stage stepped (Err memory) is = is
+
+told_some : (old between new : Rehearsing) (stage : Stage) (game agent arrives conn : ℕ) (reply : Option Reply)
+    (text : List ℕ) (result : Result (Option Out) AllocError)
+    → between ≡ on_stage old stage
+    → ◌≡◌ {A = Option ℕ × List ℕ} (Some agent, text) (told_to [] (option_map (λ (one : Reply). (arrives, one)) reply))
+    → Some conn ≡ position (has_seat (game, agent)) between.stage.connections
+    → ((one : Reply) → text ≡ text_of one
+    → IsStepped sent_once between (tells_arrival between.stage (Some one) (Some conn)) result new)
+    → IsStepped sent_once old (tells_arrival stage reply (position (has_seat (game, arrives)) stage.connections)) result
+    new
+told_some old between new stage game agent arrives conn None text result is told holder steps =
+    absurd (tells_none agent text told)
+told_some old between new stage game agent arrives conn (Some reply) text result is told holder steps =
+    let same : agent ≡ arrives = one_agent agent arrives (ap (λ (one : Option ℕ × List ℕ). one.0) told) in
+    let step : IsStepped sent_once (on_stage old stage) (tells_arrival stage (Some reply) (Some conn)) result new =
+    subst (λ (now : Rehearsing). IsStepped sent_once now (tells_arrival now.stage (Some reply) (Some conn)) result new)
+    is (steps reply (ap (λ (one : Option ℕ × List ℕ). one.1) told)) in
+    let held : Some conn ≡ position (has_seat (game, arrives)) stage.connections =
+    holder ∙ ap (λ (now : Rehearsing). position (has_seat (game, agent)) now.stage.connections) is
+    ∙ ap (λ (one : ℕ). position (has_seat (game, one)) stage.connections) same in
+    subst (λ (found : Option ℕ). IsStepped sent_once old (tells_arrival stage (Some reply) found) result new) held
+    (on_old old new stage _ result step) where
+  one_agent : (agent arrives : ℕ) → ◌≡◌ {A = Option ℕ} (Some agent) (Some arrives) → agent ≡ arrives
+  one_agent agent arrives is = cc
+
+pub told_lemma : (old between new : Rehearsing) (game agent conn : ℕ) (event : Option Event) (text : List ℕ)
+    (result : Result (Option Out) AllocError)
+    → ◌≡◌ {A = Option ℕ × List ℕ} (Some agent, text) (told_to [] (after_draw (game_at old.stage game) event).arrival)
+    → between ≡ on_stage old (with_game old.stage game (after_draw (game_at old.stage game) event).game)
+    → Some conn ≡ position (has_seat (game, agent)) between.stage.connections
+    → ((one : Reply) → text ≡ text_of one
+    → IsStepped sent_once between (tells_arrival between.stage (Some one) (Some conn)) result new)
+    → IsStepped sent_once old (delivers old.stage game event) result new
+told_lemma old between new game agent conn (Some (Deliver arrives)) text result told is holder steps =
+    told_some old between new _ game agent arrives conn _ text result is told holder steps
+told_lemma old between new game agent conn (Some (Tell teller command)) text result told is holder steps =
+    absurd (tells_none agent text told)
+told_lemma old between new game agent conn (Some Close) text result told is holder steps =
+    absurd (tells_none agent text told)
+told_lemma old between new game agent conn None text result told is holder steps = absurd (tells_none agent text told)
+
 pub plays_lemma : (ready : List Ready) (keys : List Seat) (connections : List Connection) (failed : Bool) (conn : ℕ)
     (seat : ℕ × ℕ) (one new : Ready) (before changed : Connection) (told text : List ℕ)
     (result : Result (Unit {0}) AllocError) →
@@ -179,6 +246,29 @@ plays_lemma ready keys connections failed conn seat one new before changed told 
     )
 plays_lemma ready keys connections failed conn seat one new before changed told text (Err memory) game_within game_is
     conn_within conn_is game more connection team = tt
+
+-- one connection has another seat
+pub set_seated : (games games' : ℕ) (connections : List Connection) (conn : ℕ) (new : Connection) (seat : ℕ × ℕ)
+    → games ≡ games' → seat.0 < games → new.seat ≡ Some seat
+    → All (λ connection. IsSeated games connection.seat) connections
+    → All (λ connection. IsSeated games' connection.seat) (slice_set connections conn new)
+set_seated games games' connections conn new seat same within sits all k d below =
+    subst (λ (count : ℕ). IsSeated count (get_or (slice_set connections conn new) k d).seat) same
+    (by_place (conn == k) refl) where
+  inside : k < length connections
+  inside = omega (arith, length-set connections conn new, below)
+  by_place : (here : Bool) → (conn == k) ≡ here
+      → IsSeated games (get_or (slice_set connections conn new) k d).seat
+  by_place true is =
+      let place : k ≡ conn = grind (arith, nat_tests) in
+      let at : get_or (slice_set connections conn new) k d ≡ new =
+      get_or-set_at connections conn k new d place (omega (arith, inside, place)) in
+      subst (λ (one : Option (ℕ × ℕ)). IsSeated games one)
+      (sym (ap (λ (connection : Connection). connection.seat) at ∙ sits)) within
+  by_place false is =
+      let place : k ≢ conn = grind (arith, nat_tests) in
+      subst (λ (connection : Connection). IsSeated games connection.seat)
+      (sym (get_or-set_other connections conn k new d place)) (all k d inside)
 
 -- ---- connections that are shut
 

@@ -9,4 +9,5 @@ pub mod OneMachine
 pub mod Rehearsing
 pub mod SentAsMet
 pub mod Stages
+pub mod Holders
 pub mod Takings

@@ -99,10 +99,7 @@ impl<'s> Rehearsal<'s> {
         ensures place { result ≡ position (has_seat seat) self.now.stage.connections }
         ensures within { IfSome result (λ conn. conn < length self.now.stage.connections) }
     {
-        match holder_place(&self.connections, seat) {
-            Some(place) => Some(place as u16),
-            None => None,
-        }
+        self.holders.holder(seat)
     }
 
     // An arrival is told to the connection that plays the agent, which then takes of its items what it can.
@@ -228,14 +225,6 @@ fn reply_at(game: &Match, place: usize) -> Option<LentReply<'_>>
         return None;
     };
     Some(LentReply::of_mark(*mark, game.text(mark)))
-}
-
-fn holder_place(connections: &[Connection<'_>], seat: (u32, u16)) -> Option<usize>
-    ensures { result ≡ position (has_seat seat) connections.now }
-{
-    connections
-        .iter()
-        .position(|connection| connection.has_seat(seat))
 }
 
 // What each connection is sent that waits in a match when it ends.

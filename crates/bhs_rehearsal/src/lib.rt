@@ -5,6 +5,7 @@ mod connections;
 mod entries;
 mod faults;
 mod headline;
+mod holders;
 mod instructions;
 mod items;
 mod laws;

@@ -1,8 +1,9 @@
 //! What a connection's items make of a rehearsal.
 
-ghost use Rattle.std.specs.Prelude.{◌<◌, ◌≡◌, [], length, IfOk};
+ghost use Rattle.std.specs.Prelude.{◌<◌, ◌≡◌, [], length, IfOk, Some, None, false};
+ghost use Rattle.std.specs.List.{list_any};
 ghost use Rattle.bhs_rehearsal.specs.Rehearsing.{on_stage};
-ghost use Rattle.bhs_rehearsal.specs.Stages.{moves, enters, entry, plays, shuts, connection_at};
+ghost use Rattle.bhs_rehearsal.specs.Stages.{moves, enters, entry, has_seat, plays, shuts, connection_at};
 ghost use Rattle.bhs_rehearsal.specs.Takings.{IsMoved, seen_entry};
 
 use crate::entries::{Entry, first_entry};
@@ -26,7 +27,8 @@ impl<'s> Rehearsal<'s> {
 
     // The first item of a connection that was not let in.
     fn enters(&mut self, alloc: Global, conn: u16, text: &mut Vec<u8>) -> Result<(), Memory>
-        requires { conn < length self.old.stage.connections }
+        requires conn { conn < length self.old.stage.connections }
+        requires outside { (connection_at self.old.stage conn).seat ≡ None }
         ensures { IsMoved self.old (enters self.old.stage conn
             (entry self.old.stage (connection_at self.old.stage conn).queue)) text.old.items result text.new.items
             self.new }
@@ -40,7 +42,7 @@ impl<'s> Rehearsal<'s> {
         )?;
         match entry {
             Entry::Waits => Ok(()),
-            Entry::Sits(seat) => self.plays(alloc, conn, seat, text),
+            Entry::Sits(seat) => self.sits(alloc, conn, seat, text),
             Entry::Denied(denial) => {
                 self.shuts(alloc, conn);
                 push_denial(denial, text)
@@ -52,7 +54,27 @@ impl<'s> Rehearsal<'s> {
         }
     }
 
-    // The items are taken as of one that plays this agent of this match.
+    // The connection is let in to play this agent of this match, which nobody plays, and its items are taken.
+    fn sits(
+        &mut self,
+        alloc: Global,
+        conn: u16,
+        seat: (u32, u16),
+        text: &mut Vec<u8>,
+    ) -> Result<(), Memory>
+        requires conn { conn < length self.old.stage.connections }
+        requires game { seat.0 < length self.old.stage.games }
+        requires outside { (connection_at self.old.stage conn).seat ≡ None }
+        requires free { list_any (has_seat seat) self.old.stage.connections ≡ false }
+        ensures { IsMoved self.old (plays self.old.stage conn seat) text.old.items result text.new.items self.new }
+    {
+        self.holders.seat(seat, conn)?;
+        let ready = &mut self.ready[seat.0 as usize];
+        let connection = &mut self.connections[conn as usize];
+        connection.play(alloc, &mut self.line_reader, ready, seat, text)
+    }
+
+    // The items are taken of a connection that plays this agent of this match.
     fn plays(
         &mut self,
         alloc: Global,
@@ -62,6 +84,7 @@ impl<'s> Rehearsal<'s> {
     ) -> Result<(), Memory>
         requires conn { conn < length self.old.stage.connections }
         requires game { seat.0 < length self.old.stage.games }
+        requires seated { (connection_at self.old.stage conn).seat ≡ Some seat }
         ensures { IsMoved self.old (plays self.old.stage conn seat) text.old.items result text.new.items self.new }
     {
         let ready = &mut self.ready[seat.0 as usize];

@@ -6,6 +6,7 @@ ghost use Rattle.bhs_rehearsal.specs.Takings.{IsConcluded};
 
 use crate::connections::Connection;
 use crate::faults::RehearsalFault;
+use crate::holders::Holders;
 use crate::outs::Out;
 use bhs_lineup::{Keys, Lineup, Ready};
 use bhs_net::Memory;
@@ -31,6 +32,7 @@ pub struct Rehearsal<'s> {
     pub(crate) ready: Vec<Ready>,
     pub(crate) keys: Keys,
     pub(crate) connections: Vec<Connection<'s>>,
+    pub(crate) holders: Holders,
     pub(crate) line_reader: LineReader,
     // The lines that end in what a connection is fed, before they are queued.
     pub(crate) found: VecDeque<Raw<'s>>,
@@ -42,6 +44,8 @@ pub struct Rehearsal<'s> {
 impl<'s> Model for Rehearsal<'s> {
     ghost use Rattle.std.specs.Prelude.{◌<◌, ◌^◌, length, map};
     ghost use Rattle.std.specs.List.{All};
+    ghost use Rattle.std.specs.Prelude.{◌≡◌};
+    ghost use Rattle.bhs_rehearsal.specs.Holders.{AreHeld};
     ghost use Rattle.bhs_rehearsal.specs.Rehearsing.{Rehearsing, stage_of, team_of, IsSeated};
 
     ghost Value = { Rehearsing };
@@ -54,7 +58,9 @@ impl<'s> Model for Rehearsal<'s> {
     } };
 
     ghost invariant = { λ one. (length one.connections.items < 2 ^ 16)
-        × All (λ connection. IsSeated (length one.ready.items) connection.seat) one.connections.items };
+        × All (λ connection. IsSeated (length one.ready.items) connection.seat) one.connections.items
+        × (length one.holders ≡ length one.ready.items)
+        × AreHeld one.holders one.connections.items };
 }
 
 impl<'s> Rehearsal<'s> {
@@ -68,11 +74,13 @@ impl<'s> Rehearsal<'s> {
         }) }
     {
         let connections = no_connections(alloc, conns)?;
+        let holders = Holders::new(alloc, lineup.ready.len())?;
         let Lineup { ready, keys, .. } = lineup;
         Ok(Rehearsal {
             ready,
             keys,
             connections,
+            holders,
             line_reader: LineReader::new(alloc),
             found: VecDeque::new(alloc),
             spare: Vec::new(alloc),

@@ -4,6 +4,8 @@ use Rattle.bhs_rehearsal.specs.Games.{Game}
 use Rattle.bhs_rehearsal.specs.Connections.{Connection}
 use Rattle.bhs_rehearsal.specs.Stages.{game_at, shut_in}
 use Rattle.bhs_rehearsal.specs.Rehearsing.{Rehearsing, game_of, on_stage}
+use Rattle.bhs_rehearsal.specs.Holders.{AreHeld}
+use Rattle.bhs_rehearsal.proofs.HolderLemmas.{held-shut}
 use Rattle.bhs_rehearsal.proofs.StageLemmas.{rehearsing, game_within, game_read, all_shut, still_seated}
 use Rattle.bhs_rehearsal.proofs.rehearsals.Rehearsal.shuts_waiting.Goals as goal
 
@@ -17,9 +19,15 @@ invariant_of-self c =
     ∙ ap (λ (all : List Connection). shut_in game (game_of ready) all) c.deref_mut.ensures.value in
     let len : length inside.connections.items ≡ inside.connections.len =
     ap (λ (all : List Connection). length all) (sym c.deref_mut.ensures.value) ∙ c.deref_mut.ensures.len in
-    still_seated (length inside.ready.items) game (game_of ready) inside.connections.items
-    (with_items inside.connections new).items (all_shut inside.connections new game (game_of ready) shut len)
-    c.self.invariant
+    let all = all_shut inside.connections new game (game_of ready) shut len in
+    let seated = still_seated (length inside.ready.items) game (game_of ready) inside.connections.items
+    (with_items inside.connections new).items all (c.self.invariant.0, c.self.invariant.1) in (
+      seated.0,
+      seated.1,
+      c.self.invariant.2,
+      subst (λ (connections : List Connection). AreHeld inside.holders connections) (sym all)
+          (held-shut inside.holders game (game_of ready) inside.connections.items c.self.invariant.3),
+    )
 
 pub returns : goal.returns
 returns c =
