@@ -299,6 +299,7 @@ fn seen(alloc: Global, play: &Match, agent: u16) -> Result<Text, Memory>
 }
 
 /// The reply of a mark whose whiteboard shows this text.
+#[inline(always)]
 fn spoken(mark: Mark, text: Text) -> Reply
     ensures { result ≡ spoken mark text }
 {
@@ -319,6 +320,7 @@ fn spoken(mark: Mark, text: Text) -> Reply
 }
 
 /// Whether an agent that is answered so has ended.
+#[inline(always)]
 fn is_end(reply: &Reply) -> bool
     ensures { result ≡ is_end reply.now }
 {

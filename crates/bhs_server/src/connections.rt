@@ -9,7 +9,7 @@ use std::io::{Read, Write};
 use std::net::TcpStream;
 
 /// How many bytes are held back at most.
-const ROOM: usize = 32 * 1024;
+const ROOM: usize = 64 * 1024;
 
 /// Where a session writes to, if that holds anything back.
 pub trait Held {

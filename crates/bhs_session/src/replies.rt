@@ -36,6 +36,7 @@ pub(crate) fn write_reply<W: Output>(
     }
 }
 
+#[inline(always)]
 fn send_reply<W: Output>(text: &mut Vec<u8>, writer: &mut W, reply: &Reply) -> Result<(), Ended>
     ensures ok { OnOk result (PutsAll W.takes writer.old (text_of reply.now) writer.new) }
     ensures err { IfErr result (λ cause. SentBut W.takes cause writer.old (text_of reply.now) writer.new) }
@@ -52,6 +53,7 @@ fn send_reply<W: Output>(text: &mut Vec<u8>, writer: &mut W, reply: &Reply) -> R
 }
 
 /// Adds the line of a reply, with its line feed. An `Err` may have added a part of it.
+#[inline(always)]
 pub fn push_reply(alloc: Global, reply: LentReply<'_>, text: &mut Vec<u8>) -> Result<(), Memory>
     ensures { OnOk result (text.new.items ≡ text.old.items ++ text_of (reply_of reply.entry)) }
 {

@@ -15,6 +15,7 @@ use std::alloc::Global;
 use std::mem::replace;
 
 /// Adds the line of a reply to a text, without its line feed. An `Err` may have added a part of it.
+#[inline]
 pub fn push_line(alloc: Global, text: &mut Vec<u8>, reply: LentReply<'_>) -> Result<(), Memory>
     ensures { OnOk result (text.new.items ≡ text.old.items ++ line (reply_of reply.entry)) }
 {
@@ -25,6 +26,7 @@ pub fn push_line(alloc: Global, text: &mut Vec<u8>, reply: LentReply<'_>) -> Res
 }
 
 /// Writes a reply as a part of JSON. An `Err` may have written a part of it.
+#[inline]
 pub fn write_reply(out: &mut Writer, reply: LentReply<'_>) -> Result<(), Memory>
     ensures ok { OnOk result (out.new.tokens ≡ out.old.tokens ++ reply_tokens (reply_of reply.entry)) }
     ensures before { out.new.before ≡ out.old.before }
@@ -42,6 +44,7 @@ pub fn write_reply(out: &mut Writer, reply: LentReply<'_>) -> Result<(), Memory>
     }
 }
 
+#[inline]
 fn write_here(out: &mut Writer, ports: u16, came: Option<u16>, board: &str) -> Result<(), Memory>
     ensures ok { OnOk result (out.new.tokens ≡ out.old.tokens ++ reply_tokens (Here ports came board.now)) }
     ensures before { out.new.before ≡ out.old.before }
@@ -65,6 +68,7 @@ fn write_changed(out: &mut Writer, board: &str) -> Result<(), Memory>
     Ok(out.end_object()?)
 }
 
+#[inline]
 fn write_label(out: &mut Writer, came: Option<u16>) -> Result<(), Memory>
     ensures ok { OnOk result (out.new.tokens ≡ out.old.tokens ++ key (codes "from") ∷ label_token came ∷ []) }
     ensures before { out.new.before ≡ out.old.before }

@@ -7,6 +7,7 @@ use bhs_net::Memory;
 use json::Writer;
 
 /// Writes a member that is a text. An `Err` may have written a part of it.
+#[inline]
 pub fn write_text(out: &mut Writer, name: &str, text: &str) -> Result<(), Memory>
     ensures ok { OnOk result (out.new.tokens ≡ out.old.tokens ++ key name.now ∷ string text.now ∷ []) }
     ensures before { out.new.before ≡ out.old.before }
@@ -16,6 +17,7 @@ pub fn write_text(out: &mut Writer, name: &str, text: &str) -> Result<(), Memory
 }
 
 /// Writes a member that is a number. An `Err` may have written a part of it.
+#[inline]
 pub fn write_number(out: &mut Writer, name: &str, value: u16) -> Result<(), Memory>
     ensures ok { OnOk result (out.new.tokens ≡ out.old.tokens ++ key name.now ∷ number (decimal value) ∷ []) }
     ensures before { out.new.before ≡ out.old.before }
