@@ -1,5 +1,6 @@
 -- A rehearsal of which one match or one connection is changed.
-use Rattle.std.proofs.Common.{◌≡◌, ℕ, ◌<◌, ◌^◌, Bool, true, false, Option, Some, None, Result, Ok, Err, IfOk, OnOk, List}
+use Rattle.std.proofs.Common.{◌≡◌, ℕ, ◌<◌, ◌^◌, Bool, true, false, Option, Some, None, Result, Ok, Err, IfOk}
+use Rattle.std.proofs.Common.{OnOk, List}
 use Rattle.std.proofs.Common.{length, map, get_or, slice_set, refl, sym, ap, ◌∙◌, subst, if◌then◌else◌, arith, ◌++◌}
 use Rattle.std.proofs.Common.{Vec, Global, [], ◌==◌, ◌≢◌}
 use Rattle.std.specs.List.{All}
