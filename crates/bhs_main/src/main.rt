@@ -14,6 +14,9 @@ use std::net::{Net, TcpListener, TcpStream};
 use std::process::ExitCode;
 use std::rt::Env;
 
+// How many bytes of output are written at once.
+const OUTPUT: usize = 32 * 1024;
+
 fn main(rt: HostRuntime) -> ExitCode {
     ExitCode::from(match started(&rt, rt.alloc(), &mut rt.stderr()) {
         Ok(status) => status,
@@ -31,7 +34,7 @@ fn started<
         Ok(words) => words,
         Err(status) => return Ok(status),
     };
-    let mut writer = BufWriter::new(alloc, io::writer(rt))?;
+    let mut writer = BufWriter::with_capacity(alloc, OUTPUT, io::writer(rt))?;
     Ok(run(
         alloc,
         rt,

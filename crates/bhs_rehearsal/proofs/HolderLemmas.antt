@@ -166,6 +166,10 @@ none_seated games zero k d within = absurd (omega arith)
 none_seated games (suc count) zero d within = tt
 none_seated games (suc count) (suc k) d within = none_seated games count k d (omega arith)
 
+-- which connections have a seat
+abbrev tests_of : (seat : ℕ × ℕ) → List Connection → List Bool
+tests_of seat connections = map (has_seat seat) connections
+
 -- a connection that had no seat takes one that nobody had
 taken_by : (connections : List Connection) (conn : ℕ) (one new : Connection) (seat other : ℕ × ℕ)
     → conn < length connections → one ≡ get_or connections conn one → one.seat ≡ None → new.seat ≡ Some seat
@@ -175,25 +179,31 @@ taken_by : (connections : List Connection) (conn : ℕ) (one new : Connection) (
 taken_by connections conn one new seat other within read none sits free same is =
     by same is ∙ sym (position-first (has_seat other) (slice_set connections conn new)
     ∙ ap (first_true 0) (map-set (has_seat other) connections conn new
-    ∙ ap (slice_set (map (has_seat other) connections) conn) (tested ∙ is))) where
-  tested : has_seat other new ≡ same_seat seat other
-  tested = ap (λ (one : Option (ℕ × ℕ)). has_seat other (record unfed { seat = one })) sits
-  before : get_or (map (has_seat other) connections) conn false ≡ false
-  before = get_or-map (has_seat other) connections conn one false within ∙ ap (has_seat other) (sym read)
-      ∙ ap (λ (one : Option (ℕ × ℕ)). has_seat other (record unfed { seat = one })) none
-  by : (same : Bool) → same_seat seat other ≡ same
-      → (if same then Some conn else position (has_seat other) connections) ≡ first_true 0 (slice_set (map (has_seat other) connections) conn same)
-  by true is =
-      let game : seat.0 ≡ other.0 = grind (arith, nat_tests) in
-      let agent : seat.1 ≡ other.1 = grind (arith, nat_tests) in
-      let free_of : list_any (has_seat other) connections ≡ false =
-      ap (λ (one : ℕ × ℕ). list_any (has_seat one) connections) (ap₂ (λ (game agent : ℕ). (game, agent)) (sym game)
-      (sym agent)) ∙ free in
-      sym (first_true-set 0 conn (map (has_seat other) connections) (omega (arith, length-map connections (has_seat other)))
-      (none_true (has_seat other) 0 connections free_of) ∙ ap Some (zero-add conn))
-  by false is =
-      position-first (has_seat other) connections
-      ∙ ap (first_true 0) (sym (ap (slice_set (map (has_seat other) connections) conn) (sym before) ∙ set-get_or (map (has_seat other) connections) conn false))
+    ∙ ap (slice_set (tests_of other connections) conn) (tested ∙ is)))
+  where
+    tested : has_seat other new ≡ same_seat seat other
+    tested = ap (λ (one : Option (ℕ × ℕ)). has_seat other (record unfed { seat = one })) sits
+
+    before : get_or (tests_of other connections) conn false ≡ false
+    before = get_or-map (has_seat other) connections conn one false within ∙ ap (has_seat other) (sym read)
+        ∙ ap (λ (one : Option (ℕ × ℕ)). has_seat other (record unfed { seat = one })) none
+
+    by : (same : Bool) → same_seat seat other ≡ same
+        → (if same then Some conn else position (has_seat other) connections)
+        ≡ first_true 0 (slice_set (tests_of other connections) conn same)
+    by true is =
+        let game : seat.0 ≡ other.0 = grind (arith, nat_tests) in
+        let agent : seat.1 ≡ other.1 = grind (arith, nat_tests) in
+        let one : seat ≡ other = ap₂ (λ (game agent : ℕ). (game, agent)) game agent in
+        let nobody : list_any (has_seat other) connections ≡ false =
+        subst (λ (taken : ℕ × ℕ). list_any (has_seat taken) connections ≡ false) one free in
+        sym (first_true-set 0 conn (tests_of other connections)
+        (omega (arith, length-map connections (has_seat other))) (none_true (has_seat other) 0 connections nobody)
+        ∙ ap Some (zero-add conn))
+    by false is =
+        position-first (has_seat other) connections
+        ∙ ap (first_true 0) (sym (ap (slice_set (tests_of other connections) conn) (sym before)
+        ∙ set-get_or (tests_of other connections) conn false))
 
 pub held-taken : (rows new_rows : List (List (Option ℕ))) (connections : List Connection) (conn : ℕ)
     (one new : Connection) (seat : ℕ × ℕ)

@@ -1,5 +1,6 @@
 -- A rehearsal of which one match or one connection is changed.
-use Rattle.std.proofs.Common.{◌≡◌, ℕ, ◌<◌, ◌^◌, Bool, true, false, Option, Some, None, Result, Ok, Err, IfOk, OnOk, List}
+use Rattle.std.proofs.Common.{◌≡◌, ℕ, ◌<◌, ◌^◌, Bool, true, false, Option, Some, None, Result, Ok, Err, IfOk}
+use Rattle.std.proofs.Common.{OnOk, List}
 use Rattle.std.proofs.Common.{length, map, get_or, slice_set, refl, sym, ap, ◌∙◌, subst, if◌then◌else◌, arith, ◌++◌}
 use Rattle.std.proofs.Common.{Vec, Global, [], ◌==◌, ◌≢◌}
 use Rattle.std.specs.List.{All}
@@ -131,8 +132,8 @@ told_nobody : (stage : Stage) (game agent : ℕ) (holder : Option ℕ) (reply : 
 told_nobody stage game agent holder None before text is = refl
 told_nobody stage game agent holder (Some reply) before text is =
     absurd (not_some agent (ap (λ (one : Option ℕ × List ℕ). one.0) is)) where
-  not_some : (agent : ℕ) → ◌≡◌ {A = Option ℕ} None (Some agent) → ⊥
-  not_some agent is = cc
+      not_some : (agent : ℕ) → ◌≡◌ {A = Option ℕ} None (Some agent) → ⊥
+      not_some agent is = cc
 
 silent_step : (stage : Stage) (game : ℕ) (event : Option Event) (before text : List ℕ)
     → (None, text) ≡ told_to before (after_draw (game_at stage game) event).arrival
@@ -194,8 +195,8 @@ told_some old between new stage game agent arrives conn (Some reply) text result
     ∙ ap (λ (one : ℕ). position (has_seat (game, one)) stage.connections) same in
     subst (λ (found : Option ℕ). IsStepped sent_once old (tells_arrival stage (Some reply) found) result new) held
     (on_old old new stage _ result step) where
-  one_agent : (agent arrives : ℕ) → ◌≡◌ {A = Option ℕ} (Some agent) (Some arrives) → agent ≡ arrives
-  one_agent agent arrives is = cc
+      one_agent : (agent arrives : ℕ) → ◌≡◌ {A = Option ℕ} (Some agent) (Some arrives) → agent ≡ arrives
+      one_agent agent arrives is = cc
 
 pub told_lemma : (old between new : Rehearsing) (game agent conn : ℕ) (event : Option Event) (text : List ℕ)
     (result : Result (Option Out) AllocError)
@@ -255,20 +256,21 @@ pub set_seated : (games games' : ℕ) (connections : List Connection) (conn : �
 set_seated games games' connections conn new seat same within sits all k d below =
     subst (λ (count : ℕ). IsSeated count (get_or (slice_set connections conn new) k d).seat) same
     (by_place (conn == k) refl) where
-  inside : k < length connections
-  inside = omega (arith, length-set connections conn new, below)
-  by_place : (here : Bool) → (conn == k) ≡ here
-      → IsSeated games (get_or (slice_set connections conn new) k d).seat
-  by_place true is =
-      let place : k ≡ conn = grind (arith, nat_tests) in
-      let at : get_or (slice_set connections conn new) k d ≡ new =
-      get_or-set_at connections conn k new d place (omega (arith, inside, place)) in
-      subst (λ (one : Option (ℕ × ℕ)). IsSeated games one)
-      (sym (ap (λ (connection : Connection). connection.seat) at ∙ sits)) within
-  by_place false is =
-      let place : k ≢ conn = grind (arith, nat_tests) in
-      subst (λ (connection : Connection). IsSeated games connection.seat)
-      (sym (get_or-set_other connections conn k new d place)) (all k d inside)
+      inside : k < length connections
+      inside = omega (arith, length-set connections conn new, below)
+
+      by_place : (here : Bool) → (conn == k) ≡ here
+          → IsSeated games (get_or (slice_set connections conn new) k d).seat
+      by_place true is =
+          let place : k ≡ conn = grind (arith, nat_tests) in
+          let at : get_or (slice_set connections conn new) k d ≡ new =
+          get_or-set_at connections conn k new d place (omega (arith, inside, place)) in
+          subst (λ (one : Option (ℕ × ℕ)). IsSeated games one)
+          (sym (ap (λ (connection : Connection). connection.seat) at ∙ sits)) within
+      by_place false is =
+          let place : k ≢ conn = grind (arith, nat_tests) in
+          subst (λ (connection : Connection). IsSeated games connection.seat)
+          (sym (get_or-set_other connections conn k new d place)) (all k d inside)
 
 -- ---- connections that are shut
 

@@ -104,7 +104,7 @@ impl<'s> Connection<'s> {
         }) }
         ensures seat { self.new.seat ≡ self.old.seat }
     {
-        found.clear();
+        empty(found);
         self.lines.feed_into(bytes, found)?;
         queue_lines(&mut self.queue, found)
     }
@@ -155,7 +155,19 @@ impl<'s> Connection<'s> {
     }
 }
 
-fn queue_lines<'s>(queue: &mut VecDeque<Item<'s>>, found: &mut VecDeque<Raw<'s>>) -> Result<(), Memory>
+// Lines are left where a call failed.
+fn empty(found: &mut VecDeque<Raw<'_>>)
+    ensures { found.new.items ≡ [] }
+{
+    if !found.is_empty() {
+        found.clear();
+    }
+}
+
+fn queue_lines<'s>(
+    queue: &mut VecDeque<Item<'s>>,
+    found: &mut VecDeque<Raw<'s>>,
+) -> Result<(), Memory>
     ensures { OnOk result (map seen_item queue.new.items ≡ map seen_item queue.old.items
         ++ map Says (map seen found.old.items)) }
 {

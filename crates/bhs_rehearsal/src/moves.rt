@@ -14,7 +14,12 @@ use std::alloc::Global;
 
 impl<'s> Rehearsal<'s> {
     // A connection takes of its items what it can. Adds the text that it is sent.
-    pub(crate) fn moves(&mut self, alloc: Global, conn: u16, text: &mut Vec<u8>) -> Result<(), Memory>
+    pub(crate) fn moves(
+        &mut self,
+        alloc: Global,
+        conn: u16,
+        text: &mut Vec<u8>,
+    ) -> Result<(), Memory>
         requires { conn < length self.old.stage.connections }
         ensures { IsMoved self.old (moves self.old.stage conn) text.old.items result text.new.items self.new }
     {

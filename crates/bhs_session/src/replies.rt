@@ -28,7 +28,10 @@ pub(crate) fn write_reply<W: Output>(
         (reached (waiting waits reply.now) result) }
     ensures cause { IfErr result StopsAtLines }
 {
-    match (send_reply(text, writer, reply), ending_of(LentReply::of_reply(reply))) {
+    match (
+        send_reply(text, writer, reply),
+        ending_of(LentReply::of_reply(reply)),
+    ) {
         (Ok(()), None) => Ok(()),
         (Ok(()), Some(ended)) => Err(Stop::Finished(ended)),
         (Err(cause), None) => Err(Stop::Leaves(cause)),

@@ -1,4 +1,4 @@
-use Rattle.std.proofs.Common.{List, ℕ, length, Some, None, sym, ap, ◌∙◌}
+use Rattle.std.proofs.Common.{List, ℕ, length, Some, None, ap, ◌∙◌}
 use Rattle.bhs_model.specs.Marks.{read_if}
 use Rattle.bhs_model.specs.declared.marks.Kept.{Kept}
 use Rattle.bhs_wire.specs.LentReply.{reply_of}
@@ -13,8 +13,8 @@ returns-in_ok-push_reply-in-Some-clause-drawn c =
     let log = c.draw.new.game.log in
     let told = told_drawn _ (after_draw (game_of c.args.ready.now) (drawn (game_of c.args.ready.now) c.args.word))
     c.args.text.now.items
-    (one_drawn c.args.ready.now.game c.draw.new.game c.args.ready.now.held c.args.word c.in-Delivered.agent c.draw.result
-    (Some (reply_of c.in-Some.reply))
+    (one_drawn c.args.ready.now.game c.draw.new.game c.args.ready.now.held c.args.word c.in-Delivered.agent
+    c.draw.result (Some (reply_of c.in-Some.reply))
     c.draw.ensures.drawn c.draw.ensures.played c.in-Delivered.is
     (c.in-Some.ensures ∙ ap (λ (before : List Kept). read_if log (mark_at log (length before)))
     c.log-before.ensures.log)) in
@@ -25,8 +25,8 @@ returns-in-None-clause-drawn c =
     let log = c.draw.new.game.log in
     told_drawn _ (after_draw (game_of c.args.ready.now) (drawn (game_of c.args.ready.now) c.args.word))
     c.args.text.now.items
-    (one_drawn c.args.ready.now.game c.draw.new.game c.args.ready.now.held c.args.word c.in-Delivered.agent c.draw.result
-    None
+    (one_drawn c.args.ready.now.game c.draw.new.game c.args.ready.now.held c.args.word c.in-Delivered.agent
+    c.draw.result None
     c.draw.ensures.drawn c.draw.ensures.played c.in-Delivered.is
     (c.in-None.ensures ∙ ap (λ (before : List Kept). read_if log (mark_at log (length before)))
     c.log-before.ensures.log))

@@ -1,7 +1,4 @@
-use Rattle.std.proofs.Common.{None, ap, sym, ◌∙◌, subst}
-use Rattle.bhs_rehearsal.specs.Games.{drawn}
-use Rattle.bhs_rehearsal.specs.Stages.{game_at}
-use Rattle.bhs_rehearsal.specs.Takings.{after_draw, told_to}
+use Rattle.std.proofs.Common.{sym, ◌∙◌}
 use Rattle.bhs_rehearsal.proofs.StageLemmas.{silent_lemma, told_lemma}
 use Rattle.bhs_rehearsal.proofs.rehearsals.Rehearsal.drawn.Goals as goal
 

@@ -1,12 +1,12 @@
-use Rattle.std.proofs.Common.{◌≡◌, ◌<◌, ℕ, false, None, Some, List, length, slice_set, sym, ap, ◌∙◌, subst, arith}
+use Rattle.std.proofs.Common.{◌≡◌, false, None, length, slice_set, sym, ◌∙◌, subst, arith}
 use Rattle.std.specs.List.{list_any}
 use Rattle.std.proofs.lemmas.List.{length-set}
-use Rattle.bhs_rehearsal.specs.Connections.{Connection}
 use Rattle.bhs_rehearsal.specs.Stages.{has_seat, plays}
-use Rattle.bhs_rehearsal.specs.Rehearsing.{Rehearsing, IsSeated}
+use Rattle.bhs_rehearsal.specs.Rehearsing.{Rehearsing}
 use Rattle.bhs_rehearsal.specs.Takings.{IsMoved}
 use Rattle.bhs_rehearsal.proofs.HolderLemmas.{held-taken}
-use Rattle.bhs_rehearsal.proofs.StageLemmas.{rehearsing, game_within, connection_within, plays_lemma, seat_read, set_seated}
+use Rattle.bhs_rehearsal.proofs.StageLemmas.{rehearsing, game_within, connection_within, plays_lemma}
+use Rattle.bhs_rehearsal.proofs.StageLemmas.{seat_read, set_seated}
 use Rattle.bhs_rehearsal.proofs.rehearsals.Rehearsal.sits.Goals as goal
 
 pub invariant_of-self-2 : goal.invariant_of-self-2
