@@ -94,23 +94,35 @@ int main(int count_of_words, char **words) {
 """
 
 
-# lists two tests, and runs one that asks for memory before the call that it tests, and in it
+# lists tests, and runs one that asks for memory before the call that it tests and in it, or another that asks between
+# a play and its end
 TESTS = """
 #include <stdio.h>
 #include <stdlib.h>
 #include <string.h>
 #include <unistd.h>
 int main(int count_of_words, char **words) {
-    static const char list[] = "others::one: test\\ntests::again::one: test\\n";
+    static const char list[] = "others::one: test\\nmemory::again::one: test\\n"
+        "memory::playing::playing_takes_no_memory: test\\n";
     if (!strcmp(words[1], "--list"))
         return write(1, list, sizeof list - 1) < 0;
+    int plays = !strncmp(words[1], "memory::playing", 15);
     void *volatile before = malloc(1);
     if (!before)
         return write(2, "Memory\\n", 7) ? 101 : 0;
+#ifdef ASKS_IN_THE_PLAY
+    free(plays ? malloc(1) : 0);
+#endif
     void *volatile called = malloc(1);
+    if (!called && plays)
+        return write(2, "after the play\\n", 15) ? 101 : 0;
 #ifdef GIVES_UP
     if (!called)
         abort();
+#endif
+#ifdef ENDS_OTHERWISE
+    if (!called)
+        return write(2, "alloc\\n", 6) ? 1 : 0;
 #endif
     return 0;
 }
@@ -137,7 +149,7 @@ class ShimTest(InFolder):
     def setUp(self):
         super().setUp()
         self.program = built(self.folder, "calls", CALLS)
-        self.shim = refusals.Shim(self.folder)
+        self.shim = refusals.Shim.built(self.folder)
 
     def run_with(self, mode="", place=0, words=()):
         """The status, what is printed, and the numbers of calls."""
@@ -176,7 +188,7 @@ class CommandTest(InFolder):
     def faults_of(self, *options):
         """What a command of the program that is built with these options does otherwise."""
         lab = Lab(built(self.folder, "prints", PRINTS, *options), self.folder)
-        trials = refusals.Trials(lab, refusals.Shim(self.folder), 0, 0, 2)
+        trials = refusals.Trials(lab, refusals.Shim.built(self.folder), 0, 0, 2)
         with contextlib.redirect_stdout(io.StringIO()) as said:
             refusals.refuse_command(trials, COMMANDS[0])
         self.said = said.getvalue()
@@ -210,20 +222,42 @@ class CommandTest(InFolder):
 
 @unittest.skipUnless(shutil.which("gcc"), "gcc builds the library")
 class TestsTest(InFolder):
+    LINKED = ("-Wl,--wrap=malloc,--wrap=realloc", str(refusals.SHIM))
+    PLAY = "memory::playing::playing_takes_no_memory"
+
     def faults_of(self, *options):
         lab = Lab(built(self.folder, "prints", PRINTS), self.folder)
-        tests = built(self.folder, "tests", TESTS, *options)
+        self.kept = self.folder / "kept"
+        tests = built(self.folder, "tests", TESTS, f'-DKEPT="{self.kept}"', *self.LINKED, *options)
         with contextlib.redirect_stdout(io.StringIO()) as said:
-            refusals.refuse_tests(refusals.Trials(lab, refusals.Shim(self.folder), 0, 0, 2), tests)
+            refusals.refuse_tests(refusals.Trials(lab, refusals.Shim(), 0, 0, 2), tests)
         self.said = said.getvalue()
         return lab.faults
 
     def test_calls_that_are_made_again(self):
         self.assertEqual(self.faults_of(), [])
-        self.assertEqual(self.said, "tests::again::one, memory of 2: 1 begins, 1 passed\n")
+        self.assertEqual(self.said, "memory::again::one, memory of 2: 1 begins, 1 passed\n"
+                         f"{self.PLAY}, memory of 2: 1 none in the play\n")
+
+    def test_the_program_is_left_in_a_file(self):
+        self.faults_of()
+        self.assertEqual(self.kept.read_bytes(), (self.folder / "tests").read_bytes())
 
     def test_a_test_that_gives_up(self):
-        self.assertEqual(self.faults_of("-DGIVES_UP"), ["tests::again::one, memory 2: status -6, ``"])
+        self.assertEqual(self.faults_of("-DGIVES_UP"), ["memory::again::one, memory 2: status -6, ``"])
+
+    def test_a_test_that_ends_otherwise(self):
+        self.assertEqual(self.faults_of("-DENDS_OTHERWISE"), ["memory::again::one, memory 2: status 1, `alloc`"])
+
+    def test_a_play_that_asks_for_memory(self):
+        [fault] = self.faults_of("-DASKS_IN_THE_PLAY")
+        self.assertEqual(fault, f"{self.PLAY}, memory 3: playing asks for memory: ['begins', 'passed', 'own']")
+
+    def test_the_play_must_be_there(self):
+        tests = built(self.folder, "tests", "int main(void) { return 0; }")
+        lab = Lab(tests, self.folder)
+        refusals.refuse_tests(refusals.Trials(lab, refusals.Shim(), 0, 0, 2), tests)
+        self.assertEqual(lab.faults, [f"{tests} lacks {self.PLAY}"])
 
 
 class OutcomeTest(unittest.TestCase):

@@ -14,9 +14,9 @@ A server is run so as well, with a client that enters and looks and one that has
 seconds, by itself. What the clients hear are fronts of what they hear else, and at most one of them hears less where
 the server ends well; the table is that of the replay; and the replay has all that was answered.
 
-TESTS is the built program crates/bhs_memory_tests/out/bhs_memory_tests_tests. Its tests are run with each request for
-memory refused: each must pass, or want memory before the call that it tests. One test makes a match, plays on it, and
-then asks for memory once, for itself: no request before that may be one of the play.
+TESTS is the program that `tools/library_tests.py TESTS` leaves. Its tests of tests/library/memory are run with each
+request for memory refused: each must pass, or want memory before the call that it tests. One test makes a match, plays
+on it, and then asks for memory once, for itself: no request before that may be one of the play.
 
 A line is printed for each command and kind, with the number of runs and what came of them, and then the number of all;
 the exit status is 1 where a run ended otherwise. With --quick there are at most 60 runs of each command and kind, and
@@ -53,7 +53,9 @@ QUICK, QUICK_SERVED, MOST_SERVED = 60, 40, 2000
 WORKERS = 8
 # seconds, of a server that takes a third of one
 SOON = 60
-PLAYING = "tests::playing::playing_takes_no_memory"
+REFUSED_TESTS = "memory::"
+PLAYING = "memory::playing::playing_takes_no_memory"
+FAILED_TEST = 101
 # what it says where its own request is refused, and how runs of it end, one request after the other
 OWN = "after the play"
 WANTED_OF_PLAYING = re.compile(r"(begins )*own (passed )*")
@@ -79,11 +81,16 @@ class Otherwise(Exception):
 
 
 class Shim:
-    """The library that refuses, and the numbers of calls that it counts."""
+    """What refuses and counts calls: a library that is loaded, or a part of the program."""
 
-    def __init__(self, folder: pathlib.Path) -> None:
-        self.library = str(folder / "shim.so")
-        subprocess.run(["gcc", "-shared", "-fPIC", "-O2", "-o", self.library, str(SHIM)], check=True)
+    def __init__(self, loaded: str = "") -> None:
+        self.variables = {"LD_PRELOAD": loaded} if loaded else {}
+
+    @classmethod
+    def built(cls, folder: pathlib.Path) -> "Shim":
+        library = str(folder / "shim.so")
+        subprocess.run(["gcc", "-shared", "-fPIC", "-O2", "-o", library, str(SHIM)], check=True)
+        return cls(library)
 
     @contextlib.contextmanager
     def counting(self, numbers: Dict[str, int], mode: str = "", place: int = 0) -> Iterator[Dict[str, str]]:
@@ -92,8 +99,12 @@ class Shim:
         with tempfile.NamedTemporaryFile() as file:
             file.write(bytes(8 * len(COUNTED)))
             file.flush()
-            yield {**os.environ, "LD_PRELOAD": self.library, "COUNTS": file.name, **refuse}
+            yield {**os.environ, **self.variables, "COUNTS": file.name, **refuse}
             numbers.update(zip(COUNTED, struct.unpack(f"{len(COUNTED)}Q", pathlib.Path(file.name).read_bytes())))
+
+
+# the program of the tests has its own
+LINKED = Shim()
 
 
 class Attempt(NamedTuple):
@@ -387,17 +398,21 @@ def refuse_server(trials: Trials) -> None:
                      places(number, trials.most_served), f"serve, {mode} of {number}", f"serve, {mode}")
 
 
+def run_test(program: str, name: str, folder: pathlib.Path, variables: Dict[str, str]) -> Run:
+    return ended(subprocess.Popen([program, name], env=variables, cwd=folder, stdout=subprocess.PIPE,
+                                  stderr=subprocess.STDOUT))
+
+
 def outcome_of_test(trials: Trials, program: str, name: str, place: int) -> str:
     """What came of a test with a request for memory refused."""
-    with trials.shim.counting({}, "memory", place) as variables:
-        found = ended(subprocess.Popen([program, name], env=variables, cwd=trials.lab.folder, stdout=subprocess.PIPE,
-                                       stderr=subprocess.STDOUT))
+    with LINKED.counting({}, "memory", place) as variables:
+        found = run_test(program, name, trials.lab.folder, variables)
     text = found.printed.decode(errors="replace").strip()
     if found.status == DONE:
         return "passed"
-    if found.status > 0 and name == PLAYING and OWN in text:
+    if found.status == FAILED_TEST and name == PLAYING and OWN in text:
         return "own"
-    if found.status > 0 and re.search("memory|alloc", text.lower()):
+    if found.status == FAILED_TEST and re.search("memory|alloc", text.lower()):
         return "begins"
     raise Otherwise(f"status {found.status}, `{text[:200]}`")
 
@@ -414,12 +429,17 @@ def refuse_tests(trials: Trials, tests: str) -> None:
     """Runs each test with each request for memory refused."""
     program = str(pathlib.Path(tests).resolve())
     listed = subprocess.run([program, "--list"], stdout=subprocess.PIPE, text=True, check=True).stdout.split()
-    for name in [word.rstrip(":") for word in listed if word.startswith("tests::")]:
+    names = [word.rstrip(":") for word in listed if word.startswith(REFUSED_TESTS)]
+    if PLAYING not in names:
+        trials.lab.faults.append(f"{tests} lacks {PLAYING}")
+    for name in names:
         numbers: Dict[str, int] = {}
-        with trials.shim.counting(numbers) as variables:
-            subprocess.run([program, name], env=variables, cwd=trials.lab.folder, check=True,
-                           stdout=subprocess.DEVNULL)
+        with LINKED.counting(numbers) as variables:
+            found = run_test(program, name, trials.lab.folder, variables)
         number, what = numbers["memory"], f"{name}, memory of {numbers['memory']}"
+        if found.status != DONE or not number:
+            trials.lab.faults.append(f"{what}, with nothing refused: status {found.status}")
+            continue
         if name == PLAYING:
             trials.alike(lambda place: play_in_turn(trials, program, place), [number], what, f"{name}, memory")
         else:
@@ -439,7 +459,7 @@ def main() -> int:
     most, most_served = (QUICK, QUICK_SERVED) if given.quick else (0, MOST_SERVED)
     with tempfile.TemporaryDirectory() as name:
         lab = Lab(given.program, pathlib.Path(name))
-        trials = Trials(lab, Shim(lab.folder), most, most_served, given.workers)
+        trials = Trials(lab, Shim.built(lab.folder), most, most_served, given.workers)
         for command in (*COMMANDS, *OTHERS):
             plain = plain_run(lab, command.words, lab.folder, command.script)
             fault = wanted_fault(lab, command, plain, attempt(trials, command))

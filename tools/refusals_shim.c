@@ -1,7 +1,10 @@
 /* Refuses one request for memory, or fails or shortens one read or one write, of the program that it is loaded into by
    LD_PRELOAD. REFUSE names what and which, as in "memory 5", "read 3", "short-read 3", "write 1" or "short-write 1".
    COUNTS names a file of four numbers of 8 bytes: how many requests, reads and writes there have been, and how many of
-   them all were refused. The file is mapped, so that the numbers stand in it however the program ends. */
+   them all were refused. The file is mapped, so that the numbers stand in it however the program ends.
+
+   With KEPT, the name of a file, it is linked into a program whose requests for memory are wrapped, and counts and
+   refuses these alone. The first process of the program then leaves the program in that file. */
 #define _GNU_SOURCE
 #include <errno.h>
 #include <fcntl.h>
@@ -9,6 +12,7 @@
 #include <stdlib.h>
 #include <string.h>
 #include <sys/mman.h>
+#include <sys/sendfile.h>
 #include <sys/syscall.h>
 #include <sys/uio.h>
 #include <unistd.h>
@@ -16,6 +20,13 @@
 enum { MEMORY, READS, WRITES, KINDS };
 /* the exit status where REFUSE or COUNTS cannot be understood: nothing would be tried */
 enum { NO_TRIAL = 125 };
+
+#ifdef KEPT
+#define malloc __wrap_malloc
+#define realloc __wrap_realloc
+#define __libc_malloc __real_malloc
+#define __libc_realloc __real_realloc
+#endif
 
 void *__libc_malloc(size_t);
 void *__libc_calloc(size_t, size_t);
@@ -72,9 +83,20 @@ static void *nothing(void) {
 
 void *malloc(size_t size) { return is_refused(MEMORY) ? nothing() : __libc_malloc(size); }
 
-void *calloc(size_t count, size_t size) { return is_refused(MEMORY) ? nothing() : __libc_calloc(count, size); }
-
 void *realloc(void *old, size_t size) { return is_refused(MEMORY) ? nothing() : __libc_realloc(old, size); }
+
+#ifdef KEPT
+/* The program may run under the loader, so that its first word names it, and not /proc/self/exe. */
+__attribute__((constructor)) static void keep(int count, char **words) {
+    int from = count ? open(words[0], O_RDONLY | O_CLOEXEC) : -1;
+    int to = open(KEPT, O_WRONLY | O_CREAT | O_EXCL | O_CLOEXEC, 0755);
+    while (from >= 0 && to >= 0 && sendfile(to, from, 0, 1 << 20) > 0) {
+    }
+    close(from);
+    close(to);
+}
+#else
+void *calloc(size_t count, size_t size) { return is_refused(MEMORY) ? nothing() : __libc_calloc(count, size); }
 
 void *aligned_alloc(size_t align, size_t size) {
     return is_refused(MEMORY) ? nothing() : __libc_memalign(align, size);
@@ -135,3 +157,4 @@ ssize_t __write(int file, const void *from, size_t size) { return output(file, f
 ssize_t send(int file, const void *from, size_t size, int flags) { return output(file, from, size, flags, 1); }
 ssize_t readv(int file, const struct iovec *all, int count) { return parts(READS, SYS_readv, file, all, count); }
 ssize_t writev(int file, const struct iovec *all, int count) { return parts(WRITES, SYS_writev, file, all, count); }
+#endif

@@ -7,6 +7,7 @@ mod draws;
 mod limits;
 mod locks;
 mod matches;
+mod memory;
 mod model;
 mod paces;
 mod pasts;

@@ -2,14 +2,12 @@
 //! over is made anew for the second one.
 
 use super::{triangle, write};
-use bhs_lineup::Lineup;
 use bhs_lock::{Cell, Open, Pass};
 use bhs_match::Sealed;
 use bhs_model::{Command, Reply, Text};
-use bhs_net::Memory;
 use bhs_orders::built_in;
-use bhs_replay::{read_replay, write_replay};
-use bhs_view::{RestrictFault, TwinFault, cut_of, restrict, twin_of};
+use bhs_replay::{ReplayFault, read_replay, write_replay};
+use bhs_view::{cut_of, restrict, twin_of};
 use std::alloc::Global;
 use std::process::Abort;
 use std::sync::Wait;
@@ -37,25 +35,14 @@ const ACCUSED: &str = "{\"agents\":2,\"board\":8,\"dark\":[],\"holes\":[2],\
 {\"end\":3}
 ";
 
-fn sealed(alloc: Global, replay: &str) -> Result<Sealed, Fail> {
-    Ok(read_replay(alloc, &mut replay.as_bytes(), 1_000)?)
-}
-
-fn is_built_in<R: Abort>(rt: &R, lineup: &Lineup) -> Result<(), Fail> {
+#[test]
+fn files_are_read_and_put_together_again(rt: HostRuntime) -> Result<(), Fail> {
+    let lineup = built_in(rt.alloc()).or_else(|_| built_in(rt.alloc()))?;
     assert_eq!(rt; lineup.ready.len(), 1);
     assert_eq!(rt; lineup.ready[0].game.net().nodes(), 3);
     assert_eq!(rt; lineup.ready[0].game.setup().holes.nodes(), [2].as_slice());
     assert_eq!(rt; lineup.keys.find("kb"), Some((0, 1)));
     Ok(())
-}
-
-#[test]
-fn files_are_read_and_put_together_again(rt: HostRuntime) -> Result<(), Fail> {
-    let lineup = match built_in(rt.alloc()) {
-        Ok(lineup) => lineup,
-        Err(_) => built_in(rt.alloc())?,
-    };
-    is_built_in(&rt, &lineup)
 }
 
 /// A match on the triangle, under its lock.
@@ -78,16 +65,12 @@ fn told<R: Wait>(
     }
 }
 
-fn answers<R: Wait + Abort>(
-    rt: &R,
-    alloc: Global,
-    cell: &Cell,
-    pass: &mut Pass,
-) -> Result<(), Fail> {
-    told(rt, cell, pass, Command::Enter, Command::Enter)?;
-    let written = told(rt, cell, pass, write(alloc)?, write(alloc)?)?;
+fn plays<R: Wait + Abort>(rt: &R, alloc: Global, cell: &Cell) -> Result<(), Fail> {
+    let mut pass = cell.claim(rt, 0).expect(rt, "a pass is claimed once");
+    told(rt, cell, &mut pass, Command::Enter, Command::Enter)?;
+    let written = told(rt, cell, &mut pass, write(alloc)?, write(alloc)?)?;
     assert_eq!(rt; written, Reply::Written);
-    let looked = told(rt, cell, pass, Command::Look, Command::Look)?;
+    let looked = told(rt, cell, &mut pass, Command::Look, Command::Look)?;
     let board = Text::from(String::from_str(alloc, "ab")?);
     let here = Reply::Here {
         ports: 2,
@@ -99,13 +82,6 @@ fn answers<R: Wait + Abort>(
     Ok(())
 }
 
-fn plays<R: Wait + Abort>(rt: &R, alloc: Global, cell: &Cell) -> Result<(), Fail> {
-    match cell.claim(rt, 0) {
-        Some(mut pass) => answers(rt, alloc, cell, &mut pass),
-        None => Err(Fail::from("a pass is claimed once")),
-    }
-}
-
 #[test]
 fn a_match_is_made_and_commands_are_told_again(rt: HostRuntime) -> Result<(), Fail> {
     let alloc = rt.alloc();
@@ -115,73 +91,47 @@ fn a_match_is_made_and_commands_are_told_again(rt: HostRuntime) -> Result<(), Fa
     }
 }
 
-fn written(alloc: Global, sealed: &Sealed) -> Result<Vec<u8>, Fail> {
-    let mut text: Vec<u8> = Vec::new(alloc);
-    if write_replay(alloc, sealed, &mut text).is_err() {
-        text.clear();
-        write_replay(alloc, sealed, &mut text)?;
-    }
-    Ok(text)
+fn sealed(alloc: Global, replay: &str) -> Result<Sealed, ReplayFault> {
+    read_replay(alloc, &mut replay.as_bytes(), 1_000)
 }
 
 #[test]
 fn a_replay_is_read_and_written_again(rt: HostRuntime) -> Result<(), Fail> {
     let alloc = rt.alloc();
-    let sealed = match read_replay(alloc, &mut PLAYED.as_bytes(), 1_000) {
-        Ok(sealed) => sealed,
-        Err(_) => sealed(alloc, PLAYED)?,
-    };
-    is_written(&rt, alloc, &sealed)
-}
-
-fn is_written<R: Abort>(rt: &R, alloc: Global, sealed: &Sealed) -> Result<(), Fail> {
-    let text = written(alloc, sealed)?;
+    let sealed = sealed(alloc, PLAYED).or_else(|_| sealed(alloc, PLAYED))?;
+    let mut text: Vec<u8> = Vec::new(alloc);
+    if write_replay(alloc, &sealed, &mut text).is_err() {
+        text.clear();
+        write_replay(alloc, &sealed, &mut text)?;
+    }
     assert_eq!(rt; text.as_slice(), PLAYED.as_bytes());
-    Ok(())
-}
-
-fn cut(alloc: Global, sealed: &Sealed) -> Result<Vec<u32>, Memory> {
-    cut_of(alloc, sealed, 0).or_else(|_| cut_of(alloc, sealed, 0))
-}
-
-fn is_cut_out<R: Abort>(rt: &R, alloc: Global, sealed: &Sealed) -> Result<(), Fail> {
-    let cut = cut(alloc, sealed)?;
-    assert_eq!(rt; cut.as_slice(), [0, 5].as_slice());
     Ok(())
 }
 
 #[test]
 fn a_past_is_cut_out_again(rt: HostRuntime) -> Result<(), Fail> {
-    is_cut_out(&rt, rt.alloc(), &sealed(rt.alloc(), PLAYED)?)
-}
-
-fn part(alloc: Global, sealed: &Sealed) -> Result<Sealed, RestrictFault> {
-    restrict(alloc, sealed, &[0, 5]).or_else(|_| restrict(alloc, sealed, &[0, 5]))
-}
-
-fn is_restricted<R: Abort>(rt: &R, alloc: Global, sealed: &Sealed) -> Result<(), Fail> {
-    let left = part(alloc, sealed)?.log().len();
-    assert_eq!(rt; left, 3);
+    let alloc = rt.alloc();
+    let sealed = sealed(alloc, PLAYED)?;
+    let cut = cut_of(alloc, &sealed, 0).or_else(|_| cut_of(alloc, &sealed, 0))?;
+    assert_eq!(rt; cut.as_slice(), [0, 5].as_slice());
     Ok(())
 }
 
 #[test]
 fn a_match_is_restricted_again(rt: HostRuntime) -> Result<(), Fail> {
-    is_restricted(&rt, rt.alloc(), &sealed(rt.alloc(), PLAYED)?)
-}
-
-fn twin(alloc: Global, sealed: &Sealed) -> Result<Sealed, TwinFault> {
-    twin_of(alloc, sealed, 1).or_else(|_| twin_of(alloc, sealed, 1))
-}
-
-/// The black hole of the twin is node 1 alone.
-fn has_a_twin<R: Abort>(rt: &R, alloc: Global, sealed: &Sealed) -> Result<(), Fail> {
-    let is_moved = twin(alloc, sealed)?.setup().holes.nodes() == [1].as_slice();
-    assert!(rt; is_moved);
+    let alloc = rt.alloc();
+    let sealed = sealed(alloc, PLAYED)?;
+    let part = restrict(alloc, &sealed, &[0, 5]).or_else(|_| restrict(alloc, &sealed, &[0, 5]))?;
+    assert_eq!(rt; part.log().len(), 3);
     Ok(())
 }
 
+/// The black hole of the twin is node 1 alone.
 #[test]
 fn a_twin_is_made_again(rt: HostRuntime) -> Result<(), Fail> {
-    has_a_twin(&rt, rt.alloc(), &sealed(rt.alloc(), ACCUSED)?)
+    let alloc = rt.alloc();
+    let sealed = sealed(alloc, ACCUSED)?;
+    let twin = twin_of(alloc, &sealed, 1).or_else(|_| twin_of(alloc, &sealed, 1))?;
+    assert_eq!(rt; twin.setup().holes.nodes(), [1].as_slice());
+    Ok(())
 }

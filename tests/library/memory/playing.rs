@@ -1,10 +1,8 @@
 //! Playing takes no memory.
 
 use super::{triangle, write};
-use bhs_match::Match;
 use bhs_model::{Command, Event};
 use std::alloc::Global;
-use std::process::Abort;
 use std::test::Fail;
 
 // Two agents meet at a whiteboard, and one goes on and is lost.
@@ -27,35 +25,20 @@ fn events(alloc: Global) -> Result<Vec<Event>, Fail> {
     ]?)
 }
 
-fn play<R: Abort>(rt: &R, game: &mut Match, events: Vec<Event>) -> Result<(), Fail> {
-    for event in events {
-        let answer = game.apply(event);
-        assert!(rt; answer.place.is_some());
-    }
-    assert_eq!(rt; game.log().len(), 13);
-    Ok(())
-}
-
 /// The first request after the match is made is the one of the last lines.
-fn play_and_ask<R: Abort>(
-    rt: &R,
-    alloc: Global,
-    game: &mut Match,
-    events: Vec<Event>,
-) -> Result<(), Fail> {
-    play(rt, game, events)?;
-    match Vec::<u8>::with_capacity(alloc, 1) {
-        Ok(_) => Ok(()),
-        Err(_) => Err(Fail::from("the request for memory after the play was refused")),
-    }
-}
-
 #[test]
 fn playing_takes_no_memory(rt: HostRuntime) -> Result<(), Fail> {
     let alloc = rt.alloc();
     let events = events(alloc)?;
-    match triangle(alloc) {
-        Some((mut game, _)) => play_and_ask(&rt, alloc, &mut game, events),
-        None => Err(Fail::from("memory")),
+    let Some((mut game, _)) = triangle(alloc) else {
+        return Err(Fail::from("memory"));
+    };
+    for event in events {
+        assert!(rt; game.apply(event).place.is_some());
+    }
+    assert_eq!(rt; game.log().len(), 13);
+    match Vec::<u8>::with_capacity(alloc, 1) {
+        Ok(_) => Ok(()),
+        Err(_) => Err(Fail::from("the request for memory after the play was refused")),
     }
 }

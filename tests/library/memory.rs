@@ -1,6 +1,5 @@
-//! Each request for memory is granted here.
-
-ghost use Rattle.std.specs.Prelude.{◌≡◌, [], IfSome};
+//! Requests for memory that are refused. Here each is granted; `tools/refusals.py` runs these tests again, each time with
+//! another request refused.
 
 mod again;
 mod playing;
@@ -10,7 +9,6 @@ use bhs_deal::Held;
 use bhs_files::read_network;
 use bhs_match::Match;
 use bhs_model::{Command, DarkLinks, Holes, Setup, Text};
-use bhs_net::Net;
 use std::alloc::{AllocError, Global};
 
 const TRIANGLE: &str = "version = 1
@@ -19,9 +17,7 @@ links = [[0,0,1,0],[1,1,2,0],[2,1,0,1]]
 ";
 
 /// A match of two agents on the triangle, with the black hole at node 2, and the links that are held in it.
-fn triangle(alloc: Global) -> Option<(Match, Held)>
-    ensures { IfSome result (λ made. made.0.log ≡ []) }
-{
+fn triangle(alloc: Global) -> Option<(Match, Held)> {
     let net = read_network(alloc, TRIANGLE).ok()?;
     let held = Held::new(alloc, &net, &[]).ok()?;
     Some((Match::new(alloc, net, setup(alloc).ok()?).ok()?, held))
