@@ -146,6 +146,15 @@ class Together(unittest.TestCase):
                                            "fn low::Hall::told: not proved; it calls `double`, which is not proved",
                                            "only=2 proved=0")), ["triples"])
 
+    def test_a_caller_is_refused_by_an_error_in_its_own_proof(self) -> None:
+        caller = "fn low::Hall::told: not proved; it calls `double`, which is not proved"
+        error = "./proofs/Hall/told/Answers.antt:7:5: error: `returns`: the two types differ"
+        self.assertEqual(self.refused(error, caller, "only=2 proved=0"), {"counts_no_more": f"Hall::told: {error}"})
+        for other in ("./proofs/Hall/told/Answers.antt:7:5: error: `met` was not admitted",
+                      "./proofs/double/Answers.antt:7:5: error: `returns`: the two types differ",
+                      "./proofs/Hall/told/more/Answers.antt:7:5: error: `returns`: the two types differ"):
+            self.assertEqual(self.refused(other, caller, "only=2 proved=0"), {})
+
     def test_a_check_that_does_not_end_refuses_nothing(self) -> None:
         self.assertEqual(self.refused("fn low::double: no proof: `search` did not prove `ensures`", "killed"), {})
         self.assertEqual(self.refused("src/lib.rt:3:1: error: `MOST`: it is not in scope", "only=2 proved=0"), {})

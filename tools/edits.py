@@ -162,6 +162,13 @@ def together(edits: Sequence[Edit], folder: pathlib.Path) -> Tuple[List[Edit], L
     return chosen, [it for it in edits if it not in chosen]
 
 
+def own_error(lines: Sequence[str], function: str) -> str:
+    """The first error in a function's own proof files, but for one that says no more than that another proof is not
+    admitted."""
+    begin = re.compile(rf"(\./)?proofs/{function.replace('::', '/')}/\w+\.antt:\d+:\d+: error: (?!.*not admitted)")
+    return next((line for line in lines if begin.match(line)), "")
+
+
 def refused_together(prover: Prover, edits: Sequence[Edit]) -> Dict[str, str]:
     """What the prover says against those edits that their own functions refuse, where all are made at once."""
     if len(edits) < 2:
@@ -176,8 +183,9 @@ def refused_together(prover: Prover, edits: Sequence[Edit]) -> Dict[str, str]:
     for edit in edits:
         begin = f"fn {prover.name}::{edit.function}: "
         told = next((line[len(begin):] for line in lines if line.startswith(begin)), "")
-        if told.startswith(("no proof", "not proved")) and ("did not prove" in told or "it calls" not in told):
-            refused[edit.name] = f"{edit.function}: {told}"
+        own = own_error(lines, edit.function or "")
+        if told.startswith(("no proof", "not proved")) and ("did not prove" in told or "it calls" not in told or own):
+            refused[edit.name] = f"{edit.function}: {own or told}"
     return refused
 
 
