@@ -17,38 +17,32 @@ pub const NODES: u16 = 256;
 /// How many ports each node has: to the right, to the left, down and up.
 pub const PORTS: u16 = 4;
 
-/// The node to the right of a node.
-fn right_of(node: u16) -> u16
-    requires { node < NODES }
+/// The node of a row and a column, which go on at the first behind the last.
+fn node_at(row: u16, column: u16) -> u16
     ensures { result < NODES }
 {
-    node / SIDE * SIDE + (node % SIDE + 1) % SIDE
-}
-
-/// The node below a node.
-fn below(node: u16) -> u16
-    requires { node < NODES }
-    ensures { result < NODES }
-{
-    (node + SIDE) % NODES
+    row % SIDE * SIDE + column % SIDE
 }
 
 /// The links of the torus: of each node those to the right and down.
 pub fn links(alloc: Global) -> Result<Vec<Link>, BenchFault> {
     let mut links = Vec::new(alloc);
-    for node in 0..NODES {
-        links.push(Link {
-            v: node,
-            p: 0,
-            w: right_of(node),
-            q: 1,
-        })?;
-        links.push(Link {
-            v: node,
-            p: 2,
-            w: below(node),
-            q: 3,
-        })?;
+    for row in 0..SIDE {
+        for column in 0..SIDE {
+            let node = node_at(row, column);
+            links.push(Link {
+                v: node,
+                p: 0,
+                w: node_at(row, column + 1),
+                q: 1,
+            })?;
+            links.push(Link {
+                v: node,
+                p: 2,
+                w: node_at(row + 1, column),
+                q: 3,
+            })?;
+        }
     }
     Ok(links)
 }
@@ -59,8 +53,7 @@ pub fn torus(alloc: Global) -> Result<Net, BenchFault> {
 }
 
 /// A match of so many agents on the torus. No node destroys and no link is dark, so that each agent plays until its
-/// quota
-/// is spent.
+/// quota is spent.
 pub fn setup(alloc: Global, agents: u16) -> Setup {
     Setup {
         home: 0,
