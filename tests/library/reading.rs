@@ -9,14 +9,14 @@ const LONG: [u8; 20_000] = [b'x'; 20_000];
 
 #[test]
 fn reads_a_buffer_at_a_time(rt: HostRuntime) -> Result<(), Fail> {
-    let text = read_text(rt.alloc(), &mut LONG.as_slice(), 20_000, 4)?;
+    let text = read_text(rt.alloc(), &mut LONG.as_slice(), 20_000, 3)?;
     assert_eq!(rt; text.as_slice(), LONG.as_slice());
     assert_eq!(rt;
-        read_text(rt.alloc(), &mut LONG.as_slice(), 20_000, 3),
+        read_text(rt.alloc(), &mut LONG.as_slice(), 20_000, 2),
         Err(ReadFault::Turns)
     );
     assert_eq!(rt;
-        read_text(rt.alloc(), &mut LONG.as_slice(), 19_999, 4),
+        read_text(rt.alloc(), &mut LONG.as_slice(), 19_999, 3),
         Err(ReadFault::Text)
     );
     Ok(())
