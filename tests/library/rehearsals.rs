@@ -44,6 +44,17 @@ fn calls_give_what_is_sent(rt: HostRuntime) -> Result<(), Fail> {
 }
 
 #[test]
+fn what_is_taken_back_is_not_sent_again(rt: HostRuntime) -> Result<(), Fail> {
+    let mut stage = rehearsal(rt.alloc())?;
+    if let Ok(Some(out)) = stage.feed(255, ENTER) {
+        stage.take_back(out);
+    }
+    assert!(rt; is_sent(stage.feed(255, DEPART), GONE));
+    assert!(rt; is_sent(stage.draw(0, 0), COME));
+    Ok(())
+}
+
+#[test]
 fn what_is_not_there_is_told(rt: HostRuntime) -> Result<(), Fail> {
     let mut stage = rehearsal(rt.alloc())?;
     assert_eq!(rt; stage.feed(256, ENTER), Err(RehearsalFault::Conn));
