@@ -1,6 +1,7 @@
 """How tools/edits.py reads edits, finds the function that one changes, and takes the prover's answers."""
 import contextlib
 import io
+import os
 import pathlib
 import sys
 import tempfile
@@ -8,6 +9,7 @@ import unittest
 import unittest.mock
 
 import edits
+import prover
 
 CODE = '''use std::fmt;
 
@@ -109,6 +111,31 @@ class Answers(unittest.TestCase):
     def test_what_is_not_read_is_not_tried(self) -> None:
         self.assertIn("BAD EDIT", self.told("only=0 proved=0", "error: expected an expression"))
         self.assertIn("BAD EDIT", self.told("src/lib.rt:3:1: error: `MOST`: it is not in scope\nonly=1 proved=0", ""))
+
+
+class Built(unittest.TestCase):
+    """A library that is older than the sources of its crate."""
+
+    def setUp(self) -> None:
+        self.crates = pathlib.Path(self.enterContext(tempfile.TemporaryDirectory()))
+        (self.crates / "low" / "src").mkdir(parents=True)
+        (self.crates / "low" / "src" / "lib.rt").write_text(CODE)
+        library = self.crates / "low" / "out" / "rlib" / "low.rlib"
+        library.mkdir(parents=True)
+        (library / "format").write_text("")
+        os.utime(library / "format", (0, 0))
+        self.enterContext(unittest.mock.patch.object(prover, "BUILT", self.crates))
+
+    def may_be_used(self, crates: pathlib.Path, name: str = "low") -> bool:
+        with unittest.mock.patch.object(prover, "CRATES", crates):
+            return prover.may_be_used({"low": [], "other": []}, name)
+
+    def test_it_may_not_be_used_where_it_was_built_of_them(self) -> None:
+        self.assertFalse(self.may_be_used(self.crates))
+
+    def test_it_may_be_used_where_the_gate_has_it_from_an_earlier_run(self) -> None:
+        self.assertTrue(self.may_be_used(self.crates / "elsewhere"))
+        self.assertFalse(self.may_be_used(self.crates / "elsewhere", "other"))
 
 
 class Together(unittest.TestCase):

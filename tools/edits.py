@@ -24,7 +24,7 @@ from typing import Dict, Iterator, List, NamedTuple, Optional, Sequence, Tuple
 
 sys.path.insert(0, str(pathlib.Path(__file__).resolve().parent))
 
-from prover import CRATES, PARTS, Libraries, below, is_built, libraries_of, library_of, words_of, workers  # noqa: E402
+from prover import CRATES, PARTS, Libraries, below, libraries_of, may_be_used, words_of, workers  # noqa: E402
 
 # what a check of a crate that is proved ends with, and one that is not
 PROVED, NOT_PROVED = "logic=proved", "logic=not-proved"
@@ -253,7 +253,7 @@ def main(words: List[str]) -> int:
     edits = {name: edits_of(name, folders) for name in names or libraries}
     for name in libraries:
         is_needed = any(name in below(libraries, it) for it, found in edits.items() if found)
-        if is_needed and not is_built(libraries, name, library_of(name)):
+        if is_needed and not may_be_used(libraries, name):
             print(f"tools/edits.py: {name} is not built, or older than its sources: run tools/build", file=sys.stderr)
             return 1
     with concurrent.futures.ThreadPoolExecutor(workers()) as pool:
