@@ -1,73 +1,102 @@
-"""How tools/gate hears what is proved, and counts."""
-import concurrent.futures
+"""How tools/gate copies what is to be proved, hears what is proved, and counts."""
 import contextlib
+import importlib.machinery
 import importlib.util
 import io
 import pathlib
+import subprocess
 import sys
+import tempfile
 import unittest
 import unittest.mock
-from importlib.machinery import SourceFileLoader
+from typing import List, Tuple
 
 from tests import TOP
 
 
-def loaded(name: str):
-    """A tool whose file has no ending."""
-    spec = importlib.util.spec_from_loader(name, SourceFileLoader(name, str(TOP / "tools" / name)))
-    module = importlib.util.module_from_spec(spec)
-    with unittest.mock.patch.object(sys, "dont_write_bytecode", True):
-        spec.loader.exec_module(module)
-    return module
+def module(path: pathlib.Path):
+    """A program without the ending of a module."""
+    loader = importlib.machinery.SourceFileLoader(path.name, str(path))
+    made = importlib.util.module_from_spec(importlib.util.spec_from_loader(path.name, loader))
+    loader.exec_module(made)
+    return made
 
 
-gate = loaded("gate")
+gate = module(TOP / "tools" / "gate")
 
 
-class Started:
-    """What stands in for the background: it notes what is started, and each passes one edit."""
-
-    def __init__(self) -> None:
-        self.names = []
-
-    def start(self, tool: str, name: str, **variables: str):
-        self.names.append(name)
-        done = concurrent.futures.Future()
-        done.set_result((1, 0))
-        return done
+def files_of(folder: pathlib.Path) -> List[str]:
+    return sorted(str(it.relative_to(folder)) for it in folder.rglob("*") if it.is_file())
 
 
-class Hearing(unittest.TestCase):
-    def setUp(self) -> None:
-        self.background = Started()
-        with unittest.mock.patch.object(gate, "libraries_of", lambda: {"bhs_net": ["thiserror"], "bhs_model": ["bhs_net"],
-                                                                       "bhs_agent": ["bhs_net", "bhs_model"]}):
-            self.edits = gate.Edits(self.background, pathlib.Path("built"))
+class Gate(unittest.TestCase):
+    def told(self, text: str) -> Tuple[Tuple, str]:
+        printed = io.StringIO()
+        with contextlib.redirect_stdout(printed):
+            found = gate.run([sys.executable, "-c", text])
+        return found, printed.getvalue()
 
-    def test_edits_wait_for_what_their_crate_stands_on(self) -> None:
-        self.assertEqual(self.background.names, ["bhs_net"])
-        self.edits.hear("rt: bhs_net proved")
-        self.assertEqual(self.background.names, ["bhs_net", "bhs_model"])
-        self.edits.hear("rt: bhs_model NOT PROVED")
-        self.edits.hear("rt: bhs_model: its tests are proved")
-        self.assertEqual(self.background.names, ["bhs_net", "bhs_model"])
-        with contextlib.redirect_stdout(io.StringIO()) as said:
-            self.assertEqual(self.edits.ended(), (2, 1))
-        self.assertIn("the edits of bhs_agent are not tried", said.getvalue())
+    def test_the_last_line_is_held_back(self) -> None:
+        text = "print('1 passed, 0 failed'); print('more'); print('2 passed, 3 failed'); exit(1)"
+        self.assertEqual(self.told(text), ((1, (2, 3)), "1 passed, 0 failed\nmore\n"))
+        self.assertEqual(self.told("print('more')"), ((0, None), "more\n"))
+
+    def test_a_command_that_fails_counts_so(self) -> None:
+        self.assertEqual(gate.counted(0, None), (1, 0))
+        self.assertEqual(gate.counted(1, None), (0, 1))
+        self.assertEqual(gate.counted(1, (5, 0)), (5, 1))
+        self.assertEqual(gate.counted(1, (5, 2)), (5, 2))
+
+    def test_a_copy_is_proved_and_what_was_built_comes_back(self) -> None:
+        tree, room = (pathlib.Path(self.enterContext(tempfile.TemporaryDirectory())) for _ in range(2))
+        for path in ("crates.txt", "HANDLES", "crates/low/src/lib.rt", "crates/low/must-fail/one.edit",
+                     "crates/low/out/rlib/old", "crates/low/out/kept"):
+            (tree / path).parent.mkdir(parents=True, exist_ok=True)
+            (tree / path).write_text("")
+        with contextlib.ExitStack() as patches:
+            for what, by in (("TOP", tree), ("CRATES", tree / "crates")):
+                patches.enter_context(unittest.mock.patch.object(gate, what, by))
+            crates = gate.copy_to(room)
+            self.assertEqual(files_of(room), ["HANDLES", "crates.txt", "crates/low/src/lib.rt"])
+            (crates / "low" / "out" / "rlib").mkdir(parents=True)
+            (crates / "low" / "out" / "rlib" / "new").write_text("")
+            gate.take_from(crates)
+        self.assertEqual(files_of(tree / "crates" / "low" / "out"), ["kept", "rlib/new"])
+
+    def edits_after(self, *lines: str):
+        """What is tried, and counted, of the edits of two crates after these lines of `rt ci`."""
+        crates = pathlib.Path(self.enterContext(tempfile.TemporaryDirectory()))
+        for name in ("low", "high"):
+            (crates / name / "must-fail").mkdir(parents=True)
+            (crates / name / "must-fail" / "one.edit").write_text("")
+        tried = []
+
+        def tries(words, **_):
+            tried.append(words[-1])
+            return subprocess.CompletedProcess(words, 0, f"edit {words[-1]}/one: refused\n1 passed, 0 failed\n")
+        libraries = {"low": [], "high": ["low"]}
+        with contextlib.ExitStack() as patches, contextlib.redirect_stdout(io.StringIO()) as printed:
+            for what, by in (("CRATES", crates), ("libraries_of", lambda: libraries)):
+                patches.enter_context(unittest.mock.patch.object(gate, what, by))
+            patches.enter_context(unittest.mock.patch.object(gate.subprocess, "run", tries))
+            background = gate.Background()
+            edits = gate.Edits(background, crates)
+            for line in lines:
+                edits.hear(line)
+            background.has_all.set()
+            counts = edits.ended()
+        return sorted(tried), counts, printed.getvalue()
+
+    def test_edits_are_tried_once_what_their_crate_stands_on_is_proved(self) -> None:
+        self.assertEqual(self.edits_after("rt: low proved")[:2], (["high", "low"], (2, 0)))
+        tried, counts, printed = self.edits_after("rt: low NOT PROVED", "rt: low: its tests are proved")
+        self.assertEqual((tried, counts), (["low"], (1, 1)))
+        self.assertIn("edit low/one: refused\n", printed)
+        self.assertIn("the edits of high are not tried", printed)
 
     def test_what_an_earlier_run_proved_is_proved(self) -> None:
         kept = "is kept: an earlier run on this machine proved the same files over the same libraries"
-        self.edits.hear(f"rt: bhs_net {kept}")
-        self.edits.hear(f"rt: bhs_model {kept}")
-        self.assertEqual(self.edits.ended(), (3, 0))
-
-
-class Counting(unittest.TestCase):
-    def test_a_command_that_failed_counts_at_least_one(self) -> None:
-        self.assertEqual(gate.counted(0, None), (1, 0))
-        self.assertEqual(gate.counted(1, None), (0, 1))
-        self.assertEqual(gate.counted(0, (7, 0)), (7, 0))
-        self.assertEqual(gate.counted(1, (7, 0)), (7, 1))
+        self.assertEqual(self.edits_after(f"rt: low {kept}")[:2], (["high", "low"], (2, 0)))
 
     def test_other_words_run_nothing(self) -> None:
         with contextlib.redirect_stdout(io.StringIO()) as said:

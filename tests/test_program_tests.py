@@ -1,20 +1,16 @@
-"""The rows that play the program: how they are read, and that a row that fails is told; and how the gate counts."""
+"""The rows that play the program: how they are read, and that a row that fails is told."""
 import contextlib
-import importlib.machinery
-import importlib.util
 import io
 import pathlib
-import subprocess
 import sys
 import tempfile
 import unittest
 import unittest.mock
-from typing import List, Tuple
+from typing import List
 
 import program_cases
 import program_tests
 from program_rows import Step, fault_of, play, rows_of
-from tests import TOP
 
 # prints its script, or tells its words and fails
 PROGRAM = f"""#!{sys.executable}
@@ -60,21 +56,6 @@ $ tell 'a b' "" c=d
 ! tell|a b||c=d
 ? 4
 """
-
-
-def module(path: pathlib.Path):
-    """A program without the ending of a module."""
-    loader = importlib.machinery.SourceFileLoader(path.name, str(path))
-    made = importlib.util.module_from_spec(importlib.util.spec_from_loader(path.name, loader))
-    loader.exec_module(made)
-    return made
-
-
-gate = module(TOP / "tools" / "gate")
-
-
-def files_of(folder: pathlib.Path) -> List[str]:
-    return sorted(str(it.relative_to(folder)) for it in folder.rglob("*") if it.is_file())
 
 
 class Played(unittest.TestCase):
@@ -151,72 +132,6 @@ class Read(unittest.TestCase):
         self.assertGreater(len(tests), 250)
         self.assertEqual(len({(test.place, test.title) for test in tests}), len(tests))
         self.assertNotIn(None, program_cases.CASES.values())
-
-
-class Gate(unittest.TestCase):
-    def told(self, text: str) -> Tuple[Tuple, str]:
-        printed = io.StringIO()
-        with contextlib.redirect_stdout(printed):
-            found = gate.run([sys.executable, "-c", text])
-        return found, printed.getvalue()
-
-    def test_the_last_line_is_held_back(self) -> None:
-        text = "print('1 passed, 0 failed'); print('more'); print('2 passed, 3 failed'); exit(1)"
-        self.assertEqual(self.told(text), ((1, (2, 3)), "1 passed, 0 failed\nmore\n"))
-        self.assertEqual(self.told("print('more')"), ((0, None), "more\n"))
-
-    def test_a_command_that_fails_counts_so(self) -> None:
-        self.assertEqual(gate.counted(0, None), (1, 0))
-        self.assertEqual(gate.counted(1, None), (0, 1))
-        self.assertEqual(gate.counted(1, (5, 0)), (5, 1))
-        self.assertEqual(gate.counted(1, (5, 2)), (5, 2))
-
-    def test_a_copy_is_proved_and_what_was_built_comes_back(self) -> None:
-        tree, room = (pathlib.Path(self.enterContext(tempfile.TemporaryDirectory())) for _ in range(2))
-        for path in ("crates.txt", "HANDLES", "crates/low/src/lib.rt", "crates/low/must-fail/one.edit",
-                     "crates/low/out/rlib/old", "crates/low/out/kept"):
-            (tree / path).parent.mkdir(parents=True, exist_ok=True)
-            (tree / path).write_text("")
-        with contextlib.ExitStack() as patches:
-            for what, by in (("TOP", tree), ("CRATES", tree / "crates")):
-                patches.enter_context(unittest.mock.patch.object(gate, what, by))
-            crates = gate.copy_to(room)
-            self.assertEqual(files_of(room), ["HANDLES", "crates.txt", "crates/low/src/lib.rt"])
-            (crates / "low" / "out" / "rlib").mkdir(parents=True)
-            (crates / "low" / "out" / "rlib" / "new").write_text("")
-            gate.take_from(crates)
-        self.assertEqual(files_of(tree / "crates" / "low" / "out"), ["kept", "rlib/new"])
-
-    def edits_after(self, *lines: str):
-        """What is tried, and counted, of the edits of two crates after these lines of `rt ci`."""
-        crates = pathlib.Path(self.enterContext(tempfile.TemporaryDirectory()))
-        for name in ("low", "high"):
-            (crates / name / "must-fail").mkdir(parents=True)
-            (crates / name / "must-fail" / "one.edit").write_text("")
-        tried = []
-
-        def tries(words, **_):
-            tried.append(words[-1])
-            return subprocess.CompletedProcess(words, 0, f"edit {words[-1]}/one: refused\n1 passed, 0 failed\n")
-        libraries = {"low": [], "high": ["low"]}
-        with contextlib.ExitStack() as patches, contextlib.redirect_stdout(io.StringIO()) as printed:
-            for what, by in (("CRATES", crates), ("libraries_of", lambda: libraries)):
-                patches.enter_context(unittest.mock.patch.object(gate, what, by))
-            patches.enter_context(unittest.mock.patch.object(gate.subprocess, "run", tries))
-            background = gate.Background()
-            edits = gate.Edits(background, crates)
-            for line in lines:
-                edits.hear(line)
-            background.has_all.set()
-            counts = edits.ended()
-        return sorted(tried), counts, printed.getvalue()
-
-    def test_edits_are_tried_once_what_their_crate_stands_on_is_proved(self) -> None:
-        self.assertEqual(self.edits_after("rt: low proved")[:2], (["high", "low"], (2, 0)))
-        tried, counts, printed = self.edits_after("rt: low NOT PROVED", "rt: low: its tests are proved")
-        self.assertEqual((tried, counts), (["low"], (1, 1)))
-        self.assertIn("edit low/one: refused\n", printed)
-        self.assertIn("the edits of high are not tried", printed)
 
 
 if __name__ == "__main__":

@@ -5,10 +5,11 @@ mod again;
 mod playing;
 mod wanting;
 
+use super::triangle::setup;
 use bhs_deal::Held;
 use bhs_files::read_network;
 use bhs_match::Match;
-use bhs_model::{Command, DarkLinks, Holes, Setup, Text};
+use bhs_model::{Command, Text};
 use std::alloc::{AllocError, Global};
 
 const TRIANGLE: &str = "version = 1
@@ -21,17 +22,6 @@ fn triangle(alloc: Global) -> Option<(Match, Held)> {
     let net = read_network(alloc, TRIANGLE).ok()?;
     let held = Held::new(alloc, &net, &[]).ok()?;
     Some((Match::new(alloc, net, setup(alloc).ok()?).ok()?, held))
-}
-
-fn setup(alloc: Global) -> Result<Setup, AllocError> {
-    Ok(Setup {
-        home: 0,
-        holes: Holes::from(vec![in alloc; 2]?),
-        dark: DarkLinks::from(Vec::new(alloc)),
-        agents: 2,
-        quota: 10,
-        board: 8,
-    })
 }
 
 fn write(alloc: Global) -> Result<Command, AllocError> {

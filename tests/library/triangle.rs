@@ -2,11 +2,11 @@
 
 use bhs_model::{DarkLinks, Holes, Setup};
 use bhs_net::{Link, Net};
-use std::alloc::Global;
+use std::alloc::{AllocError, Global};
 use std::test::Fail;
 
 /// Two agents, and the black hole at node 2.
-pub fn setup(alloc: Global) -> Result<Setup, Fail> {
+pub fn setup(alloc: Global) -> Result<Setup, AllocError> {
     Ok(Setup {
         home: 0,
         holes: Holes::from(vec![in alloc; 2]?),
