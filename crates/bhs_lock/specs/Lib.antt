@@ -1,3 +1,4 @@
+pub mod KeptCommand
 pub mod Tallies
 pub mod Fitting
 pub mod Passes

@@ -1,11 +1,10 @@
-ghost use Rattle.std.specs.Prelude.{◌≡◌, ◌↔◌, IsTrue, Some, MatchOption, length, option_copied};
+ghost use Rattle.std.specs.Prelude.{◌≡◌, ◌↔◌, IsTrue, Some};
 ghost use Rattle.bhs_model.specs.Marks.{read, read_if};
-ghost use Rattle.bhs_world.specs.Tables.{is_of_board};
-ghost use Rattle.bhs_lock.specs.Passes.{kept_command};
-ghost use Rattle.bhs_lock.specs.Comparing.{command_by, entry_of, entry_in, heard_in, receipted, IsFirstDifference};
+ghost use Rattle.bhs_lock.specs.Comparing.{entry_of, entry_in};
 
+use crate::kept_command::KeptCommand;
 use crate::model::Receipt;
-use bhs_model::{Command, Event, Kept, Mark, Reply, text_at};
+use bhs_model::{Command, Kept, Mark, Reply, text_at};
 
 /// Whether a command of the log is what a receipt and a kept command say.
 pub(crate) fn is_entry(
@@ -14,13 +13,13 @@ pub(crate) fn is_entry(
     command: &Command,
     mark: &Option<Mark>,
     receipt: &Receipt,
-    kept: &Command,
+    kept: &KeptCommand,
 ) -> bool
     ensures { IsTrue result ↔ (entry_of log.now place command.now mark.now ≡ entry_in receipt.now kept.now) }
 {
     receipt.place as usize == place
         && is_reply(log, mark, &receipt.reply)
-        && is_kept(command, &receipt.reply, kept)
+        && kept.is_kept_of(command, &receipt.reply)
 }
 
 /// Whether a mark, if there is one, is read as this reply.
@@ -56,27 +55,4 @@ pub(crate) fn reads_as(log: &[Kept], mark: &Mark, reply: &Reply) -> bool
         | (Mark::Over, Reply::Over) => true,
         _ => false,
     }
-}
-
-/// Whether this is what is kept of a command that was answered so.
-fn is_kept(command: &Command, reply: &Reply, kept: &Command) -> bool
-    ensures { IsTrue result ↔ (kept_command command.now reply.now ≡ kept.now) }
-{
-    match (command, kept) {
-        (Command::Write { .. }, Command::Write { expect, put }) if !is_of_board(reply) => expect
-            .as_str()
-            .is_empty()
-            && put.as_str().is_empty(),
-        _ => *command == *kept,
-    }
-}
-
-/// Whether a reply says what a whiteboard shows, or that it was written.
-fn is_of_board(reply: &Reply) -> bool
-    ensures { result ≡ is_of_board reply.now }
-{
-    matches!(
-        reply,
-        Reply::Here { .. } | Reply::Written | Reply::Changed { .. }
-    )
 }

@@ -1,4 +1,5 @@
-use bhs_model::{Command, Mark, Reply, Text};
+use crate::kept_command::KeptCommand;
+use bhs_model::{Mark, Reply, Text};
 
 /// Where a heard command stands in the log, and what it was answered.
 #[derive(Debug, Drop)]
@@ -37,5 +38,5 @@ pub(crate) struct Spare {
     /// The same for the receipt.
     pub(crate) again: Text,
     /// What will be kept of the command.
-    pub(crate) kept: Command,
+    pub(crate) kept: KeptCommand,
 }

@@ -1,7 +1,7 @@
 ghost use Rattle.std.specs.Prelude.{◌≡◌, [], true, IfOk, OnErr, length, option_map, option_and_then, slice_get, map};
 ghost use Rattle.std.specs.Prelude.{Some, IsTrue, ◌↔◌};
 ghost use Rattle.bhs_match.specs.Matches.{world_in, state_of, shown_at};
-ghost use Rattle.bhs_lock.specs.Passes.{Passed, empty_pass, is_end, tally_in, kind_of, gained, Ascend};
+ghost use Rattle.bhs_lock.specs.Passes.{Passed, empty_pass, is_end, tally_in, Ascend};
 ghost use Rattle.std.specs.Prelude.{MatchOption};
 ghost use Rattle.bhs_lock.specs.Comparing.{entry_of, receipted, IsFirstDifference};
 ghost use Rattle.bhs_lock.specs.Halls.{is_below, spoken, IsSpareFor, IsTold};
@@ -9,9 +9,9 @@ ghost use Rattle.bhs_lock.specs.Cells.{IsNews};
 ghost use Rattle.bhs_lock.specs.Settling.{arrived_by};
 ghost use Rattle.bhs_lock.specs.Arrivals.{arrival_at, receipt_at, IsGiven};
 ghost use Rattle.bhs_model.specs.Marks.{read};
-ghost use Rattle.bhs_lock.specs.declared.model.Receipt.{Receipt as ReceiptData};
 
 use crate::comparing::{is_entry, reads_as};
+use crate::kept_command::KeptCommand;
 use crate::model::{Receipt, Spare, Step, Tally};
 use bhs_match::{Answer, Match};
 use bhs_model::{Command, Event, Kept, Mark, Reply, Text};
@@ -27,7 +27,7 @@ pub struct Pass {
     agent: u16,
     ended: bool,
     receipts: Vec<Receipt>,
-    commands: Vec<Command>,
+    commands: Vec<KeptCommand>,
     arrivals: Vec<Receipt>,
 }
 
@@ -254,13 +254,13 @@ fn spare(alloc: Global, play: &Match, agent: u16, command: &Command) -> Result<S
         Ok(Spare {
             text: seen(alloc, play, agent)?,
             again: seen(alloc, play, agent)?,
-            kept: command.try_clone()?,
+            kept: KeptCommand::copy_of(alloc, command)?,
         })
     } else {
         Ok(Spare {
             text: no_text(alloc),
             again: no_text(alloc),
-            kept: kind_of(alloc, command),
+            kept: KeptCommand::kind_of(command),
         })
     }
 }
@@ -269,24 +269,6 @@ fn no_text(alloc: Global) -> Text
     ensures { result ≡ [] }
 {
     Text::from(String::new(alloc))
-}
-
-/// The command without its texts. Takes no memory.
-fn kind_of(alloc: Global, command: &Command) -> Command
-    ensures { result ≡ kind_of command.now }
-{
-    match command {
-        Command::Enter => Command::Enter,
-        Command::Look => Command::Look,
-        Command::Write { .. } => Command::Write {
-            expect: no_text(alloc),
-            put: no_text(alloc),
-        },
-        Command::Depart { port } => Command::Depart { port: *port },
-        Command::Accuse { port } => Command::Accuse { port: *port },
-        Command::Leave => Command::Leave,
-        Command::Bad => Command::Bad,
-    }
 }
 
 /// A copy of the text that the agent sees.

@@ -1,4 +1,4 @@
-ghost use Rattle.std.specs.Prelude.{◌≡◌, [], ◌∷◌, ◌++◌, map, false, true, Some, Option, IfOk, OnOk, List};
+ghost use Rattle.std.specs.Prelude.{◌≡◌, [], ◌∷◌, ◌++◌, map, false, true, Some, Option, OnOk};
 ghost use Rattle.std.specs.Prelude.{slice_get, option_map};
 ghost use Rattle.bhs_wire.specs.Lines.{seen, found_in, left_by};
 ghost use Rattle.bhs_rehearsal.specs.Connections.{Says, Ends, unfed, shut, taken, after};

@@ -74,7 +74,10 @@ impl<'s> Rehearsal<'s> {
         };
         match self.holder((game, agent)) {
             Some(conn) => self.tells_arrival(alloc, conn, text),
-            None => Ok(None),
+            None => {
+                self.keep(text);
+                Ok(None)
+            }
         }
     }
 

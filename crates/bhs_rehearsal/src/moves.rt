@@ -1,10 +1,10 @@
 //! What a connection's items make of a rehearsal.
 
-ghost use Rattle.std.specs.Prelude.{◌<◌, ◌≡◌, [], length, IfOk, Some, None, false};
+ghost use Rattle.std.specs.Prelude.{◌<◌, ◌≡◌, [], length, Some, None, false};
 ghost use Rattle.std.specs.List.{list_any};
 ghost use Rattle.bhs_rehearsal.specs.Rehearsing.{on_stage};
 ghost use Rattle.bhs_rehearsal.specs.Stages.{moves, enters, entry, has_seat, plays, shuts, connection_at};
-ghost use Rattle.bhs_rehearsal.specs.Takings.{IsMoved, seen_entry};
+ghost use Rattle.bhs_rehearsal.specs.Takings.{IsMoved};
 
 use crate::entries::{Entry, first_entry};
 use crate::rehearsals::Rehearsal;

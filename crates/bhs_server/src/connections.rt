@@ -1,15 +1,18 @@
 //! The connection of a client. What the client is to be sent is held back while lines of it are still to be answered,
-//! and goes out before its session reads or waits: one call of the system for many lines.
+//! and goes out before its session waits for the client or for an arrival: one call of the system for many lines.
 
 use bhs_net::Memory;
 use std::alloc::Global;
 use std::cell::{Cell, RefCell};
 use std::io;
-use std::io::{Read, Write};
+use std::io::{BufReader, Read, Write};
 use std::net::TcpStream;
 
 /// How many bytes are held back at most.
 const ROOM: usize = 64 * 1024;
+
+/// How many bytes are taken from a client at once at most.
+const TAKEN: usize = 16 * 1024;
 
 /// Where a session writes to, if that holds anything back.
 pub trait Held {
@@ -58,13 +61,6 @@ impl Held for Connection {
     }
 }
 
-impl Read for &Connection {
-    fn read(&mut self, buffer: &mut [u8]) -> io::Result<usize> {
-        self.send_held()?;
-        (&mut &self.stream).read(buffer)
-    }
-}
-
 impl Write for &Connection {
     fn write(&mut self, bytes: &[u8]) -> io::Result<usize> {
         if let Ok(mut held) = self.held.try_borrow_mut() {
@@ -79,5 +75,31 @@ impl Write for &Connection {
 
     fn flush(&mut self) -> io::Result<()> {
         self.send_held()
+    }
+}
+
+/// What a client sends over its connection.
+#[derive(Drop)]
+pub(crate) struct Incoming<'c> {
+    connection: &'c Connection,
+    reader: BufReader<&'c TcpStream>,
+}
+
+impl<'c> Incoming<'c> {
+    /// With nothing taken yet.
+    pub(crate) fn new(alloc: Global, connection: &'c Connection) -> Result<Incoming<'c>, Memory> {
+        match BufReader::with_capacity(alloc, TAKEN, &connection.stream) {
+            Ok(reader) => Ok(Incoming { connection, reader }),
+            Err(_) => Err(Memory),
+        }
+    }
+}
+
+impl Read for Incoming<'_> {
+    fn read(&mut self, buffer: &mut [u8]) -> io::Result<usize> {
+        if self.reader.buffer().is_empty() {
+            self.connection.send_held()?;
+        }
+        self.reader.read(buffer)
     }
 }

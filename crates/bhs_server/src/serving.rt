@@ -1,7 +1,7 @@
 ghost use Rattle.std.specs.Prelude.{◌≡◌, IfOk, IfErr, vec_len};
 ghost use Rattle.bhs_server.specs.Settling.{AreSealed, IsUnsettled};
 
-use crate::connections::{Connection, Held};
+use crate::connections::{Connection, Held, Incoming};
 use crate::dealing::deal;
 use crate::pacing::Pace;
 use crate::settling::{ServerFault, by_match, settle_all};
@@ -152,9 +152,9 @@ fn welcome<R: Wait, G: Gate>(
     gate: &G,
 ) -> Visit {
     let _ = stream.set_nodelay(true);
-    match Connection::new(alloc, stream) {
-        Ok(connection) => visited(rt, alloc, &connection, cells, keys, gate),
-        Err(_) => Visit {
+    match visited(rt, alloc, stream, cells, keys, gate) {
+        Ok(visit) => visit,
+        Err(Memory) => Visit {
             ended: Ended::Memory,
             played: None,
         },
@@ -165,17 +165,19 @@ fn welcome<R: Wait, G: Gate>(
 fn visited<R: Wait, G: Gate>(
     rt: &R,
     alloc: Global,
-    connection: &Connection,
+    stream: TcpStream,
     cells: &[Cell],
     keys: &Keys,
     gate: &G,
-) -> Visit {
+) -> Result<Visit, Memory> {
+    let connection = Connection::new(alloc, stream)?;
+    let mut incoming = Incoming::new(alloc, &connection)?;
     let Visit { ended, played } = attend(
         rt,
         alloc,
-        &mut &*connection,
-        &mut &*connection,
-        connection,
+        &mut incoming,
+        &mut &connection,
+        &connection,
         cells,
         keys,
         gate,
@@ -186,5 +188,5 @@ fn visited<R: Wait, G: Gate>(
     } else {
         ended
     };
-    Visit { ended, played }
+    Ok(Visit { ended, played })
 }

@@ -5,31 +5,33 @@ ghost use Rattle.bhs_session.specs.Session.{Point};
 ghost use Rattle.bhs_session.specs.Moves.{Ends};
 
 use crate::endings::{Ended, Stop};
+use crate::last_line::LastLine;
 use crate::port::Port;
 use crate::replies::write_reply;
 use bhs_model::Reply;
 use bhs_net::Memory;
 use bhs_stream::Output;
 
-// Writes an answer, and the news that it waits for. Each is put together in `text`.
+// Writes an answer, and the news that it waits for.
 pub(crate) fn answer<W: Output, P: Port>(
-    text: &mut Vec<u8>,
+    last: &mut LastLine,
     writer: &mut W,
     port: &mut P,
-    reply: &Reply,
+    reply: Reply,
 ) -> Result<(), Stop>
     ensures { (p : Point W P) → Ends W.takes P.calls
         (record p {
           output = writer.old;
           port = port.old;
-          phase = Owes (text_of reply.now)
-              (answered_by true reply.now);
+          phase = Owes (text_of reply)
+              (answered_by true reply);
         })
         writer.new port.new p.taken (λ _. Ready) result }
 {
-    write_reply(text, writer, reply)?;
-    if waits_for_news(reply) {
-        write_news(text, writer, port)
+    let waits = waits_for_news(&reply);
+    write_reply(last, writer, reply)?;
+    if waits {
+        write_news(last, writer, port)
     } else {
         Ok(())
     }
@@ -44,7 +46,7 @@ fn waits_for_news(reply: &Reply) -> bool
 
 // Asks for news, and writes them.
 fn write_news<W: Output, P: Port>(
-    text: &mut Vec<u8>,
+    last: &mut LastLine,
     writer: &mut W,
     port: &mut P,
 ) -> Result<(), Stop>
@@ -56,7 +58,7 @@ fn write_news<W: Output, P: Port>(
         }) writer.new port.new p.taken (λ _. Ready) result }
 {
     match port.news() {
-        Ok(news) => write_reply(text, writer, &news),
+        Ok(news) => write_reply(last, writer, news),
         Err(Memory) => Err(Stop::Leaves(Ended::Memory)),
     }
 }

@@ -3,6 +3,7 @@
 
 mod answers;
 mod endings;
+mod last_line;
 mod laws;
 mod lines;
 mod port;

@@ -1,4 +1,4 @@
-ghost use Rattle.std.specs.Prelude.{◌≡◌, [], ◌∷◌, ◌++◌, map, List, IfOk, IfErr};
+ghost use Rattle.std.specs.Prelude.{◌≡◌, [], ◌∷◌, ◌++◌, map, IfOk, IfErr};
 ghost use Rattle.bhs_wire.specs.Lines.{Line, lines, seen, said_by};
 ghost use Rattle.bhs_session.specs.Phase.{Fresh, Ready, between};
 ghost use Rattle.bhs_session.specs.Machine.{Asks, Denies, ask};
@@ -8,6 +8,7 @@ ghost use Rattle.bhs_session.specs.Moves.{Ends};
 
 use crate::answers::answer;
 use crate::endings::{Ended, Stop};
+use crate::last_line::LastLine;
 use crate::port::{Entered, Port};
 use crate::replies::write_denial;
 use bhs_model::{Command, Text};
@@ -17,7 +18,7 @@ use bhs_wire::{Denial, First, LineReader, Raw};
 
 // Takes lines in order. Says whether the session has entered.
 pub(crate) fn take_lines<W: Output, P: Port>(
-    text: &mut Vec<u8>,
+    last: &mut LastLine,
     line_reader: &mut LineReader,
     writer: &mut W,
     port: &mut P,
@@ -31,7 +32,7 @@ pub(crate) fn take_lines<W: Output, P: Port>(
 {
     let mut entered = has_entered;
     for line in found {
-        take_line(text, line_reader, writer, port, entered, line)?;
+        take_line(last, line_reader, writer, port, entered, line)?;
         entered = true;
     }
     Ok(entered)
@@ -39,7 +40,7 @@ pub(crate) fn take_lines<W: Output, P: Port>(
 
 // Takes one line, with the news that its answer waits for.
 fn take_line<W: Output, P: Port>(
-    text: &mut Vec<u8>,
+    last: &mut LastLine,
     line_reader: &mut LineReader,
     writer: &mut W,
     port: &mut P,
@@ -55,15 +56,15 @@ fn take_line<W: Output, P: Port>(
         return Err(Stop::between_lines(has_entered, Ended::Memory));
     };
     if has_entered {
-        take_later(text, writer, port, first)
+        take_later(last, writer, port, first)
     } else {
-        take_first(text, writer, port, first)
+        take_first(last, writer, port, first)
     }
 }
 
 // Takes the first line, which lets the session in or not.
 fn take_first<W: Output, P: Port>(
-    text: &mut Vec<u8>,
+    last: &mut LastLine,
     writer: &mut W,
     port: &mut P,
     first: First,
@@ -78,7 +79,7 @@ fn take_first<W: Output, P: Port>(
         Err(denial) => return Err(write_denial(writer, denial)),
     };
     match port.enter(key.as_str()) {
-        Ok(Entered::In(reply)) => answer(text, writer, port, &reply),
+        Ok(Entered::In(reply)) => answer(last, writer, port, reply),
         Ok(Entered::Key) => Err(write_denial(writer, Denial::Key)),
         Ok(Entered::Taken) => Err(write_denial(writer, Denial::Taken)),
         Err(Memory) => Err(Stop::Finished(Ended::Memory)),
@@ -87,7 +88,7 @@ fn take_first<W: Output, P: Port>(
 
 // Takes a line after the first.
 fn take_later<W: Output, P: Port>(
-    text: &mut Vec<u8>,
+    last: &mut LastLine,
     writer: &mut W,
     port: &mut P,
     first: First,
@@ -98,7 +99,7 @@ fn take_later<W: Output, P: Port>(
         writer.new port.new (p.taken ++ line ∷ []) (λ _. Ready) result }
 {
     match port.tell(command_in(first)) {
-        Ok(reply) => answer(text, writer, port, &reply),
+        Ok(reply) => answer(last, writer, port, reply),
         Err(Memory) => Err(Stop::Leaves(Ended::Memory)),
     }
 }

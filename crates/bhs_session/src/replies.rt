@@ -1,4 +1,4 @@
-ghost use Rattle.std.specs.Prelude.{◌≡◌, ℕ, List, Bool, OnOk, OnErr, IfErr, ◌++◌, ◌∷◌, []};
+ghost use Rattle.std.specs.Prelude.{◌≡◌, ℕ, List, Bool, OnOk, OnErr, IfErr, ◌++◌};
 ghost use Rattle.bhs_stream.specs.Sending.{PutsAll, PutsPart};
 ghost use Rattle.bhs_wire.specs.LentReply.{reply_of};
 ghost use Rattle.bhs_session.specs.Phase.{answered_by, waiting, reached, Sends, Owes, Finished, phase_of};
@@ -7,6 +7,7 @@ ghost use Rattle.bhs_session.specs.Moves.{StopsAtLines};
 ghost use Rattle.bhs_session.specs.Sent.{SentBut};
 
 use crate::endings::{Ended, Stop, ending_of};
+use crate::last_line::LastLine;
 use bhs_model::Reply;
 use bhs_net::Memory;
 use bhs_stream::{Output, WriteFault, send};
@@ -16,22 +17,19 @@ use std::alloc::Global;
 /// The bytes that the line of a reply takes at most besides its whiteboard.
 const ROOM: usize = 128;
 
-// Writes the line of an answer. It stops the session where the answer ends it, or a fault does. The line is put
-// together in `text`, whose memory is kept for the next.
+// Writes the line of an answer. It stops the session where the answer ends it, or a fault does.
 pub(crate) fn write_reply<W: Output>(
-    text: &mut Vec<u8>,
+    last: &mut LastLine,
     writer: &mut W,
-    reply: &Reply,
+    reply: Reply,
 ) -> Result<(), Stop>
     ensures sends { (waits : Bool) → (more : List ℕ)
-        × Sends W.takes writer.old (Owes (text_of reply.now) (answered_by waits reply.now)) more writer.new
-        (reached (waiting waits reply.now) result) }
+        × Sends W.takes writer.old (Owes (text_of reply) (answered_by waits reply)) more writer.new
+        (reached (waiting waits reply) result) }
     ensures cause { IfErr result StopsAtLines }
 {
-    match (
-        send_reply(text, writer, reply),
-        ending_of(LentReply::of_reply(reply)),
-    ) {
+    let ended = ending_of(LentReply::of_reply(&reply));
+    match (send_reply(last, writer, reply), ended) {
         (Ok(()), None) => Ok(()),
         (Ok(()), Some(ended)) => Err(Stop::Finished(ended)),
         (Err(cause), None) => Err(Stop::Leaves(cause)),
@@ -40,16 +38,14 @@ pub(crate) fn write_reply<W: Output>(
 }
 
 #[inline(always)]
-fn send_reply<W: Output>(text: &mut Vec<u8>, writer: &mut W, reply: &Reply) -> Result<(), Ended>
-    ensures ok { OnOk result (PutsAll W.takes writer.old (text_of reply.now) writer.new) }
-    ensures err { IfErr result (λ cause. SentBut W.takes cause writer.old (text_of reply.now) writer.new) }
+fn send_reply<W: Output>(last: &mut LastLine, writer: &mut W, reply: Reply) -> Result<(), Ended>
+    ensures ok { OnOk result (PutsAll W.takes writer.old (text_of reply) writer.new) }
+    ensures err { IfErr result (λ cause. SentBut W.takes cause writer.old (text_of reply) writer.new) }
 {
-    text.clear();
-    let alloc = *text.allocator();
-    if push_reply(alloc, LentReply::of_reply(reply), text).is_err() {
+    if last.put(reply).is_err() {
         return Err(Ended::Memory);
     }
-    match send(writer, text) {
+    match send(writer, last.line()) {
         Ok(()) => Ok(()),
         Err(WriteFault) => Err(Ended::WriteFault),
     }

@@ -2,11 +2,12 @@ ghost use Rattle.bhs_session.specs.Phase.{Finished, phase_of};
 ghost use Rattle.bhs_session.specs.Session.{Serves};
 
 use crate::endings::{Ended, Stop};
+use crate::last_line::LastLine;
 use crate::lines::take_lines;
 use crate::port::Port;
-use crate::reading::read_lines;
+use crate::reading::{PIECE, read_lines};
 use bhs_model::Command;
-use bhs_stream::{BUFFER, Input, Output};
+use bhs_stream::{Input, Output};
 use bhs_wire::{LineReader, Lines};
 use std::alloc::Global;
 
@@ -53,8 +54,8 @@ fn play<R: Input, W: Output, P: Port>(
 {
     let mut lines = Lines::new(alloc);
     let mut line_reader = LineReader::new(alloc);
-    let mut text = Vec::new(alloc);
-    let mut buffer = [0u8; BUFFER];
+    let mut last = LastLine::new(alloc);
+    let mut buffer = [0u8; PIECE];
     let mut has_entered = false;
     for _ in 0..turns {
         let found = match read_lines(reader, &mut lines, &mut buffer) {
@@ -62,7 +63,7 @@ fn play<R: Input, W: Output, P: Port>(
             Err(cause) => return Stop::between_lines(has_entered, cause),
         };
         match take_lines(
-            &mut text,
+            &mut last,
             &mut line_reader,
             writer,
             port,

@@ -8,6 +8,9 @@ use std::alloc::Global;
 use std::collections::VecDeque;
 use std::marker::Model;
 
+// The bytes of a look, with its line feed: no command has a shorter line.
+const SHORTEST: usize = 14;
+
 /// Cuts the bytes that a client sends into lines, in whatever pieces they come. Contracts see the bytes of
 /// the unfinished line, or None once they are more than `MAX_LINE`.
 #[derive(Drop)]
@@ -65,7 +68,7 @@ impl Lines {
             → OnOk result (self.new ≡ held_of (stream ++ piece.now)) }
         ensures err { OnErr result (self.new ≡ self.old) }
     {
-        let mut found = VecDeque::new(self.alloc);
+        let mut found = VecDeque::with_capacity(self.alloc, piece.len() / SHORTEST + 1)?;
         self.feed_into(piece, &mut found)?;
         Ok(Vec::from(found))
     }

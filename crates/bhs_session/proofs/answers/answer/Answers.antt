@@ -9,7 +9,7 @@ use Rattle.bhs_session.proofs.answers.answer.Goals as goal
 
 pub returns-in_err-write_reply : goal.returns-in_err-write_reply
 returns-in_err-write_reply g c p =
-    let reply = c.args.reply.now in
+    let reply = c.args.reply in
     let stop = c.in_err-write_reply.field-0.0 in
     let start = record p {
       output = c.args.writer.now;
@@ -27,17 +27,17 @@ returns-in_err-write_reply g c p =
       ),
     )
 
-pub returns-then-waits_for_news : goal.returns-then-waits_for_news
-returns-then-waits_for_news g c p =
-    let reply = c.args.reply.now in
+pub returns-then-waits : goal.returns-then-waits
+returns-then-waits g c p =
+    let reply = c.args.reply in
     let start = record p {
       output = c.args.writer.now;
       port = c.args.port.now;
       phase = Owes (text_of reply)
           (answered_by true reply);
     } in
-    let waits = subst (λ (b : Bool). waiting true reply ≡ if b then Awaits else Ready) c.if-waits_for_news.true
-    c.waits_for_news.ensures in
+    let waits = subst (λ (b : Bool). waiting true reply ≡ if b then Awaits else Ready) c.if-waits.true
+    c.waits_for_news-waits.ensures in
     let first : Moves g.W.Output.takes g.P.Port.calls start c.write_reply.new.writer c.args.port.now p.taken Awaits
     = Moves-wrote g.W.Output.takes g.P.Port.calls start _ Awaits
     (subst (λ (phase : Phase). Wrote g.W.Output.takes c.args.writer.now c.write_reply.new.writer
@@ -46,17 +46,17 @@ returns-then-waits_for_news g c p =
     (λ _. Ready) c.write_news.result first
     (c.write_news.ensures (record p { written = p.written ++ first.more }))
 
-pub returns-else-waits_for_news : goal.returns-else-waits_for_news
-returns-else-waits_for_news g c p =
-    let reply = c.args.reply.now in
+pub returns-else-waits : goal.returns-else-waits
+returns-else-waits g c p =
+    let reply = c.args.reply in
     let start = record p {
       output = c.args.writer.now;
       port = c.args.port.now;
       phase = Owes (text_of reply)
           (answered_by true reply);
     } in
-    let goes_on = subst (λ (b : Bool). waiting true reply ≡ if b then Awaits else Ready) c.if-waits_for_news.false
-    c.waits_for_news.ensures in
+    let goes_on = subst (λ (b : Bool). waiting true reply ≡ if b then Awaits else Ready) c.if-waits.false
+    c.waits_for_news-waits.ensures in
     Moves-wrote g.W.Output.takes g.P.Port.calls start _ Ready
     (subst (λ (phase : Phase). Wrote g.W.Output.takes c.args.writer.now c.write_reply.new.writer
     (Owes (text_of reply) (answered_by true reply)) phase) goes_on (c.in_ok-write_reply.ensures.sends true))

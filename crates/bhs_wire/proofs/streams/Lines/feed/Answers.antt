@@ -7,7 +7,7 @@ pub returns-clause-found : goal.returns-clause-found
 returns-clause-found c =
     ap (map seen) c.from.ensures.0
     ∙ (c.in_ok-feed_into.ensures.found
-    ∙ ap (λ found. map seen found ++ found_in c.args.self.now c.args.piece.now) c.new-found.ensures.items)
+    ∙ ap (λ found. map seen found ++ found_in c.args.self.now c.args.piece.now) c.in_ok-found.ensures.items)
 
 pub returns-clause-lines : goal.returns-clause-lines
 returns-clause-lines c = lines_of_stream c.args.self.now c.args.piece.now _ (returns-clause-found c)
