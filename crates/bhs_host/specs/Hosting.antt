@@ -1,5 +1,5 @@
 -- The contest that comes of the matches of a tournament, and the table that comes of matches that have ended.
-use Rattle.std.specs.Prelude.{ℕ, ◌≡◌, ◌+◌, List, [], ◌∷◌, string_bytes}
+use Rattle.std.specs.Prelude.{ℕ, ◌≡◌, ◌+◌, ◌-◌, ◌^◌, min, List, [], ◌∷◌, string_bytes}
 use Rattle.rand_chacha.specs.ChaCha.{ChaCha}
 use Rattle.bhs_match.specs.Matches.{Play}
 use Rattle.bhs_lineup.specs.declared.lineups.Ready.{Ready}
@@ -10,9 +10,18 @@ use Rattle.bhs_standings.specs.declared.rows.Row.{Row}
 use Rattle.bhs_standings.specs.Ranks.{IsRanking}
 use Rattle.bhs_standings.specs.Tables.{table_of}
 
--- what the cell of a match is given: its network and its setup
-abbrev pub given_of : Ready → Given
-given_of ready = record { net = ready.game.net; setup = ready.game.setup }
+-- the number of the match at this place: numbers have 32 bits, and what stands further behind has the greatest
+abbrev pub number_at : (place : ℕ) → ℕ
+number_at place = min place (2 ^ 32 - 1)
+
+-- what the cell of the match at this place is given: its number, its network and its setup
+abbrev pub given_of : (place : ℕ) → Ready → Given
+given_of place ready = record { game = number_at place; net = ready.game.net; setup = ready.game.setup }
+
+-- what the cells of matches are given of which the first stands at this place
+abbrev pub givens_of : (place : ℕ) → List Ready → List Given
+givens_of place [] = []
+givens_of place (ready ∷ others) = given_of place ready ∷ givens_of (place + 1) others
 
 -- the dealers of matches of which the first has this number: each at the start of the stream of its match's number
 abbrev pub dealers_of : (seed : List ℕ) (game : ℕ) → List Ready → List ChaCha

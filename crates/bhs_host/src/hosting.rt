@@ -1,7 +1,7 @@
 ghost use Rattle.std.specs.Prelude.{◌≡◌, [], ◌∷◌, ◌++◌, IfOk, length, map};
 ghost use Rattle.bhs_deal.specs.Dealer.{dealer_at};
 ghost use Rattle.bhs_lineup.specs.Fresh.{AreFresh};
-ghost use Rattle.bhs_host.specs.Hosting.{dealers_of, given_of};
+ghost use Rattle.bhs_host.specs.Hosting.{dealers_of, given_of, givens_of, number_at};
 
 use bhs_deal::Dealer;
 use bhs_lineup::{Lineup, Ready};
@@ -24,7 +24,7 @@ pub struct Hosted {
 pub fn contest_of(alloc: Global, lineup: Lineup) -> Result<Hosted, Memory>
     requires { AreFresh lineup.ready.items }
     ensures teams { IfOk result (λ hosted. hosted.teams.items ≡ map (λ ready. ready.team) lineup.ready.items) }
-    ensures cells { IfOk result (λ hosted. hosted.contest.cells.items ≡ map given_of lineup.ready.items) }
+    ensures cells { IfOk result (λ hosted. hosted.contest.cells.items ≡ givens_of 0 lineup.ready.items) }
     ensures dealers { IfOk result (λ hosted. hosted.contest.dealers.items
         ≡ dealers_of lineup.seed 0 lineup.ready.items) }
     ensures keys { IfOk result (λ hosted. hosted.contest.keys ≡ lineup.keys) }
@@ -61,21 +61,26 @@ impl Hosted {
         requires { ready.game.log ≡ [] }
         ensures teams { IfOk result (λ _. self.new.teams.items ≡ self.old.teams.items ++ ready.team ∷ []) }
         ensures cells { IfOk result (λ _. self.new.contest.cells.items
-            ≡ self.old.contest.cells.items ++ given_of ready ∷ []) }
+            ≡ self.old.contest.cells.items ++ given_of (length self.old.contest.cells.items) ready ∷ []) }
         ensures dealers { IfOk result (λ _. self.new.contest.dealers.items ≡ self.old.contest.dealers.items
             ++ dealer_at seed (length self.old.contest.dealers.items) 0 ∷ []) }
         ensures keys { IfOk result (λ _. self.new.contest.keys ≡ self.old.contest.keys) }
     {
         let Ready { team, game, held } = ready;
-        let number = self.contest.dealers.len();
-        self.contest.cells.push(Cell::new(
-            alloc,
-            u32::try_from(number).unwrap_or(u32::MAX),
-            game,
-            held,
-        )?)?;
+        let number = number_at(self.contest.cells.len());
+        self.contest
+            .cells
+            .push(Cell::new(alloc, number, game, held)?)?;
         self.teams.push(team)?;
-        self.contest.dealers.push(Dealer::new(seed, number as u64))?;
+        let stream = self.contest.dealers.len() as u64;
+        self.contest.dealers.push(Dealer::new(seed, stream))?;
         Ok(())
     }
+}
+
+/// The number of the match at a place of a lineup.
+fn number_at(place: usize) -> u32
+    ensures { result ≡ number_at place }
+{
+    u32::try_from(place).unwrap_or(u32::MAX)
 }

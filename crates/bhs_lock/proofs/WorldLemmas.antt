@@ -58,9 +58,9 @@ setup_tells one two =
 -- whether a match is of the world, from its parts
 pub world_tells : (play : Play) (net own : Network) (setup its : Setup) (b r : Bool) → own ≡ play.net → its ≡ play.setup
     → b ≡ true → Decides b (own ≡ net) → r ≡ same_setups its setup →
-    Decides r (IsOfWorld (record { net = net; setup = setup }) play)
+    Decides r (IsOfWorld net setup play)
 world_tells play net own setup its b r is_own is_its same nets is =
     let setups = setup_tells its setup in (
-      λ yes. record { net = sym is_own ∙ nets.0 same; setup = sym is_its ∙ setups.0 (sym is ∙ yes) },
-      λ of. is ∙ setups.1 (is_its ∙ of.setup),
+      λ yes. record { same_net = sym is_own ∙ nets.0 same; same_setup = sym is_its ∙ setups.0 (sym is ∙ yes) },
+      λ of. is ∙ setups.1 (is_its ∙ of.same_setup),
     )

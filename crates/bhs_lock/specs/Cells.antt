@@ -6,8 +6,9 @@ use Rattle.bhs_model.specs.declared.replies.Reply.{Reply}
 use Rattle.bhs_model.specs.declared.replies.Reply.TheVariants.{Here, Over}
 use Rattle.bhs_lock.specs.Passes.{Passed}
 
--- the network and the setup that a cell was given
+-- what a cell was given: the number of its match, the network and the setup
 pub record Given : Type 0 where
+  pub game : ℕ
   pub net : Network
   pub setup : Setup
 

@@ -28,7 +28,7 @@ IsWhole account = NoneMissing account.given.setup.agents account.left account.pa
 -- and replies, and its first arrivals, with places and replies; an agent without a pass has no heard command. The match
 -- is of the world that was given, and has ended.
 pub record AreInAccord (given : Given) (play : Play) (passes : List Passed) : Type 0 where
-  pub world : IsOfWorld given play
+  pub world : IsOfWorld given.net given.setup play
   pub commands : Agree (commands_of play passes)
   pub arrivals : Agree (arrivals_of play passes)
   pub closed : (state_of play).closed ≡ true
@@ -46,25 +46,25 @@ pub record IsMissing (account : Account) (agent : ℕ) : Type 0 where
 -- the match is of another world
 pub record IsOfOther (account : Account) : Type 0 where
   pub whole : IsWhole account
-  pub other : ¬ IsOfWorld account.given account.play
+  pub other : ¬ IsOfWorld account.given.net account.given.setup account.play
 
 -- this is the least agent, and its least index, at which its receipts are not its heard commands
 pub record HasDiffered (account : Account) (agent index : ℕ) : Type 0 where
   pub whole : IsWhole account
-  pub world : IsOfWorld account.given account.play
+  pub world : IsOfWorld account.given.net account.given.setup account.play
   pub least : IsLeastDifference (commands_of account.play account.passes) agent index
 
 -- this is the least agent, and its least index, at which an arrival of a pass is not that of its agent
 pub record HasStrayed (account : Account) (agent index : ℕ) : Type 0 where
   pub whole : IsWhole account
-  pub world : IsOfWorld account.given account.play
+  pub world : IsOfWorld account.given.net account.given.setup account.play
   pub commands : Agree (commands_of account.play account.passes)
   pub least : IsLeastDifference (arrivals_of account.play account.passes) agent index
 
 -- the match has not ended, and nothing else is in dispute
 pub record IsOpen (account : Account) : Type 0 where
   pub whole : IsWhole account
-  pub world : IsOfWorld account.given account.play
+  pub world : IsOfWorld account.given.net account.given.setup account.play
   pub commands : Agree (commands_of account.play account.passes)
   pub arrivals : Agree (arrivals_of account.play account.passes)
   pub open_still : (state_of account.play).closed ≡ false
@@ -80,7 +80,7 @@ IsDispute account NotClosed = IsOpen account
 -- what parts and passes are settled by
 abbrev pub account_of : Parts → List Passed → Account
 account_of parts passes = record {
-  given = record { net = parts.net; setup = parts.setup };
+  given = record { game = parts.game; net = parts.net; setup = parts.setup };
   play = parts.hall.play;
   left = parts.left.items;
   passes = passes;

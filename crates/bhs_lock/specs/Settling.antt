@@ -2,12 +2,13 @@
 use Rattle.std.specs.Prelude.{ℕ, ◌<◌, ◌≡◌, ◌⊎◌, Bool, true, false, not, Option, Some, None, List, [], ◌∷◌, ◌++◌, ◌==◌}
 use Rattle.std.specs.Prelude.{nat_lt, if◌then◌else◌, length, map, filter, take, slice_get}
 use Rattle.std.specs.List.{list_any, range_with_len, AllByRecursion}
+use Rattle.bhs_net.specs.Network.{Network}
+use Rattle.bhs_model.specs.declared.setups.Setup.{Setup}
 use Rattle.bhs_match.specs.Matches.{Play, arrivals}
 use Rattle.bhs_lock.specs.declared.model.Receipt.{Receipt}
 use Rattle.bhs_lock.specs.Passes.{Passed}
 use Rattle.bhs_lock.specs.Arrivals.{receipt_at}
 use Rattle.bhs_lock.specs.Comparing.{Heard, heard_in, receipted, IsFirstDifference}
-use Rattle.bhs_lock.specs.Cells.{Given}
 
 -- what the log has for an agent, and what is said of it
 pub record Compared (A : Type 0) : Type 0 where
@@ -108,6 +109,6 @@ pub record IsLeastMissing (left : List (Option Passed)) (passes : List Passed) (
   pub before : (other : ℕ) → other < agent → is_missing left passes other ≡ false
 
 -- the match is of the world that was given
-pub record IsOfWorld (given : Given) (play : Play) : Type 0 where
-  pub net : play.net ≡ given.net
-  pub setup : play.setup ≡ given.setup
+pub record IsOfWorld (net : Network) (setup : Setup) (play : Play) : Type 0 where
+  pub same_net : play.net ≡ net
+  pub same_setup : play.setup ≡ setup

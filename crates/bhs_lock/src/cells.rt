@@ -1,4 +1,4 @@
-ghost use Rattle.std.specs.Prelude.{◌≡◌, [], IfOk, IfSome, OnErr, IsTrue, replicate};
+ghost use Rattle.std.specs.Prelude.{◌≡◌, [], IfOk, IfSome, OnErr, replicate};
 ghost use Rattle.bhs_deal.specs.Dealer.{moved_on};
 ghost use Rattle.bhs_lock.specs.Recording.{IsSubmitted};
 ghost use Rattle.bhs_lock.specs.Tallies.{nothing};
@@ -38,7 +38,7 @@ impl Model for Cell {
 
     ghost Value = { Given };
 
-    ghost view = { λ cell. record { net = cell.net; setup = cell.setup } };
+    ghost view = { λ cell. record { game = cell.game; net = cell.net; setup = cell.setup } };
 }
 
 impl Cell {
@@ -48,7 +48,7 @@ impl Cell {
     /// network and the setup. All memory that the match and its passes need is taken here.
     pub fn new(alloc: Global, game: u32, play: Match, held: Held) -> Result<Cell, Memory>
         requires { play.log ≡ [] }
-        ensures { IfOk result (λ cell. cell ≡ record { net = play.net; setup = play.setup }) }
+        ensures { IfOk result (λ cell. cell ≡ record { game = game; net = play.net; setup = play.setup }) }
     {
         let Frame {
             net,
@@ -68,12 +68,13 @@ impl Cell {
         })
     }
 
-    /// The pass of an agent, once; None for a number that is no agent's, and for an agent whose pass was claimed
-    /// before.
+    /// The pass of an agent in this match, once; None for a number that is no agent's, and for an agent whose pass was
+    /// claimed before.
     pub fn claim<R: Wait>(&self, rt: &R, agent: u16) -> Option<Pass>
-        ensures { IfSome result (IsFresh agent) }
+        ensures fresh { IfSome result (IsFresh agent) }
+        ensures game { IfSome result (λ pass. pass.game ≡ self.now.game) }
     {
-        self.unclaimed.lock(rt).take(agent)
+        self.unclaimed.lock(rt).take(self.game, agent)
     }
 
     /// Tells a command for the agent of a pass, under the match's lock. The answer has a place in the log exactly where
@@ -146,10 +147,10 @@ impl Cell {
 
     /// The parts of a cell that no thread shares any more.
     pub fn into_parts(self) -> Parts
-        ensures { (result.net ≡ self.net) × (result.setup ≡ self.setup) }
+        ensures { (result.game ≡ self.game) × (result.net ≡ self.net) × (result.setup ≡ self.setup) }
     {
         let Cell {
-            game: _,
+            game,
             hall,
             unclaimed,
             news: _,
@@ -158,6 +159,7 @@ impl Cell {
             setup,
         } = self;
         Parts {
+            game,
             hall: hall.into_inner(),
             left: unclaimed.into_inner().into_left(),
             net,

@@ -10,7 +10,7 @@ use bhs_net::Net;
 
 /// Whether a match has this network and this setup.
 pub(crate) fn is_of_world(play: &Match, net: &Net, setup: &Setup) -> bool
-    ensures { IsTrue result ↔ IsOfWorld (record { net = net.now; setup = setup.now }) play.now }
+    ensures { IsTrue result ↔ IsOfWorld net.now setup.now play.now }
 {
     is_same_network(play.net(), net) && *play.setup() == *setup
 }

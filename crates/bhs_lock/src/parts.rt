@@ -15,6 +15,7 @@ use bhs_net::Net;
 /// What a cell is made of, once no thread shares it: what stood under its locks, and what it was given.
 #[derive(Debug, Drop)]
 pub struct Parts {
+    pub game: u32,
     pub hall: Hall,
     /// The passes that nobody claimed, by agent; None for one that was.
     pub left: Vec<Option<Pass>>,
@@ -68,6 +69,7 @@ impl Parts {
     {
         let dispute = self.first_dispute(&passes);
         let Parts {
+            game: _,
             hall,
             left,
             net: _,

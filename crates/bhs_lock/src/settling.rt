@@ -1,8 +1,7 @@
-ghost use Rattle.std.specs.Prelude.{◌≡◌, ◌<◌, Some, None, IfSome, MatchOption, length, take, map};
-ghost use Rattle.bhs_match.specs.Matches.{state_of};
+ghost use Rattle.std.specs.Prelude.{◌≡◌, ◌<◌, Some, None, IfSome, MatchOption};
 ghost use Rattle.bhs_lock.specs.Comparing.{entry_of};
 ghost use Rattle.bhs_lock.specs.Saying.{IsSaid};
-ghost use Rattle.bhs_lock.specs.Settling.{lesser, has_pass, is_claimed, is_missing, NoneMissing, IsLeastMissing};
+ghost use Rattle.bhs_lock.specs.Settling.{lesser, has_pass, is_missing, NoneMissing, IsLeastMissing};
 ghost use Rattle.bhs_lock.specs.Settling.{IsLeast, commands_of, arrivals_of};
 
 use crate::pass::Pass;

@@ -1,4 +1,4 @@
-ghost use Rattle.std.specs.Prelude.{IfSome};
+ghost use Rattle.std.specs.Prelude.{◌≡◌, IfSome, IsTrue};
 ghost use Rattle.bhs_lock.specs.Unclaimed.{IsFresh};
 
 use crate::pass::Pass;
@@ -39,12 +39,17 @@ impl Unclaimed {
         Ok(Unclaimed { left })
     }
 
-    /// Takes out the pass of an agent, if it is there.
-    pub(crate) fn take(&mut self, agent: u16) -> Option<Pass>
-        ensures { IfSome result (IsFresh agent) }
+    /// Takes out the pass of an agent of a match, if it is there.
+    pub(crate) fn take(&mut self, game: u32, agent: u16) -> Option<Pass>
+        ensures fresh { IfSome result (IsFresh agent) }
+        ensures game { IfSome result (λ pass. pass.game ≡ game) }
     {
         let left = self.left.get_mut(usize::from(agent))?;
-        left.take()
+        if is_of_match(left, game) {
+            left.take()
+        } else {
+            None
+        }
     }
 
     /// The passes that are left, by agent.
@@ -52,4 +57,11 @@ impl Unclaimed {
         let Unclaimed { left } = self;
         left
     }
+}
+
+/// Whether this is a pass of the match of this number.
+fn is_of_match(pass: &Option<Pass>, game: u32) -> bool
+    ensures { IsTrue result → IfSome pass.now (λ pass. pass.game ≡ game) }
+{
+    matches!(pass, Some(pass) if pass.game() == game)
 }

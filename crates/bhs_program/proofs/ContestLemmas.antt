@@ -1,11 +1,11 @@
 -- Contests: as many matches end as there were, why one has no table, and the line that says that the program listens.
-use Rattle.std.proofs.Common.{◌≡◌, refl, sym, subst, ◌∙◌, arith, ℕ, List, [], ◌∷◌, length, map, Bool, true, IfOk}
+use Rattle.std.proofs.Common.{◌≡◌, refl, sym, subst, ◌∙◌, arith, ℕ, ◌+◌, List, [], ◌∷◌, length, map, Bool, true, IfOk}
 use Rattle.std.proofs.Common.{OnErr, Result, Ok, Err}
 use Rattle.bhs_match.specs.Matches.{Play}
 use Rattle.bhs_lineup.specs.declared.lineups.Ready.{Ready}
 use Rattle.bhs_lineup.specs.declared.lineups.Lineup.{Lineup}
 use Rattle.bhs_server.specs.Settling.{AreSealed}
-use Rattle.bhs_host.specs.Hosting.{given_of}
+use Rattle.bhs_host.specs.Hosting.{givens_of}
 use Rattle.bhs_stream.specs.Streams.{Taken}
 use Rattle.bhs_orders.specs.Showing.{Prints, all, part, held_back, Shows}
 use Rattle.bhs_orders.specs.Summary.{IsAssembled}
@@ -14,12 +14,13 @@ use Rattle.bhs_orders.specs.declared.statuses.TheConstants.{DONE, NO_MEMORY}
 use Rattle.bhs_orders.proofs.ReportLemmas.{not_done}
 use Rattle.bhs_program.specs.Contests.{Serves, goes_unheard, refuses_contest, listening}
 
-pub as_many : (matches : List Ready) (plays : List Play) → AreSealed (map given_of matches) plays
+pub as_many : (place : ℕ) (matches : List Ready) (plays : List Play) → AreSealed (givens_of place matches) plays
     → length (map (λ ready. ready.team) matches) ≡ length plays
-as_many [] [] sealed = refl
-as_many [] (play ∷ plays) sealed = absurd sealed
-as_many (ready ∷ matches) [] sealed = absurd sealed
-as_many (ready ∷ matches) (play ∷ plays) (one, others) = omega (arith, as_many matches plays others)
+as_many place [] [] sealed = refl
+as_many place [] (play ∷ plays) sealed = absurd sealed
+as_many place (ready ∷ matches) [] sealed = absurd sealed
+as_many place (ready ∷ matches) (play ∷ plays) (one, others) =
+    omega (arith, as_many (place + 1) matches plays others)
 
 -- the line that says that the program listens
 module _ {O : Type 0} (takes : O → List ℕ → Taken → O → Type 0) (flushes : O → Bool → O → Type 0) (port : ℕ)

@@ -7,7 +7,7 @@ use Rattle.bhs_lineup.specs.declared.lineups.Lineup.{Lineup}
 use Rattle.bhs_server.specs.Settling.{AreSealed, IsFirstUnsettled}
 use Rattle.bhs_server.specs.declared.settling.ServerFault.{ServerFault}
 use Rattle.bhs_server.specs.declared.settling.ServerFault.TheVariants as servers
-use Rattle.bhs_host.specs.Hosting.{IsStandings, given_of}
+use Rattle.bhs_host.specs.Hosting.{IsStandings, givens_of}
 use Rattle.bhs_orders.specs.Fault.{status}
 use Rattle.bhs_orders.specs.Filing.{Files, first_status}
 use Rattle.bhs_orders.specs.Showing.{Prints, Reports, Shows}
@@ -27,7 +27,7 @@ of_server servers.Memory = Memory
 -- why a contest of these matches has no table: one of them, the first of this number, is not what its sessions were
 -- answered, or memory ran out
 abbrev pub IsUnserved : (matches : List Ready) → Fault → Type 0
-IsUnserved matches (Unsettled game) = IsFirstUnsettled (map given_of matches) game
+IsUnserved matches (Unsettled game) = IsFirstUnsettled (givens_of 0 matches) game
 IsUnserved matches Memory = Unit {0}
 IsUnserved matches fault = ⊥
 
@@ -45,7 +45,7 @@ module _ {P O : Type 0} (files : P → List ℕ → Taken → P → Type 0) (tak
   -- what came of a contest of these matches
   pub data Hosts (matches : List Ready) (output output' : O) (code : ℕ) : Type 0 where
     -- each match ended, and is what its sessions were answered
-    settles : (plays : List Play) → AreSealed (map given_of matches) plays
+    settles : (plays : List Play) → AreSealed (givens_of 0 matches) plays
         → Ends (map (λ ready. ready.team) matches) plays output output' code → Hosts matches output output' code
     -- it ended with this fault
     fails : (fault : Fault) → IsUnserved matches fault → code ≡ status fault → output' ≡ output

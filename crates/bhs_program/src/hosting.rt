@@ -1,10 +1,10 @@
 //! A contest over sockets: its sessions, the replays of its matches, and their table.
 
-ghost use Rattle.std.specs.Prelude.{◌≡◌, IfOk, IfErr, List, map, length};
+ghost use Rattle.std.specs.Prelude.{◌≡◌, IfOk, IfErr, map, length};
 ghost use Rattle.bhs_stream.specs.Streams.{known_takes};
 ghost use Rattle.bhs_lineup.specs.Fresh.{AreFresh};
 ghost use Rattle.bhs_server.specs.Settling.{AreSealed};
-ghost use Rattle.bhs_host.specs.Hosting.{given_of};
+ghost use Rattle.bhs_host.specs.Hosting.{givens_of};
 ghost use Rattle.bhs_program.specs.Contests.{Ends, Hosts, IsUnserved, of_server};
 
 use bhs_command_line::Hosting;
@@ -69,7 +69,7 @@ fn served<R: Threads + Wait + Clock + Sync>(
 ) -> Result<Finished, Fault>
     requires { AreFresh lineup.ready.items }
     ensures teams { IfOk result (λ finished. finished.teams.items ≡ map (λ ready. ready.team) lineup.ready.items) }
-    ensures sealed { IfOk result (λ finished. AreSealed (map given_of lineup.ready.items) finished.sealed.items) }
+    ensures sealed { IfOk result (λ finished. AreSealed (givens_of 0 lineup.ready.items) finished.sealed.items) }
     ensures fault { IfErr result (IsUnserved lineup.ready.items) }
 {
     let Hosted { teams, contest } = contest_of(alloc, lineup)?;

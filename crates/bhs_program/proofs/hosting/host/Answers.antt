@@ -7,7 +7,7 @@ use Rattle.bhs_program.proofs.hosting.host.Goals as goal
 pub tell-requires-after_bounds : goal.tell-requires-after_bounds
 tell-requires-after_bounds g c κs within =
     rw c.in-Ok.ensures.teams
-    (as_many c.args.lineup.ready.items c.in-Ok.finished.sealed.items c.in-Ok.ensures.sealed)
+    (as_many 0 c.args.lineup.ready.items c.in-Ok.finished.sealed.items c.in-Ok.ensures.sealed)
 
 pub returns-in-Ok : goal.returns-in-Ok
 returns-in-Ok g c =
