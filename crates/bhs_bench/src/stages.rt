@@ -30,12 +30,13 @@ pub const STAGES: [Stage; 4] = [
     Stage::Printing,
 ];
 
-/// The lines that are read in a round.
+/// The lines that are read in a round. A reader remembers none of them: they have texts, or spaces that make them longer
+/// than what it remembers.
 const LINES: [&[u8]; 4] = [
-    b"{\"do\":\"look\"}",
-    b"{\"do\":\"depart\",\"port\":3}",
+    b"{\"do\":\"look\"}                    ",
+    b"{\"do\":\"depart\",\"port\":3}         ",
     b"{\"do\":\"write\",\"expect\":\"\",\"put\":\"been here\"}",
-    b"{\"do\":\"loook\"}",
+    b"{\"do\":\"loook\"}                   ",
 ];
 
 /// What is printed in a round.

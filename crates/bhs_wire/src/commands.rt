@@ -1,11 +1,11 @@
-ghost use Rattle.std.specs.Prelude.{◌≡◌, ◌≢◌, IsOk, IfOk, IfSome, option_map};
+ghost use Rattle.std.specs.Prelude.{◌≡◌, ◌≢◌, IsOk, IfOk};
 ghost use Rattle.bhs_wire.specs.LineKind.{line_kind};
 ghost use Rattle.bhs_wire.specs.First.{first_of, says, first_with, write_with, depart_by, accuse_by};
 ghost use Rattle.bhs_wire.specs.Said.{told, text_in, port_in};
 
 use crate::kinds::{LineKind, kind_of};
-use crate::recall::Remembered;
 use crate::said::{Content, Said, read_object};
+use crate::short_lines::ShortLines;
 use bhs_model::{Command, Text};
 use bhs_net::Memory;
 use json::{Invalid, Reader, Scratch};
@@ -20,13 +20,13 @@ pub enum First {
     Tell(Command),
 }
 
-/// Reads lines, one after the other. It keeps the memory that a line took for the next one, and reads a short line that
-/// comes again only once.
+/// Reads lines, one after the other. It keeps the memory that a line took for the next one, and remembers what the last
+/// short lines said.
 #[derive(Drop)]
 pub struct LineReader {
     alloc: Global,
     scratch: Scratch,
-    last: Option<Remembered>,
+    short_lines: ShortLines,
 }
 
 impl LineReader {
@@ -35,7 +35,7 @@ impl LineReader {
         LineReader {
             alloc,
             scratch: Scratch::new(alloc),
-            last: None,
+            short_lines: ShortLines::new(),
         }
     }
 
@@ -58,30 +58,14 @@ impl LineReader {
     pub fn command_of(&mut self, line: &[u8]) -> Result<First, Memory>
         ensures { IfOk result (λ first. first ≡ first_of line.now) }
     {
-        if let Some(command) = self.recall(line) {
+        if let Some(command) = self.short_lines.recall(line) {
             return Ok(First::Tell(command));
         }
         let first = self.read(line)?;
         if let First::Tell(command) = &first {
-            self.remember(line, command);
+            self.short_lines.remember(line, command);
         }
         Ok(first)
-    }
-
-    // What a line says, if it is the one that is remembered.
-    fn recall(&self, line: &[u8]) -> Option<Command>
-        ensures { IfSome result (λ command. first_of line.now ≡ First.Tell command) }
-    {
-        self.last.as_ref()?.recall(line)
-    }
-
-    // Remembers a line that can be, instead of the one before.
-    fn remember(&mut self, line: &[u8], command: &Command)
-        requires { first_of line.now ≡ First.Tell command.now }
-    {
-        if let Some(remembered) = Remembered::new(line, command) {
-            self.last = Some(remembered);
-        }
     }
 
     // What a line says that is not remembered.

@@ -8,9 +8,9 @@ mod laws;
 mod lent;
 mod numbers;
 mod pieces;
-mod recall;
 mod replies;
 mod said;
+mod short_lines;
 mod streams;
 mod tokens;
 
