@@ -1,6 +1,6 @@
 //! The keys of a tournament.
 
-ghost use Rattle.std.specs.Prelude.{◌≡◌, ◌≤◌, ◌<◌, ◌^◌, [], ◌∷◌, map, length};
+ghost use Rattle.std.specs.Prelude.{◌≤◌, ◌<◌, ◌^◌, [], ◌∷◌, map, length};
 ghost use Rattle.bhs_files.specs.Reading.{GivesUnlessMemory};
 ghost use Rattle.bhs_files.specs.declared.limits.TheConstants.{MAX_KEYS};
 ghost use Rattle.bhs_assembly.specs.KeyTable.{distinct, seats_of_match, key_table};

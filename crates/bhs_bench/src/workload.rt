@@ -4,7 +4,7 @@ ghost use Rattle.std.specs.Prelude.{◌≡◌, OnOk};
 
 use crate::deeds::{Deed, deed_of};
 use crate::faults::BenchFault;
-use crate::torus::{NODES, PORTS, setup, torus};
+use crate::torus::{PORTS, setup, torus};
 use bhs_deal::{Dealer, Held, draw};
 use bhs_match::Match;
 use bhs_model::{Command, Event, Text};

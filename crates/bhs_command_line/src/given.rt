@@ -1,6 +1,6 @@
 //! The order in what clap made of the words.
 
-ghost use Rattle.std.specs.Prelude.{◌≡◌, ◌<◌, ◌^◌, IfOk, option_and_then, option_map, codes};
+ghost use Rattle.std.specs.Prelude.{◌≡◌, ◌<◌, ◌^◌, IfOk, option_and_then, codes};
 ghost use Rattle.bhs_command_line.specs.CommandLine.{order_by, hosting_by, number_by, entries_in};
 ghost use Rattle.bhs_command_line.specs.CommandLine.{text_in, texts_in};
 ghost use Rattle.clap.specs.Words.{first_of, found_of, rows_of, subcommand_rows_of};

@@ -1,7 +1,6 @@
 //! A mark for each port of each node, by which a link is looked up in one step.
 
-ghost use Rattle.std.specs.Prelude.{◌≡◌, ℕ, ◌<◌, ◌≤◌, length, IfOk, OnOk, IfErr, None, Some};
-ghost use Rattle.bhs_net.specs.Network.{degree_of};
+ghost use Rattle.std.specs.Prelude.{◌≡◌, ℕ, ◌<◌, length, IfOk, OnOk, IfErr, None, Some};
 ghost use Rattle.bhs_deal.specs.Links.{first_strange, is_port_of};
 ghost use Rattle.bhs_deal.specs.Marking.{marks_of, row_at, mark_at, unmarked, marked_at, AreMarksOf};
 

@@ -5,7 +5,7 @@ ghost use Rattle.toml.specs.Data.{array, item, no_items};
 ghost use Rattle.toml.specs.View.{view, items_view, table_view};
 ghost use Rattle.bhs_files.specs.declared.file_keys.FileKey.TheVariants as keys;
 ghost use Rattle.bhs_files.specs.Shapes.{each};
-ghost use Rattle.bhs_files.specs.Reading.{GivesUnlessMemory, required};
+ghost use Rattle.bhs_files.specs.Reading.{GivesUnlessMemory};
 ghost use Rattle.bhs_files.specs.NetworkFiles.{link, links, listing_of, listing_in, IsNetworkOf, RefusesFile};
 
 use crate::faults::FileFault;

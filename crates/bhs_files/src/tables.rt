@@ -1,6 +1,6 @@
 //! What a table says at each key, or the fault of the key.
 
-ghost use Rattle.std.specs.Prelude.{◌≡◌, ◌≤◌, ℕ, Some, None, IfOk, [], codes, option_map, option_and_then};
+ghost use Rattle.std.specs.Prelude.{◌≡◌, ◌≤◌, Some, None, IfOk, [], option_map};
 ghost use Rattle.std.specs.Prelude.{option_to_list, vec_len, map};
 ghost use Rattle.toml.specs.Data.{get_member};
 ghost use Rattle.toml.specs.View.{view, table_view};

@@ -1,4 +1,4 @@
-ghost use Rattle.std.specs.Prelude.{◌≡◌, ◌<◌, ◌≤◌, ℕ, List, [], length, Some, None, Ok, Err, IfSome, IfOk, IfErr, OnOk};
+ghost use Rattle.std.specs.Prelude.{◌≡◌, ◌<◌, ◌≤◌, List, [], length, Some, None, Ok, Err, IfSome, IfOk, IfErr, OnOk};
 ghost use Rattle.std.specs.Prelude.{if◌then◌else◌, ◌⊎◌, map, option_and_then, replicate, vec_capacity};
 ghost use Rattle.bhs_net.specs.Network.{nodes_of};
 ghost use Rattle.bhs_model.specs.declared.limits.TheConstants.{MAX_AGENTS, MAX_QUOTA};
@@ -7,7 +7,7 @@ ghost use Rattle.bhs_model.specs.Kept.{kept};
 ghost use Rattle.bhs_model.specs.KeptReplies.{kept_replies};
 ghost use Rattle.bhs_model.specs.Places.{written, named, names};
 ghost use Rattle.bhs_model.specs.Marks.{events_of, read, read_if, text_at, board_of};
-ghost use Rattle.bhs_model.specs.Runs.{run, reply, is_bound};
+ghost use Rattle.bhs_model.specs.Runs.{reply, is_bound};
 ghost use Rattle.bhs_model.specs.InOrder.{replies};
 ghost use Rattle.bhs_model.specs.Setups.{normal, IsNormal};
 ghost use Rattle.bhs_world.specs.Faults.{first_fault, IsWithinLimits};

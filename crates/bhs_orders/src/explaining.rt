@@ -6,7 +6,7 @@ ghost use Rattle.bhs_orders.specs.Playing.{StopsPlaying};
 ghost use Rattle.bhs_orders.specs.Reports.{IsPast, line_at, lines_at, past_of};
 ghost use Rattle.bhs_orders.specs.Showing.{PrintsByLine, Reports};
 
-use crate::faults::{Fault, report};
+use crate::faults::Fault;
 use crate::line_by_line::passed_on;
 use crate::replays::match_of;
 use bhs_match::Sealed;

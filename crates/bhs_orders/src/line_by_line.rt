@@ -1,6 +1,6 @@
 //! The end of a text that is written line by line.
 
-ghost use Rattle.std.specs.Prelude.{◌≡◌, ℕ, List, IfErr, OnOk};
+ghost use Rattle.std.specs.Prelude.{ℕ, List, IfErr, OnOk};
 ghost use Rattle.bhs_stream.specs.Sending.{PutsAll};
 ghost use Rattle.bhs_orders.specs.Playing.{StopsPlaying};
 ghost use Rattle.bhs_orders.specs.Showing.{PrintsByLine};

@@ -2,7 +2,7 @@
 
 ghost use Rattle.std.specs.Prelude.{◌≡◌};
 ghost use Rattle.bhs_net.specs.Network.{far_of};
-ghost use Rattle.bhs_model.specs.Worlds.{is_hole, names};
+ghost use Rattle.bhs_model.specs.Worlds.{is_hole};
 ghost use Rattle.bhs_model.specs.Setups.{world_of};
 ghost use Rattle.bhs_referee.specs.Verdicts.{is_same_link, is_over_dark, is_right};
 

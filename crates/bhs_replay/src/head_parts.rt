@@ -2,7 +2,6 @@
 
 ghost use Rattle.std.specs.Prelude.{◌≡◌, codes, IfOk, Some, option_map, option_and_then};
 ghost use Rattle.serde_json.specs.View.{view, items_view};
-ghost use Rattle.bhs_wire.specs.First.{port_at};
 ghost use Rattle.serde_json.specs.Find.{get, as_array};
 ghost use Rattle.bhs_replay.specs.HeadReading.{head_says, says_in, says_as, says_with, version_in, setup_in};
 ghost use Rattle.bhs_replay.specs.HeadReading.{setup_with, holes_in, dark_in, each, list_at, number_in, item_at};

@@ -1,8 +1,8 @@
 //! The first line of a replay.
 
-ghost use Rattle.std.specs.Prelude.{◌≡◌, ◌++◌, ◌∷◌, [], List, codes, decimal, string_bytes, map, IfOk, OnOk};
+ghost use Rattle.std.specs.Prelude.{◌≡◌, ◌++◌, ◌∷◌, [], codes, string_bytes, map, IfOk, OnOk};
 ghost use Rattle.json.specs.Token.{key, number};
-ghost use Rattle.bhs_net.specs.Network.{nodes_of, IsNetwork};
+ghost use Rattle.bhs_net.specs.Network.{IsNetwork};
 ghost use Rattle.bhs_replay.specs.Head.{head_line, head_data, links_of, whole, listed, end_data, link_data, hole_data};
 ghost use Rattle.bhs_replay.specs.HeadTokens.{data_tokens, doom_tokens, version_number};
 

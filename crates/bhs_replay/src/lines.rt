@@ -1,5 +1,5 @@
-ghost use Rattle.std.specs.Prelude.{◌≡◌, ◌<◌, ◌++◌, ◌∷◌, [], length, slice_get, codes, Some, IfSome, IfOk, OnOk};
-ghost use Rattle.std.specs.Prelude.{string_bytes, decimal};
+ghost use Rattle.std.specs.Prelude.{◌≡◌, ◌<◌, ◌++◌, length, slice_get, Some, IfSome, IfOk, OnOk};
+ghost use Rattle.std.specs.Prelude.{string_bytes};
 ghost use Rattle.json.specs.Token.{key};
 ghost use Rattle.bhs_model.specs.Marks.{read_if};
 ghost use Rattle.bhs_replay.specs.EventLine.{event_line};

@@ -1,8 +1,8 @@
 //! The links of a network, as a head lists them.
 
 ghost use Rattle.std.specs.Prelude.{◌≡◌, ◌<◌, ◌++◌, true, map, IfOk, OnOk};
-ghost use Rattle.bhs_net.specs.Network.{nodes_of, degree_of};
-ghost use Rattle.bhs_model.specs.Setups.{links_at, is_lesser_end};
+ghost use Rattle.bhs_net.specs.Network.{nodes_of};
+ghost use Rattle.bhs_model.specs.Setups.{links_at};
 ghost use Rattle.bhs_replay.specs.Head.{link_from, links_of};
 
 use bhs_net::{Link, Memory, Net};

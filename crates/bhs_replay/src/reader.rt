@@ -1,8 +1,6 @@
 //! A replay that is read piece by piece.
 
-ghost use Rattle.std.specs.Prelude.{◌≡◌, ◌⊎◌, ℕ, List, ◌++◌, [], false, Some, IfOk, IfErr, OnOk};
-ghost use Rattle.std.specs.List.{list_any};
-ghost use Rattle.bhs_wire.specs.Lines.{is_line_feed};
+ghost use Rattle.std.specs.Prelude.{◌≡◌, ◌⊎◌, ℕ, List, ◌++◌, [], false, Some, IfErr, OnOk};
 ghost use Rattle.bhs_replay.specs.declared.faults.ReplayFault.TheVariants.{Memory};
 ghost use Rattle.bhs_replay.specs.Stages.{Wrong, Comes, Follows};
 ghost use Rattle.bhs_replay.specs.Readers.{Stands, stage_by, stage_in, stage_at, finished_by, finished, Holds, IsPast};

@@ -1,4 +1,4 @@
-ghost use Rattle.std.specs.Prelude.{◌≡◌, ◌&&◌, Some, bytes_eq, codes, option_map, string_bytes, IfOk};
+ghost use Rattle.std.specs.Prelude.{◌≡◌, ◌&&◌, Some, bytes_eq, option_map, IfOk};
 ghost use Rattle.serde_json.specs.View.{view};
 ghost use Rattle.bhs_wire.specs.First.{text_at, port_at};
 ghost use Rattle.bhs_replay.specs.Spelling.{spelled, spelled_in, event_in, event_by, agents_by, command_by, answer_in};

@@ -1,4 +1,4 @@
-ghost use Rattle.std.specs.Prelude.{◌≡◌, ◌≤◌, ◌^◌, ◌<◌, [], Some, IfOk, length, if◌then◌else◌, nat_lt};
+ghost use Rattle.std.specs.Prelude.{◌≡◌, ◌≤◌, ◌^◌, ◌<◌, [], Some, IfOk, length};
 ghost use Rattle.bhs_model.specs.Cuts.{footprints, cut};
 ghost use Rattle.bhs_model.specs.Marks.{events_of};
 ghost use Rattle.bhs_match.specs.Matches.{world_in};

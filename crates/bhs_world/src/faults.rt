@@ -1,4 +1,4 @@
-ghost use Rattle.std.specs.Prelude.{◌≡◌, None, Some, Ok, Err};
+ghost use Rattle.std.specs.Prelude.{◌≡◌};
 ghost use Rattle.bhs_world.specs.declared.faults.SetupFault.TheVariants.{Memory};
 
 use std::alloc::AllocError;

@@ -1,10 +1,9 @@
-ghost use Rattle.std.specs.Prelude.{◌≡◌, ◌<◌, ◌≤◌, ◌^◌, ℕ, nat_lt, IsTrue, length, slice_set};
-ghost use Rattle.bhs_net.specs.Network.{nodes_of, degree_of};
+ghost use Rattle.std.specs.Prelude.{◌≡◌, ◌<◌, ◌≤◌, ◌^◌, nat_lt, IsTrue, length};
+ghost use Rattle.bhs_net.specs.Network.{nodes_of};
 ghost use Rattle.bhs_model.specs.Views.{counts};
 ghost use Rattle.bhs_model.specs.Replying.{accepts};
 ghost use Rattle.bhs_model.specs.Setups.{world_of};
 ghost use Rattle.bhs_agent.specs.Agents.{position_of};
-ghost use Rattle.bhs_world.specs.Tables.{board_at};
 ghost use Rattle.bhs_model.specs.Standings.{standing_at};
 ghost use Rattle.bhs_world.specs.Steps.{refusal_of, agent_told, mark_here, mark_of_swap, swap_at, board_written};
 ghost use Rattle.bhs_world.specs.Steps.{boards_told, mark_told, IsPlaced, shows_from};

@@ -1,5 +1,5 @@
-ghost use Rattle.std.specs.Prelude.{◌≡◌, ◌<◌, ◌^◌, ℕ, List, length, slice_get, [], Some, None, IfOk, IfErr, true};
-ghost use Rattle.std.specs.Prelude.{IsTrue, OnOk, MatchResult, if◌then◌else◌, ◌⊎◌, nat_lt, option_and_then};
+ghost use Rattle.std.specs.Prelude.{◌≡◌, ◌<◌, ◌^◌, List, length, [], Some, None, IfOk, IfErr, true};
+ghost use Rattle.std.specs.Prelude.{IsTrue, OnOk, if◌then◌else◌, ◌⊎◌, nat_lt, option_and_then};
 ghost use Rattle.bhs_net.specs.Network.{nodes_of};
 ghost use Rattle.bhs_model.specs.declared.marks.Kept.{Kept as KeptData};
 ghost use Rattle.bhs_model.specs.Marks.{events_of, read_if, board_of};
