@@ -6,9 +6,9 @@
 Makes tournaments, networks and scripts by a seeded generator, and runs both programs on each of them in turn, 21
 times. Prints for each input the median time of both, the least time that a processor took for them, which other work
 on the machine changes less, of each the time of PROGRAM divided by that of OTHER, and the peak memory of both. What
-they print goes to memory, so that they wait for no reader. The tournaments are of version 1, so that older builds take
-them too. Both programs must print the same bytes; an input on which they do not is told, and the exit status is then 1.
-Nothing is written outside a temporary folder.
+they print goes to nobody while they are timed. The tournaments are of version 1, so that older builds take them too.
+Both programs must print the same bytes, in one more run of each; an input on which they do not is told, and the exit
+status is then 1. Nothing is written outside a temporary folder.
 """
 import pathlib
 import statistics
@@ -17,7 +17,7 @@ import tempfile
 from typing import Callable, Iterable, Iterator, List, Sequence, Tuple
 
 import rehearse
-from inputs import MAX_SCRIPT, key, network, peak_of, run, torus, tournament
+from inputs import MAX_SCRIPT, key, network, peak_of, printed_by, run, torus, tournament
 
 ROUNDS = 21
 BOARD = 1000
@@ -147,7 +147,8 @@ def main() -> int:
             times = compared(statistics.median, [[it.seconds for it in both] for both in runs])
             processors = compared(min, [[it.processor for it in both] for both in runs])
             print(f"{title}: {times}; processor {processors}; peak {peaks[0]} KiB, {peaks[1]} KiB", flush=True)
-            if any(one.printed != two.printed for one, two in runs):
+            one, two = [printed_by(program, words, source, folder) for program in programs]
+            if one != two:
                 differs = True
                 print(f"{title}: the programs do not print the same")
     return 1 if differs else 0

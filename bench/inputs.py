@@ -59,32 +59,33 @@ def tournament(name: str, matches: int, agents: int, board: int, version: int = 
 
 
 class Run(NamedTuple):
-    """One run of a program: how many seconds it took, how many of them a processor worked for it, what it printed."""
+    """One run of a program: how many seconds it took, and how many of them a processor worked for it."""
     seconds: float
     processor: float
-    printed: bytes
 
 
 def run(program: str, words: Sequence[str], source: pathlib.Path, folder: pathlib.Path) -> Run:
-    """One run of a program that prints to a file in memory, so that it waits for no reader and no disk."""
-    with open(source, "rb") as given, open(os.memfd_create("printed"), "w+b") as taken:
+    """One run of a program that prints to nobody, so that no reader, disk or memory for what it prints is timed."""
+    with open(source, "rb") as given:
         start = time.perf_counter()
-        child = subprocess.Popen([program, *words], stdin=given, stdout=taken, cwd=folder)
+        child = subprocess.Popen([program, *words], stdin=given, stdout=subprocess.DEVNULL, cwd=folder)
         _, status, used = os.wait4(child.pid, 0)
         seconds = time.perf_counter() - start
         child.returncode = os.waitstatus_to_exitcode(status)
         if child.returncode != 0:
             raise subprocess.CalledProcessError(child.returncode, [program, *words])
-        taken.seek(0)
-        return Run(seconds, used.ru_utime + used.ru_stime, taken.read())
+        return Run(seconds, used.ru_utime + used.ru_stime)
+
+
+def printed_by(program: str, words: Sequence[str], source: pathlib.Path, folder: pathlib.Path) -> bytes:
+    """What one run prints."""
+    with open(source, "rb") as given:
+        return subprocess.run([program, *words], stdin=given, stdout=subprocess.PIPE, cwd=folder, check=True).stdout
 
 
 def seconds_of(program: str, words: Sequence[str], source: pathlib.Path, folder: pathlib.Path) -> float:
     """How long one run takes that prints to nobody."""
-    with open(source, "rb") as given:
-        start = time.perf_counter()
-        subprocess.run([program, *words], stdin=given, stdout=subprocess.DEVNULL, cwd=folder, check=True)
-        return time.perf_counter() - start
+    return run(program, words, source, folder).seconds
 
 
 def peak_so_far(child: subprocess.Popen) -> int:

@@ -38,7 +38,7 @@ class Inputs(unittest.TestCase):
             folder = pathlib.Path(name)
             (folder / "in").write_text("text")
             ran = inputs.run("cat", [], folder / "in", folder)
-            self.assertEqual(ran.printed, b"text")
+            self.assertEqual(inputs.printed_by("cat", [], folder / "in", folder), b"text")
             self.assertGreater(ran.seconds, 0)
             self.assertGreater(ran.processor, 0)
             with self.assertRaises(subprocess.CalledProcessError):

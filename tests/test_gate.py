@@ -98,6 +98,11 @@ class Gate(unittest.TestCase):
         kept = "is kept: an earlier run on this machine proved the same files over the same libraries"
         self.assertEqual(self.edits_after(f"rt: low {kept}")[:2], (["high", "low"], (2, 0)))
 
+    def test_all_is_proved_anew_where_something_is_kept(self) -> None:
+        for kept, last in ((gate.TOP, "--anew"), (gate.TOP / "nowhere", "ci")):
+            with unittest.mock.patch.object(gate, "KEPT", kept):
+                self.assertEqual(gate.words_of_ci(["--anew"])[-1], last)
+
     def test_other_words_run_nothing(self) -> None:
         with contextlib.redirect_stdout(io.StringIO()) as said:
             self.assertEqual(gate.main(["anew"]), 2)
