@@ -1,5 +1,5 @@
 -- What both files begin with: a TOML document that says its version.
-use Rattle.std.specs.Prelude.{ℕ, Bool, ◌&&◌, nat_le, codes, if◌then◌else◌, Option, Some, None, option_and_then, Result}
+use Rattle.std.specs.Prelude.{ℕ, ◌&&◌, nat_le, codes, if◌then◌else◌, Option, Some, None, option_and_then, Result}
 use Rattle.std.specs.Prelude.{Ok, Err}
 use Rattle.toml.specs.Data.{Members, get_member}
 use Rattle.bhs_files.specs.declared.faults.FileFault.{FileFault}

@@ -1,12 +1,12 @@
 -- A log that is what is kept of itself has commands of the match's agents alone.
-use Rattle.std.proofs.Common.{◌≡◌, ℕ, zero, suc, ◌+◌, ◌<◌, ◌≤◌, Bool, true, false, List, [], ◌∷◌, length, refl, ap}
+use Rattle.std.proofs.Common.{◌≡◌, ℕ, zero, suc, ◌<◌, Bool, true, List, [], ◌∷◌, length}
 use Rattle.std.proofs.Common.{subst, arith, get_or, nat_lt}
 use Rattle.std.proofs.lemmas.Bool.{and_parts, ltb-true}
 use Rattle.bhs_model.specs.declared.commands.Command.{Command}
 use Rattle.bhs_model.specs.declared.events.Event.{Event}
 use Rattle.bhs_model.specs.declared.events.Event.TheVariants.{Tell, Deliver, Close}
 use Rattle.bhs_model.specs.declared.marks.Kept.{Kept}
-use Rattle.bhs_model.specs.Kept.{nobody, kept, kept_from, kept_first, keeps, lost_after}
+use Rattle.bhs_model.specs.Kept.{nobody, kept, kept_from, keeps, lost_after}
 use Rattle.bhs_model.specs.Marks.{events_of}
 use Rattle.bhs_model.specs.Runs.{State, initial, next}
 use Rattle.bhs_model.specs.Worlds.{World}

@@ -1,25 +1,23 @@
 -- A match stays in order: what it keeps follows from its log, and there is room for the next event.
 use Rattle.std.proofs.Common.{◌≡◌, ℕ, suc, ◌+◌, ◌*◌, ◌<◌, ◌≤◌, ◌^◌, append-nil, Bool, true, false, not, ◌&&◌, ◌||◌}
 use Rattle.std.proofs.Common.{Option, Some, None, List, [], ◌∷◌, ◌++◌, length, map, IsSome, refl, sym, ap, ◌∙◌, subst}
-use Rattle.std.proofs.Common.{inl, inr, arith, nat_lt, ◌==◌, if◌then◌else◌, slice_set, length-append, length-set}
-use Rattle.std.specs.Prelude.{slice_index_or, is_some}
+use Rattle.std.proofs.Common.{inl, inr, arith, nat_lt, if◌then◌else◌, length-append, length-set}
+use Rattle.std.specs.Prelude.{is_some}
 use Rattle.std.proofs.lemmas.List.{get_or_past}
-use Rattle.std.proofs.lemmas.Bool.{cond_both, cond-true, cond-false, eqb-true, eq-eqb}
-use Rattle.std.proofs.lemmas.Bool.Decides.{eqb_tells}
+use Rattle.std.proofs.lemmas.Bool.{cond-true, cond-false, eq-eqb}
 use Rattle.std.proofs.Math.Nat.{mul-le-mul}
 use Rattle.bhs_net.specs.Network.{Network}
 use Rattle.bhs_model.specs.declared.events.Event.{Event}
 use Rattle.bhs_model.specs.declared.events.Event.TheVariants.{Tell, Deliver, Close}
-use Rattle.bhs_model.specs.declared.limits.TheConstants.{MAX_AGENTS, MAX_QUOTA}
 use Rattle.bhs_model.specs.declared.marks.Mark.{Mark}
 use Rattle.bhs_model.specs.declared.marks.Kept.{Kept}
 use Rattle.bhs_model.specs.declared.setups.Setup.{Setup}
 use Rattle.bhs_model.specs.Replying.{text}
 use Rattle.bhs_model.specs.Worlds.{World}
 use Rattle.bhs_model.specs.Runs.{Position, Before, At, Bound as OnLink, After, State, initial, is_bound, is_doomed}
-use Rattle.bhs_model.specs.Runs.{next, run, run_from, reply}
+use Rattle.bhs_model.specs.Runs.{next, run}
 use Rattle.bhs_model.specs.InOrder.{replies}
-use Rattle.bhs_model.specs.Kept.{keeps, kept_first, kept_from, kept, lost, lost_from, lost_after, nobody}
+use Rattle.bhs_model.specs.Kept.{keeps, kept_first, kept, lost, nobody}
 use Rattle.bhs_model.specs.Setups.{world_of}
 use Rattle.bhs_model.specs.Marks.{events_of, read_if, text_at}
 use Rattle.bhs_model.proofs.AddLemmas.{kept-append}
@@ -29,13 +27,13 @@ use Rattle.bhs_world.specs.Tables.{Table, agent_at, board_at, world_in, StandsFo
 use Rattle.bhs_world.proofs.ListLemmas.{each_set, lt_tells}
 use Rattle.bhs_world.proofs.GrowthLemmas.{run_from_more, events_more, text_shown}
 use Rattle.bhs_match.specs.declared.pools.Bound.{Bound}
-use Rattle.bhs_match.specs.Matches.{Play, most_kept, is_arrival, arrivals, arrivals_from, bounds, shown_at}
+use Rattle.bhs_match.specs.Matches.{Play, most_kept, is_arrival, arrivals, bounds, shown_at}
 use Rattle.bhs_match.specs.Keeping.{Shelf, news_at, node_seen, node_seen_at, link_at, link_by, settled, settled_by}
-use Rattle.bhs_match.specs.Keeping.{noted_at, noted, IsInOrder, HasRoom, HasShelf, CanNote}
+use Rattle.bhs_match.specs.Keeping.{noted_at, noted, IsInOrder, HasRoom, CanNote}
 use Rattle.bhs_match.proofs.FairLemmas.{IsFair, fair_run}
 use Rattle.bhs_match.proofs.CountLemmas.{kept_bound}
 use Rattle.bhs_match.proofs.PoolLemmas.{link_in, next_pool, pool_bound}
-use Rattle.bhs_match.proofs.NewsLemmas.{last_arrival, arrivals_more, news_bound, unknown_news}
+use Rattle.bhs_match.proofs.NewsLemmas.{arrivals_more, news_bound, unknown_news}
 
 -- the log with an event that is kept is what is kept of it
 kept_grows : (world : World) (log : List Kept) (one : Kept) → kept world (events_of log) ≡ events_of log

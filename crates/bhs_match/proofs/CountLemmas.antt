@@ -1,21 +1,21 @@
 -- How many events a log can hold: each kept event uses up a part of its agent's share.
-use Rattle.std.proofs.Common.{◌≡◌, ℕ, zero, suc, ◌+◌, ◌*◌, ◌<◌, ◌≤◌, Bool, true, false, not, ◌&&◌, ◌||◌, Option, List}
-use Rattle.std.proofs.Common.{[], ◌∷◌, length, refl, sym, ap, ◌∙◌, subst, inl, inr, arith, ◌==◌, if◌then◌else◌}
-use Rattle.std.proofs.lemmas.Bool.{and_parts, not-true, cond_both, cond-true, cond-false, ne_eqb, eq-eqb, not-false}
+use Rattle.std.proofs.Common.{◌≡◌, ℕ, zero, suc, ◌+◌, ◌*◌, ◌<◌, ◌≤◌, Bool, true, false, not, ◌&&◌, ◌||◌, List}
+use Rattle.std.proofs.Common.{[], ◌∷◌, length, refl, sym, ap, subst, inl, inr, arith, ◌==◌, if◌then◌else◌}
+use Rattle.std.proofs.lemmas.Bool.{and_parts, ne_eqb, eq-eqb}
 use Rattle.std.proofs.lemmas.Bool.Decides.{eqb_tells}
 use Rattle.bhs_model.specs.declared.commands.Command.{Command}
 use Rattle.bhs_model.specs.declared.events.Event.{Event}
 use Rattle.bhs_model.specs.declared.events.Event.TheVariants.{Tell, Deliver, Close}
-use Rattle.bhs_model.specs.Views.{View, Told, used}
+use Rattle.bhs_model.specs.Views.{used}
 use Rattle.bhs_model.specs.Worlds.{World, doomed}
-use Rattle.bhs_model.specs.Runs.{Position, Before, At, Bound, After, State, initial, changed, glance, position_after}
+use Rattle.bhs_model.specs.Runs.{Position, Before, At, Bound, After, State, initial, changed}
 use Rattle.bhs_model.specs.Runs.{told, is_doomed, arrives, arrived, delivered, heard, next, run, run_from}
 use Rattle.bhs_model.specs.Kept.{destroys, lost_after, keeps, kept_first, kept_from, kept, lost, lost_from, nobody}
 use Rattle.bhs_model.proofs.StepLemmas.{by_cases}
 use Rattle.bhs_match.specs.Matches.{most_kept}
-use Rattle.bhs_match.proofs.MoveLemmas.{IsGone, Moves, weight}
+use Rattle.bhs_match.proofs.MoveLemmas.{IsGone, weight}
 use Rattle.bhs_match.proofs.FairLemmas.{IsFair, IsHeard, heard_means, moves_of, IsArriving, arrival_means, bound_within}
-use Rattle.bhs_match.proofs.FairLemmas.{fair_next, fair_run, fair_run_from, fair_initial}
+use Rattle.bhs_match.proofs.FairLemmas.{fair_next, fair_run, fair_initial}
 
 -- the numbers below n, summed over
 sum_to : (n : ℕ) → (ℕ → ℕ) → ℕ

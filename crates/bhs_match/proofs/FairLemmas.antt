@@ -1,18 +1,16 @@
 -- What holds of each match at any time, so that its log stays within bounds.
-use Rattle.std.proofs.Common.{◌≡◌, ℕ, ◌+◌, ◌<◌, ◌≤◌, Bool, true, false, not, ◌&&◌, List, [], ◌∷◌, refl, sym, ap, ◌∙◌}
-use Rattle.std.proofs.Common.{subst, inl, inr, arith, nat_lt, ◌==◌, if◌then◌else◌}
-use Rattle.std.specs.Prelude.{nat_eq}
-use Rattle.std.specs.List.{IsDistinct}
+use Rattle.std.proofs.Common.{◌≡◌, ℕ, ◌<◌, ◌≤◌, Bool, true, false, not, ◌&&◌, List, [], ◌∷◌, refl, sym, ap, ◌∙◌}
+use Rattle.std.proofs.Common.{subst, inl, inr, arith, nat_lt}
 use Rattle.std.proofs.lemmas.Bool.{and_parts, not-true, ltb-true, cond_both, cond-false}
 use Rattle.std.proofs.lemmas.Bool.Decides.{eqb_tells, leb_tells}
 use Rattle.bhs_model.specs.declared.commands.Command.{Command}
 use Rattle.bhs_model.specs.declared.events.Event.{Event}
 use Rattle.bhs_model.specs.declared.events.Event.TheVariants.{Tell, Deliver, Close}
-use Rattle.bhs_model.specs.Views.{View, Told, Arrived, Standing, standing, used}
-use Rattle.bhs_model.specs.Replying.{accepts, hears}
+use Rattle.bhs_model.specs.Views.{Told, Standing, used}
+use Rattle.bhs_model.specs.Replying.{accepts}
 use Rattle.bhs_model.specs.Worlds.{World, doomed}
 use Rattle.bhs_model.specs.Runs.{Position, Before, At, Bound, After, State, initial, changed, glance, position_after}
-use Rattle.bhs_model.specs.Runs.{told, is_bound, is_doomed, is_let_through, arrives, arrived, delivered, heard, next}
+use Rattle.bhs_model.specs.Runs.{told, is_bound, is_doomed, arrives, arrived, delivered, heard, next}
 use Rattle.bhs_model.specs.Runs.{run, run_from}
 use Rattle.bhs_model.specs.Kept.{destroys, lost_after, lost, lost_from, nobody}
 use Rattle.bhs_model.specs.Standings.{standing_at}

@@ -1,24 +1,22 @@
 -- The laws of a match.
-use Rattle.std.proofs.Common.{append-nil, ◌≡◌, ℕ, Bool, true, false, Option, List, [], ◌∷◌, ◌++◌, length, map, refl}
+use Rattle.std.proofs.Common.{append-nil, ◌≡◌, ℕ, Bool, true, false, List, [], ◌∷◌, ◌++◌, map, refl}
 use Rattle.std.proofs.Common.{sym, ap, ◌∙◌, if◌then◌else◌}
-use Rattle.std.proofs.lemmas.Bool.{cond_both}
 use Rattle.bhs_model.specs.declared.events.Event.{Event}
-use Rattle.bhs_model.specs.declared.marks.Mark.{Mark}
 use Rattle.bhs_model.specs.declared.marks.Kept.{Kept}
 use Rattle.bhs_model.specs.Worlds.{World}
 use Rattle.bhs_model.specs.Runs.{Position, State, initial, run, reply}
 use Rattle.bhs_model.specs.InOrder.{replies}
 use Rattle.bhs_model.specs.KeptReplies.{kept_replies}
-use Rattle.bhs_model.specs.Kept.{keeps, kept_first, kept, lost, nobody}
+use Rattle.bhs_model.specs.Kept.{keeps, kept_first, lost, nobody}
 use Rattle.bhs_model.specs.Draws.{pool}
 use Rattle.bhs_model.specs.Marks.{events_of, read_if}
 use Rattle.bhs_model.proofs.KeptLemmas.{run-kept, lost-kept, replies-kept}
 use Rattle.bhs_model.proofs.AddLemmas.{kept-append}
-use Rattle.bhs_world.specs.Tables.{keeps_next, log_after}
+use Rattle.bhs_world.specs.Tables.{keeps_next}
 use Rattle.bhs_world.proofs.GrowthLemmas.{events_more}
-use Rattle.bhs_match.specs.Matches.{bound_at, bounds}
-use Rattle.bhs_match.specs.Laws.{IsLogOf, TellsAll, LogsTellAll, GrowsWith, LogsGrow, LogsAreBounded}
-use Rattle.bhs_match.specs.Laws.{ArrivalsAreBounded, IsPooled, PoolsAreOfAgents}
+use Rattle.bhs_match.specs.Matches.{bound_at}
+use Rattle.bhs_match.specs.Laws.{IsLogOf, LogsTellAll, LogsGrow, LogsAreBounded}
+use Rattle.bhs_match.specs.Laws.{ArrivalsAreBounded, PoolsAreOfAgents}
 use Rattle.bhs_match.proofs.FairLemmas.{fair_run}
 use Rattle.bhs_match.proofs.CountLemmas.{kept_bound}
 use Rattle.bhs_match.proofs.PoolLemmas.{pool_bound}

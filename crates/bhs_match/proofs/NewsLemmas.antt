@@ -1,7 +1,7 @@
 -- An agent has at most as many arrivals as its quota: before each it departed.
-use Rattle.std.proofs.Common.{◌≡◌, ℕ, ◌+◌, ◌<◌, ◌≤◌, Bool, true, false, not, Option, Some, None, List, [], ◌∷◌, ◌++◌}
+use Rattle.std.proofs.Common.{◌≡◌, ℕ, ◌+◌, ◌≤◌, Bool, true, false, Option, Some, None, List, [], ◌∷◌, ◌++◌}
 use Rattle.std.proofs.Common.{length, map, refl, sym, ap, ◌∙◌, subst, inl, inr, arith, ◌==◌, if◌then◌else◌}
-use Rattle.std.proofs.lemmas.Bool.{cond_both, cond-true, cond-false, eqb-true, eq-eqb, ne_eqb}
+use Rattle.std.proofs.lemmas.Bool.{cond_both, cond-false, eq-eqb, ne_eqb}
 use Rattle.std.proofs.lemmas.Bool.Decides.{eqb_tells}
 use Rattle.bhs_model.specs.declared.commands.Command.{Command}
 use Rattle.bhs_model.specs.declared.events.Event.{Event}
@@ -12,13 +12,13 @@ use Rattle.bhs_model.specs.declared.replies.Reply.{Reply}
 use Rattle.bhs_model.specs.Views.{used}
 use Rattle.bhs_model.specs.Replying.{rep}
 use Rattle.bhs_model.specs.Worlds.{World}
-use Rattle.bhs_model.specs.Runs.{Position, Before, At, Bound, After, State, initial, changed, told, arrived, delivered}
-use Rattle.bhs_model.specs.Runs.{arrives, heard, next, run, run_from, reply}
+use Rattle.bhs_model.specs.Runs.{Position, Bound, State, initial, told, arrived, delivered}
+use Rattle.bhs_model.specs.Runs.{arrives, heard, next, run_from, reply}
 use Rattle.bhs_model.specs.InOrder.{replies, replies_from}
 use Rattle.bhs_model.specs.Kept.{lost_after, lost, nobody}
 use Rattle.bhs_model.specs.Marks.{events_of, read_if}
 use Rattle.bhs_match.specs.Matches.{is_arrival, arrivals_from, arrivals}
-use Rattle.bhs_match.proofs.MoveLemmas.{flight, Moves}
+use Rattle.bhs_match.proofs.MoveLemmas.{flight}
 use Rattle.bhs_match.proofs.CountLemmas.{bit}
 use Rattle.bhs_match.proofs.FairLemmas.{IsFair, IsHeard, heard_means, moves_of, IsArriving, arrival_means, bound_within}
 use Rattle.bhs_match.proofs.FairLemmas.{fair_next, fair_run, fair_initial}

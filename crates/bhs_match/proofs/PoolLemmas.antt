@@ -1,5 +1,5 @@
 -- What an event makes of the pool.
-use Rattle.std.proofs.Common.{append_assoc, ◌≡◌, ℕ, ◌+◌, ◌<◌, ◌≤◌, Bool, true, false, not, ◌&&◌, ◌||◌, Option, Some}
+use Rattle.std.proofs.Common.{append_assoc, ◌≡◌, ℕ, ◌≤◌, Bool, true, false, not, Option, Some}
 use Rattle.std.proofs.Common.{None, List, [], ◌∷◌, ◌++◌, length, map, IsTrue, refl, sym, ap, ◌∙◌, subst, inl, inr}
 use Rattle.std.proofs.Common.{arith, ◌==◌, if◌then◌else◌}
 use Rattle.std.specs.List.{filter}
@@ -10,7 +10,7 @@ use Rattle.std.proofs.lemmas.List.Elements.{filter-append}
 use Rattle.bhs_model.specs.declared.commands.Command.{Command}
 use Rattle.bhs_model.specs.declared.events.Event.{Event}
 use Rattle.bhs_model.specs.declared.events.Event.TheVariants.{Tell, Deliver, Close}
-use Rattle.bhs_model.specs.Worlds.{World, doomed}
+use Rattle.bhs_model.specs.Worlds.{World}
 use Rattle.bhs_model.specs.Runs.{Position, Before, At, Bound as OnLink, After, State, changed, position_after, is_bound}
 use Rattle.bhs_model.specs.Runs.{departed_after, told, arrived, delivered, arrives, heard, next}
 use Rattle.bhs_model.specs.Draws.{pool}
@@ -19,7 +19,7 @@ use Rattle.bhs_world.proofs.ListLemmas.{changed_same}
 use Rattle.bhs_match.specs.declared.pools.Bound.{Bound}
 use Rattle.bhs_match.specs.Matches.{bound_at, bounds}
 use Rattle.bhs_match.specs.Keeping.{settled, settled_by}
-use Rattle.bhs_match.proofs.DepartedLemmas.{AreOnce, once_filter, once_few}
+use Rattle.bhs_match.proofs.DepartedLemmas.{once_filter, once_few}
 use Rattle.bhs_match.proofs.MoveLemmas.{IsLinked}
 use Rattle.bhs_match.proofs.FairLemmas.{IsFair, IsHeard, heard_means, moves_of}
 

@@ -4,7 +4,7 @@ use Rattle.bhs_model.specs.declared.events.Event.{Event}
 use Rattle.bhs_model.specs.declared.marks.Mark.{Mark}
 use Rattle.bhs_model.specs.declared.marks.Kept.{Kept}
 use Rattle.bhs_model.specs.Worlds.{World}
-use Rattle.bhs_model.specs.Runs.{State, run, reply}
+use Rattle.bhs_model.specs.Runs.{run, reply}
 use Rattle.bhs_model.specs.InOrder.{replies}
 use Rattle.bhs_model.specs.Kept.{kept, lost}
 use Rattle.bhs_model.specs.KeptReplies.{kept_replies}

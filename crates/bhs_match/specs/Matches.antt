@@ -1,6 +1,6 @@
 -- A match, and what follows from its log.
-use Rattle.std.specs.Prelude.{ℕ, ◌+◌, ◌*◌, Bool, false, Option, Some, None, List, [], ◌∷◌, ◌==◌, if◌then◌else◌, map}
-use Rattle.std.specs.Prelude.{length, option_and_then, unwrap_or}
+use Rattle.std.specs.Prelude.{ℕ, ◌+◌, ◌*◌, Bool, false, Option, Some, List, [], ◌∷◌, ◌==◌, if◌then◌else◌, map}
+use Rattle.std.specs.Prelude.{unwrap_or}
 use Rattle.bhs_net.specs.Network.{Network}
 use Rattle.bhs_model.specs.declared.setups.Setup.{Setup}
 use Rattle.bhs_model.specs.declared.events.Event.{Event}

@@ -1,5 +1,5 @@
 -- A walk over a log follows the definitions: after each event it keeps what they say of the events so far.
-use Rattle.std.proofs.Common.{◌≡◌, ℕ, ◌+◌, ◌<◌, ◌≤◌, Bool, true, false, not, ◌&&◌, ◌||◌, Option, Some, None, List, []}
+use Rattle.std.proofs.Common.{◌≡◌, ℕ, ◌<◌, Bool, true, false, not, ◌&&◌, ◌||◌, Option, Some, None, List, []}
 use Rattle.std.proofs.Common.{◌∷◌, length, map, zero, suc, refl, sym, ap, ap₂, ◌∙◌, subst, arith, length-set, ◌==◌}
 use Rattle.std.specs.Prelude.{slice_set, slice_index_or, replicate, is_some}
 use Rattle.std.proofs.lemmas.List.{length-replicate}
@@ -21,7 +21,7 @@ use Rattle.bhs_model.specs.Worlds.{World}
 use Rattle.bhs_model.specs.Runs.{Position, Before, At, Bound, After, State, initial, changed, sight_at, is_doomed}
 use Rattle.bhs_model.specs.Runs.{position_after, told, arrived, delivered, arrives, next, run_from, run, reply}
 use Rattle.bhs_model.specs.InOrder.{replies_from, replies}
-use Rattle.bhs_model.specs.Kept.{destroys, lost_after, keeps, kept_first, kept_from, lost_from, nobody, kept}
+use Rattle.bhs_model.specs.Kept.{destroys, lost_after, keeps, kept_from, lost_from, nobody, kept}
 use Rattle.bhs_model.specs.Kept.{lost as lost_in}
 use Rattle.bhs_model.specs.Setups.{world_of}
 use Rattle.bhs_model.proofs.KeptLemmas.{first_kept}

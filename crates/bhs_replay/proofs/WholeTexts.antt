@@ -1,5 +1,5 @@
 -- The replay of a match comes to the end of that match.
-use Rattle.std.proofs.Common.{◌≡◌, ℕ, suc, ◌<◌, ◌≤◌, ◌^◌, List, [], ◌∷◌, ◌++◌, Bool, true, false, not, bytes_eq, length}
+use Rattle.std.proofs.Common.{◌≡◌, ℕ, ◌<◌, ◌≤◌, ◌^◌, List, [], ◌∷◌, ◌++◌, Bool, true, false, not, bytes_eq, length}
 use Rattle.std.proofs.Common.{get_or, codes, decimal, nat_lt, Option, Some, None, inl, inr, refl, sym, subst, ap, ap₂}
 use Rattle.std.proofs.Common.{◌∙◌, arith, append_assoc, append-nil}
 use Rattle.std.specs.Prelude.{map, ⊤}
@@ -19,7 +19,7 @@ use Rattle.bhs_model.specs.Setups.{world_of}
 use Rattle.bhs_model.specs.Worlds.{World}
 use Rattle.bhs_model.specs.Runs.{State, initial, next, run, reply, arrives}
 use Rattle.bhs_model.specs.InOrder.{replies, replies_from}
-use Rattle.bhs_model.specs.Kept.{keeps, kept, kept_first, kept_from, lost, lost_after, destroys, nobody}
+use Rattle.bhs_model.specs.Kept.{keeps, kept, kept_from, lost, lost_after, destroys, nobody}
 use Rattle.bhs_model.proofs.KeptLemmas.{first_kept}
 use Rattle.bhs_model.proofs.AddLemmas.{events_add_lemma}
 use Rattle.bhs_wire.specs.Lines.{rest_after, rest}

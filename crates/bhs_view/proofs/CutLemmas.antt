@@ -26,6 +26,7 @@ use Rattle.bhs_world.proofs.GrowthLemmas.{run_from_more}
 use Rattle.bhs_match.proofs.FairLemmas.{IsFair, heard_means, bound_within, arrival_means, fair_next, fair_initial}
 use Rattle.bhs_view.specs.Places.{places_from, places_of}
 use Rattle.bhs_view.specs.Sites.{node_said, site, sites, sites_from}
+use Rattle.bhs_view.specs.Reading.{IsRead}
 use Rattle.bhs_view.specs.Walks.{seen_by, footprint_by, footprints_at, written_by, IsInRange, AreInRange}
 use Rattle.bhs_model.specs.declared.marks.Kept.{Kept}
 use Rattle.bhs_model.specs.Marks.{events_of, read_if}
@@ -315,16 +316,6 @@ pub range_of : (play : Play) → IsNetwork play.net → IsWithinLimits play.net 
 range_of play network limits all = in_range play.net play.setup (events_of play.log)
     (stays_in_range play.net play.setup network limits) all
 
--- what is looked up of a match
-pub record IsRead (play : Play) (net_read : Network) (setup_read : Setup) (log_read : List Kept) : Type 0 where
-  pub net : net_read ≡ play.net
-  pub setup : setup_read ≡ play.setup
-  pub log : log_read ≡ play.log
-  pub network : IsNetwork net_read
-  pub within : IsWithinLimits play.net play.setup
-  pub kept : kept (world_in play) (events_of play.log) ≡ events_of play.log
-  pub replies : map (λ (one : Kept). read_if play.log one.mark) play.log ≡ replies (world_in play) (events_of play.log)
-
 pub known : (play : Play) (net : Network) (setup : Setup) (log : List Kept) (found : List (Option ℕ))
     → IsRead play net setup log → found ≡ sites (world_of net setup) (events_of log) → IsKnown play found
 known play net setup log found read is =
@@ -336,7 +327,7 @@ known play net setup log found read is =
       footprints = footprints_are;
       count = ap length same ∙ length_sites (world_in play) initial events
           ∙ length-map play.log (λ (kept : Kept). kept.event);
-      range = rw footprints_are (range_of play (rw read.net at read.network) read.within read.kept);
+      range = rw footprints_are (range_of play read.network read.within read.kept);
     }
 
 pub stranger : (play : Play) (net : Network) (setup : Setup) (log : List Kept) (agent : ℕ) → IsRead play net setup log
@@ -344,7 +335,7 @@ pub stranger : (play : Play) (net : Network) (setup : Setup) (log : List Kept) (
     places_of (cut agent (footprints (world_in play) (events_of play.log))) ≡ []
 stranger play net setup log agent read strange =
     (strange_cut play.setup.agents (nodes_of play.net) agent _ strange
-    (range_of play (rw read.net at read.network) read.within read.kept)).found 0
+    (range_of play read.network read.within read.kept)).found 0
 
 pub length_none : (n : ℕ) → length (replicate n false) ≡ n
 length_none n = length-replicate n false

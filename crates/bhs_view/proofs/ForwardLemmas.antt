@@ -3,7 +3,7 @@ use Rattle.std.proofs.Common.{ℕ, zero, suc, ◌+◌, ◌<◌, ◌≤◌, ◌�
 use Rattle.std.proofs.Common.{◌∷◌, ◌++◌, length, map, drop, take, get_or, refl, sym, ap, ap₂, ◌∙◌, subst, arith, inl}
 use Rattle.std.proofs.Common.{inr, if◌then◌else◌, nat_lt, get_or-set_same, get_or-set_other}
 use Rattle.std.specs.Prelude.{slice_set, slice_index_or, replicate, is_some}
-use Rattle.std.proofs.lemmas.Bool.{cond-true, cond-false, and_parts, or_cases, false≢true, cond_both}
+use Rattle.std.proofs.lemmas.Bool.{cond-true, and_parts, or_cases, false≢true}
 use Rattle.std.proofs.lemmas.Bool.Decides.{eqb_tells, leb_tells}
 use Rattle.std.proofs.lemmas.List.{length-set, set-get_or, length-map, take_more, take_all, drop_all, append-nil}
 use Rattle.std.proofs.lemmas.List.{length-replicate, get_or-replicate, get_or-map}

@@ -21,7 +21,8 @@ use Rattle.bhs_view.specs.declared.twins.TwinFault.TheVariants.{Reached}
 use Rattle.bhs_view.specs.Sites.{sites}
 use Rattle.bhs_view.specs.Twins.{replaced, is_moved, moved, left, first_arrival, twin_fault}
 use Rattle.bhs_view.specs.TwinWalks.{first_hole, left_at, first_arrival_at}
-use Rattle.bhs_view.proofs.CutLemmas.{IsRead}
+use Rattle.bhs_view.specs.Laws.{IsEnded}
+use Rattle.bhs_view.specs.Reading.{IsRead}
 use Rattle.bhs_world.proofs.NoFaultLemmas.{moved_fits, home_clear}
 use Rattle.bhs_view.proofs.ForwardLemmas.{length_sites}
 use Rattle.bhs_view.proofs.PassLemmas.{first_hole_same, left_same_from, first_arrival_same}
@@ -37,6 +38,16 @@ left_count bound [] sites same = refl
 left_count bound (one ∷ log) [] same = absurd (omega (arith, same))
 left_count bound (one ∷ log) (site ∷ sites) same =
     let more = left_count bound log sites (omega (arith, same)) in omega arith
+
+pub ended_of : (play : Play) (net : Network) (setup : Setup) (log : List Kept) → IsRead play net setup log
+    → IsEnded play
+ended_of play net setup log read = record {
+  network = read.network;
+  within = read.within;
+  closed = read.closed;
+  kept = read.kept;
+  replies = read.replies;
+}
 
 same_sites : (play : Play) (net : Network) (setup : Setup) (log : List Kept) → IsRead play net setup log
     → sites (world_of net setup) (events_of log) ≡ sites (world_in play) (events_of play.log)

@@ -2,6 +2,7 @@ pub mod Entries
 pub mod Places
 pub mod Sites
 pub mod Walks
+pub mod Reading
 pub mod Restrictions
 pub mod Twins
 pub mod TwinWalks

@@ -6,6 +6,7 @@ ghost use Rattle.bhs_view.specs.Places.{places_of};
 ghost use Rattle.bhs_view.specs.Walks.{footprints_at, AreInRange, AreNeeded};
 
 use crate::needed::Needed;
+use crate::reading::{Reading, read};
 use crate::spots::sites;
 use bhs_match::Sealed;
 use bhs_model::Kept;
@@ -31,9 +32,7 @@ pub fn cut_and_looks(alloc: Global, sealed: &Sealed, agent: u16) -> Result<(Vec<
     ensures stranger { sealed.now.setup.agents ≤ agent → IfOk result (λ found. (found.0.items ≡ []) × (found.1 ≡ 0)) }
     ensures looks { agent < sealed.now.setup.agents → IfOk result (λ found. found.1 ≡ length sealed.now.log) }
 {
-    let net = sealed.net();
-    let setup = sealed.setup();
-    let log = sealed.log();
+    let Reading { net, setup, log } = read(sealed);
     let nodes = net.nodes();
     if agent >= setup.agents {
         return Ok((Vec::new(alloc), 0));

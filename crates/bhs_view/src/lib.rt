@@ -6,6 +6,7 @@ mod cuts;
 pub mod laws;
 mod needed;
 mod playing;
+mod reading;
 mod restricting;
 mod spots;
 mod twins;

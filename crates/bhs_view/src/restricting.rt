@@ -9,6 +9,7 @@ ghost use Rattle.bhs_view.specs.declared.restricting.RestrictFault.TheVariants.{
 
 use crate::needed::Needed;
 use crate::playing::{begun, replay};
+use crate::reading::{Reading, read};
 use crate::spots::sites;
 use bhs_match::Sealed;
 use bhs_model::Kept;
@@ -58,9 +59,7 @@ fn closed_set(alloc: Global, sealed: &Sealed, places: &[u32]) -> Result<Vec<bool
     ensures fit { OnOk result (first_fault sealed.now places.now ≡ None) }
     ensures fault { IfErr result (λ fault. (fault ≡ OutOfMemory) ⊎ (first_fault sealed.now places.now ≡ Some fault)) }
 {
-    let net = sealed.net();
-    let setup = sealed.setup();
-    let log = sealed.log();
+    let Reading { net, setup, log } = read(sealed);
     let nodes = net.nodes();
     if let Some(index) = misplaced(places, log.len()) {
         return Err(RestrictFault::Places { index });

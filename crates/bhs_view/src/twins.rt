@@ -12,6 +12,7 @@ ghost use Rattle.bhs_view.specs.TwinWalks.{hole_at, first_hole, is_bound_for, le
 ghost use Rattle.bhs_view.specs.declared.twins.TwinFault.TheVariants.{Memory as OutOfMemory};
 
 use crate::playing::{begun, replay};
+use crate::reading::{Reading, read};
 use crate::spots::sites;
 use bhs_match::Sealed;
 use bhs_model::{Command, Event, Holes, Kept, Mark, Setup};
@@ -58,9 +59,7 @@ pub fn twin_of(alloc: Global, sealed: &Sealed, node: u16) -> Result<Sealed, Twin
     ensures fit { OnOk result (twin_fault sealed.now node ≡ None) }
     ensures fault { IfErr result (λ fault. (fault ≡ OutOfMemory) ⊎ (twin_fault sealed.now node ≡ Some fault)) }
 {
-    let net = sealed.net();
-    let setup = sealed.setup();
-    let log = sealed.log();
+    let Reading { net, setup, log } = read(sealed);
     let nodes = net.nodes();
     if node >= nodes {
         return Err(TwinFault::Node);

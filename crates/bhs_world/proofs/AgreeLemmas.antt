@@ -1,22 +1,16 @@
 -- A table that stands for the events of a log stands, after a step, for the log with the event.
-use Rattle.std.proofs.Common.{◌≡◌, ℕ, Bool, true, false, not, ◌&&◌, ◌||◌, Option, None, List, []}
+use Rattle.std.proofs.Common.{◌≡◌, ℕ, Bool, true, false, not, ◌&&◌, ◌||◌, Option, None, List}
 use Rattle.std.proofs.Common.{refl, sym, ap, ◌∙◌, subst, if◌then◌else◌}
 use Rattle.bhs_model.specs.declared.events.Event.{Event}
 use Rattle.bhs_model.specs.declared.events.Event.TheVariants.{Tell, Deliver, Close}
 use Rattle.bhs_model.specs.declared.marks.Mark.{Mark}
-use Rattle.bhs_model.specs.declared.marks.Mark.TheVariants as marks
 use Rattle.bhs_model.specs.declared.marks.Kept.{Kept}
-use Rattle.bhs_model.specs.declared.replies.Reply.TheVariants as replies
-use Rattle.bhs_model.specs.declared.replies.Why.TheVariants as whys
-use Rattle.bhs_model.specs.Views.{used}
 use Rattle.bhs_model.specs.Worlds.{World, doomed}
 use Rattle.bhs_model.specs.Runs.{Position, Before, At, Bound, After, State}
 use Rattle.bhs_model.specs.Runs.{is_doomed, is_let_through}
 use Rattle.bhs_model.specs.Runs.{run}
-use Rattle.bhs_model.specs.InOrder.{replies}
 use Rattle.bhs_model.specs.Kept.{destroys, keeps, lost}
 use Rattle.bhs_model.specs.Marks.{events_of}
-use Rattle.bhs_model.specs.Places.{named}
 use Rattle.bhs_agent.specs.Agents.{Course}
 use Rattle.bhs_world.specs.Tables.{Table, agent_at, world_in, Agrees, StandsFor}
 use Rattle.bhs_world.specs.Tables.{keeps_next}

@@ -1,27 +1,22 @@
 -- A Deliver brings about what a step is to bring about.
-use Rattle.std.proofs.Common.{◌≡◌, ℕ, ◌<◌, Bool, true, false, not, ◌&&◌, ◌||◌, Option, Some, None, List, []}
+use Rattle.std.proofs.Common.{◌≡◌, ℕ, ◌<◌, Bool, true, false, not, ◌&&◌, ◌||◌, Option, Some, None, List}
 use Rattle.std.proofs.Common.{length, refl, sym, ap, ◌∙◌, subst, inl, inr, ◌==◌, if◌then◌else◌}
 use Rattle.std.specs.Prelude.{slice_set}
 use Rattle.std.proofs.lemmas.List.{get_or_past}
 use Rattle.bhs_net.specs.Network.{far_of}
 use Rattle.bhs_model.specs.declared.events.Event.TheVariants.{Deliver}
 use Rattle.bhs_model.specs.declared.marks.Mark.{Mark}
-use Rattle.bhs_model.specs.declared.marks.Mark.TheVariants as marks
 use Rattle.bhs_model.specs.declared.marks.Kept.{Kept}
 use Rattle.bhs_model.specs.declared.replies.Reply.{Reply}
-use Rattle.bhs_model.specs.declared.replies.Reply.TheVariants as replies
-use Rattle.bhs_model.specs.declared.replies.Why.TheVariants as whys
 use Rattle.bhs_model.specs.Views.{used}
 use Rattle.bhs_model.specs.Replying.{rep}
 use Rattle.bhs_model.specs.Worlds.{World, doomed}
 use Rattle.bhs_model.specs.Runs.{Position, Before, At, Bound, After, State, changed}
 use Rattle.bhs_model.specs.Runs.{is_doomed, is_let_through, arrives, arrived, delivered}
 use Rattle.bhs_model.specs.Runs.{next, run, reply}
-use Rattle.bhs_model.specs.InOrder.{replies}
 use Rattle.bhs_model.specs.Kept.{destroys, lost_after, keeps, lost}
 use Rattle.bhs_model.specs.Marks.{events_of, read_if}
 use Rattle.bhs_model.specs.Places.{written, place_shown}
-use Rattle.bhs_model.specs.Places.{named}
 use Rattle.bhs_agent.specs.Agents.{Course, newcomer}
 use Rattle.bhs_world.specs.Tables.{Table, agent_at, world_in, IsCourseOf, Agrees, IsNamed, StandsFor}
 use Rattle.bhs_world.specs.Steps.{mark_here}

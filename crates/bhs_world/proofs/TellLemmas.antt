@@ -1,5 +1,5 @@
 -- A command brings about what a step is to bring about.
-use Rattle.std.proofs.Common.{◌≡◌, ℕ, ◌+◌, ◌<◌, Bool, true, false, not, ◌&&◌, Option, Some, None, List, []}
+use Rattle.std.proofs.Common.{◌≡◌, ℕ, ◌+◌, ◌<◌, Bool, true, false, not, ◌&&◌, Option, Some, None, List}
 use Rattle.std.proofs.Common.{length, refl, sym, ap, ◌∙◌, subst, inl, inr, arith, nat_lt, if◌then◌else◌}
 use Rattle.std.specs.Prelude.{slice_set}
 use Rattle.bhs_net.specs.Network.{Network}
@@ -21,7 +21,6 @@ use Rattle.bhs_model.specs.Setups.{world_of}
 use Rattle.bhs_model.specs.Runs.{Position, Before, At, Bound, After, State, glance, position_after}
 use Rattle.bhs_model.specs.Runs.{last_writes_after, told, heard}
 use Rattle.bhs_model.specs.Runs.{next, run, reply}
-use Rattle.bhs_model.specs.InOrder.{replies}
 use Rattle.bhs_model.specs.Kept.{lost}
 use Rattle.bhs_model.specs.Marks.{events_of, read, read_if, board_of}
 use Rattle.bhs_model.specs.Places.{is_written, is_at, written_after, written, position_by, place_shown}

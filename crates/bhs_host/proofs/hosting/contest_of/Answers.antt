@@ -1,4 +1,4 @@
-use Rattle.std.proofs.Common.{◌≡◌, ◌∙◌, subst}
+use Rattle.std.proofs.Common.{◌∙◌, subst}
 use Rattle.bhs_host.proofs.HostLemmas.{Hosts, hosts_more}
 use Rattle.bhs_host.proofs.hosting.contest_of.Goals as goal
 

@@ -1,7 +1,5 @@
-use Rattle.std.proofs.Common.{◌≡◌, ◌+◌, ◌∷◌, refl, sym, ap, map, drop, List, ◌++◌, ◌∙◌}
-use Rattle.std.proofs.lemmas.List.{drop_more}
+use Rattle.std.proofs.Common.{◌+◌, refl, ap, map, drop, ◌++◌, ◌∙◌}
 use Rattle.bhs_rehearsal.specs.Stages.{step}
-use Rattle.bhs_script.specs.declared.instructions.Instruction.{Instruction}
 use Rattle.bhs_script.specs.Instructions.{seen}
 use Rattle.bhs_script.specs.Transcript.{all_printed}
 use Rattle.bhs_orders.specs.declared.faults.Fault.TheVariants.{Write, Memory}

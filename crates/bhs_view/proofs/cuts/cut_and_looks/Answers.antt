@@ -7,75 +7,39 @@ use Rattle.bhs_model.specs.declared.setups.Setup.{Setup}
 use Rattle.bhs_model.specs.Cuts.{Footprint, cut}
 use Rattle.bhs_view.specs.Places.{places_of}
 use Rattle.bhs_view.specs.Walks.{Needed, footprints_at}
-use Rattle.bhs_view.proofs.CutLemmas.{IsRead, known, stranger, length_none, range_there}
+use Rattle.bhs_view.proofs.CutLemmas.{known, stranger, length_none, range_there}
 use Rattle.bhs_view.proofs.cuts.cut_and_looks.Goals as goal
 
 pub returns-then-agent-setup-clause-cut : goal.returns-then-agent-setup-clause-cut
 returns-then-agent-setup-clause-cut c =
-    let read : IsRead c.args.sealed.now c.net-net.result.now c.setup-setup.result.now c.log-log.result.now = record {
-      net = c.net-net.ensures;
-      setup = c.setup-setup.ensures.setup;
-      log = c.log-log.ensures.log;
-      network = c.nodes-nodes.ensures.network;
-      within = c.setup-setup.ensures.within;
-      kept = c.log-log.ensures.kept;
-      replies = c.log-log.ensures.replies;
-    } in
-    c.new.ensures.items ∙ sym (stranger _ _ _ _ c.args.agent read
-    (subst (λ (setup : Setup). setup.agents ≤ c.args.agent) c.setup-setup.ensures.setup c.if-agent-setup.true))
+    c.new.ensures.items ∙ sym (stranger _ _ _ _ c.args.agent c.read.ensures
+    (subst (λ (setup : Setup). setup.agents ≤ c.args.agent) c.read.ensures.setup c.if-agent-setup.true))
 
 pub walk_back-requires-clause-sites : goal.walk_back-requires-clause-sites
 walk_back-requires-clause-sites c =
-    let read : IsRead c.args.sealed.now c.net-net.result.now c.setup-setup.result.now c.log-log.result.now = record {
-      net = c.net-net.ensures;
-      setup = c.setup-setup.ensures.setup;
-      log = c.log-log.ensures.log;
-      network = c.nodes-nodes.ensures.network;
-      within = c.setup-setup.ensures.within;
-      kept = c.log-log.ensures.kept;
-      replies = c.log-log.ensures.replies;
-    } in
-    ap length c.deref.ensures.value ∙ (known _ _ _ _ c.in_ok-sites.sites.items read c.in_ok-sites.ensures).count
-    ∙ ap length (sym c.log-log.ensures.log)
+    ap length c.deref.ensures.value ∙ (known _ _ _ _ c.in_ok-sites.sites.items c.read.ensures c.in_ok-sites.ensures).count
+    ∙ ap length (sym c.read.ensures.log)
 
 pub walk_back-requires-clause-range : goal.walk_back-requires-clause-range
 walk_back-requires-clause-range c =
-    let read : IsRead c.args.sealed.now c.net-net.result.now c.setup-setup.result.now c.log-log.result.now = record {
-      net = c.net-net.ensures;
-      setup = c.setup-setup.ensures.setup;
-      log = c.log-log.ensures.log;
-      network = c.nodes-nodes.ensures.network;
-      within = c.setup-setup.ensures.within;
-      kept = c.log-log.ensures.kept;
-      replies = c.log-log.ensures.replies;
-    } in
     range_there _ _ _ _ _ _
     (ap (λ (needed : Needed). length needed.agents) c.add_agent.ensures ∙ length-set c.in_ok-needed.needed.agents
     c.args.agent true
     ∙ ap (λ (needed : Needed). length needed.agents) c.in_ok-needed.ensures
-    ∙ length_none c.setup-setup.result.now.agents
-    ∙ ap (λ (setup : Setup). setup.agents) c.setup-setup.ensures.setup)
+    ∙ length_none c.read.result.setup.now.agents
+    ∙ ap (λ (setup : Setup). setup.agents) c.read.ensures.setup)
     (ap (λ (needed : Needed). length needed.nodes) c.add_agent.ensures
     ∙ ap (λ (needed : Needed). length needed.nodes) c.in_ok-needed.ensures ∙ length_none c.nodes-nodes.result
-    ∙ c.nodes-nodes.ensures.count ∙ ap nodes_of c.net-net.ensures)
-    (ap (λ (log : List Kept). footprints_at log c.deref.result.now) c.log-log.ensures.log
+    ∙ c.nodes-nodes.ensures.count ∙ ap nodes_of c.read.ensures.net)
+    (ap (λ (log : List Kept). footprints_at log c.deref.result.now) c.read.ensures.log
     ∙ ap (footprints_at c.args.sealed.now.log) c.deref.ensures.value)
-    (known _ _ _ _ c.in_ok-sites.sites.items read c.in_ok-sites.ensures).range
+    (known _ _ _ _ c.in_ok-sites.sites.items c.read.ensures c.in_ok-sites.ensures).range
 
 pub returns-clause-cut : goal.returns-clause-cut
 returns-clause-cut c =
-    let read : IsRead c.args.sealed.now c.net-net.result.now c.setup-setup.result.now c.log-log.result.now = record {
-      net = c.net-net.ensures;
-      setup = c.setup-setup.ensures.setup;
-      log = c.log-log.ensures.log;
-      network = c.nodes-nodes.ensures.network;
-      within = c.setup-setup.ensures.within;
-      kept = c.log-log.ensures.kept;
-      replies = c.log-log.ensures.replies;
-    } in
     subst (λ (all : List Footprint). IfOk c.walk_back.result
     (λ found. found.0.items ≡ places_of (cut c.args.agent all)))
-    (ap (λ (log : List Kept). footprints_at log c.deref.result.now) c.log-log.ensures.log
+    (ap (λ (log : List Kept). footprints_at log c.deref.result.now) c.read.ensures.log
     ∙ ap (footprints_at c.args.sealed.now.log) c.deref.ensures.value
-    ∙ (known _ _ _ _ c.in_ok-sites.sites.items read c.in_ok-sites.ensures).footprints)
+    ∙ (known _ _ _ _ c.in_ok-sites.sites.items c.read.ensures c.in_ok-sites.ensures).footprints)
     c.walk_back.ensures.cut

@@ -1,0 +1,25 @@
+-- What is looked up of a match that has ended.
+use Rattle.std.specs.Prelude.{◌≡◌, ◌≤◌, true, List, length, map}
+use Rattle.bhs_net.specs.Network.{Network, IsNetwork}
+use Rattle.bhs_model.specs.declared.marks.Kept.{Kept}
+use Rattle.bhs_model.specs.declared.setups.Setup.{Setup}
+use Rattle.bhs_model.specs.InOrder.{replies}
+use Rattle.bhs_model.specs.Kept.{kept}
+use Rattle.bhs_model.specs.Marks.{events_of, read_if}
+use Rattle.bhs_model.specs.Setups.{IsNormal}
+use Rattle.bhs_world.specs.Faults.{IsWithinLimits}
+use Rattle.bhs_match.specs.Matches.{Play, world_in, state_of, most_kept}
+
+-- these are the network, the setup and the log of the match; it is one that has ended. Only contracts of private
+-- functions cite it.
+pub record IsRead (play : Play) (net_read : Network) (setup_read : Setup) (log_read : List Kept) : Type 0 where
+  pub net : net_read ≡ play.net
+  pub setup : setup_read ≡ play.setup
+  pub log : log_read ≡ play.log
+  pub network : IsNetwork play.net
+  pub within : IsWithinLimits play.net play.setup
+  pub normal : IsNormal play.net play.setup
+  pub closed : (state_of play).closed ≡ true
+  pub kept : kept (world_in play) (events_of play.log) ≡ events_of play.log
+  pub replies : map (λ one. read_if play.log one.mark) play.log ≡ replies (world_in play) (events_of play.log)
+  pub bound : length play.log ≤ most_kept play.setup.agents play.setup.quota
