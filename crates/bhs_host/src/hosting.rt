@@ -68,9 +68,8 @@ impl Hosted {
     {
         let Ready { team, game, held } = ready;
         let number = number_at(self.contest.cells.len());
-        self.contest
-            .cells
-            .push(Cell::new(alloc, number, game, held)?)?;
+        let cell = Cell::new(alloc, number, game, held)?;
+        self.contest.cells.push(cell)?;
         self.teams.push(team)?;
         let stream = self.contest.dealers.len() as u64;
         self.contest.dealers.push(Dealer::new(seed, stream))?;

@@ -329,14 +329,14 @@ took setup closed game agent (Ends ∷ items) is lives at =
 
 -- ---- and of the others
 
-answers_alike : (reply : Option Reply) (game next_game : Game) (others : Taken) (agent : ℕ) → Alike agent game next_game
+answers_alike : (reply : Option Reply) (game played_game : Game) (others : Taken) (agent : ℕ) → Alike agent game played_game
     → Alike agent game others.game →
-    Alike agent game (answers reply next_game others).game
-answers_alike None game next_game others agent same later = later
-answers_alike (Some reply) game next_game others agent same later =
+    Alike agent game (answers reply played_game others).game
+answers_alike None game played_game others agent same later = later
+answers_alike (Some reply) game played_game others agent same later =
     by_bool (is_last reply)
     (λ (last : Bool). Alike agent game (cond last
-    (record { game = next_game; is_done = true; left = []; text = text_of reply })
+    (record { game = played_game; is_done = true; left = []; text = text_of reply })
     (behind (text_of reply) others)).game)
     (λ last. same) (λ more. later)
 
