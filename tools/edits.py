@@ -40,7 +40,8 @@ class BadEdit(Exception):
 
 
 class Edit(NamedTuple):
-    """What an edit changes, as files, texts in them and other texts, and the function that it changes, if it does one."""
+    """What an edit changes, as files, texts in them and other texts, and the function that it changes, if it changes
+    one."""
     name: str
     changes: List[Tuple[str, str, str]]
     function: Optional[str]

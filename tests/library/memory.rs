@@ -1,5 +1,5 @@
-//! Requests for memory that are refused. Here each is granted; `tools/refusals.py` runs these tests again, each time with
-//! another request refused.
+//! Requests for memory that are refused. Here each is granted; `tools/refusals.py` runs these tests again, each time
+//! with another request refused.
 
 mod again;
 mod playing;

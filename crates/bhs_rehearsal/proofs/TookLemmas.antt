@@ -329,8 +329,8 @@ took setup closed game agent (Ends ∷ items) is lives at =
 
 -- ---- and of the others
 
-answers_alike : (reply : Option Reply) (game played_game : Game) (others : Taken) (agent : ℕ) → Alike agent game played_game
-    → Alike agent game others.game →
+answers_alike : (reply : Option Reply) (game played_game : Game) (others : Taken) (agent : ℕ)
+    → Alike agent game played_game → Alike agent game others.game →
     Alike agent game (answers reply played_game others).game
 answers_alike None game played_game others agent same later = later
 answers_alike (Some reply) game played_game others agent same later =

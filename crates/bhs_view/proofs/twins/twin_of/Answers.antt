@@ -15,13 +15,15 @@ first_arrival-requires-clause-sites c = sites_count (world_of c.read.result.net.
 pub replaced-old-requires : goal.replaced-old-requires
 replaced-old-requires c = record {
   sites = sites_count (world_of c.read.result.net.now c.read.result.setup.now)
-      c.read.result.log.now c.in_ok-sites.sites.items c.deref-2.result.now c.in_ok-sites.ensures c.deref-2.ensures.value;
+      c.read.result.log.now c.in_ok-sites.sites.items c.deref-2.result.now c.in_ok-sites.ensures
+      c.deref-2.ensures.value;
 }
 
 pub left-requires : goal.left-requires
 left-requires c = record {
   sites = sites_count (world_of c.read.result.net.now c.read.result.setup.now)
-      c.read.result.log.now c.in_ok-sites.sites.items c.deref-3.result.now c.in_ok-sites.ensures c.deref-3.ensures.value;
+      c.read.result.log.now c.in_ok-sites.sites.items c.deref-3.result.now c.in_ok-sites.ensures
+      c.deref-3.ensures.value;
 }
 
 pub returns-in-Some-clause-fault : goal.returns-in-Some-clause-fault
@@ -47,8 +49,8 @@ pub replay-requires-clause-set : goal.replay-requires-clause-set
 replay-requires-clause-set c =
     ap length (c.deref-4.ensures.value ∙ c.in_ok-set.ensures) ∙ left_count c.replaced-old.result c.read.result.log.now
     c.deref-3.result.now
-    (sites_count (world_of c.read.result.net.now c.read.result.setup.now) c.read.result.log.now c.in_ok-sites.sites.items
-    c.deref-3.result.now c.in_ok-sites.ensures c.deref-3.ensures.value)
+    (sites_count (world_of c.read.result.net.now c.read.result.setup.now) c.read.result.log.now
+    c.in_ok-sites.sites.items c.deref-3.result.now c.in_ok-sites.ensures c.deref-3.ensures.value)
 
 pub returns : goal.returns
 returns c =
