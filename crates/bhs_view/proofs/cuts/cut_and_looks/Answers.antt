@@ -18,7 +18,8 @@ returns-then-agent-setup-clause-cut c =
 pub walk_back-requires-clause-sites : goal.walk_back-requires-clause-sites
 walk_back-requires-clause-sites c =
     ap length c.deref.ensures.value
-    ∙ (known _ _ _ _ c.in_ok-sites.sites.items c.read.ensures c.in_ok-sites.ensures).count ∙ ap length (sym c.read.ensures.log)
+    ∙ (known _ _ _ _ c.in_ok-sites.sites.items c.read.ensures c.in_ok-sites.ensures).count
+    ∙ ap length (sym c.read.ensures.log)
 
 pub walk_back-requires-clause-range : goal.walk_back-requires-clause-range
 walk_back-requires-clause-range c =

@@ -12,7 +12,8 @@ use Rattle.bhs_view.proofs.restricting.closed_set.Goals as goal
 pub unclosed-requires-clause-sites : goal.unclosed-requires-clause-sites
 unclosed-requires-clause-sites c =
     ap length c.deref.ensures.value
-    ∙ (known _ _ _ _ c.in_ok-sites.sites.items c.read.ensures c.in_ok-sites.ensures).count ∙ ap length (sym c.read.ensures.log)
+    ∙ (known _ _ _ _ c.in_ok-sites.sites.items c.read.ensures c.in_ok-sites.ensures).count
+    ∙ ap length (sym c.read.ensures.log)
 
 pub unclosed-requires-clause-range : goal.unclosed-requires-clause-range
 unclosed-requires-clause-range c =
