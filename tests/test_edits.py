@@ -108,6 +108,12 @@ class Answers(unittest.TestCase):
     def test_a_crate_that_is_still_proved_is_not_refused(self) -> None:
         self.assertIn("NOT REFUSED", self.told("only=1 proved=1", "logic=proved functions=2"))
 
+    def test_a_remark_is_no_reason(self) -> None:
+        remark = "./proofs/Lemmas.antt:110:5: note: large solution"
+        goal = "note: src/hall.rt:3:1: it is not proved that what the function ensures holds when it returns"
+        self.assertEqual(edits.first_told([remark, goal]), goal)
+        self.assertEqual(edits.first_told([remark, "fn low::told: no proof"]), "fn low::told: no proof")
+
     def test_what_is_not_read_is_not_tried(self) -> None:
         self.assertIn("BAD EDIT", self.told("only=0 proved=0", "error: expected an expression"))
         self.assertIn("BAD EDIT", self.told("src/lib.rt:3:1: error: `MOST`: it is not in scope\nonly=1 proved=0", ""))

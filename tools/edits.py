@@ -144,7 +144,9 @@ class Prover(NamedTuple):
 
 
 def first_told(lines: Sequence[str]) -> str:
-    return next((line for line in lines if re.match(r"(note: )?\S+:\d+:\d+: ", line)), "")
+    """The first line on what is not proved, with its place if it has one. Remarks are no reason."""
+    begins = (r"(note: )?\S+:\d+:\d+: (?!note: |warning: )", r"fn \S+: (no proof|not proved)")
+    return next((line for begin in begins for line in lines if re.match(begin, line)), "")
 
 
 def together(edits: Sequence[Edit], folder: pathlib.Path) -> Tuple[List[Edit], List[Edit]]:

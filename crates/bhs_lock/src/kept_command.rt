@@ -11,7 +11,7 @@ use bhs_net::Memory;
 use std::alloc::Global;
 use std::marker::Model;
 
-/// A command as a pass keeps it. The texts of a Write lie apart, so that it takes 16 bytes where a command takes 56.
+/// A command as a pass keeps it. The texts of a Write lie apart, so that a pass takes less memory for each command.
 /// Contracts see the command.
 #[derive(Debug, Drop)]
 pub(crate) struct KeptCommand {
