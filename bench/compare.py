@@ -1,14 +1,15 @@
 #!/usr/bin/env python3
 """Compares two builds of the program in one run.
 
-    python3 bench/compare.py PROGRAM OTHER
+    python3 bench/compare.py [--keep] PROGRAM OTHER
 
 Makes tournaments, networks and scripts by a seeded generator, and runs both programs on each of them in turn, 21
 times. Prints for each input the median time of both, the least time that a processor took for them, which other work
 on the machine changes less, of each the time of PROGRAM divided by that of OTHER, and the peak memory of both. What
-they print goes to nobody while they are timed. The tournaments are of version 1, so that older builds take them too.
-Both programs must print the same bytes, in one more run of each; an input on which they do not is told, and the exit
-status is then 1. Nothing is written outside a temporary folder.
+they print goes to nobody while they are timed. With --keep it is kept in memory, which takes the system the same time
+for both. The tournaments are of version 1, so that older builds take them too. Both programs must print the same bytes,
+in one more run of each; an input on which they do not is told, and the exit status is then 1. Nothing is written
+outside a temporary folder.
 """
 import pathlib
 import statistics
@@ -134,15 +135,16 @@ def compared(chosen: Callable[[Sequence[float]], float], seconds: List[List[floa
 
 
 def main() -> int:
-    words = sys.argv[1:]
-    if len(words) != 2 or any(word in ("-h", "--help") for word in words):
+    keeps = sys.argv[1:2] == ["--keep"]
+    named = sys.argv[2 if keeps else 1:]
+    if len(named) != 2 or any(word.startswith("-") for word in named):
         sys.exit(__doc__.strip())
-    programs = [str(pathlib.Path(word).resolve()) for word in words]
+    programs = [str(pathlib.Path(word).resolve()) for word in named]
     differs = False
     with tempfile.TemporaryDirectory() as name:
         folder = pathlib.Path(name)
         for title, words, source in made(folder):
-            runs = [[run(program, words, source, folder) for program in programs] for _ in range(ROUNDS)]
+            runs = [[run(program, words, source, folder, keeps) for program in programs] for _ in range(ROUNDS)]
             peaks = [peak_of(program, words, source, folder) for program in programs]
             times = compared(statistics.median, [[it.seconds for it in both] for both in runs])
             processors = compared(min, [[it.processor for it in both] for both in runs])

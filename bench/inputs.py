@@ -64,11 +64,12 @@ class Run(NamedTuple):
     processor: float
 
 
-def run(program: str, words: Sequence[str], source: pathlib.Path, folder: pathlib.Path) -> Run:
-    """One run of a program that prints to nobody, so that no reader, disk or memory for what it prints is timed."""
-    with open(source, "rb") as given:
+def run(program: str, words: Sequence[str], source: pathlib.Path, folder: pathlib.Path, keeps: bool = False) -> Run:
+    """One run of a program. What it prints goes to nobody, or is kept in memory, so that no reader and no disk is
+    timed."""
+    with open(source, "rb") as given, open(os.memfd_create("printed") if keeps else os.devnull, "wb") as taken:
         start = time.perf_counter()
-        child = subprocess.Popen([program, *words], stdin=given, stdout=subprocess.DEVNULL, cwd=folder)
+        child = subprocess.Popen([program, *words], stdin=given, stdout=taken, cwd=folder)
         _, status, used = os.wait4(child.pid, 0)
         seconds = time.perf_counter() - start
         child.returncode = os.waitstatus_to_exitcode(status)

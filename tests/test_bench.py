@@ -37,10 +37,11 @@ class Inputs(unittest.TestCase):
         with tempfile.TemporaryDirectory() as name:
             folder = pathlib.Path(name)
             (folder / "in").write_text("text")
-            ran = inputs.run("cat", [], folder / "in", folder)
             self.assertEqual(inputs.printed_by("cat", [], folder / "in", folder), b"text")
-            self.assertGreater(ran.seconds, 0)
-            self.assertGreater(ran.processor, 0)
+            for keeps in (False, True):
+                ran = inputs.run("cat", [], folder / "in", folder, keeps)
+                self.assertGreater(ran.seconds, 0)
+                self.assertGreater(ran.processor, 0)
             with self.assertRaises(subprocess.CalledProcessError):
                 inputs.run("false", [], folder / "in", folder)
             self.assertEqual(compare.compared(min, [[0.002, 0.004], [0.003, 0.008]]), "2.0 ms, 4.0 ms, ratio 0.50")

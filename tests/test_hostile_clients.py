@@ -23,13 +23,14 @@ CHECKS = 7
 @unittest.skipUnless("BY_THE_CLOCK" in os.environ, "goes by the clock")
 class Attacks(unittest.TestCase):
     def test_the_stand_in_stands_them(self) -> None:
-        printed = io.StringIO()
-        with tempfile.TemporaryDirectory() as name, mock.patch.dict(os.environ, ARENA=STAND_IN):
-            with contextlib.redirect_stdout(printed):
-                results = hostile_clients.besiege(SMALL, pathlib.Path(name))
-        self.assertEqual(results.failed, 0, printed.getvalue())
-        self.assertEqual(results.count, len(ATTACKS) + CHECKS)
-        self.assertEqual(printed.getvalue().count("\n"), results.count)
+        for attacks in ATTACKS.values():
+            printed = io.StringIO()
+            with tempfile.TemporaryDirectory() as name, mock.patch.dict(os.environ, ARENA=STAND_IN):
+                with contextlib.redirect_stdout(printed):
+                    results = hostile_clients.besiege(SMALL, attacks, pathlib.Path(name))
+            self.assertEqual(results.failed, 0, printed.getvalue())
+            self.assertEqual(results.count, len(attacks) + CHECKS)
+            self.assertEqual(printed.getvalue().count("\n"), results.count)
 
 
 class Hearing(unittest.TestCase):

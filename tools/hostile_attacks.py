@@ -12,7 +12,7 @@ import subprocess
 import sys
 import threading
 import time
-from typing import List, NamedTuple, Optional, Sequence
+from typing import Callable, Dict, List, NamedTuple, Optional, Sequence
 
 TOP = pathlib.Path(__file__).resolve().parent.parent
 sys.path.insert(0, str(TOP / "bench"))
@@ -148,6 +148,10 @@ class Siege:
         self.strangers: List[socket.socket] = []
         self.slow: Optional[Slow] = None
 
+    def left(self) -> int:
+        """How many sessions are left."""
+        return self.sizes.sessions - self.sessions
+
     def connect(self, buffer: int = 0) -> socket.socket:
         """A new session; it has a small buffer for what it is sent where one is named."""
         client = socket.socket()
@@ -240,14 +244,25 @@ def resets(siege: Siege) -> str:
     return f"{RESETS} clients entered, of which half departed, and reset their connections with answers unread"
 
 
-def silent(siege: Siege) -> str:
-    """Half of the sessions that are left. They come in bursts, as the system queues only so many."""
-    count = (siege.sizes.sessions - siege.sessions - LATER) // 2
+def connect_silently(siege: Siege, count: int) -> str:
+    """They come in bursts, as the system queues only so many."""
     for number in range(count):
         if number % BURST == 0:
             time.sleep(0.01)
         siege.kept.append(siege.connect())
     return f"{count} clients connected and send nothing"
+
+
+def silent(siege: Siege) -> str:
+    """Half of the sessions that are left."""
+    return connect_silently(siege, (siege.left() - LATER) // 2)
+
+
+def silent_all(siege: Siege) -> str:
+    """All sessions that are left, while the polite clients go on for some time."""
+    told = connect_silently(siege, siege.left())
+    time.sleep(3 * siege.sizes.still)
+    return told
 
 
 def garbage(siege: Siege) -> str:
@@ -312,7 +327,7 @@ def deaf(siege: Siege) -> str:
 
 def wrong_keys(siege: Siege) -> str:
     """All sessions that are left; every tenth client has a key that is taken."""
-    count = siege.sizes.sessions - siege.sessions
+    count = siege.left()
     for number in range(count):
         is_taken = number % 10 == 0
         with siege.connect() as client:
@@ -339,4 +354,10 @@ def beyond(siege: Siege) -> str:
     return f"{BEYOND} clients came beyond the {siege.sessions} sessions, and the system keeps {waiting} of them waiting"
 
 
-ATTACKS = [slow_begin, half_open, resets, silent, garbage, flood, deaf, wrong_keys, beyond, slow_end]
+Attack = Callable[[Siege], str]
+# the attacks on one server: each in turn, or one by as many clients as there are sessions left
+ATTACKS: Dict[str, List[Attack]] = {
+    "each": [slow_begin, half_open, resets, silent, garbage, flood, deaf, wrong_keys, beyond, slow_end],
+    "silent": [silent_all],
+    "keys": [wrong_keys],
+}

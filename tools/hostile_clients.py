@@ -1,13 +1,15 @@
 #!/usr/bin/env python3
 """Attacks a server by clients that keep to no rule, while two that do play their match.
 
-    tools/hostile_clients.py [--sessions N]
+    tools/hostile_clients.py [--sessions N] [--attack each|silent|keys]
 
 Starts `./arena serve` on a tournament of four matches in a temporary folder, with N sessions, 1024 where none are
 named. Two polite clients play the first match from the first attack to the last: on a ring of 8 nodes they walk to and
 fro, look and write, and then accuse the black hole. The others attack (tools/hostile_attacks.py), those that have a key
-in the second match. For each attack a line is printed with what was seen and the peak memory of the server until then,
-for each check in the end another, and then how many passed. The exit status is 1 where one of these fails:
+in the second match: with `each`, the default, in each way in turn; with `silent` or `keys` in one way, by as many
+clients as there are sessions left, which send nothing or have wrong keys. For each attack a line is printed with what
+was seen and the peak memory of the server until then, for each check in the end another, and then how many passed. The
+exit status is 1 where one of these fails:
 
 - Each attack is answered as docs/FORMATS.md says, and each answer comes within 2 seconds. Connections beyond the N
   sessions are answered nothing. When answers are not read, the server soon takes no more lines.
@@ -35,8 +37,8 @@ import threading
 import time
 from typing import Callable, Iterator, List, NamedTuple, Optional, Sequence
 
-from hostile_attacks import (ATTACKS, BEYOND, DEPART, GONE, HERE, HOST, HOSTILE, LATER, OVER, PATIENCE, POLITE, PROMPT,
-                             STRANGER, Siege, Sizes, Wrong, hear)
+from hostile_attacks import (ATTACKS, DEPART, GONE, HERE, HOST, HOSTILE, LATER, OVER, PATIENCE, POLITE, PROMPT,
+                             STRANGER, Attack, Siege, Sizes, Wrong, hear)
 from stand_in_model import ENDED, OUTSIDE, Match, judge, played, spelled
 from stand_in_server import table
 
@@ -226,10 +228,10 @@ def check_vanished(siege: Siege, match: Match) -> str:
 def check_strangers(siege: Siege, folder: pathlib.Path) -> str:
     answered = sum(was_answered(client) for client in siege.strangers)
     if answered:
-        raise Wrong(f"{answered} of {BEYOND} were answered")
+        raise Wrong(f"{answered} of {len(siege.strangers)} were answered")
     if match_of(folder, HOSTILE).agents[STRANGER].standing != OUTSIDE:
         raise Wrong("one of them has entered")
-    return f"none of {BEYOND} was answered"
+    return f"{len(siege.strangers)} clients, none of which was answered"
 
 
 def was_answered(client: socket.socket) -> bool:
@@ -263,9 +265,9 @@ class Results:
         print(f"{name}: {told}", flush=True)
 
 
-def attack(siege: Siege, results: Results) -> None:
-    """Runs all attacks, in their order."""
-    for one in ATTACKS:
+def attack(siege: Siege, attacks: Sequence[Attack], results: Results) -> None:
+    """Runs the attacks in turn."""
+    for one in attacks:
         results.add(one.__name__.replace("_", " "),
                     lambda: f"{one(siege)}; peak {peak_so_far(siege.server) / 1024:.1f} MiB")
 
@@ -296,15 +298,15 @@ def served(sizes: Sizes, folder: pathlib.Path) -> Iterator[Siege]:
         yield Siege(server, port, sizes)
 
 
-def besiege(sizes: Sizes, folder: pathlib.Path) -> Results:
-    """Has the polite match played under attack, and looks at what came of it."""
+def besiege(sizes: Sizes, attacks: Sequence[Attack], folder: pathlib.Path) -> Results:
+    """Has the polite match played under these attacks, and looks at what came of it."""
     results = Results()
     with served(sizes, folder) as siege:
         polite = [Polite(siege, number) for number in range(2)]
         witness = Witness(siege)
         for client in polite:
             client.start()
-        attack(siege, results)
+        attack(siege, attacks, results)
         for client in polite:
             client.attacks_are_over.set()
         for client in polite:
@@ -320,13 +322,14 @@ def main() -> int:
     parser = argparse.ArgumentParser(description=__doc__, formatter_class=argparse.RawDescriptionHelpFormatter)
     parser.add_argument("--sessions", metavar="N", type=int, default=MAX_SESSIONS,
                         help=f"{LEAST_SESSIONS} to {MAX_SESSIONS}")
+    parser.add_argument("--attack", choices=list(ATTACKS), default="each")
     given = parser.parse_args()
     if not LEAST_SESSIONS <= given.sessions <= MAX_SESSIONS:
         parser.error(f"--sessions takes {LEAST_SESSIONS} to {MAX_SESSIONS}")
     prepare(FILES)
     with tempfile.TemporaryDirectory() as name:
         try:
-            results = besiege(Sizes(sessions=given.sessions), pathlib.Path(name))
+            results = besiege(Sizes(sessions=given.sessions), ATTACKS[given.attack], pathlib.Path(name))
         except (Failed, Refused, Wrong, OSError) as fault:
             raise SystemExit(f"hostile_clients: the attack could not begin: {fault}") from fault
     print(f"{results.count - results.failed} passed, {results.failed} failed")
