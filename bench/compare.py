@@ -5,11 +5,11 @@
 
 Makes tournaments, networks and scripts by a seeded generator, and runs both programs on each of them in turn, 21
 times. Prints for each input the median time of both, the least time that a processor took for them, which other work
-on the machine changes less, of each the time of PROGRAM divided by that of OTHER, and the peak memory of both. What
-they print goes to nobody while they are timed. With --keep it is kept in memory, which takes the system the same time
-for both. The tournaments are of version 1, so that older builds take them too. Both programs must print the same bytes,
-in one more run of each; an input on which they do not is told, and the exit status is then 1. Nothing is written
-outside a temporary folder.
+on the machine changes less, of each the time of PROGRAM divided by that of OTHER, and the median of the most memory
+that they held. What they print goes to nobody while they are timed. With --keep it is kept in memory, which takes the
+system the same time for both. The tournaments are of version 1, so that older builds take them too. Both programs must
+print the same bytes, in one more run of each; an input on which they do not is told, and the exit status is then 1.
+Nothing is written outside a temporary folder. It needs cc, since a small program in C takes the times (bench/timer.c).
 """
 import pathlib
 import statistics
@@ -18,7 +18,7 @@ import tempfile
 from typing import Callable, Iterable, Iterator, List, Sequence, Tuple
 
 import rehearse
-from inputs import MAX_SCRIPT, key, network, peak_of, printed_by, run, torus, tournament
+from inputs import MAX_SCRIPT, key, network, printed_by, run, torus, tournament
 
 ROUNDS = 21
 BOARD = 1000
@@ -131,7 +131,7 @@ def made(folder: pathlib.Path) -> List[Input]:
 def compared(chosen: Callable[[Sequence[float]], float], seconds: List[List[float]]) -> str:
     """What is chosen of the times of each of two programs, and the ratio."""
     one, two = map(chosen, zip(*seconds))
-    return f"{one * 1000:.1f} ms, {two * 1000:.1f} ms, ratio {one / two:.2f}"
+    return f"{one * 1000:.2f} ms, {two * 1000:.2f} ms, ratio {one / two:.2f}"
 
 
 def main() -> int:
@@ -145,12 +145,11 @@ def main() -> int:
         folder = pathlib.Path(name)
         for title, words, source in made(folder):
             runs = [[run(program, words, source, folder, keeps) for program in programs] for _ in range(ROUNDS)]
-            peaks = [peak_of(program, words, source, folder) for program in programs]
+            one, two = [sorted(it.peak for it in each)[ROUNDS // 2] for each in zip(*runs)]
             times = compared(statistics.median, [[it.seconds for it in both] for both in runs])
             processors = compared(min, [[it.processor for it in both] for both in runs])
-            print(f"{title}: {times}; processor {processors}; peak {peaks[0]} KiB, {peaks[1]} KiB", flush=True)
-            one, two = [printed_by(program, words, source, folder) for program in programs]
-            if one != two:
+            print(f"{title}: {times}; processor {processors}; peak {one} KiB, {two} KiB", flush=True)
+            if len({printed_by(program, words, source, folder) for program in programs}) > 1:
                 differs = True
                 print(f"{title}: the programs do not print the same")
     return 1 if differs else 0

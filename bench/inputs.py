@@ -1,9 +1,12 @@
 """What the benchmarks share: networks and tournaments as texts, and how long and how large one run of a program is."""
+import atexit
+import functools
 import os
 import pathlib
 import subprocess
+import tempfile
 import time
-from typing import Callable, Iterable, List, NamedTuple, Sequence, Tuple
+from typing import Iterable, List, NamedTuple, Sequence, Tuple
 
 MAX_SCRIPT = 1_048_576
 MAX_QUOTA = 1000
@@ -59,34 +62,41 @@ def tournament(name: str, matches: int, agents: int, board: int, version: int = 
 
 
 class Run(NamedTuple):
-    """One run of a program: how many seconds it took, and how many of them a processor worked for it."""
+    """One run of a program: the seconds that it took, those that a processor worked for it, and the most memory, in
+    KiB, that it held."""
     seconds: float
     processor: float
+    peak: int
+
+
+@functools.lru_cache(maxsize=None)
+def timer() -> str:
+    """The program that times others, compiled of timer.c."""
+    folder = tempfile.TemporaryDirectory()
+    atexit.register(folder.cleanup)
+    made = str(pathlib.Path(folder.name) / "timer")
+    source = str(pathlib.Path(__file__).resolve().parent / "timer.c")
+    subprocess.run(["cc", "-O2", "-Wall", "-Wextra", "-Werror", "-o", made, source], check=True)
+    return made
 
 
 def run(program: str, words: Sequence[str], source: pathlib.Path, folder: pathlib.Path, keeps: bool = False) -> Run:
     """One run of a program. What it prints goes to nobody, or is kept in memory, so that no reader and no disk is
     timed."""
-    with open(source, "rb") as given, open(os.memfd_create("printed") if keeps else os.devnull, "wb") as taken:
-        start = time.perf_counter()
-        child = subprocess.Popen([program, *words], stdin=given, stdout=taken, cwd=folder)
-        _, status, used = os.wait4(child.pid, 0)
-        seconds = time.perf_counter() - start
-        child.returncode = os.waitstatus_to_exitcode(status)
-        if child.returncode != 0:
-            raise subprocess.CalledProcessError(child.returncode, [program, *words])
-        return Run(seconds, used.ru_utime + used.ru_stime)
+    told, teller = os.pipe()
+    with open(told) as figures, open(teller, "w") as tells, open(source, "rb") as given, \
+            open(os.memfd_create("printed") if keeps else os.devnull, "wb") as taken:
+        command = [timer(), str(tells.fileno()), program, *words]
+        subprocess.run(command, stdin=given, stdout=taken, cwd=folder, pass_fds=[tells.fileno()], check=True)
+        tells.close()
+        seconds, processor, peak = figures.read().split()
+        return Run(float(seconds), float(processor), int(peak))
 
 
 def printed_by(program: str, words: Sequence[str], source: pathlib.Path, folder: pathlib.Path) -> bytes:
     """What one run prints."""
     with open(source, "rb") as given:
         return subprocess.run([program, *words], stdin=given, stdout=subprocess.PIPE, cwd=folder, check=True).stdout
-
-
-def seconds_of(program: str, words: Sequence[str], source: pathlib.Path, folder: pathlib.Path) -> float:
-    """How long one run takes that prints to nobody."""
-    return run(program, words, source, folder).seconds
 
 
 def peak_so_far(child: subprocess.Popen) -> int:
@@ -107,16 +117,6 @@ def peak_of_child(child: subprocess.Popen) -> int:
     return peak
 
 
-def peak_of(program: str, words: Sequence[str], source: pathlib.Path, folder: pathlib.Path) -> int:
-    """The most memory, in KiB, that one run held."""
-    with open(source, "rb") as given:
-        child = subprocess.Popen([program, *words], stdin=given, stdout=subprocess.DEVNULL, cwd=folder)
-        peak = peak_of_child(child)
-    if child.returncode != 0:
-        raise subprocess.CalledProcessError(child.returncode, [program, *words])
-    return peak
-
-
-def median_of(rounds: int, measure: Callable[[], float]) -> float:
-    """The median of so many measurements."""
-    return sorted(measure() for _ in range(rounds))[rounds // 2]
+def median_run(rounds: int, program: str, words: Sequence[str], source: pathlib.Path, folder: pathlib.Path) -> Run:
+    """The run of so many whose seconds are the median."""
+    return sorted(run(program, words, source, folder) for _ in range(rounds))[rounds // 2]

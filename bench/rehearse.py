@@ -6,15 +6,15 @@
 
 Makes a tournament of 64 matches of 16 agents each on a torus of 25 nodes, and two scripts of commands and draws by a
 seeded generator: one as long as a script may be, and one of a tenth of that. Plays both, five times each, and prints
-for each the median time, lines per second, and the peak memory of one more run; then the ratios, and the median time
-of a script without a line, which is what a start costs. Nothing is written outside a temporary folder.
+for each the median time, lines per second, and the peak memory of that run; then the ratios, and the median time of a
+script without a line, which is what a start costs. Nothing is written outside a temporary folder.
 """
 import pathlib
 import random
 import tempfile
 from typing import Tuple
 
-from inputs import MAX_SCRIPT, key, median_of, peak_of, seconds_of, torus, tournament
+from inputs import MAX_SCRIPT, key, median_run, torus, tournament
 
 TOP = pathlib.Path(__file__).resolve().parent.parent
 PROGRAM = TOP / "crates" / "bhs_main" / "out" / "bhs_main"
@@ -73,15 +73,14 @@ def main() -> None:
             text, lines = script(MAX_SCRIPT // part)
             source = folder / f"script{part}"
             source.write_text(text)
-            seconds = median_of(RUNS, lambda: seconds_of(program, words, source, folder))
-            peak = peak_of(program, words, source, folder)
+            seconds, _, peak = median_run(RUNS, program, words, source, folder)
             figures.append((lines, seconds, peak))
             print(f"{lines} lines, {len(text)} bytes: {seconds:.3f} s, {lines / seconds:.0f} lines per second, "
                   f"peak {peak} KiB")
         (most, slow, high), (few, fast, low) = figures
         print(f"ratios: lines {most / few:.1f}, seconds {slow / fast:.1f}, peak memory {high / low:.1f}")
         for words in (["rehearse"], ["rehearse", "long.toml"]):
-            seconds = median_of(RUNS, lambda: seconds_of(program, words, folder / "empty", folder))
+            seconds, _, _ = median_run(RUNS, program, words, folder / "empty", folder)
             print(f"start, {' '.join(words)}: {seconds * 1000:.1f} ms")
 
 

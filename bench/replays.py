@@ -13,7 +13,7 @@ Writes replays of matches that have ended, each once whole and once at a tenth o
   many.
 
 On each it runs `judge`, `table`, `explain` and `twin`, three times each, and prints the median time, the peak memory of
-one more run and the size of the replay; then how the whole replay compares with its tenth: a program that is linear
+that run and the size of the replay; then how the whole replay compares with its tenth: a program that is linear
 takes about ten times as long. What `judge` says is compared with what the replay was made to give. Nothing is written
 outside a temporary folder, which takes up to 1 GB.
 """
@@ -23,7 +23,7 @@ import sys
 import tempfile
 from typing import Any, Callable, Dict, Iterator, List, NamedTuple, Optional, TextIO, Tuple
 
-from inputs import MAX_AGENTS, MAX_BOARD, MAX_QUOTA, median_of, peak_of, seconds_of, torus_links
+from inputs import MAX_AGENTS, MAX_BOARD, MAX_QUOTA, median_run, torus_links
 
 TOP = pathlib.Path(__file__).resolve().parent.parent
 sys.path.insert(0, str(TOP / "tools"))
@@ -140,8 +140,8 @@ def measured(program: str, name: str, folder: pathlib.Path) -> List[Tuple[str, f
     figures = []
     twin = ["twin", name, str(NEVER_REACHED)]
     for words in (["judge", name], ["table", f"team={name}"], ["explain", name, "0"], twin):
-        seconds = median_of(RUNS, lambda: seconds_of(program, words, folder / "empty", folder))
-        figures.append((words[0], seconds, peak_of(program, words, folder / "empty", folder)))
+        seconds, _, peak = median_run(RUNS, program, words, folder / "empty", folder)
+        figures.append((words[0], seconds, peak))
     return figures
 
 

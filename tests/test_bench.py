@@ -1,6 +1,8 @@
 """The inputs of the benchmarks, the words of deliveries, and the table that the contest reads."""
 import pathlib
+import shutil
 import subprocess
+import sys
 import tempfile
 import tomllib
 import unittest
@@ -33,6 +35,10 @@ class Inputs(unittest.TestCase):
         self.assertEqual(text.count("\n"), lines)
         self.assertGreater(len(compare.filled(compare.moves())), inputs.MAX_SCRIPT - 100)
 
+    def test_times_are_compared(self) -> None:
+        self.assertEqual(compare.compared(min, [[0.002, 0.004], [0.003, 0.008]]), "2.00 ms, 4.00 ms, ratio 0.50")
+
+    @unittest.skipUnless(shutil.which("cc"), "no C compiler")
     def test_a_run_is_measured(self) -> None:
         with tempfile.TemporaryDirectory() as name:
             folder = pathlib.Path(name)
@@ -42,10 +48,12 @@ class Inputs(unittest.TestCase):
                 ran = inputs.run("cat", [], folder / "in", folder, keeps)
                 self.assertGreater(ran.seconds, 0)
                 self.assertGreater(ran.processor, 0)
+                self.assertGreater(ran.peak, 100)
             with self.assertRaises(subprocess.CalledProcessError):
                 inputs.run("false", [], folder / "in", folder)
-            self.assertEqual(compare.compared(min, [[0.002, 0.004], [0.003, 0.008]]), "2.0 ms, 4.0 ms, ratio 0.50")
-            self.assertGreater(inputs.peak_of("sleep", ["0.5"], folder / "in", folder), 100)
+            words = ["-c", "held = b'x' * (32 * 1024 * 1024)"]
+            held = inputs.median_run(3, sys.executable, words, folder / "in", folder)
+            self.assertGreater(held.peak, 32 * 1024)
 
 
 class Words(unittest.TestCase):
