@@ -41,7 +41,7 @@ fn each_link(alloc: Global, items: &[Value]) -> Result<Option<Vec<Link>>, Memory
     ensures { IfOk result
         (λ found. option_map (λ links. links.items) found ≡ each link (items_view items.now)) }
 {
-    let mut links = Vec::new(alloc);
+    let mut links = Vec::with_capacity(alloc, items.len())?;
     for item in items {
         let Some(link) = link(item) else {
             return Ok(None);
@@ -71,15 +71,22 @@ fn listing(alloc: Global, table: &Table) -> Result<(u16, Vec<Link>), FileFault>
     Ok((nodes, links))
 }
 
+/// What a network file lists. Its table is dropped before the network is judged, which may then use that memory.
+#[tactic(auto, unfolding(crate::specs::NetworkFiles::listing_in))]
+fn listing_in(alloc: Global, text: &str) -> Result<(u16, Vec<Link>), FileFault>
+    ensures { GivesUnlessMemory (λ listing. (listing.0, listing.1.items)) result (listing_in text.now) }
+{
+    let (_, table) = documents::document(alloc, text, NETWORK_VERSION)?;
+    listing(alloc, &table)
+}
+
 /// Reads a network file. The first fault is told: the text is no TOML document, then its version, then `nodes`
 /// and `links`, whatever the order in the file, and then the first fault of the network that is listed. Other
 /// keys are ignored.
-#[tactic(auto, unfolding(crate::specs::NetworkFiles::listing_in))]
 pub fn read_network(alloc: Global, text: &str) -> Result<Net, FileFault>
     ensures made { IfOk result (IsNetworkOf (listing_in text.now)) }
     ensures refused { IfErr result (RefusesFile (listing_in text.now)) }
 {
-    let (_, table) = documents::document(alloc, text, NETWORK_VERSION)?;
-    let (nodes, links) = listing(alloc, &table)?;
+    let (nodes, links) = listing_in(alloc, text)?;
     Ok(Net::try_new(alloc, nodes, &links)?)
 }

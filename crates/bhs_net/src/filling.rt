@@ -1,6 +1,7 @@
 //! The rows of links that have no fault, in time in the number of links. An index says for each end at which place of
 //! the list a link with this end stands, and each port is filled by that link. Nothing is proved of how the index is
-//! made: it is checked. Of two links that would need one place in it, one is missed.
+//! made: it is checked. Of two links that would need one place in it, one is missed, and so is a link behind the first
+//! 65,536, which are more than a network may have.
 
 ghost use Rattle.std.specs.Prelude.{◌≡◌, ◌≤◌, true, length, IfOk, IfSome};
 ghost use Rattle.bhs_net.specs.declared.faults.TheConstants.{MIN_NODES, MAX_NODES};
@@ -15,7 +16,7 @@ use crate::numbering::NODES;
 use std::alloc::{AllocError, Global};
 
 /// Writes the place of a link into the index, if that has room for this end.
-fn set_place(index: &mut Vec<Vec<usize>>, node: u16, port: u16, place: usize)
+fn set_place(index: &mut Vec<Vec<u16>>, node: u16, port: u16, place: u16)
     ensures size { length index.new.items ≡ length index.old.items }
 {
     let (node, port) = (usize::from(node), usize::from(port));
@@ -25,7 +26,7 @@ fn set_place(index: &mut Vec<Vec<usize>>, node: u16, port: u16, place: usize)
 }
 
 /// The index of links: for each node as many places as links end at it, in the order of their ports.
-fn indexed(alloc: Global, nodes: u16, links: &[Link]) -> Result<Vec<Vec<usize>>, AllocError>
+fn indexed(alloc: Global, nodes: u16, links: &[Link]) -> Result<Vec<Vec<u16>>, AllocError>
     ensures size { IfOk result (λ index. length index.items ≡ nodes) }
 {
     let mut degrees: Vec<usize> = vec![in alloc; 0; usize::from(nodes)]?;
@@ -37,11 +38,14 @@ fn indexed(alloc: Global, nodes: u16, links: &[Link]) -> Result<Vec<Vec<usize>>,
             }
         }
     }
-    let mut index = Vec::new(alloc);
+    let mut index = Vec::with_capacity(alloc, degrees.len())?;
     for degree in &degrees {
         index.push(vec![in alloc; 0; *degree]?)?;
     }
     for (place, link) in links.iter().enumerate() {
+        let Ok(place) = u16::try_from(place) else {
+            break;
+        };
         set_place(&mut index, link.v, link.p, place);
         set_place(&mut index, link.w, link.q, place);
     }
@@ -49,17 +53,20 @@ fn indexed(alloc: Global, nodes: u16, links: &[Link]) -> Result<Vec<Vec<usize>>,
 }
 
 /// The place of the list that the index has for an end.
-fn place_at(index: &[Vec<usize>], node: u16, port: u16) -> Option<usize>
+fn place_at(index: &[Vec<u16>], node: u16, port: u16) -> Option<usize>
     ensures { result ≡ place_at (index_of index.now) (node, port) }
 {
     match index.get(usize::from(node)) {
-        Some(row) => row.get(usize::from(port)).copied(),
+        Some(row) => match row.get(usize::from(port)) {
+            Some(place) => Some(usize::from(*place)),
+            None => None,
+        },
         None => None,
     }
 }
 
 /// Whether the index has each link for both of its ends.
-fn are_indexed(links: &[Link], index: &[Vec<usize>]) -> bool
+fn are_indexed(links: &[Link], index: &[Vec<u16>]) -> bool
     ensures { result ≡ true → AreIndexed links.now (index_of index.now) }
 {
     for (place, link) in links.iter().enumerate() {
@@ -91,13 +98,13 @@ fn filled_row(
     alloc: Global,
     links: &[Link],
     node: usize,
-    places: &[usize],
+    places: &[u16],
 ) -> Result<Option<Vec<End>>, AllocError>
     ensures { IfOk result (λ found. IfSome found (λ row. IsFilled links.now node places.now row.items)) }
 {
-    let mut row = Vec::new(alloc);
+    let mut row = Vec::with_capacity(alloc, places.len())?;
     for (port, place) in places.iter().enumerate() {
-        match other_end(links, *place, node, port) {
+        match other_end(links, usize::from(*place), node, port) {
             Some(end) => row.push(end)?,
             None => return Ok(None),
         }
@@ -108,12 +115,12 @@ fn filled_row(
 fn filled_rows(
     alloc: Global,
     links: &[Link],
-    index: &[Vec<usize>],
+    index: &[Vec<u16>],
 ) -> Result<Option<Vec<Vec<End>>>, AllocError>
     ensures { IfOk result
         (λ found. IfSome found (λ rows. AreFilled links.now (index_of index.now) (network_of rows.items))) }
 {
-    let mut rows = Vec::new(alloc);
+    let mut rows = Vec::with_capacity(alloc, index.len())?;
     for (node, places) in index.iter().enumerate() {
         match filled_row(alloc, links, node, places)? {
             Some(row) => rows.push(row)?,

@@ -55,8 +55,9 @@ fn head(rows: &[Vec<End>], node: u8, port: usize) -> Option<u8> {
     }
 }
 
-/// Searches depth first. Neither counter wraps: a node has fewer than 256 ports, and at most 255 nodes are found behind
-/// the first.
+/// Searches depth first. Once all nodes are found, a node that is known to lead back to the first one is left at once,
+/// since its other links say no more. Neither counter wraps: a node has fewer than 256 ports, and at most 255 nodes are
+/// found behind the first.
 fn depth_first(rows: &[Vec<End>]) -> Search {
     let mut search = Search {
         found: [0; NODES],
@@ -69,7 +70,13 @@ fn depth_first(rows: &[Vec<End>]) -> Search {
     let mut node = 0;
     for _ in 0..STEPS {
         let here = at(node);
-        if let Some(other) = head(rows, node, ports[here]) {
+        let is_done = search.lows[here] == 0 && at(search.last) + 1 == rows.len();
+        let next = if is_done {
+            None
+        } else {
+            head(rows, node, ports[here])
+        };
+        if let Some(other) = next {
             ports[here] = ports[here].wrapping_add(1);
             let to = at(other);
             if other == 0 || places[to] != 0 {

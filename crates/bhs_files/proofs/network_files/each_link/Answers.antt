@@ -4,7 +4,7 @@ use Rattle.bhs_files.proofs.Each.{at_first, with_one, without, at_last}
 use Rattle.bhs_files.proofs.network_files.each_link.Goals as goal
 
 pub loop-item-init : goal.loop-item-init
-loop-item-init c = at_first link c.new-links.result.items c.args.items.now c.new-links.ensures.items
+loop-item-init c = at_first link c.in_ok-links.links.items c.args.items.now c.in_ok-links.ensures.items
 
 pub loop-item-preserved : goal.loop-item-preserved
 loop-item-preserved c =
