@@ -2,7 +2,8 @@ ghost use Rattle.std.specs.Prelude.{◌≡◌, ◌⊎◌, ℕ, IfOk, OnOk, IfErr
 ghost use Rattle.bhs_deal.specs.Links.{first_strange, held_in};
 
 use crate::faults::HeldFault;
-use crate::marking::{check, is_marked, marks};
+use crate::marking::{check, marks};
+use bhs_model::is_port_marked;
 use bhs_net::Net;
 use std::alloc::Global;
 use std::marker::Model;
@@ -20,7 +21,8 @@ impl Model for Held {
 
     ghost Value = { List (ℕ × ℕ) };
 
-    ghost use Rattle.bhs_deal.specs.Marking.{AreMarksOf, marks_of};
+    ghost use Rattle.bhs_model.specs.PortMarks.{marks_of};
+    ghost use Rattle.bhs_deal.specs.Marking.{AreMarksOf};
 
     ghost view = { λ held. held.pairs.items };
 
@@ -29,7 +31,7 @@ impl Model for Held {
 
 impl Held {
     /// The links that these pairs of a node and a port name. `HeldFault::At` tells the first pair that is no port of a
-    /// node of the network; a pair may stand there more than once. One mark for each port of the network is taken.
+    /// node of the network; a pair may stand there more than once. A node has as many marks as its held links need.
     pub fn new(alloc: Global, net: &Net, pairs: &[(u16, u16)]) -> Result<Held, HeldFault>
         ensures ok { IfOk result (λ held. held ≡ pairs.now) }
         ensures ports { OnOk result (first_strange net.now pairs.now ≡ None) }
@@ -46,6 +48,6 @@ impl Held {
     pub fn has(&self, node: u16, port: u16) -> bool
         ensures { result ≡ held_in self.now node port }
     {
-        is_marked(&self.marks, node, port)
+        is_port_marked(&self.marks, node, port)
     }
 }

@@ -1,10 +1,12 @@
-//! A mark for each port of each node, by which a link is looked up in one step.
+//! The pairs that name held links, and marks at them, by which a link is looked up in one step.
 
-ghost use Rattle.std.specs.Prelude.{◌≡◌, ℕ, ◌<◌, length, IfOk, OnOk, IfErr, None, Some};
+ghost use Rattle.std.specs.Prelude.{◌≡◌, ℕ, IfOk, OnOk, IfErr, None, Some};
 ghost use Rattle.bhs_deal.specs.Links.{first_strange, is_port_of};
-ghost use Rattle.bhs_deal.specs.Marking.{marks_of, row_at, mark_at, unmarked, marked_at, AreMarksOf};
+ghost use Rattle.bhs_model.specs.PortMarks.{marks_of};
+ghost use Rattle.bhs_deal.specs.Marking.{AreMarksOf};
 
 use crate::faults::HeldFault;
+use bhs_model::{make_room, mark_port, no_port_marks};
 use bhs_net::Net;
 use std::alloc::{AllocError, Global};
 
@@ -34,28 +36,6 @@ pub(crate) fn check(net: &Net, pairs: &[(u16, u16)]) -> Result<(), HeldFault>
     }
 }
 
-/// A mark for each port of each node, and none set.
-fn no_marks(alloc: Global, net: &Net) -> Result<Vec<Vec<bool>>, AllocError>
-    ensures { IfOk result (λ marks. marks_of marks.items ≡ unmarked net.now) }
-{
-    let mut marks = Vec::new(alloc);
-    for node in 0..net.nodes() {
-        let row = vec![in alloc; false; usize::from(net.degree(node))]?;
-        marks.push(row)?;
-    }
-    Ok(marks)
-}
-
-/// Sets the mark of a port.
-fn set(marks: &mut Vec<Vec<bool>>, node: u16, port: u16)
-    requires node { node < length marks.old.items }
-    requires port { port < length (row_at (marks_of marks.old.items) node) }
-    ensures { marks_of marks.new.items ≡ marked_at (marks_of marks.old.items) node port }
-{
-    let row = &mut marks[usize::from(node)];
-    row[usize::from(port)] = true;
-}
-
 /// Marks at the links that the pairs name. Each pair is a port of a node.
 pub(crate) fn marks(
     alloc: Global,
@@ -65,19 +45,10 @@ pub(crate) fn marks(
     requires { first_strange net.now pairs.now ≡ None }
     ensures { IfOk result (λ marks. AreMarksOf pairs.now (marks_of marks.items)) }
 {
-    let mut marks = no_marks(alloc, net)?;
+    let mut marks = no_port_marks(alloc, net.nodes())?;
     for pair in pairs {
-        set(&mut marks, pair.0, pair.1);
+        make_room(&mut marks, pair.0, pair.1)?;
+        mark_port(&mut marks, pair.0, pair.1);
     }
     Ok(marks)
-}
-
-/// The mark of a port; none where there is no such port.
-pub(crate) fn is_marked(marks: &[Vec<bool>], node: u16, port: u16) -> bool
-    ensures { result ≡ mark_at (marks_of marks.now) node port }
-{
-    match marks.get(usize::from(node)) {
-        Some(row) => row.get(usize::from(port)).copied().unwrap_or(false),
-        None => false,
-    }
 }

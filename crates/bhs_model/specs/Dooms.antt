@@ -1,8 +1,8 @@
 -- How what destroys is marked: a mark for each node, and one for each port.
 use Rattle.std.specs.Prelude.{ℕ, ◌≡◌, Bool, true, false, ◌||◌, List, length, replicate, slice_index_or, slice_set}
-use Rattle.bhs_net.specs.Network.{Network, nodes_of, degree_of, far_of}
+use Rattle.bhs_net.specs.Network.{Network, nodes_of, far_of}
 use Rattle.bhs_model.specs.Worlds.{is_hole, is_dark}
-use Rattle.bhs_model.specs.PortMarks.{row_at, mark_at, unmarked, marked_at}
+use Rattle.bhs_model.specs.PortMarks.{mark_at, unmarked}
 
 -- of each node whether it is a black hole, and of each port whether its link is dark
 pub record Signs : Type 0 where
@@ -11,7 +11,7 @@ pub record Signs : Type 0 where
 
 -- no marks on this network
 abbrev pub no_signs : Network → Signs
-no_signs net = record { nodes = replicate (nodes_of net) false; ports = unmarked net }
+no_signs net = record { nodes = replicate (nodes_of net) false; ports = unmarked (nodes_of net) }
 
 -- whether a node is marked
 abbrev pub is_marked : Signs → (node : ℕ) → Bool
@@ -21,13 +21,6 @@ is_marked signs node = slice_index_or signs.nodes node false
 abbrev pub with_hole : Signs → (node : ℕ) → Signs
 with_hole signs node = record { nodes = slice_set signs.nodes node true; ports = signs.ports }
 
--- the marks with those of both ends of a link set
-abbrev pub with_link : Network → Signs → (node port : ℕ) → Signs
-with_link net signs node port = record {
-  nodes = signs.nodes;
-  ports = marked_at (marked_at signs.ports node port) (far_of net node port).0 (far_of net node port).1;
-}
-
 -- whether the link at a port leads to a marked node, or is marked
 abbrev pub is_signed : Network → Signs → (node port : ℕ) → Bool
 is_signed net signs node port = is_marked signs (far_of net node port).0 || mark_at signs.ports node port
@@ -36,6 +29,5 @@ is_signed net signs node port = is_marked signs (far_of net node port).0 || mark
 pub record AreSignsOf (net : Network) (holes : List ℕ) (dark : List (ℕ × ℕ)) (signs : Signs) : Type 0 where
   pub nodes : length signs.nodes ≡ nodes_of net
   pub rows : length signs.ports ≡ nodes_of net
-  pub ports : (node : ℕ) → length (row_at signs.ports node) ≡ degree_of net node
   pub marked_nodes : (node : ℕ) → is_marked signs node ≡ is_hole holes node
   pub marked_ports : (node port : ℕ) → mark_at signs.ports node port ≡ is_dark (far_of net) dark node port

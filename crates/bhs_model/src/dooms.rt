@@ -1,4 +1,4 @@
-ghost use Rattle.std.specs.Prelude.{◌≡◌, ◌<◌, ◌++◌, ◌∷◌, [], ℕ, List, length, IfOk};
+ghost use Rattle.std.specs.Prelude.{◌≡◌, ◌<◌, ◌++◌, ◌∷◌, [], ℕ, List, length, IfOk, OnOk, OnErr};
 ghost use Rattle.bhs_net.specs.Network.{Network, nodes_of, degree_of};
 ghost use Rattle.bhs_model.specs.Worlds.{doomed};
 ghost use Rattle.bhs_model.specs.Setups.{world_of, nodes_where, links_where, links_at, is_lesser_end};
@@ -8,13 +8,14 @@ ghost use Rattle.bhs_model.specs.Dooms.{Signs, is_marked, is_signed, AreSignsOf}
 
 use crate::dark_links::DarkLinks;
 use crate::holes::Holes;
-use crate::port_marks::{is_port_marked, mark_port, no_port_marks};
+use crate::port_marks::{is_port_marked, make_room, mark_port, no_port_marks};
 use bhs_net::Net;
 use std::alloc::{AllocError, Global};
 use std::marker::Model;
 
 /// What destroys on a network: a mark for each node that is a black hole, and one for each port of a dark link, by
-/// which it is looked up in one step. Nothing else in the program says what destroys.
+/// which it is looked up in one step. Nothing else in the program says what destroys. A node's row of marks of ports is
+/// as long as its dark links need.
 #[derive(Debug, Drop)]
 pub struct Dooms {
     nodes: Vec<bool>,
@@ -36,7 +37,7 @@ impl Dooms {
         ensures { IfOk result (AreSignsOf net.now [] []) }
     {
         let nodes = vec![in alloc; false; usize::from(net.nodes())]?;
-        let ports = no_port_marks(alloc, net)?;
+        let ports = no_port_marks(alloc, net.nodes())?;
         Ok(Dooms { nodes, ports })
     }
 
@@ -49,16 +50,21 @@ impl Dooms {
         self.nodes[usize::from(node)] = true;
     }
 
-    /// Adds a dark link, by one of its ends.
-    pub fn add_link(&mut self, net: &Net, node: u16, port: u16)
+    /// Adds a dark link, by one of its ends. Where memory is refused, it signs what it did before.
+    pub fn add_link(&mut self, net: &Net, node: u16, port: u16) -> Result<(), AllocError>
         requires port { port < degree_of net.now node }
         requires signs { (holes : List ℕ) × (dark : List (ℕ × ℕ)) × AreSignsOf net.now holes dark self.old }
-        ensures { (holes : List ℕ) (dark : List (ℕ × ℕ)) → AreSignsOf net.now holes dark self.old
-            → AreSignsOf net.now holes (dark ++ (node, port) ∷ []) self.new }
+        ensures ok { OnOk result ((holes : List ℕ) (dark : List (ℕ × ℕ)) → AreSignsOf net.now holes dark self.old
+            → AreSignsOf net.now holes (dark ++ (node, port) ∷ []) self.new) }
+        ensures err { OnErr result ((holes : List ℕ) (dark : List (ℕ × ℕ)) → AreSignsOf net.now holes dark self.old
+            → AreSignsOf net.now holes dark self.new) }
     {
         let (far, label) = net.far(node, port);
+        make_room(&mut self.ports, node, port)?;
+        make_room(&mut self.ports, far, label)?;
         mark_port(&mut self.ports, node, port);
         mark_port(&mut self.ports, far, label);
+        Ok(())
     }
 
     /// Whether a node is a black hole.

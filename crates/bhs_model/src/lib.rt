@@ -23,6 +23,6 @@ pub use events::Event;
 pub use holes::Holes;
 pub use limits::{MAX_AGENTS, MAX_BOARD, MAX_LINE, MAX_QUOTA, MAX_TEXT, MAX_TURNS, SEED_BYTES};
 pub use marks::{Kept, Mark, read, text_at};
-pub use port_marks::{is_port_marked, mark_port, no_port_marks};
+pub use port_marks::{is_port_marked, make_room, mark_port, no_port_marks};
 pub use replies::{Reply, Why};
 pub use setups::Setup;

@@ -1,21 +1,30 @@
-//! A mark for each port of each node, by which a link is looked up in one step.
+//! Marks of ports, by which a link is looked up in one step. Each node has a row, which is as long as its marks need.
 
-ghost use Rattle.std.specs.Prelude.{◌≡◌, ◌<◌, length, IfOk};
-ghost use Rattle.bhs_model.specs.PortMarks.{marks_of, row_at, mark_at, unmarked, marked_at};
+ghost use Rattle.std.specs.Prelude.{◌≡◌, ◌<◌, length, IfOk, OnOk};
+ghost use Rattle.bhs_model.specs.PortMarks.{marks_of, row_at, mark_at, unmarked, marked_at, HasMoreRoom};
 
-use bhs_net::Net;
 use std::alloc::{AllocError, Global};
 
-/// A mark for each port of each node, and none set.
-pub fn no_port_marks(alloc: Global, net: &Net) -> Result<Vec<Vec<bool>>, AllocError>
-    ensures { IfOk result (λ marks. marks_of marks.items ≡ unmarked net.now) }
+/// An empty row for each of as many nodes.
+pub fn no_port_marks(alloc: Global, nodes: u16) -> Result<Vec<Vec<bool>>, AllocError>
+    ensures { IfOk result (λ marks. marks_of marks.items ≡ unmarked nodes) }
 {
-    let mut marks = Vec::new(alloc);
-    for node in 0..net.nodes() {
-        let row = vec![in alloc; false; usize::from(net.degree(node))]?;
-        marks.push(row)?;
+    let mut marks = Vec::with_capacity(alloc, usize::from(nodes))?;
+    for _ in 0..nodes {
+        marks.push(Vec::new(alloc))?;
     }
     Ok(marks)
+}
+
+/// Makes room for the mark of a port. That changes no mark, and takes room from no other port.
+pub fn make_room(marks: &mut Vec<Vec<bool>>, node: u16, port: u16) -> Result<(), AllocError>
+    requires { node < length marks.old.items }
+    ensures more { HasMoreRoom (marks_of marks.old.items) (marks_of marks.new.items) }
+    ensures room { OnOk result (port < length (row_at (marks_of marks.new.items) node)) }
+{
+    let row = &mut marks[usize::from(node)];
+    let length = row.len().max(usize::from(port) + 1);
+    row.resize(length, false)
 }
 
 /// Sets the mark of a port.
@@ -28,7 +37,7 @@ pub fn mark_port(marks: &mut Vec<Vec<bool>>, node: u16, port: u16)
     row[usize::from(port)] = true;
 }
 
-/// The mark of a port; none where there is no such port.
+/// The mark of a port; none where its row is shorter, or there is no row.
 pub fn is_port_marked(marks: &[Vec<bool>], node: u16, port: u16) -> bool
     ensures { result ≡ mark_at (marks_of marks.now) node port }
 {

@@ -145,7 +145,6 @@ pub normal_signs : (net : Network) (setup : Setup) (signs : Signs) → IsPortLab
 normal_signs net setup signs labelled within are = record {
   nodes = are.nodes;
   rows = are.rows;
-  ports = are.ports;
   marked_nodes = λ node. are.marked_nodes node ∙ sym (normal_holes net setup within node);
   marked_ports = λ node port. are.marked_ports node port ∙ sym (normal_dark net setup labelled within node port);
 }

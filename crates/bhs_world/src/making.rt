@@ -43,18 +43,19 @@ fn is_port(net: &Net, end: (u16, u16)) -> bool
 }
 
 /// Marks the dark links. Tells whether each end is a port of a node, and each link stands but once.
-fn mark_links(dooms: &mut Dooms, net: &Net, setup: &Setup) -> bool
+fn mark_links(dooms: &mut Dooms, net: &Net, setup: &Setup) -> Result<bool, AllocError>
     requires { AreSignsOf net.now setup.now.holes [] dooms.old }
-    ensures fit { result ≡ are_links_fit net.now [] setup.now.dark }
-    ensures signs { IsTrue result → AreSignsOf net.now setup.now.holes setup.now.dark dooms.new }
+    ensures fit { IfOk result (λ are_fit. are_fit ≡ are_links_fit net.now [] setup.now.dark) }
+    ensures signs { IfOk result
+        (λ are_fit. IsTrue are_fit → AreSignsOf net.now setup.now.holes setup.now.dark dooms.new) }
 {
     for end in setup.dark.ends() {
         if !is_port(net, *end) || dooms.is_dark(end.0, end.1) {
-            return false;
+            return Ok(false);
         }
-        dooms.add_link(net, end.0, end.1);
+        dooms.add_link(net, end.0, end.1)?;
     }
-    true
+    Ok(true)
 }
 
 /// What destroys, where the setup is within the limits; else its first fault. Memory is told only where memory was
@@ -80,7 +81,8 @@ pub(crate) fn judged(alloc: Global, net: &Net, setup: &Setup) -> Result<Dooms, S
     if setup.board > MAX_BOARD {
         return Err(SetupFault::Board);
     }
-    if !mark_links(&mut dooms, net, setup) {
+    let are_fit = mark_links(&mut dooms, net, setup)?;
+    if !are_fit {
         return Err(SetupFault::Dark);
     }
     Ok(dooms)

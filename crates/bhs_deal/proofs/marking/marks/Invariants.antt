@@ -1,5 +1,5 @@
 use Rattle.std.proofs.Common.{take}
-use Rattle.bhs_deal.specs.Marking.{marks_of}
+use Rattle.bhs_model.specs.PortMarks.{marks_of}
 use Rattle.bhs_deal.proofs.MarkLemmas.{IsMarked}
 use Rattle.bhs_deal.proofs.marking.marks.Given as goal
 

@@ -11,5 +11,5 @@ returns-clause-fit c = (
       (omega (arith, c.if-setup-nodes.false, c.nodes.ensures.count))
       (ap (λ (holes : List ℕ). are_holes_fit (nodes_of c.args.net.now) c.args.setup.now.home [] holes)
       (sym c.nodes-2.ensures) ∙ sym c.if-not-mark_holes.ensures.fit) (search rules) (search rules) (search rules)
-      (search rules) (search rules) (sym c.if-not-mark_links.ensures.fit),
+      (search rules) (search rules) (sym c.in_ok-are_fit.ensures.fit ∙ c.if-not-are_fit.false),
 )

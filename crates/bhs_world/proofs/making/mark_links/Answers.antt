@@ -6,7 +6,7 @@ pub loop-end-preserved : goal.loop-end-preserved
 loop-end-preserved c =
     link_marked _ _ c.args.setup.now.dark _ c.loop-end.end-index _ _ _ c.ends-end-items.ensures c.loop-end-test.true
     c.if-not-is_port.ensures c.if-is_dark.ensures c.loop-end.invariant.0
-    (c.add_link.ensures _ _ c.loop-end.invariant.0) c.loop-end.invariant.1
+    (c.in_ok-add_link.ensures.ok _ _ c.loop-end.invariant.0) c.loop-end.invariant.1
 
 pub returns-clause-signs : goal.returns-clause-signs
 returns-clause-signs c = λ _.
