@@ -70,6 +70,12 @@ length_after marks node port at within = elim (eqb_tells node at) [
   | inr h ↦ ap length (get_or-set_other marks node at (set (row_at marks node) port true) [] (λ same. h.1 (sym same)))
 ]
 
+-- a row that is looked up in memory
+row_read : (rows : List (Vec Bool Global)) (node : ℕ) (row : Vec Bool Global) → node < length rows
+    → row ≡ get_or rows node row → row_at (marks_of rows) node ≡ row.items
+row_read rows node row within read = lists.get_or-map (λ (row : Vec Bool Global). row.items) rows node row [] within
+    ∙ ap (λ (row : Vec Bool Global). row.items) (sym read)
+
 -- a mark that is set in a row in memory
 pub set_in_row : (rows : List (Vec Bool Global)) (node port : ℕ) (row new : Vec Bool Global) → node < length rows
     → row ≡ get_or rows node row → new.items ≡ set row.items port true →
@@ -78,11 +84,11 @@ set_in_row rows node port row new within read is =
     map-set (λ (row : Vec Bool Global). row.items) rows node new
     ∙ ap (λ (items : List Bool). set (marks_of rows) node items)
     (is ∙ ap (λ (items : List Bool). set items port true)
-    (sym (lists.get_or-map (λ (row : Vec Bool Global). row.items) rows node row [] within
-    ∙ ap (λ (row : Vec Bool Global). row.items) (sym read))))
+    (sym (row_read rows node row within read)))
 
 -- a row that is made longer
-longer_same : (row : List Bool) (more port : ℕ) → get_or (row ++ replicate more false) port false ≡ get_or row port false
+longer_same : (row : List Bool) (more port : ℕ)
+    → get_or (row ++ replicate more false) port false ≡ get_or row port false
 longer_same row more port = elim (lt_or_ge port (length row)) [
   | inl lt ↦ get_or-append row (replicate more false) false port lt
   | inr le ↦ get_or-append_right row (replicate more false) port false le ∙ unset more (port - length row)
@@ -133,7 +139,8 @@ has_room (Err e) port size long old row lt same is = tt
 pub row_set : (rows : List (Vec Bool Global)) (node : ℕ) (new : Vec Bool Global) → node < length rows
     → row_at (marks_of (set rows node new)) node ≡ new.items
 row_set rows node new within =
-    ap (λ (marks : List (List Bool)). get_or marks node []) (map-set (λ (row : Vec Bool Global). row.items) rows node new)
+    ap (λ (marks : List (List Bool)). get_or marks node [])
+    (map-set (λ (row : Vec Bool Global). row.items) rows node new)
     ∙ get_or-set_same (marks_of rows) node new.items []
     (let same = length-map rows (λ (row : Vec Bool Global). row.items) in omega arith)
 
@@ -145,7 +152,6 @@ more_room rows node more row new within read is =
     (sym (map-set (λ (row : Vec Bool Global). row.items) rows node new
     ∙ ap (λ (items : List Bool). set (marks_of rows) node items)
     (is ∙ ap (λ (items : List Bool). items ++ replicate more false)
-    (sym (lists.get_or-map (λ (row : Vec Bool Global). row.items) rows node row [] within
-    ∙ ap (λ (row : Vec Bool Global). row.items) (sym read))))))
+    (sym (row_read rows node row within read)))))
     (longer_row (marks_of rows) node more
     (let same = length-map rows (λ (row : Vec Bool Global). row.items) in omega arith))
