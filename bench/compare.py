@@ -145,10 +145,10 @@ def main() -> int:
         folder = pathlib.Path(name)
         for title, words, source in made(folder):
             runs = [[run(program, words, source, folder, keeps) for program in programs] for _ in range(ROUNDS)]
-            one, two = [sorted(it.peak for it in each)[ROUNDS // 2] for each in zip(*runs)]
+            peaks = [statistics.median(it.peak for it in each) for each in zip(*runs)]
             times = compared(statistics.median, [[it.seconds for it in both] for both in runs])
             processors = compared(min, [[it.processor for it in both] for both in runs])
-            print(f"{title}: {times}; processor {processors}; peak {one} KiB, {two} KiB", flush=True)
+            print(f"{title}: {times}; processor {processors}; peak {peaks[0]} KiB, {peaks[1]} KiB", flush=True)
             if len({printed_by(program, words, source, folder) for program in programs}) > 1:
                 differs = True
                 print(f"{title}: the programs do not print the same")

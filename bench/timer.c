@@ -6,6 +6,7 @@
  * took, the seconds that a processor worked for it, and the most memory that it held, in KiB. What this program holds
  * itself, 1.2 MiB, is the least that is told. The exit status is that of the program, or 2 where it could not be run.
  * Python would do, but it takes half a millisecond to start a program, as long as a short run takes. */
+#include <errno.h>
 #include <fcntl.h>
 #include <spawn.h>
 #include <stdio.h>
@@ -41,7 +42,8 @@ int main(int count, char **words)
     pid_t child;
     int status;
     struct rusage used;
-    if (posix_spawnp(&child, words[2], NULL, NULL, words + 2, environ) != 0 || wait4(child, &status, 0, &used) < 0) {
+    errno = posix_spawnp(&child, words[2], NULL, NULL, words + 2, environ);
+    if (errno != 0 || wait4(child, &status, 0, &used) < 0) {
         perror(words[2]);
         return 2;
     }

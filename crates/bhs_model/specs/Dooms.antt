@@ -1,5 +1,5 @@
 -- How what destroys is marked: a mark for each node, and one for each port.
-use Rattle.std.specs.Prelude.{ℕ, ◌≡◌, Bool, true, false, ◌||◌, List, length, replicate, slice_index_or, slice_set}
+use Rattle.std.specs.Prelude.{ℕ, ◌≡◌, Bool, false, ◌||◌, List, length, replicate, slice_index_or}
 use Rattle.bhs_net.specs.Network.{Network, nodes_of, far_of}
 use Rattle.bhs_model.specs.Worlds.{is_hole, is_dark}
 use Rattle.bhs_model.specs.PortMarks.{mark_at, unmarked}
@@ -16,10 +16,6 @@ no_signs net = record { nodes = replicate (nodes_of net) false; ports = unmarked
 -- whether a node is marked
 abbrev pub is_marked : Signs → (node : ℕ) → Bool
 is_marked signs node = slice_index_or signs.nodes node false
-
--- the marks with that of a node set
-abbrev pub with_hole : Signs → (node : ℕ) → Signs
-with_hole signs node = record { nodes = slice_set signs.nodes node true; ports = signs.ports }
 
 -- whether the link at a port leads to a marked node, or is marked
 abbrev pub is_signed : Network → Signs → (node port : ℕ) → Bool

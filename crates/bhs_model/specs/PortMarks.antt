@@ -23,7 +23,7 @@ unmarked nodes = replicate nodes []
 abbrev pub marked_at : List (List Bool) → (node port : ℕ) → List (List Bool)
 marked_at marks node port = slice_set marks node (slice_set (row_at marks node) port true)
 
--- no mark is another, and there is room for the mark of each port for which there was
+-- each mark is as it was, and no row is shorter
 pub record HasMoreRoom (early late : List (List Bool)) : Type 0 where
   pub rows : length late ≡ length early
   pub same : (node port : ℕ) → mark_at late node port ≡ mark_at early node port
