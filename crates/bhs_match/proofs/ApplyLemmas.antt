@@ -1,12 +1,13 @@
 -- A match stays in order: what it keeps follows from its log, and there is room for the next event.
 use Rattle.std.proofs.Common.{◌≡◌, ℕ, suc, ◌+◌, ◌*◌, ◌<◌, ◌≤◌, ◌^◌, append-nil, Bool, true, false, not, ◌&&◌, ◌||◌}
-use Rattle.std.proofs.Common.{Option, Some, None, List, [], ◌∷◌, ◌++◌, length, map, IsSome, refl, sym, ap, ◌∙◌, subst}
+use Rattle.std.proofs.Common.{Option, Some, None, List, [], ◌∷◌, ◌++◌, length, map, IsSome, refl, sym, ap, ap₂, ◌∙◌, subst}
 use Rattle.std.proofs.Common.{inl, inr, arith, nat_lt, if◌then◌else◌, length-append, length-set}
-use Rattle.std.specs.Prelude.{is_some}
+use Rattle.std.specs.Prelude.{is_some, IfSome}
+use Rattle.std.proofs.lemmas.List.Elements.{All-nil, All-cons, All-append}
 use Rattle.std.proofs.lemmas.List.{get_or_past}
-use Rattle.std.proofs.lemmas.Bool.{cond-true, cond-false, eq-eqb}
+use Rattle.std.proofs.lemmas.Bool.{cond-true, cond-false, eq-eqb, and_parts, false_from_ne_true}
 use Rattle.std.proofs.Math.Nat.{mul-le-mul}
-use Rattle.bhs_net.specs.Network.{Network}
+use Rattle.bhs_net.specs.Network.{Network, nodes_of}
 use Rattle.bhs_model.specs.declared.events.Event.{Event}
 use Rattle.bhs_model.specs.declared.events.Event.TheVariants.{Tell, Deliver, Close}
 use Rattle.bhs_model.specs.declared.marks.Mark.{Mark}
@@ -20,7 +21,10 @@ use Rattle.bhs_model.specs.InOrder.{replies}
 use Rattle.bhs_model.specs.Kept.{keeps, kept_first, kept, lost, nobody}
 use Rattle.bhs_model.specs.Setups.{world_of}
 use Rattle.bhs_model.specs.Marks.{events_of, read_if, text_at}
+use Rattle.bhs_model.specs.Cuts.{node_reached}
+use Rattle.bhs_model.specs.Sites.{node_said, site, sites}
 use Rattle.bhs_model.proofs.AddLemmas.{kept-append}
+use Rattle.bhs_model.proofs.SiteLemmas.{length_sites, sites_more}
 use Rattle.bhs_agent.specs.Agents.{link_of}
 use Rattle.bhs_world.specs.Faults.{IsWithinLimits}
 use Rattle.bhs_world.specs.Tables.{Table, agent_at, board_at, world_in, StandsFor, keeps_next, log_after}
@@ -29,7 +33,8 @@ use Rattle.bhs_world.proofs.GrowthLemmas.{run_from_more, events_more, text_shown
 use Rattle.bhs_match.specs.declared.pools.Bound.{Bound}
 use Rattle.bhs_match.specs.Matches.{Play, most_kept, is_arrival, arrivals, bounds, shown_at}
 use Rattle.bhs_match.specs.Keeping.{Shelf, news_at, node_seen, node_seen_at, link_at, link_by, settled, settled_by}
-use Rattle.bhs_match.specs.Keeping.{noted_at, noted, IsInOrder, HasRoom, CanNote}
+use Rattle.bhs_match.specs.Keeping.{noted_at, noted, site_by, IsInOrder, AreSites, HasRoom, CanNote}
+use Rattle.bhs_match.proofs.MoveLemmas.{IsGone}
 use Rattle.bhs_match.proofs.FairLemmas.{IsFair, fair_run}
 use Rattle.bhs_match.proofs.CountLemmas.{kept_bound}
 use Rattle.bhs_match.proofs.PoolLemmas.{link_in, next_pool, pool_bound}
@@ -101,7 +106,7 @@ unkept_before : (closed is_lost : Bool) → ((not closed && false) || ((not clos
 unkept_before true is_lost = refl
 unkept_before false is_lost = refl
 
-delivered_within : (world : World) (state : State) (lost : ℕ → Bool) (agent : ℕ) → IsFair world state lost
+pub delivered_within : (world : World) (state : State) (lost : ℕ → Bool) (agent : ℕ) → IsFair world state lost
     → keeps world state lost (Deliver agent) ≡ true → agent < world.agents
 delivered_within world state lost agent fair is_kept = elim (lt_tells agent world.agents) [
   | inl h ↦ h.1
@@ -113,6 +118,21 @@ delivered_within world state lost agent fair is_kept = elim (lt_tells agent worl
   where
     never : false ≡ true → ⊥
     never h = cc
+
+-- the site of an event that is kept is that of the definitions
+site_same : (table : Table) (log : List Kept) (event : Event) → StandsFor table log
+    → keeps_next (world_in table) log event ≡ true →
+    site_by table event ≡ site (world_in table) (run (world_in table) (events_of log)) event
+site_same table log (Tell agent command) stands is_kept =
+    cond-true _ _ _ (and_parts (nat_lt agent table.setup.agents) _ is_kept).0
+    ∙ ap (λ (position : Position). node_said (world_in table) position command)
+    (sym (stands.state.agents agent).position) ∙ sym (cond-true _ _ _ is_kept)
+site_same table log (Deliver agent) stands is_kept = elim (lt_tells agent table.setup.agents) [
+  | inl h ↦ rw h.0 (ap (node_reached (world_in table)) (sym (stands.state.agents agent).position))
+  | inr h ↦ rw h.0 (sym (ap (node_reached (world_in table))
+      ((fair_run (world_in table) (events_of log)).strange agent h.1)))
+]
+site_same table log Close stands is_kept = refl
 
 -- what an agent has for news, after the place of an arrival
 noted_news : (news : List Shelf) (log : List Kept) (agents agent : ℕ) (mark : Mark) → agent < length news
@@ -197,6 +217,8 @@ can_note table log pool news (Deliver agent) (Some mark) order is_kept replied =
 pub record IsReady (table new : Table) (log : List Kept) (pool : List Bound) (news : List Shelf) (event : Event)
     (mark : Option Mark) : Type 0 where
   pub log_room : length log < most_kept table.setup.agents table.setup.quota
+  pub sited : site_by table event ≡ site (world_in table) (run (world_in table) (events_of log)) event
+  pub same_world : world_in new ≡ world_in table
   pub pool_room : link_by table event ≡ None → IsSome (link_by new event) → length pool < table.setup.agents
   pub news_room : CanNote news event mark
   pub after : IsInOrder new (log ++ record { event = event; mark = mark } ∷ [])
@@ -237,6 +259,8 @@ ready_same table new log pool news event mark order is_kept same_world same_setu
     let shelves = room_more news event mark (length log) can in
     record {
       log_room = omega arith;
+      sited = site_same table log event order.stands is_kept;
+      same_world = same_world;
       pool_room = settled_room table new event pool table.setup.agents few;
       news_room = can;
       after = record {
@@ -290,10 +314,32 @@ in_order_after table new log log' pool pool' news news' event mark was now place
     is_pool is_news =
     rw (is_log, is_pool, is_news, is_was, is_now, is_place) is_ready.after
 
-pub has_room_after : (setup setup' : Setup) (for_log for_log' for_pool for_pool' : ℕ) → setup' ≡ setup
-    → for_log' ≡ for_log → for_pool' ≡ for_pool → HasRoom setup for_log for_pool → HasRoom setup' for_log' for_pool'
-has_room_after setup setup' for_log for_log' for_pool for_pool' same_setup same_log same_pool room =
-    rw (same_setup, same_log, same_pool) room
+pub sites_after : (table new : Table) (log log' : List Kept) (pool : List Bound) (news : List Shelf)
+    (found found' : List (Option ℕ)) (event : Event) (mark : Option Mark) (site : Option ℕ) →
+    IsReady table new log pool news event mark → AreSites table log found → new.net ≡ table.net
+    → site ≡ site_by table event → IfSome site (λ node. node < nodes_of table.net) →
+    log' ≡ log ++ record { event = event; mark = mark } ∷ [] → found' ≡ found ++ site ∷ [] → AreSites new log' found'
+sites_after table new log log' pool news found found' event mark site is_ready are same_net is_site range is_log is_found =
+    let one : Kept = record { event = event; mark = mark } in
+    let IsIn : Option ℕ → Type 0 = λ site. IfSome site (λ node. node < nodes_of table.net) in
+    rw (is_log, is_found) (record {
+      same = ap₂ (λ (found : List (Option ℕ)) (site : Option ℕ). found ++ site ∷ []) are.same (is_site ∙ is_ready.sited)
+          ∙ sym (sites_more (world_in table) initial (events_of log) event)
+          ∙ ap (sites (world_in table)) (sym (events_more log one))
+          ∙ ap (λ (world : World). sites world (events_of (log ++ one ∷ []))) (sym is_ready.same_world);
+      range = rw same_net (All-append IsIn found (site ∷ []) are.range (All-cons IsIn site [] range (All-nil IsIn)));
+    })
+
+pub count_sites : (table : Table) (log : List Kept) (found : List (Option ℕ)) → AreSites table log found
+    → length found ≡ length log
+count_sites table log found are =
+    ap length are.same ∙ length_sites (world_in table) initial (events_of log) ∙ length_events log
+
+pub has_room_after : (setup setup' : Setup) (for_log for_log' for_sites for_sites' for_pool for_pool' : ℕ)
+    → setup' ≡ setup → for_log' ≡ for_log → for_sites' ≡ for_sites → for_pool' ≡ for_pool
+    → HasRoom setup for_log for_sites for_pool → HasRoom setup' for_log' for_sites' for_pool'
+has_room_after setup setup' for_log for_log' for_sites for_sites' for_pool for_pool' same_setup same_log same_sites
+    same_pool room = rw (same_setup, same_log, same_sites, same_pool) room
 
 -- what is shown at the node that an agent sees is the text of the definitions
 shown_there : (table : Table) (log : List Kept) (state : State) (node : ℕ) (position : Position)
@@ -378,3 +424,15 @@ news_given table log pool news given play places agent order same is view =
     (subst (λ (places : List ℕ). IsNews (record { net = table.net; setup = table.setup; log = log }) places agent)
     (sym (is ∙ ap (λ (news : List Shelf). (news_at news agent).places) same))
     (news_same table log pool news agent order))
+
+-- a number that is no agent's has not entered, and is not lost
+pub strange_outside : (table : Table) (log : List Kept) (agent : ℕ) → table.setup.agents ≤ agent
+    → Before ≡ (run (world_in table) (events_of log)).position agent
+strange_outside table log agent strange = sym ((fair_run (world_in table) (events_of log)).strange agent strange)
+
+pub strange_spared : (table : Table) (log : List Kept) (agent : ℕ) → table.setup.agents ≤ agent
+    → false ≡ lost (world_in table) (events_of log) agent
+strange_spared table log agent strange =
+    let fair = fair_run (world_in table) (events_of log) in
+    sym (false_from_ne_true _ (λ gone. subst (IsGone (world_in table)) (fair.strange agent strange)
+    (fair.gone agent gone)))

@@ -2,8 +2,7 @@
 use Rattle.std.proofs.Common.{◌≡◌, ℕ, ◌+◌, ◌*◌, ◌<◌, ◌≤◌, Bool, true, false, Option, refl, arith, nat_lt, if◌then◌else◌}
 use Rattle.std.proofs.lemmas.Bool.{ltb-true}
 use Rattle.bhs_model.specs.declared.commands.Command.{Command}
-use Rattle.bhs_model.specs.declared.commands.Command.TheVariants.{Enter, Look, Write, Depart, Accuse, Leave, Bad}
-use Rattle.bhs_model.specs.Views.{Standing, Outside, Present, Away, Ended, counts}
+use Rattle.bhs_model.specs.Views.{Standing, counts}
 use Rattle.bhs_model.specs.Replying.{accepts}
 use Rattle.bhs_model.specs.Worlds.{World, doomed}
 use Rattle.bhs_model.specs.Runs.{Position, Before, At, Bound, After, position_after}
@@ -68,64 +67,12 @@ pub moves : (world : World) (is_lost room : Bool) (position : Position) (command
     → accepts (standing_at position) room command ≡ true →
     Moves world is_lost position (position_after world position command) before
     (if counts command then before + 1 else before)
-moves world is_lost room Before Enter before heard =
-    record { weight = omega arith; flight = omega arith; gone = λ none. absurd none; linked = tt }
-moves world is_lost room Before Look before heard = cc
-moves world is_lost room Before (Write expect put) before heard = cc
-moves world is_lost room Before (Depart port) before heard = cc
-moves world is_lost room Before (Accuse port) before heard = cc
-moves world is_lost room Before Leave before heard = cc
-moves world is_lost room Before Bad before heard = cc
-moves world is_lost room (At node came) Enter before heard = cc
-moves world is_lost room (At node came) Look before heard = from_node world is_lost node came _ before
-moves world is_lost room (At node came) (Write expect put) before heard = from_node world is_lost node came _ before
-moves world is_lost room (At node came) (Depart port) before heard = from_node world is_lost node came _ before
-moves world is_lost room (At node came) (Accuse port) before heard = from_node world is_lost node came _ before
-moves world is_lost room (At node came) Leave before heard =
-    record { weight = omega arith; flight = omega arith; gone = λ none. absurd none; linked = tt }
-moves world is_lost room (At node came) Bad before heard = from_node world is_lost node came _ before
-moves world is_lost room (Bound node p) Enter before heard = cc
-moves world is_lost room (Bound node p) Look before heard = on_link world is_lost node p before
-moves world is_lost room (Bound node p) (Write expect put) before heard = on_link world is_lost node p before
-moves world is_lost room (Bound node p) (Depart port) before heard = on_link world is_lost node p before
-moves world is_lost room (Bound node p) (Accuse port) before heard = on_link world is_lost node p before
-moves world is_lost room (Bound node p) Leave before heard =
-    let few = light is_lost node p in
-    record { weight = omega arith; flight = omega arith; gone = λ gone. tt; linked = tt }
-moves world is_lost room (Bound node p) Bad before heard = on_link world is_lost node p before
-moves world is_lost room After Enter before heard = cc
-moves world is_lost room After Look before heard = cc
-moves world is_lost room After (Write expect put) before heard = cc
-moves world is_lost room After (Depart port) before heard = cc
-moves world is_lost room After (Accuse port) before heard = cc
-moves world is_lost room After Leave before heard = cc
-moves world is_lost room After Bad before heard = cc
+moves world is_lost room position command before h0 = grind arith
 
 -- a command that counts is heard only where there is room for it
 room_left : (standing : Standing) (room : Bool) (command : Command) → accepts standing room command ≡ true
     → counts command ≡ true → room ≡ true
-room_left Outside room Enter heard counted = cc
-room_left Outside room Look heard counted = cc
-room_left Outside room (Write expect put) heard counted = cc
-room_left Outside room (Depart port) heard counted = cc
-room_left Outside room (Accuse port) heard counted = cc
-room_left Outside room Leave heard counted = cc
-room_left Outside room Bad heard counted = cc
-room_left Present room Enter heard counted = cc
-room_left Present room Look heard counted = heard
-room_left Present room (Write expect put) heard counted = heard
-room_left Present room (Depart port) heard counted = heard
-room_left Present room (Accuse port) heard counted = heard
-room_left Present room Leave heard counted = cc
-room_left Present room Bad heard counted = heard
-room_left Away room Enter heard counted = cc
-room_left Away room Look heard counted = heard
-room_left Away room (Write expect put) heard counted = heard
-room_left Away room (Depart port) heard counted = heard
-room_left Away room (Accuse port) heard counted = heard
-room_left Away room Leave heard counted = cc
-room_left Away room Bad heard counted = heard
-room_left Ended room command heard counted = cc
+room_left standing room command h0 h1 = grind arith
 
 pub within_quota : (quota before : ℕ) (standing : Standing) (command : Command) → accepts standing (nat_lt before quota)
     command ≡ true → before ≤ quota →

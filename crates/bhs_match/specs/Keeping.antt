@@ -1,7 +1,10 @@
 -- What a match keeps beside its log, and how that follows from the log.
 use Rattle.std.specs.Prelude.{ℕ, ◌<◌, ◌≤◌, ◌≡◌, not, Option, Some, None, List, [], ◌∷◌, ◌++◌, ◌==◌, nat_lt}
-use Rattle.std.specs.Prelude.{if◌then◌else◌, filter, length, slice_index_or, slice_set}
+use Rattle.std.specs.Prelude.{if◌then◌else◌, filter, length, slice_index_or, slice_set, IfSome}
+use Rattle.std.specs.List.{All}
+use Rattle.bhs_net.specs.Network.{nodes_of}
 use Rattle.bhs_model.specs.declared.setups.Setup.{Setup}
+use Rattle.bhs_model.specs.declared.commands.Command.{Command}
 use Rattle.bhs_model.specs.declared.events.Event.{Event}
 use Rattle.bhs_model.specs.declared.events.Event.TheVariants.{Tell, Deliver, Close}
 use Rattle.bhs_model.specs.declared.marks.Mark.{Mark}
@@ -9,6 +12,8 @@ use Rattle.bhs_model.specs.declared.marks.Kept.{Kept}
 use Rattle.bhs_model.specs.Runs.{Position, Before, At, run}
 use Rattle.bhs_model.specs.Kept.{kept}
 use Rattle.bhs_model.specs.Marks.{events_of}
+use Rattle.bhs_model.specs.Cuts.{node_reached}
+use Rattle.bhs_model.specs.Sites.{node_said, sites}
 use Rattle.bhs_agent.specs.Agents.{link_of}
 use Rattle.bhs_world.specs.Faults.{IsWithinLimits}
 use Rattle.bhs_world.specs.Tables.{Table, agent_at, world_in, StandsFor}
@@ -69,6 +74,20 @@ abbrev pub noted : List Shelf → Event → Option Mark → (place : ℕ) → Li
 noted news (Deliver agent) (Some mark) place = noted_at news agent place
 noted news event mark place = news
 
+-- the site of an event that is kept, by what is kept of its agent
+abbrev pub said_by : Table → (agent : ℕ) → Command → Option ℕ
+said_by table agent command = if nat_lt agent table.setup.agents
+    then node_said (world_in table) (agent_at table.agents agent).position command else None
+
+abbrev pub bound_for : Table → (agent : ℕ) → Option ℕ
+bound_for table agent = if nat_lt agent table.setup.agents
+    then node_reached (world_in table) (agent_at table.agents agent).position else None
+
+abbrev pub site_by : Table → Event → Option ℕ
+site_by table (Tell agent command) = said_by table agent command
+site_by table (Deliver agent) = bound_for table agent
+site_by table Close = None
+
 -- what a match keeps follows from its log
 pub record IsInOrder (table : Table) (log : List Kept) (pool : List Bound) (news : List Shelf) : Type 0 where
   pub within : IsWithinLimits table.net table.setup
@@ -79,9 +98,15 @@ pub record IsInOrder (table : Table) (log : List Kept) (pool : List Bound) (news
   pub arrived : (agent : ℕ) → agent < table.setup.agents → (news_at news agent).places ≡ arrivals agent log
   pub room : (agent : ℕ) → agent < table.setup.agents → table.setup.quota ≤ (news_at news agent).room
 
+-- these are the sites of the events of the log
+pub record AreSites (table : Table) (log : List Kept) (found : List (Option ℕ)) : Type 0 where
+  pub same : found ≡ sites (world_in table) (events_of log)
+  pub range : All (λ site. IfSome site (λ node. node < nodes_of table.net)) found
+
 -- there is room for all that may happen
-pub record HasRoom (setup : Setup) (for_log for_pool : ℕ) : Type 0 where
+pub record HasRoom (setup : Setup) (for_log for_sites for_pool : ℕ) : Type 0 where
   pub log : most_kept setup.agents setup.quota ≤ for_log
+  pub sites : most_kept setup.agents setup.quota ≤ for_sites
   pub pool : setup.agents ≤ for_pool
 
 -- there is room for one place more

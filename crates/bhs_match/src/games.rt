@@ -1,15 +1,18 @@
 ghost use Rattle.std.specs.Prelude.{◌≡◌, ◌<◌, ◌≤◌, List, [], length, Some, None, Ok, Err, IfSome, IfOk, IfErr, OnOk};
 ghost use Rattle.std.specs.Prelude.{if◌then◌else◌, ◌⊎◌, map, option_and_then, replicate, vec_capacity};
+ghost use Rattle.std.specs.List.{All};
 ghost use Rattle.bhs_net.specs.Network.{nodes_of};
 ghost use Rattle.bhs_model.specs.declared.limits.TheConstants.{MAX_AGENTS, MAX_QUOTA};
 ghost use Rattle.bhs_model.specs.declared.events.Event.{Event as EventData};
-ghost use Rattle.bhs_model.specs.Kept.{kept};
+ghost use Rattle.bhs_model.specs.Kept.{kept, lost};
 ghost use Rattle.bhs_model.specs.KeptReplies.{kept_replies};
 ghost use Rattle.bhs_model.specs.Places.{written, named, names};
 ghost use Rattle.bhs_model.specs.Marks.{events_of, read, read_if, text_at, board_of};
 ghost use Rattle.bhs_model.specs.Runs.{reply, is_bound};
 ghost use Rattle.bhs_model.specs.InOrder.{replies};
+ghost use Rattle.bhs_model.specs.Sites.{sites};
 ghost use Rattle.bhs_model.specs.Setups.{normal, IsNormal};
+ghost use Rattle.bhs_agent.specs.Agents.{position_of};
 ghost use Rattle.bhs_world.specs.Faults.{first_fault, IsWithinLimits};
 ghost use Rattle.bhs_world.specs.Tables.{keeps_next, log_after, is_of_board_if};
 ghost use Rattle.bhs_match.specs.Matches.{world_in, state_of, most_kept, arrivals, bounds, shown_at};
@@ -21,6 +24,7 @@ use crate::news::{News, no_news, note, places};
 use crate::pools::{Bound, link, link_by, settle};
 use crate::reading;
 use crate::seals::Sealed;
+use crate::sites::{Site, site_of};
 use bhs_agent::Standing;
 use bhs_model::{Command, Event, Kept, Mark, Reply, Setup, read, text_at};
 use bhs_net::{Memory, Net};
@@ -29,11 +33,12 @@ use std::alloc::{AllocError, Global};
 use std::marker::Model;
 
 /// A match: a network, how the match is set up, and its log. The log holds the events that changed something, each
-/// with the mark of its reply.
+/// with the mark of its reply, and beside it the site of each.
 #[derive(Debug, Drop)]
 pub struct Match {
     world: World,
     log: Vec<Kept>,
+    sites: Vec<Site>,
     pool: Vec<Bound>,
     news: Vec<News>,
 }
@@ -44,12 +49,13 @@ impl Model for Match {
     ghost Value = { Play };
 
     ghost use Rattle.std.specs.Prelude.{vec_capacity};
-    ghost use Rattle.bhs_match.specs.Keeping.{IsInOrder, HasRoom};
+    ghost use Rattle.bhs_match.specs.Keeping.{IsInOrder, AreSites, HasRoom};
 
     ghost view = { λ game. record { net = game.world.net; setup = game.world.setup; log = game.log.items } };
 
     ghost invariant = { λ game. IsInOrder game.world game.log.items game.pool.items game.news.items
-        × HasRoom game.world.setup (vec_capacity game.log) (vec_capacity game.pool) };
+        × (AreSites game.world game.log.items game.sites.items
+        × HasRoom game.world.setup (vec_capacity game.log) (vec_capacity game.sites) (vec_capacity game.pool)) };
 }
 
 impl Match {
@@ -61,10 +67,12 @@ impl Match {
         ensures fault { IfErr result (λ fault. (fault ≡ SetupFault.Memory) ⊎ (first_fault net setup ≡ Some fault)) }
     {
         let world = World::new(alloc, net, setup)?;
-        let (log, pool, news) = nothing(alloc, world.setup().agents, world.setup().quota)?;
+        let (log, sites) = no_events(alloc, world.setup().agents, world.setup().quota)?;
+        let (pool, news) = nobody(alloc, world.setup().agents, world.setup().quota)?;
         Ok(Match {
             world,
             log,
+            sites,
             pool,
             news,
         })
@@ -89,6 +97,7 @@ impl Match {
     {
         let is_kept = self.world.keeps(&event);
         let was = link_by(&self.world, &event);
+        let site = site_of(&self.world, &event);
         let mark = self.world.step(&self.log, &event);
         if !is_kept {
             return Answer { place: None, mark };
@@ -98,6 +107,7 @@ impl Match {
         settle(&mut self.pool, &event, was, now);
         note(&mut self.news, &event, mark, place);
         self.log.push_reserved(Kept { event, mark });
+        self.sites.push_reserved(site);
         Answer {
             place: Some(place),
             mark,
@@ -183,6 +193,36 @@ impl Match {
         read(*self.log.allocator(), &self.log, mark)
     }
 
+    /// The site of each event of the log: the node at which the command was said, or for which the agent of the Deliver
+    /// was bound.
+    pub fn sites(&self) -> &[Site]
+        ensures sites { result.now ≡ sites (world_in self.now) (events_of self.now.log) }
+        ensures count { length result.now ≡ length self.now.log }
+        ensures range { All (λ site. IfSome site (λ node. node < nodes_of self.now.net)) result.now }
+    {
+        &self.sites
+    }
+
+    /// What the agent is doing, and where. A number that is no agent's is outside.
+    pub fn standing(&self, agent: u16) -> Standing
+        ensures { position_of result ≡ (state_of self.now).position agent }
+    {
+        if agent >= self.world.setup().agents {
+            return Standing::Outside;
+        }
+        self.world.agent(agent).standing()
+    }
+
+    /// Whether the agent is lost. A number that is no agent's is not.
+    pub fn is_lost(&self, agent: u16) -> bool
+        ensures { result ≡ lost (world_in self.now) (events_of self.now.log) agent }
+    {
+        if agent >= self.world.setup().agents {
+            return false;
+        }
+        self.world.agent(agent).lost()
+    }
+
     /// Whether the match has ended.
     pub fn closed(&self) -> bool
         ensures { result ≡ (state_of self.now).closed }
@@ -233,21 +273,25 @@ fn node_seen(world: &World, agent: u16) -> Option<u16>
     }
 }
 
-/// An empty log, pool and news, with room for all that may happen.
-fn nothing(
-    alloc: Global,
-    agents: u16,
-    quota: u16,
-) -> Result<(Vec<Kept>, Vec<Bound>, Vec<News>), AllocError>
+/// An empty log and no sites, with room for all that may happen.
+fn no_events(alloc: Global, agents: u16, quota: u16) -> Result<(Vec<Kept>, Vec<Site>), AllocError>
     requires agents { agents ≤ MAX_AGENTS }
     requires quota { quota ≤ MAX_QUOTA }
     ensures log { IfOk result (λ made. (made.0.items ≡ []) × (most_kept agents quota ≤ vec_capacity made.0)) }
-    ensures pool { IfOk result (λ made. (made.1.items ≡ []) × (agents ≤ vec_capacity made.1)) }
-    ensures news { IfOk result (λ made. made.2.items ≡ replicate agents (record { places = []; room = quota })) }
+    ensures sites { IfOk result (λ made. (made.1.items ≡ []) × (most_kept agents quota ≤ vec_capacity made.1)) }
 {
     let log = Vec::with_capacity(alloc, most_kept(agents, quota))?;
+    let sites = Vec::with_capacity(alloc, most_kept(agents, quota))?;
+    Ok((log, sites))
+}
+
+/// An empty pool and no news, with room for all that may happen.
+fn nobody(alloc: Global, agents: u16, quota: u16) -> Result<(Vec<Bound>, Vec<News>), AllocError>
+    ensures pool { IfOk result (λ made. (made.0.items ≡ []) × (agents ≤ vec_capacity made.0)) }
+    ensures news { IfOk result (λ made. made.1.items ≡ replicate agents (record { places = []; room = quota })) }
+{
     let pool = Vec::with_capacity(alloc, usize::from(agents))?;
-    Ok((log, pool, no_news(alloc, agents, quota)?))
+    Ok((pool, no_news(alloc, agents, quota)?))
 }
 
 /// The most events that a log may hold.

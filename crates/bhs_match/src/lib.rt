@@ -9,9 +9,11 @@ mod news;
 mod pools;
 mod reading;
 mod seals;
+mod sites;
 
 pub use answers::Answer;
 pub use arenas::{Arena, ArenaFault};
 pub use games::Match;
 pub use pools::Bound;
 pub use seals::Sealed;
+pub use sites::Site;

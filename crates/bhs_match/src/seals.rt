@@ -1,16 +1,22 @@
-ghost use Rattle.std.specs.Prelude.{◌≡◌, ◌≤◌, true, length, map, List, IfOk, option_and_then};
+ghost use Rattle.std.specs.Prelude.{◌≡◌, ◌<◌, ◌≤◌, true, length, map, List, IfOk, IfSome, option_and_then};
+ghost use Rattle.std.specs.List.{All};
+ghost use Rattle.bhs_net.specs.Network.{nodes_of};
 ghost use Rattle.bhs_model.specs.declared.events.Event.{Event as EventData};
-ghost use Rattle.bhs_model.specs.Kept.{kept};
+ghost use Rattle.bhs_model.specs.Kept.{kept, lost};
 ghost use Rattle.bhs_model.specs.KeptReplies.{kept_replies};
 ghost use Rattle.bhs_model.specs.Places.{names};
 ghost use Rattle.bhs_model.specs.Marks.{events_of, read, read_if, text_at, board_of};
 ghost use Rattle.bhs_model.specs.InOrder.{replies};
+ghost use Rattle.bhs_model.specs.Sites.{sites};
 ghost use Rattle.bhs_model.specs.Setups.{IsNormal};
+ghost use Rattle.bhs_agent.specs.Agents.{position_of};
 ghost use Rattle.bhs_world.specs.Faults.{IsWithinLimits};
 ghost use Rattle.bhs_match.specs.Laws.{IsLogOf};
 ghost use Rattle.bhs_match.specs.Matches.{world_in, state_of, most_kept};
 
 use crate::games::Match;
+use crate::sites::Site;
+use bhs_agent::Standing;
 use bhs_model::{Kept, Mark, Reply, Setup};
 use bhs_net::{Memory, Net};
 use std::marker::Model;
@@ -53,6 +59,30 @@ impl Sealed {
         ensures bound { length self.now.log ≤ most_kept self.now.setup.agents self.now.setup.quota }
     {
         self.game.log()
+    }
+
+    /// The site of each event of the log: the node at which the command was said, or for which the agent of the Deliver
+    /// was bound.
+    pub fn sites(&self) -> &[Site]
+        ensures sites { result.now ≡ sites (world_in self.now) (events_of self.now.log) }
+        ensures count { length result.now ≡ length self.now.log }
+        ensures range { All (λ site. IfSome site (λ node. node < nodes_of self.now.net)) result.now }
+    {
+        self.game.sites()
+    }
+
+    /// What the agent was doing at the end, and where. A number that is no agent's is outside.
+    pub fn standing(&self, agent: u16) -> Standing
+        ensures { position_of result ≡ (state_of self.now).position agent }
+    {
+        self.game.standing(agent)
+    }
+
+    /// Whether the agent is lost. A number that is no agent's is not.
+    pub fn is_lost(&self, agent: u16) -> bool
+        ensures { result ≡ lost (world_in self.now) (events_of self.now.log) agent }
+    {
+        self.game.is_lost(agent)
     }
 
     /// The text that the mark's whiteboard shows; the empty one for a mark without a whiteboard. The mark is one of

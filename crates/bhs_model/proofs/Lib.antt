@@ -15,3 +15,4 @@ pub mod PortMarkLemmas
 pub mod DoomLemmas
 pub mod NormalLemmas
 pub mod SameDoomLemmas
+pub mod SiteLemmas

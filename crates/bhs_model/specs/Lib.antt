@@ -18,3 +18,4 @@ pub mod Marks
 pub mod Setups
 pub mod PortMarks
 pub mod Dooms
+pub mod Sites

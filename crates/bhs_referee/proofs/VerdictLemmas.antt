@@ -7,16 +7,15 @@ use Rattle.std.proofs.lemmas.List.Sums.{sum_by-append}
 use Rattle.bhs_net.specs.Network.{Network}
 use Rattle.bhs_model.specs.declared.setups.Setup.{Setup}
 use Rattle.bhs_model.specs.Setups.{world_of}
-use Rattle.bhs_model.specs.Runs.{State, run}
 use Rattle.bhs_model.specs.Kept.{lost}
 use Rattle.bhs_model.specs.Marks.{events_of}
 use Rattle.bhs_model.proofs.NormalLemmas.{range_more}
-use Rattle.bhs_match.specs.Matches.{Play, world_in}
+use Rattle.bhs_match.specs.Matches.{Play, world_in, state_of}
 use Rattle.bhs_referee.specs.declared.verdicts.Outcome.{Outcome}
 use Rattle.bhs_referee.specs.declared.walks.Walk.{Walk}
 use Rattle.bhs_referee.specs.Findings.{Findings, findings}
 use Rattle.bhs_referee.specs.Verdicts.{outcome_of, verdict_of}
-use Rattle.bhs_referee.specs.Walks.{found_in, position_in, lost_in}
+use Rattle.bhs_referee.specs.Walks.{found_in}
 use Rattle.bhs_referee.proofs.FollowLemmas.{Follows}
 
 count_last : (test : ℕ → Bool) (xs : List ℕ) (x : ℕ) → count_by test (xs ++ x ∷ []) ≡ count_by test
@@ -34,37 +33,23 @@ pub uncounted : (test : ℕ → Bool) (n before : ℕ) → test n ≡ false → 
 uncounted test n before fails same = rw (range_more n, count_last test (range_with_len 0 n) n, fails, same)
     (sym (add-zero _))
 
-found_same : (walk : Walk) (state : State) (lost : ℕ → Bool) (found : Findings) → Follows walk state lost found
-    → found_in walk ≡ found
-found_same walk state lost found follows i = record {
-  accused = λ agent. (follows.agents agent).accused i;
+found_same : (walk : Walk) (found : Findings) → Follows walk found → found_in walk ≡ found
+found_same walk found follows i = record {
+  accused = λ agent. follows.accused agent i;
   reached = λ node. follows.reached node i;
   moves = follows.moves i;
 }
 
-position_same : (walk : Walk) (state : State) (lost : ℕ → Bool) (found : Findings) → Follows walk state lost found
-    → position_in walk ≡ state.position
-position_same walk state lost found follows i agent = (follows.agents agent).position i
-
-lost_same : (walk : Walk) (state : State) (lost : ℕ → Bool) (found : Findings) → Follows walk state lost found
-    → lost_in walk ≡ lost
-lost_same walk state lost found follows i agent = (follows.agents agent).lost i
-
 -- the verdict that is given by a walk is that of the definitions
 pub verdict_same : (play : Play) (net : Network) (setup : Setup) (walk : Walk) (outcome : Outcome) (count : ℕ)
-    → Follows walk (run (world_in play) (events_of play.log)) (lost (world_in play) (events_of play.log))
-    (findings (world_in play) (events_of play.log)) →
-    net ≡ play.net → setup ≡ play.setup → outcome ≡ outcome_of (world_of net setup) (position_in walk) (found_in walk)
-    → count ≡ count_by (lost_in walk) (range_with_len 0 setup.agents) →
+    → Follows walk (findings (world_in play) (events_of play.log)) → net ≡ play.net → setup ≡ play.setup →
+    outcome ≡ outcome_of (world_of net setup) (state_of play).position (found_in walk)
+    → count ≡ count_by (lost (world_in play) (events_of play.log)) (range_with_len 0 setup.agents) →
     record { outcome = outcome; moves = walk.moves; lost = count } ≡ verdict_of play
 verdict_same play net setup walk outcome count follows net_is setup_is outcome_is count_is =
-    let world = world_in play in
-    let found_is = found_same _ _ _ _ follows in
-    let outcomes : outcome ≡ outcome_of world (run world (events_of play.log)).position
-    (findings world (events_of play.log)) =
-    outcome_is ∙ ap₂ (λ (n : Network) (s : Setup). outcome_of (world_of n s) (position_in walk) (found_in walk)) net_is
-    setup_is ∙ ap₂ (outcome_of world) (position_same _ _ _ _ follows) found_is in
-    let counts : count ≡ count_by (lost world (events_of play.log)) (range_with_len 0 play.setup.agents) =
-    count_is ∙ ap (λ (s : Setup). count_by (lost_in walk) (range_with_len 0 s.agents)) setup_is
-    ∙ ap (λ (test : ℕ → Bool). count_by test (range_with_len 0 play.setup.agents)) (lost_same _ _ _ _ follows) in
+    let outcomes = outcome_is ∙ ap₂ (λ (n : Network) (s : Setup). outcome_of (world_of n s) (state_of play).position
+    (found_in walk)) net_is setup_is
+    ∙ ap (outcome_of (world_in play) (state_of play).position) (found_same _ _ follows) in
+    let counts = count_is ∙ ap (λ (s : Setup). count_by (lost (world_in play) (events_of play.log))
+    (range_with_len 0 s.agents)) setup_is in
     λ i. record { outcome = outcomes i; moves = follows.moves i; lost = counts i }

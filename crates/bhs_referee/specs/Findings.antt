@@ -22,9 +22,9 @@ nothing_found = record { accused = λ agent. None; reached = λ node. false; mov
 
 -- the link that an agent at this position has accused after a command with this reply: an accusation that is noted
 -- is of the link at a port of the node where the agent is
-abbrev pub accused_by : Option Reply → Position → Command → (before : Option (ℕ × ℕ)) → Option (ℕ × ℕ)
-accused_by (Some Noted) (At node came) (Accuse port) before = Some (node, port)
-accused_by reply position command before = before
+abbrev pub accused_by : Option Reply → Command → Position → (before : Option (ℕ × ℕ)) → Option (ℕ × ℕ)
+accused_by (Some Noted) (Accuse port) (At node came) before = Some (node, port)
+accused_by reply command position before = before
 
 -- the number of moves after a command with this reply: a move is a Depart that is answered Gone
 abbrev pub moves_by : Option Reply → (before : ℕ) → ℕ
@@ -42,7 +42,7 @@ abbrev pub found_after : World → State → Findings → Event → Findings
 found_after world state found (Tell agent command) =
     let answer = reply world state (Tell agent command) in
     record {
-      accused = changed found.accused agent (accused_by answer (state.position agent) command (found.accused agent));
+      accused = changed found.accused agent (accused_by answer command (state.position agent) (found.accused agent));
       reached = found.reached;
       moves = moves_by answer found.moves;
     }

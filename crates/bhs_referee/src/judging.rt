@@ -1,7 +1,8 @@
 ghost use Rattle.std.specs.Prelude.{◌≡◌};
 ghost use Rattle.bhs_model.specs.Setups.{world_of};
+ghost use Rattle.bhs_match.specs.Matches.{state_of};
 ghost use Rattle.bhs_referee.specs.Verdicts.{outcome_of, verdict_of};
-ghost use Rattle.bhs_referee.specs.Walks.{found_in, position_in};
+ghost use Rattle.bhs_referee.specs.Walks.{found_in};
 
 use crate::looks::{first_unreached, is_past_dark, is_silent, is_unfinished, is_wrong, lost};
 use crate::verdicts::{Outcome, Verdict};
@@ -18,17 +19,17 @@ pub fn judge(sealed: &Sealed) -> Verdict
     let setup = sealed.setup();
     // A network says how many nodes it has: no more than the walk has places for.
     let _nodes = net.nodes();
-    let walk = walked(net, setup.home, sealed.log());
+    let walk = walked(sealed.log(), sealed.sites());
     Verdict {
-        outcome: outcome(net, setup, &walk),
+        outcome: outcome(net, setup, sealed, &walk),
         moves: walk.moves,
-        lost: lost(setup, &walk),
+        lost: lost(setup, sealed),
     }
 }
 
 /// The outcome that a walk over the whole log leads to.
-fn outcome(net: &Net, setup: &Setup, walk: &Walk) -> Outcome
-    ensures { result ≡ outcome_of (world_of net.now setup.now) (position_in walk.now) (found_in walk.now) }
+fn outcome(net: &Net, setup: &Setup, sealed: &Sealed, walk: &Walk) -> Outcome
+    ensures { result ≡ outcome_of (world_of net.now setup.now) (state_of sealed.now).position (found_in walk.now) }
 {
     if is_wrong(net, setup, walk) {
         return Outcome::Wrong;
@@ -36,7 +37,7 @@ fn outcome(net: &Net, setup: &Setup, walk: &Walk) -> Outcome
     if is_silent(net, setup, walk) {
         return Outcome::Silent;
     }
-    if is_unfinished(net, setup, walk) {
+    if is_unfinished(net, setup, sealed) {
         return Outcome::Unfinished;
     }
     if !is_past_dark(net, setup, walk) {

@@ -1,15 +1,19 @@
-//! What a walk that is over says of the match.
+//! What a match that has ended says, and a walk over its log.
 
 ghost use Rattle.std.specs.Prelude.{◌≡◌, not, true, count_by};
 ghost use Rattle.std.specs.List.{range_with_len, list_any};
 ghost use Rattle.bhs_model.specs.Setups.{world_of};
 ghost use Rattle.bhs_referee.specs.Verdicts.{accuses, is_right, is_over_dark, is_hole_accused, is_dark_accused};
 ghost use Rattle.bhs_referee.specs.Verdicts.{is_silent, is_unfinished, is_unreached, first_unreached};
-ghost use Rattle.bhs_referee.specs.Walks.{found_in, position_in, lost_in};
+ghost use Rattle.bhs_model.specs.Kept.{lost};
+ghost use Rattle.bhs_model.specs.Marks.{events_of};
+ghost use Rattle.bhs_match.specs.Matches.{world_in, state_of};
+ghost use Rattle.bhs_referee.specs.Walks.{found_in};
 
 use crate::links::{far, is_dark, is_hole, is_right, is_same_link};
 use crate::walks::Walk;
 use bhs_agent::Standing;
+use bhs_match::Sealed;
 use bhs_model::Setup;
 use bhs_net::Net;
 
@@ -18,7 +22,7 @@ pub(crate) fn is_wrong(net: &Net, setup: &Setup, walk: &Walk) -> bool
     ensures { result ≡ accuses (world_of net.now setup.now) (found_in walk.now)
         (λ link. not (is_right (world_of net.now setup.now) link)) }
 {
-    (0..setup.agents).any(|agent| match walk.track(agent).accused {
+    (0..setup.agents).any(|agent| match walk.accused(agent) {
         Some(link) => !is_right(net, setup, link),
         None => false,
     })
@@ -28,14 +32,14 @@ pub(crate) fn is_wrong(net: &Net, setup: &Setup, walk: &Walk) -> bool
 fn accuses(net: &Net, setup: &Setup, walk: &Walk) -> bool
     ensures { result ≡ accuses (world_of net.now setup.now) (found_in walk.now) (λ link. true) }
 {
-    (0..setup.agents).any(|agent| walk.track(agent).accused.is_some())
+    (0..setup.agents).any(|agent| walk.accused(agent).is_some())
 }
 
 /// Whether some accusation's link leads to this black hole.
 fn is_hole_accused(net: &Net, setup: &Setup, walk: &Walk, hole: u16) -> bool
     ensures { result ≡ is_hole_accused (world_of net.now setup.now) (found_in walk.now) hole }
 {
-    (0..setup.agents).any(|agent| match walk.track(agent).accused {
+    (0..setup.agents).any(|agent| match walk.accused(agent) {
         Some(link) => hole == far(net, link).0,
         None => false,
     })
@@ -45,7 +49,7 @@ fn is_hole_accused(net: &Net, setup: &Setup, walk: &Walk, hole: u16) -> bool
 fn is_dark_accused(net: &Net, setup: &Setup, walk: &Walk, end: (u16, u16)) -> bool
     ensures { result ≡ is_dark_accused (world_of net.now setup.now) (found_in walk.now) end }
 {
-    (0..setup.agents).any(|agent| match walk.track(agent).accused {
+    (0..setup.agents).any(|agent| match walk.accused(agent) {
         Some(link) => is_same_link(net, setup, link, end),
         None => false,
     })
@@ -83,10 +87,10 @@ pub(crate) fn is_silent(net: &Net, setup: &Setup, walk: &Walk) -> bool
 }
 
 /// Whether some agent is at a node.
-pub(crate) fn is_unfinished(net: &Net, setup: &Setup, walk: &Walk) -> bool
-    ensures { result ≡ is_unfinished (world_of net.now setup.now) (position_in walk.now) }
+pub(crate) fn is_unfinished(net: &Net, setup: &Setup, sealed: &Sealed) -> bool
+    ensures { result ≡ is_unfinished (world_of net.now setup.now) (state_of sealed.now).position }
 {
-    (0..setup.agents).any(|agent| matches!(walk.track(agent).standing, Standing::Present { .. }))
+    (0..setup.agents).any(|agent| matches!(sealed.standing(agent), Standing::Present { .. }))
 }
 
 /// Whether some accusation's link is not dark.
@@ -94,7 +98,7 @@ pub(crate) fn is_past_dark(net: &Net, setup: &Setup, walk: &Walk) -> bool
     ensures { result ≡ accuses (world_of net.now setup.now) (found_in walk.now)
         (λ link. not (is_over_dark (world_of net.now setup.now) link)) }
 {
-    (0..setup.agents).any(|agent| match walk.track(agent).accused {
+    (0..setup.agents).any(|agent| match walk.accused(agent) {
         Some(link) => !is_dark(net, setup, link),
         None => false,
     })
@@ -115,12 +119,13 @@ pub(crate) fn first_unreached(net: &Net, setup: &Setup, walk: &Walk) -> Option<u
 }
 
 /// How many agents are lost.
-pub(crate) fn lost(setup: &Setup, walk: &Walk) -> u16
-    ensures { result ≡ count_by (lost_in walk.now) (range_with_len 0 setup.now.agents) }
+pub(crate) fn lost(setup: &Setup, sealed: &Sealed) -> u16
+    ensures { result ≡ count_by (lost (world_in sealed.now) (events_of sealed.now.log))
+        (range_with_len 0 setup.now.agents) }
 {
     let mut lost = 0;
     for agent in 0..setup.agents {
-        if walk.track(agent).lost {
+        if sealed.is_lost(agent) {
             lost += 1;
         }
     }

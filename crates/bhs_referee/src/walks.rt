@@ -1,99 +1,18 @@
 ghost use Rattle.std.specs.Prelude.{◌≡◌, ◌+◌, ◌-◌, ◌<◌, ◌^◌, length, true, false, slice_set, slice_index_or};
-ghost use Rattle.bhs_net.specs.Network.{IsNetwork, nodes_of};
-ghost use Rattle.bhs_referee.specs.Walks.{fresh, start, track_at, standing_told, accused_told, track_told, moves_told};
-ghost use Rattle.bhs_referee.specs.Walks.{walk_told, walk_delivered, walk_after, walk_from, IsPlaced, AllPlaced};
+ghost use Rattle.bhs_referee.specs.Walks.{start, accused_at, accused_told, moves_told, walk_told, walk_delivered};
+ghost use Rattle.bhs_referee.specs.Walks.{walk_after, walk_from};
 
-use bhs_agent::Standing;
+use bhs_match::Site;
 use bhs_model::{Command, Event, Kept, MAX_AGENTS, Mark};
-use bhs_net::{MAX_NODES, Net};
+use bhs_net::MAX_NODES;
 
-/// What the walk over a log keeps of an agent: its standing, the link that it accused, by the node where it was and the
-/// port, and whether it is lost.
-#[derive(Clone, Copy)]
-pub(crate) struct Track {
-    pub(crate) standing: Standing,
-    pub(crate) accused: Option<(u16, u16)>,
-    pub(crate) lost: bool,
-}
-
-/// What the walk over a log keeps: of each agent its track, of each node whether an agent arrived there, and how many
-/// Departs were answered Gone.
+/// What a pass over a log and its sites keeps: of each agent the link that it accused, by the node where it was and the
+/// port; of each node whether an agent arrived there; and how many Departs were answered Gone.
 #[derive(Clone, Copy)]
 pub(crate) struct Walk {
-    pub(crate) agents: [Track; MAX_AGENTS as usize],
+    pub(crate) accused: [Option<(u16, u16)>; MAX_AGENTS as usize],
     pub(crate) reached: [bool; MAX_NODES as usize],
     pub(crate) moves: u32,
-}
-
-impl Track {
-    /// An agent that has not entered.
-    fn fresh() -> Track
-        ensures { result ≡ fresh }
-    {
-        Track {
-            standing: Standing::Outside,
-            accused: None,
-            lost: false,
-        }
-    }
-
-    /// The agent after a command that is heard, with the mark of its reply.
-    fn told(self, net: &Net, home: u16, command: &Command, mark: Option<Mark>) -> Track
-        requires { IsPlaced net.now self.standing }
-        ensures { result ≡ track_told net.now home self command.now mark }
-    {
-        Track {
-            standing: standing_told(self.standing, net, home, command),
-            accused: accused_told(mark, self.standing, command, self.accused),
-            lost: self.lost,
-        }
-    }
-}
-
-/// The standing after a command that is heard.
-fn standing_told(standing: Standing, net: &Net, home: u16, command: &Command) -> Standing
-    requires { IsPlaced net.now standing }
-    ensures { result ≡ standing_told net.now home standing command.now }
-{
-    match (standing, command) {
-        (_, Command::Enter) => Standing::Present {
-            node: home,
-            came: None,
-        },
-        (_, Command::Leave) => Standing::Ended,
-        (Standing::Present { node, .. }, Command::Depart { port }) => {
-            if *port < net.degree(node) {
-                Standing::Away { node, port: *port }
-            } else {
-                standing
-            }
-        }
-        (Standing::Present { node, .. }, Command::Accuse { port }) => {
-            if *port < net.degree(node) {
-                Standing::Ended
-            } else {
-                standing
-            }
-        }
-        _ => standing,
-    }
-}
-
-/// The link that an agent has accused after a command with this mark.
-fn accused_told(
-    mark: Option<Mark>,
-    standing: Standing,
-    command: &Command,
-    before: Option<(u16, u16)>,
-) -> Option<(u16, u16)>
-    ensures { result ≡ accused_told mark standing command.now before }
-{
-    match (mark, standing, command) {
-        (Some(Mark::Noted), Standing::Present { node, .. }, Command::Accuse { port }) => {
-            Some((node, *port))
-        }
-        _ => before,
-    }
 }
 
 impl Walk {
@@ -102,19 +21,19 @@ impl Walk {
         ensures { result ≡ start }
     {
         Walk {
-            agents: [Track::fresh(); MAX_AGENTS as usize],
+            accused: [None; MAX_AGENTS as usize],
             reached: [false; MAX_NODES as usize],
             moves: 0,
         }
     }
 
-    /// What is kept of an agent.
-    pub(crate) fn track(&self, agent: u16) -> Track
-        ensures { result ≡ track_at self.now.agents agent }
+    /// The link that an agent accused.
+    pub(crate) fn accused(&self, agent: u16) -> Option<(u16, u16)>
+        ensures { result ≡ accused_at self.now.accused agent }
     {
-        match self.agents.get(usize::from(agent)) {
-            Some(track) => *track,
-            None => Track::fresh(),
+        match self.accused.get(usize::from(agent)) {
+            Some(link) => *link,
+            None => None,
         }
     }
 
@@ -128,13 +47,13 @@ impl Walk {
         }
     }
 
-    /// Keeps this of an agent.
+    /// Keeps this link of an agent.
     #[tactic(auto, using(std::proofs::lemmas::List::set_past))]
-    fn keep(&mut self, agent: u16, track: Track)
-        ensures { self.new ≡ record self.old { agents = slice_set self.old.agents agent track } }
+    fn keep(&mut self, agent: u16, link: Option<(u16, u16)>)
+        ensures { self.new ≡ record self.old { accused = slice_set self.old.accused agent link } }
     {
-        if usize::from(agent) < self.agents.len() {
-            self.agents[usize::from(agent)] = track;
+        if usize::from(agent) < self.accused.len() {
+            self.accused[usize::from(agent)] = link;
         }
     }
 
@@ -148,51 +67,52 @@ impl Walk {
         }
     }
 
-    /// Goes over a command that was heard.
-    fn tell(&mut self, net: &Net, home: u16, agent: u16, command: &Command, mark: Option<Mark>)
-        requires placed { AllPlaced net.now self.old.agents }
-        requires room { self.old.moves + 1 < 2 ^ 32 }
-        ensures { self.new ≡ walk_told net.now home self.old agent command.now mark }
+    /// Goes over a command that was heard at this site.
+    fn tell(&mut self, agent: u16, command: &Command, mark: Option<Mark>, site: Option<u16>)
+        requires { self.old.moves + 1 < 2 ^ 32 }
+        ensures { self.new ≡ walk_told self.old agent command.now mark site }
     {
-        let track = self.track(agent).told(net, home, command, mark);
-        self.keep(agent, track);
+        self.keep(
+            agent,
+            accused_told(mark, command, site, self.accused(agent)),
+        );
         self.moves = moves_told(mark, self.moves);
     }
 
-    /// Goes over a Deliver, with the mark of its reply, which destroyed the agent where it has none.
-    fn deliver(&mut self, net: &Net, agent: u16, mark: Option<Mark>)
-        requires { AllPlaced net.now self.old.agents }
-        ensures { self.new ≡ walk_delivered net.now self.old agent mark (track_at self.old.agents agent).standing }
+    /// Goes over a Deliver of an agent that was bound for this site.
+    fn deliver(&mut self, mark: Option<Mark>, site: Option<u16>)
+        ensures { self.new ≡ walk_delivered self.old mark site }
     {
-        let mut track = self.track(agent);
-        let Standing::Away { node, port } = track.standing else {
-            return;
-        };
-        if mark.is_none() {
-            track.lost = true;
-            self.keep(agent, track);
-            return;
+        if let (Some(_), Some(node)) = (mark, site) {
+            self.mark(node);
         }
-        let (node, label) = net.far(node, port);
-        track.standing = Standing::Present {
-            node,
-            came: Some(label),
-        };
-        self.keep(agent, track);
-        self.mark(node);
     }
 
-    /// Goes over an event of the log.
-    fn see(&mut self, net: &Net, home: u16, kept: &Kept)
-        requires placed { AllPlaced net.now self.old.agents }
-        requires room { self.old.moves + 1 < 2 ^ 32 }
-        ensures { self.new ≡ walk_after net.now home self.old kept.now }
+    /// Goes over an event of the log with this site.
+    fn see(&mut self, kept: &Kept, site: Option<u16>)
+        requires { self.old.moves + 1 < 2 ^ 32 }
+        ensures { self.new ≡ walk_after self.old kept.now site }
     {
         match &kept.event {
-            Event::Tell { agent, command } => self.tell(net, home, *agent, command, kept.mark),
-            Event::Deliver { agent } => self.deliver(net, *agent, kept.mark),
+            Event::Tell { agent, command } => self.tell(*agent, command, kept.mark, site),
+            Event::Deliver { .. } => self.deliver(kept.mark, site),
             Event::Close => {}
         }
+    }
+}
+
+/// The link that an agent has accused after a command with this mark and this site.
+fn accused_told(
+    mark: Option<Mark>,
+    command: &Command,
+    site: Option<u16>,
+    before: Option<(u16, u16)>,
+) -> Option<(u16, u16)>
+    ensures { result ≡ accused_told mark command.now site before }
+{
+    match (mark, command, site) {
+        (Some(Mark::Noted), Command::Accuse { port }, Some(node)) => Some((node, *port)),
+        _ => before,
     }
 }
 
@@ -207,16 +127,15 @@ fn moves_told(mark: Option<Mark>, moves: u32) -> u32
     }
 }
 
-/// What a log shows, in one pass.
-pub(crate) fn walked(net: &Net, home: u16, log: &[Kept]) -> Walk
-    requires network { IsNetwork net.now }
-    requires home { home < nodes_of net.now }
+/// What a log and its sites show, in one pass.
+pub(crate) fn walked(log: &[Kept], sites: &[Site]) -> Walk
+    requires sites { length sites.now ≡ length log.now }
     requires room { length log.now < 2 ^ 32 - 1 }
-    ensures { result ≡ walk_from net.now home start log.now }
+    ensures { result ≡ walk_from start log.now sites.now }
 {
     let mut walk = Walk::new();
-    for kept in log {
-        walk.see(net, home, kept);
+    for place in 0..log.len() {
+        walk.see(&log[place], sites[place].node());
     }
     walk
 }

@@ -28,7 +28,7 @@ use Rattle.bhs_referee.specs.Findings.{Findings, accused_by, reached_by, found_a
 use Rattle.bhs_view.specs.Twins.{hole_beyond, hole_from, hole_accused, is_noted, first_accused_from, moved, left_from}
 use Rattle.bhs_view.specs.Twins.{heads_for, arrives_at, first_arrival_from}
 use Rattle.bhs_model.proofs.KeptLemmas.{first_kept}
-use Rattle.bhs_view.proofs.ForwardLemmas.{arrival_replied}
+use Rattle.bhs_view.proofs.ArrivalLemmas.{arrival_replied}
 use Rattle.bhs_view.proofs.TwinLemmas.{HasMoved, with_these, LosesNoMore, left_alike, taken_out}
 use Rattle.bhs_view.proofs.TwinSetupLemmas.{option_cases}
 
@@ -179,9 +179,9 @@ accused_stays world state lost found events agent port hole fair is_heard all is
     ∙ ap (λ (position : Position). position_after world position (Accuse port)) beyond.at
     ∙ cond-true _ _ _ in_range in
     let now : (found_after world state found event).accused agent ≡ Some (beyond.node, port) =
-    changed_same found.accused agent (accused_by (reply world state event) (state.position agent) (Accuse port)
+    changed_same found.accused agent (accused_by (reply world state event) (Accuse port) (state.position agent)
     (found.accused agent))
-    ∙ ap₂ (λ (answer : Option Reply) (position : Position). accused_by answer position (Accuse port)
+    ∙ ap₂ (λ (answer : Option Reply) (position : Position). accused_by answer (Accuse port) position
     (found.accused agent)) (is_noted_reply _ noted) beyond.at in
     record {
       agent = agent;
@@ -226,7 +226,7 @@ first_accused world state lost found (event ∷ events) hole fair all is =
 -- without such an accusation no link leads to a black hole that is accused and not dark
 
 accused_or_before : (world : World) (answer : Option Reply) (position : Position) (command : Command)
-    (before : Option (ℕ × ℕ)) (agent : ℕ) (link : ℕ × ℕ) → accused_by answer position command before ≡ Some link →
+    (before : Option (ℕ × ℕ)) (agent : ℕ) (link : ℕ × ℕ) → accused_by answer command position before ≡ Some link →
     (before ≡ Some link) ⊎ ((port : ℕ) × (answer ≡ Some Noted) × (command ≡ Accuse port)
     × (hole_from world position port ≡ hole_beyond world link.0 link.1))
 accused_or_before world None position command before agent link is = inl is
@@ -237,15 +237,15 @@ accused_or_before world (Some Gone) position command before agent link is = inl 
 accused_or_before world (Some Bye) position command before agent link is = inl is
 accused_or_before world (Some Over) position command before agent link is = inl is
 accused_or_before world (Some (No why)) position command before agent link is = inl is
-accused_or_before world (Some Noted) Before command before agent link is = inl is
-accused_or_before world (Some Noted) (Bound node other) command before agent link is = inl is
-accused_or_before world (Some Noted) After command before agent link is = inl is
-accused_or_before world (Some Noted) (At node came) Enter before agent link is = inl is
-accused_or_before world (Some Noted) (At node came) Look before agent link is = inl is
-accused_or_before world (Some Noted) (At node came) (Write expect put) before agent link is = inl is
-accused_or_before world (Some Noted) (At node came) (Depart port) before agent link is = inl is
-accused_or_before world (Some Noted) (At node came) Leave before agent link is = inl is
-accused_or_before world (Some Noted) (At node came) Bad before agent link is = inl is
+accused_or_before world (Some Noted) position Enter before agent link is = inl is
+accused_or_before world (Some Noted) position Look before agent link is = inl is
+accused_or_before world (Some Noted) position (Write expect put) before agent link is = inl is
+accused_or_before world (Some Noted) position (Depart port) before agent link is = inl is
+accused_or_before world (Some Noted) position Leave before agent link is = inl is
+accused_or_before world (Some Noted) position Bad before agent link is = inl is
+accused_or_before world (Some Noted) Before (Accuse port) before agent link is = inl is
+accused_or_before world (Some Noted) (Bound node other) (Accuse port) before agent link is = inl is
+accused_or_before world (Some Noted) After (Accuse port) before agent link is = inl is
 accused_or_before world (Some Noted) (At node came) (Accuse port) before agent link is =
     inr (port, refl, refl, ap (λ (end : ℕ × ℕ). hole_beyond world end.0 end.1) (some_same (node, port) link is))
 
@@ -258,7 +258,7 @@ one_unaccused : (world : World) (state : State) (found : Findings) (event : Even
     (found_after world state found event).accused agent ≡ Some link → found.accused agent ≡ Some link
 one_unaccused world state found (Tell other command) agent link none good is = elim (eqb_tells agent other) [
   | inl h ↦
-      let now : accused_by (reply world state (Tell other command)) (state.position other) command
+      let now : accused_by (reply world state (Tell other command)) command (state.position other)
       (found.accused other) ≡ Some link =
       sym (cond-true (agent == other) _ _ h.0) ∙ is in
       elim (accused_or_before world (reply world state (Tell other command)) (state.position other) command
@@ -346,9 +346,9 @@ none_of (Some x) is = absurd (true≢false is)
 
 same_told : (b : Bool) (answer : Option Reply) (position : Position) (command : Command)
     (one other from over : Option (ℕ × ℕ)) → over ≡ from → other ≡ one →
-    (if b then accused_by answer position command over else other) ≡ (if b then accused_by answer position
-    command from else one)
-same_told true answer position command one other from over same others = ap (accused_by answer position command) same
+    (if b then accused_by answer command position over else other) ≡ (if b then accused_by answer command
+    position from else one)
+same_told true answer position command one other from over same others = ap (accused_by answer command position) same
 same_told false answer position command one other from over same others = others
 
 abbrev AccuseAlike : (found twin : Findings) → Type 0

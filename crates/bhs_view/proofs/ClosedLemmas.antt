@@ -133,15 +133,15 @@ unclosed_means place (early ∷ footprints) (chosen ∷ set) none =
 
 -- the fault that is told
 
-pub judged_fault : (play : Play) (places : List ℕ) (log : List Kept) (found sites : List (Option ℕ))
-    (set marks : List Bool) (index lacking : Option ℕ) → log ≡ play.log → sites ≡ found → marks ≡ set
+pub judged_fault : (play : Play) (places : List ℕ) (log : List Kept) (found : List (Option ℕ))
+    (set marks : List Bool) (index lacking : Option ℕ) → log ≡ play.log → marks ≡ set
     → IsKnown play found → IsSetOf set places (length log) →
-    index ≡ misplaced (length log) places → index ≡ None → lacking ≡ unclosed_from 0 (footprints_at log sites) marks
+    index ≡ misplaced (length log) places → index ≡ None → lacking ≡ unclosed_from 0 (footprints_at log found) marks
     → first_fault play places ≡ fault_of None lacking
-judged_fault play places log found sites set marks index lacking is_log is_sites is_marks known are is_index
+judged_fault play places log found set marks index lacking is_log is_marks known are is_index
     none is_lacking =
     ap₂ fault_of (ap (λ (log : List Kept). misplaced (length log) places) (sym is_log) ∙ sym is_index ∙ none)
     (ap₂ (unclosed_from 0)
-    (sym known.footprints ∙ ap₂ footprints_at (sym is_log) (sym is_sites))
+    (sym known.footprints ∙ ap (λ (log : List Kept). footprints_at log found) (sym is_log))
     (sym (set_same set places play.log (rw is_log at are)) ∙ sym is_marks)
     ∙ sym is_lacking)

@@ -1,4 +1,4 @@
-pub mod ForwardLemmas
+pub mod ArrivalLemmas
 pub mod BackLemmas
 pub mod CutLemmas
 pub mod PlayingLemmas

@@ -16,12 +16,12 @@ use Rattle.bhs_model.specs.Kept.{keeps, kept, kept_from, lost_after, nobody}
 use Rattle.bhs_model.specs.Marks.{events_of, read_if}
 use Rattle.bhs_model.specs.Cuts.{meet, node_reached}
 use Rattle.bhs_model.proofs.StepLemmas.{by_cases}
-use Rattle.bhs_view.specs.Sites.{node_said, site, sites, sites_from}
+use Rattle.bhs_model.specs.Sites.{node_said, site, sites, sites_from}
 use Rattle.bhs_view.specs.Twins.{hole_from, hole_accused, is_noted, first_accused_from, left_from, heads_for}
 use Rattle.bhs_view.specs.Twins.{arrives_at, first_arrival, first_arrival_from}
 use Rattle.bhs_view.specs.TwinWalks.{hole_by, first_hole, is_bound_for, left_at, is_arrival_by, first_arrival_at}
 use Rattle.bhs_model.proofs.KeptLemmas.{first_kept}
-use Rattle.bhs_view.proofs.ForwardLemmas.{arrival_marked, no_arrival_unmarked}
+use Rattle.bhs_view.proofs.ArrivalLemmas.{arrival_marked, no_arrival_unmarked}
 
 -- an accusation, by its mark
 

@@ -18,7 +18,7 @@ use Rattle.bhs_model.proofs.SameDoomLemmas.{iff_same}
 use Rattle.bhs_match.proofs.FairLemmas.{arrival_means}
 use Rattle.bhs_view.specs.Twins.{is_moved, heads_for, left_from, arrives_at, first_arrival_from}
 use Rattle.bhs_model.proofs.KeptLemmas.{first_kept}
-use Rattle.bhs_view.proofs.ForwardLemmas.{doomed_where}
+use Rattle.bhs_view.proofs.ArrivalLemmas.{doomed_where}
 
 -- other black holes and dark links in place of those of a world: the links are the same, and one hole has given way
 pub record HasMoved (world : World) (holes : List ℕ) (dark : List (ℕ × ℕ)) (old : Option ℕ) (new : ℕ) : Type 0 where

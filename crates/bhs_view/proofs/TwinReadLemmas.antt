@@ -6,7 +6,6 @@ use Rattle.std.specs.List.{range_with_len}
 use Rattle.std.specs.Option.{option_or}
 use Rattle.std.proofs.lemmas.Bool.{cond-false, lt-ltb}
 use Rattle.std.proofs.lemmas.Bool.Decides.{eqb_tells}
-use Rattle.std.proofs.lemmas.List.{length-map}
 use Rattle.bhs_net.specs.Network.{Network, nodes_of, IsPortLabelled}
 use Rattle.bhs_model.specs.declared.marks.Kept.{Kept}
 use Rattle.bhs_model.specs.declared.setups.Setup.{Setup}
@@ -18,19 +17,17 @@ use Rattle.bhs_model.specs.Setups.{world_of, nodes_where, IsNormal}
 use Rattle.bhs_world.specs.Faults.{first_fault, IsWithinLimits}
 use Rattle.bhs_match.specs.Matches.{Play, world_in}
 use Rattle.bhs_view.specs.declared.twins.TwinFault.TheVariants.{Reached}
-use Rattle.bhs_view.specs.Sites.{sites}
+use Rattle.bhs_model.specs.Sites.{sites}
 use Rattle.bhs_view.specs.Twins.{replaced, is_moved, moved, left, first_arrival, twin_fault}
 use Rattle.bhs_view.specs.TwinWalks.{first_hole, left_at, first_arrival_at}
 use Rattle.bhs_view.specs.Laws.{IsEnded}
 use Rattle.bhs_view.specs.Reading.{IsRead}
 use Rattle.bhs_world.proofs.NoFaultLemmas.{moved_fits, home_clear}
-use Rattle.bhs_view.proofs.ForwardLemmas.{length_sites}
 use Rattle.bhs_view.proofs.PassLemmas.{first_hole_same, left_same_from, first_arrival_same}
 
-pub sites_count : (world : World) (log : List Kept) (found lent : List (Option ℕ)) → found ≡ sites world (events_of log)
-    → lent ≡ found → length lent ≡ length log
-sites_count world log found lent is is_lent = ap length (is_lent ∙ is) ∙ length_sites world initial (events_of log)
-    ∙ length-map log (λ (kept : Kept). kept.event)
+pub counted : {play : Play} {net : Network} {setup : Setup} {log : List Kept} {found : List (Option ℕ)}
+    → IsRead play net setup log found → length found ≡ length log
+counted read = read.count ∙ ap (λ (log : List Kept). length log) (sym read.log)
 
 pub left_count : (bound : Option ℕ) (log : List Kept) (sites : List (Option ℕ)) → length sites ≡ length log
     → length (left_at bound log sites) ≡ length log
@@ -39,9 +36,9 @@ left_count bound (one ∷ log) [] same = absurd (omega (arith, same))
 left_count bound (one ∷ log) (site ∷ sites) same =
     let more = left_count bound log sites (omega (arith, same)) in omega arith
 
-pub ended_of : (play : Play) (net : Network) (setup : Setup) (log : List Kept) → IsRead play net setup log
-    → IsEnded play
-ended_of play net setup log read = record {
+pub ended_of : (play : Play) (net : Network) (setup : Setup) (log : List Kept) (found : List (Option ℕ))
+    → IsRead play net setup log found → IsEnded play
+ended_of play net setup log found read = record {
   network = read.network;
   within = read.within;
   closed = read.closed;
@@ -49,41 +46,35 @@ ended_of play net setup log read = record {
   replies = read.replies;
 }
 
-same_sites : (play : Play) (net : Network) (setup : Setup) (log : List Kept) → IsRead play net setup log
-    → sites (world_of net setup) (events_of log) ≡ sites (world_in play) (events_of play.log)
-same_sites play net setup log read = ap₂ sites (ap₂ world_of read.net read.setup) (ap events_of read.log)
-
 pub read_arrival : (play : Play) (net : Network) (setup : Setup) (log : List Kept) (node : ℕ)
-    (found lent : List (Option ℕ)) (answer : Option ℕ) → IsRead play net setup log →
-    found ≡ sites (world_of net setup) (events_of log) → lent ≡ found → answer ≡ first_arrival_at node 0 log lent
+    (found : List (Option ℕ)) (answer : Option ℕ) → IsRead play net setup log found
+    → answer ≡ first_arrival_at node 0 log found
     → first_arrival (world_in play) node (events_of play.log) ≡ answer
-read_arrival play net setup log node found lent answer read is is_lent is_answer =
-    sym (is_answer ∙ ap₂ (first_arrival_at node 0) read.log (is_lent ∙ is ∙ same_sites play net setup log read)
+read_arrival play net setup log node found answer read is_answer =
+    sym (is_answer ∙ ap₂ (first_arrival_at node 0) read.log read.sites
     ∙ first_arrival_same (world_in play) play.log node read.replies)
 
-pub read_hole : (play : Play) (net : Network) (setup : Setup) (log : List Kept) (found lent : List (Option ℕ))
-    (answer : Option ℕ) → IsRead play net setup log →
-    found ≡ sites (world_of net setup) (events_of log) → lent ≡ found
-    → answer ≡ option_or (first_hole (world_of net setup) log lent)
+pub read_hole : (play : Play) (net : Network) (setup : Setup) (log : List Kept) (found : List (Option ℕ))
+    (answer : Option ℕ) → IsRead play net setup log found →
+    answer ≡ option_or (first_hole (world_of net setup) log found)
     (find (is_hole setup.holes) (range_with_len 0 (nodes_of net))) →
     answer ≡ replaced (world_in play) (events_of play.log)
-read_hole play net setup log found lent answer read is is_lent is_answer =
-    let first : first_hole (world_of net setup) log lent ≡ first_hole (world_in play) play.log
+read_hole play net setup log found answer read is_answer =
+    let first : first_hole (world_of net setup) log found ≡ first_hole (world_in play) play.log
     (sites (world_in play) (events_of play.log)) =
-    ap₂ (λ (world : World) (log : List Kept). first_hole world log lent) (ap₂ world_of read.net read.setup) read.log
-    ∙ ap (first_hole (world_in play) play.log) (is_lent ∙ is ∙ same_sites play net setup log read) in
+    ap₂ (λ (world : World) (log : List Kept). first_hole world log found) (ap₂ world_of read.net read.setup) read.log
+    ∙ ap (first_hole (world_in play) play.log) read.sites in
     is_answer
     ∙ ap₂ option_or (first ∙ first_hole_same (world_in play) play.log read.kept read.replies)
     (ap₂ (λ (net : Network) (setup : Setup). find (is_hole setup.holes) (range_with_len 0 (nodes_of net)))
     read.net read.setup)
 
-pub read_left : (play : Play) (net : Network) (setup : Setup) (log : List Kept) (found lent : List (Option ℕ))
-    (old : Option ℕ) (set marks : List Bool) → IsRead play net setup log →
-    found ≡ sites (world_of net setup) (events_of log) → lent ≡ found
-    → old ≡ replaced (world_in play) (events_of play.log) → set ≡ left_at old log lent → marks ≡ set →
+pub read_left : (play : Play) (net : Network) (setup : Setup) (log : List Kept) (found : List (Option ℕ))
+    (old : Option ℕ) (set marks : List Bool) → IsRead play net setup log found →
+    old ≡ replaced (world_in play) (events_of play.log) → set ≡ left_at old log found → marks ≡ set →
     marks ≡ left (world_in play) (replaced (world_in play) (events_of play.log)) (events_of play.log)
-read_left play net setup log found lent old set marks read is is_lent is_old is_set is_marks =
-    is_marks ∙ is_set ∙ ap₂ (left_at old) read.log (is_lent ∙ is ∙ same_sites play net setup log read)
+read_left play net setup log found old set marks read is_old is_set is_marks =
+    is_marks ∙ is_set ∙ ap₂ (left_at old) read.log read.sites
     ∙ left_same_from (world_in play) initial old play.log
     ∙ ap (λ (old : Option ℕ). left (world_in play) old (events_of play.log)) is_old
 

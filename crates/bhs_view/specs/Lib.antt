@@ -1,6 +1,5 @@
 pub mod Entries
 pub mod Places
-pub mod Sites
 pub mod Walks
 pub mod Reading
 pub mod Restrictions

@@ -1,82 +1,15 @@
--- How the walks over a log go about it: forward they note the site of each place, back they keep what the chosen places
--- need. That this is what the definitions say is proved of it.
+-- How the walk back over a log goes about it: it keeps what the chosen places need. That this is what the definitions
+-- say is proved of it.
 use Rattle.std.specs.Prelude.{ℕ, ◌<◌, ◌≡◌, Bool, true, false, ◌&&◌, ◌||◌, Option, Some, None, List, [], ◌∷◌}
-use Rattle.std.specs.Prelude.{if◌then◌else◌, nat_lt, length, replicate, slice_index_or, slice_set, IfSome}
+use Rattle.std.specs.Prelude.{length, replicate, slice_index_or, slice_set, IfSome}
 use Rattle.std.specs.List.{AllByRecursion, list_any}
-use Rattle.bhs_net.specs.Network.{Network, nodes_of, degree_of}
-use Rattle.bhs_model.specs.declared.commands.Command.{Command}
-use Rattle.bhs_model.specs.declared.commands.Command.TheVariants.{Enter, Look, Write, Depart, Accuse, Leave}
+use Rattle.bhs_model.specs.declared.commands.Command.TheVariants.{Enter, Look, Write}
 use Rattle.bhs_model.specs.declared.events.Event.{Event}
 use Rattle.bhs_model.specs.declared.events.Event.TheVariants.{Tell, Deliver, Close}
 use Rattle.bhs_model.specs.declared.marks.Mark.{Mark}
-use Rattle.bhs_model.specs.Worlds.{World}
 use Rattle.bhs_model.specs.declared.marks.Kept.{Kept}
-use Rattle.bhs_model.specs.Runs.{Position, Before, At, Bound, After}
 use Rattle.bhs_model.specs.Cuts.{Footprint, meet}
 use Rattle.bhs_view.specs.Entries.{closes}
-use Rattle.bhs_view.specs.declared.spots.Spot.{Spot}
-use Rattle.bhs_view.specs.declared.spots.Spot.TheVariants.{Off, Stays, Rides}
-
--- a position without the label of the link by which the agent came
-abbrev pub spot_of : Position → Spot
-spot_of Before = Off
-spot_of (At node came) = Stays node
-spot_of (Bound node port) = Rides node port
-spot_of After = Off
-
--- the node at which a heard command is said, by where its agent is
-abbrev pub told_site : (home : ℕ) → Spot → Command → Option ℕ
-told_site home spot Enter = Some home
-told_site home (Stays node) command = Some node
-told_site home spot command = None
-
--- where a heard command leaves its agent
-abbrev pub told_spot : World → Spot → Command → Spot
-told_spot world spot Enter = Stays world.home
-told_spot world spot Leave = Off
-told_spot world (Stays node) (Depart port) =
-    if nat_lt port (world.net.degree node) then Rides node port else Stays node
-told_spot world (Stays node) (Accuse port) = if nat_lt port (world.net.degree node) then Off else Stays node
-told_spot world spot command = spot
-
--- the node that an agent on a link is bound for
-abbrev pub delivered_site : World → Spot → Option ℕ
-delivered_site world (Rides node port) = Some (world.net.far node port).0
-delivered_site world spot = None
-
--- where a Deliver leaves an agent that is bound for a node: there, where the Deliver is answered
-abbrev pub landed : Spot → Option Mark → Option ℕ → Spot
-landed spot (Some mark) (Some node) = Stays node
-landed spot mark site = spot
-
-abbrev pub spot_at : List Spot → (agent : ℕ) → Spot
-spot_at spots agent = slice_index_or spots agent Off
-
--- the site of an event, by where the agents are
-abbrev pub site_by : World → List Spot → Event → Option ℕ
-site_by world spots (Tell agent command) = told_site world.home (spot_at spots agent) command
-site_by world spots (Deliver agent) = delivered_site world (spot_at spots agent)
-site_by world spots Close = None
-
--- where the agents are after an event with this mark
-abbrev pub spots_after : World → List Spot → Event → Option Mark → List Spot
-spots_after world spots (Tell agent command) mark =
-    slice_set spots agent (told_spot world (spot_at spots agent) command)
-spots_after world spots (Deliver agent) mark =
-    slice_set spots agent (landed (spot_at spots agent) mark (delivered_site world (spot_at spots agent)))
-spots_after world spots Close mark = spots
-
--- a spot in the network
-abbrev pub IsOn : Network → Spot → Type 0
-IsOn net Off = Unit {0}
-IsOn net (Stays node) = node < nodes_of net
-IsOn net (Rides node port) = (node < nodes_of net) × (port < degree_of net node)
-
--- an event of an agent that there is, and that is in the network
-abbrev pub IsReady : Network → List Spot → Event → Type 0
-IsReady net spots (Tell agent command) = (agent < length spots) × IsOn net (spot_at spots agent)
-IsReady net spots (Deliver agent) = (agent < length spots) × IsOn net (spot_at spots agent)
-IsReady net spots Close = Unit {0}
 
 -- whose event this is
 abbrev pub who_of : Event → Option ℕ

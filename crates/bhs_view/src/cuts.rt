@@ -6,15 +6,14 @@ ghost use Rattle.bhs_view.specs.Places.{places_of};
 ghost use Rattle.bhs_view.specs.Walks.{footprints_at, AreInRange, AreNeeded};
 
 use crate::needed::Needed;
-use crate::reading::{Reading, read};
-use crate::spots::sites;
-use bhs_match::Sealed;
+use crate::reading::{Reading, read, site_at};
+use bhs_match::{Sealed, Site};
 use bhs_model::Kept;
 use bhs_net::Memory;
 use std::alloc::Global;
 
 /// The places of the agent's causal past, ascending: the least closed set of places of the log that has all places of
-/// the agent. None for a number that is no agent's. The log is walked over twice, forward and back.
+/// the agent. None for a number that is no agent's. The log is walked over once, back from its end.
 pub fn cut_of(alloc: Global, sealed: &Sealed, agent: u16) -> Result<Vec<u32>, Memory>
     ensures cut { IfOk result (λ places. places.items
         ≡ places_of (cut agent (footprints (world_in sealed.now) (events_of sealed.now.log)))) }
@@ -32,15 +31,19 @@ pub fn cut_and_looks(alloc: Global, sealed: &Sealed, agent: u16) -> Result<(Vec<
     ensures stranger { sealed.now.setup.agents ≤ agent → IfOk result (λ found. (found.0.items ≡ []) × (found.1 ≡ 0)) }
     ensures looks { agent < sealed.now.setup.agents → IfOk result (λ found. found.1 ≡ length sealed.now.log) }
 {
-    let Reading { net, setup, log } = read(sealed);
+    let Reading {
+        net,
+        setup,
+        log,
+        sites,
+    } = read(sealed);
     let nodes = net.nodes();
     if agent >= setup.agents {
         return Ok((Vec::new(alloc), 0));
     }
-    let sites = sites(alloc, net, setup, log)?;
     let mut needed = Needed::new(alloc, setup.agents, nodes)?;
     needed.add_agent(agent);
-    walk_back(alloc, needed, log, &sites, agent)
+    walk_back(alloc, needed, log, sites, agent)
 }
 
 /// Walks back over a log whose places have these sites, and chooses what is needed. Counts the places that it looks at.
@@ -48,7 +51,7 @@ fn walk_back(
     alloc: Global,
     mut needed: Needed,
     log: &[Kept],
-    sites: &[Option<u16>],
+    sites: &[Site],
     agent: u16,
 ) -> Result<(Vec<u32>, u32), Memory>
     requires small { length log.now < 2 ^ 32 }
@@ -62,9 +65,10 @@ fn walk_back(
     let mut looks = 0;
     for place in (0..log.len()).rev() {
         let kept = &log[place];
+        let site = site_at(sites, place);
         looks += 1;
-        if needed.has(kept, sites[place]) {
-            needed.add(kept, sites[place]);
+        if needed.has(kept, site) {
+            needed.add(kept, site);
             places.push(place as u32)?;
         }
     }

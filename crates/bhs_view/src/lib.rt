@@ -8,7 +8,6 @@ mod needed;
 mod playing;
 mod reading;
 mod restricting;
-mod spots;
 mod twins;
 
 pub use cuts::{cut_and_looks, cut_of};

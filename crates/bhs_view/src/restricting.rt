@@ -9,9 +9,8 @@ ghost use Rattle.bhs_view.specs.declared.restricting.RestrictFault.TheVariants.{
 
 use crate::needed::Needed;
 use crate::playing::{begun, replay};
-use crate::reading::{Reading, read};
-use crate::spots::sites;
-use bhs_match::Sealed;
+use crate::reading::{Reading, read, site_at};
+use bhs_match::{Sealed, Site};
 use bhs_model::Kept;
 use bhs_net::Memory;
 use std::alloc::Global;
@@ -59,15 +58,19 @@ fn closed_set(alloc: Global, sealed: &Sealed, places: &[u32]) -> Result<Vec<bool
     ensures fit { OnOk result (first_fault sealed.now places.now ≡ None) }
     ensures fault { IfErr result (λ fault. (fault ≡ OutOfMemory) ⊎ (first_fault sealed.now places.now ≡ Some fault)) }
 {
-    let Reading { net, setup, log } = read(sealed);
+    let Reading {
+        net,
+        setup,
+        log,
+        sites,
+    } = read(sealed);
     let nodes = net.nodes();
     if let Some(index) = misplaced(places, log.len()) {
         return Err(RestrictFault::Places { index });
     }
     let set = set_of(alloc, places, log.len())?;
-    let sites = sites(alloc, net, setup, log)?;
     let needed = Needed::new(alloc, setup.agents, nodes)?;
-    if let Some(place) = unclosed(needed, log, &sites, &set) {
+    if let Some(place) = unclosed(needed, log, sites, &set) {
         return Err(RestrictFault::NotClosed { place });
     }
     Ok(set)
@@ -104,7 +107,7 @@ fn set_of(alloc: Global, places: &[u32], count: usize) -> Result<Vec<bool>, Memo
 }
 
 /// The least place that the set lacks and that one of its places needs.
-fn unclosed(mut needed: Needed, log: &[Kept], sites: &[Option<u16>], set: &[bool]) -> Option<u32>
+fn unclosed(mut needed: Needed, log: &[Kept], sites: &[Site], set: &[bool]) -> Option<u32>
     requires small { length log.now < 2 ^ 32 }
     requires sites { length sites.now ≡ length log.now }
     requires set { length set.now ≡ length log.now }
@@ -115,9 +118,10 @@ fn unclosed(mut needed: Needed, log: &[Kept], sites: &[Option<u16>], set: &[bool
     let mut least = None;
     for place in (0..log.len()).rev() {
         let kept = &log[place];
+        let site = site_at(sites, place);
         if set[place] {
-            needed.add(kept, sites[place]);
-        } else if needed.has(kept, sites[place]) {
+            needed.add(kept, site);
+        } else if needed.has(kept, site) {
             least = Some(place as u32);
         }
     }

@@ -13,8 +13,7 @@ ghost use Rattle.bhs_view.specs.declared.twins.TwinFault.TheVariants.{Memory as 
 
 use crate::playing::{begun, replay};
 use crate::reading::{Reading, read};
-use crate::spots::sites;
-use bhs_match::Sealed;
+use bhs_match::{Sealed, Site};
 use bhs_model::{Command, Event, Holes, Kept, Mark, Setup};
 use bhs_net::{Memory, Net};
 use bhs_referee::links::{far, is_dark, is_hole};
@@ -59,7 +58,12 @@ pub fn twin_of(alloc: Global, sealed: &Sealed, node: u16) -> Result<Sealed, Twin
     ensures fit { OnOk result (twin_fault sealed.now node ≡ None) }
     ensures fault { IfErr result (λ fault. (fault ≡ OutOfMemory) ⊎ (twin_fault sealed.now node ≡ Some fault)) }
 {
-    let Reading { net, setup, log } = read(sealed);
+    let Reading {
+        net,
+        setup,
+        log,
+        sites,
+    } = read(sealed);
     let nodes = net.nodes();
     if node >= nodes {
         return Err(TwinFault::Node);
@@ -70,12 +74,11 @@ pub fn twin_of(alloc: Global, sealed: &Sealed, node: u16) -> Result<Sealed, Twin
     if is_hole(setup, node) {
         return Err(TwinFault::Same);
     }
-    let sites = sites(alloc, net, setup, log)?;
-    if let Some(place) = first_arrival(log, &sites, node) {
+    if let Some(place) = first_arrival(log, sites, node) {
         return Err(TwinFault::Reached { place });
     }
-    let old = replaced(net, setup, log, &sites);
-    let set = left(alloc, log, &sites, old)?;
+    let old = replaced(net, setup, log, sites);
+    let set = left(alloc, log, sites, old)?;
     let holes = moved_holes(alloc, net, setup, old, node)?;
     let game = begun(
         alloc,
@@ -89,13 +92,13 @@ pub fn twin_of(alloc: Global, sealed: &Sealed, node: u16) -> Result<Sealed, Twin
 }
 
 /// The place of the first arrival at a node.
-fn first_arrival(log: &[Kept], sites: &[Option<u16>], node: u16) -> Option<u32>
+fn first_arrival(log: &[Kept], sites: &[Site], node: u16) -> Option<u32>
     requires small { length log.now < 2 ^ 32 }
     requires sites { length sites.now ≡ length log.now }
     ensures { result ≡ first_arrival_at node 0 log.now sites.now }
 {
     for place in 0..log.len() {
-        if is_arrival(&log[place], sites[place], node) {
+        if is_arrival(&log[place], sites[place].node(), node) {
             return Some(place as u32);
         }
     }
@@ -113,7 +116,7 @@ fn is_arrival(kept: &Kept, site: Option<u16>, node: u16) -> bool
 }
 
 /// The black hole that gives way.
-fn replaced(net: &Net, setup: &Setup, log: &[Kept], sites: &[Option<u16>]) -> Option<u16>
+fn replaced(net: &Net, setup: &Setup, log: &[Kept], sites: &[Site]) -> Option<u16>
     requires sites { length sites.now ≡ length log.now }
     ensures { result ≡ option_or (first_hole (world_of net.now setup.now) log.now sites.now)
         (find (is_hole setup.now.holes) (range_with_len 0 (nodes_of net.now))) }
@@ -131,12 +134,12 @@ fn least_hole(net: &Net, setup: &Setup) -> Option<u16>
 }
 
 /// The black hole that was first accused by a link that is not dark.
-fn first_hole(net: &Net, setup: &Setup, log: &[Kept], sites: &[Option<u16>]) -> Option<u16>
+fn first_hole(net: &Net, setup: &Setup, log: &[Kept], sites: &[Site]) -> Option<u16>
     requires sites { length sites.now ≡ length log.now }
     ensures { result ≡ first_hole (world_of net.now setup.now) log.now sites.now }
 {
     for place in 0..log.len() {
-        let hole = hole_at(net, setup, &log[place], sites[place]);
+        let hole = hole_at(net, setup, &log[place], sites[place].node());
         if hole.is_some() {
             return hole;
         }
@@ -174,18 +177,13 @@ fn hole_beyond(net: &Net, setup: &Setup, node: u16, port: u16) -> Option<u16>
 }
 
 /// The set of the places that are left when each Deliver that finds its agent bound for a node is taken out.
-fn left(
-    alloc: Global,
-    log: &[Kept],
-    sites: &[Option<u16>],
-    node: Option<u16>,
-) -> Result<Vec<bool>, Memory>
+fn left(alloc: Global, log: &[Kept], sites: &[Site], node: Option<u16>) -> Result<Vec<bool>, Memory>
     requires sites { length sites.now ≡ length log.now }
     ensures { IfOk result (λ set. set.items ≡ left_at node log.now sites.now) }
 {
     let mut set = Vec::with_capacity(alloc, log.len())?;
     for place in 0..log.len() {
-        set.push(!is_bound_for(&log[place].event, sites[place], node))?;
+        set.push(!is_bound_for(&log[place].event, sites[place].node(), node))?;
     }
     Ok(set)
 }

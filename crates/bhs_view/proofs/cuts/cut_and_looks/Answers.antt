@@ -12,14 +12,12 @@ use Rattle.bhs_view.proofs.cuts.cut_and_looks.Goals as goal
 
 pub returns-then-agent-setup-clause-cut : goal.returns-then-agent-setup-clause-cut
 returns-then-agent-setup-clause-cut c =
-    c.new.ensures.items ∙ sym (stranger _ _ _ _ c.args.agent c.read.ensures
+    c.new.ensures.items ∙ sym (stranger c.args.sealed.now _ c.args.agent (known _ _ _ _ _ c.read.ensures)
     (subst (λ (setup : Setup). setup.agents ≤ c.args.agent) c.read.ensures.setup c.if-agent-setup.true))
 
 pub walk_back-requires-clause-sites : goal.walk_back-requires-clause-sites
 walk_back-requires-clause-sites c =
-    ap length c.deref.ensures.value
-    ∙ (known _ _ _ _ c.in_ok-sites.sites.items c.read.ensures c.in_ok-sites.ensures).count
-    ∙ ap length (sym c.read.ensures.log)
+    c.read.ensures.count ∙ ap (λ (log : List Kept). length log) (sym c.read.ensures.log)
 
 pub walk_back-requires-clause-range : goal.walk_back-requires-clause-range
 walk_back-requires-clause-range c =
@@ -32,15 +30,13 @@ walk_back-requires-clause-range c =
     (ap (λ (needed : Needed). length needed.nodes) c.add_agent.ensures
     ∙ ap (λ (needed : Needed). length needed.nodes) c.in_ok-needed.ensures ∙ length_none c.nodes-nodes.result
     ∙ c.nodes-nodes.ensures.count ∙ ap nodes_of c.read.ensures.net)
-    (ap (λ (log : List Kept). footprints_at log c.deref.result.now) c.read.ensures.log
-    ∙ ap (footprints_at c.args.sealed.now.log) c.deref.ensures.value)
-    (known _ _ _ _ c.in_ok-sites.sites.items c.read.ensures c.in_ok-sites.ensures).range
+    (ap (λ (log : List Kept). footprints_at log c.read.result.sites.now) c.read.ensures.log)
+    (known _ _ _ _ _ c.read.ensures).range
 
 pub returns-clause-cut : goal.returns-clause-cut
 returns-clause-cut c =
     subst (λ (all : List Footprint). IfOk c.walk_back.result
     (λ found. found.0.items ≡ places_of (cut c.args.agent all)))
-    (ap (λ (log : List Kept). footprints_at log c.deref.result.now) c.read.ensures.log
-    ∙ ap (footprints_at c.args.sealed.now.log) c.deref.ensures.value
-    ∙ (known _ _ _ _ c.in_ok-sites.sites.items c.read.ensures c.in_ok-sites.ensures).footprints)
+    (ap (λ (log : List Kept). footprints_at log c.read.result.sites.now) c.read.ensures.log
+    ∙ (known _ _ _ _ _ c.read.ensures).footprints)
     c.walk_back.ensures.cut

@@ -14,13 +14,13 @@ loop-place-init c = record {
 
 pub has-requires : goal.has-requires
 has-requires c =
-    rw (c.loop-place.invariant.agents, c.loop-place.invariant.nodes)
+    rw (c.loop-place.invariant.agents, c.loop-place.invariant.nodes, c.site_at-site.ensures)
     (there c.args.log.now c.args.sites.now _ _ (c.loop-place.place - 1) c.index-log-place.result c.requires.sites
     (omega arith) c.index-log-place.is c.requires.range).within
 
 pub add-requires : goal.add-requires
 add-requires c =
-    rw (c.loop-place.invariant.agents, c.loop-place.invariant.nodes)
+    rw (c.loop-place.invariant.agents, c.loop-place.invariant.nodes, c.site_at-site.ensures)
     (there c.args.log.now c.args.sites.now _ _ (c.loop-place.place - 1) c.index-log-place.result c.requires.sites
     (omega arith) c.index-log-place.is c.requires.range).within
 
@@ -35,7 +35,7 @@ loop-place-preserved-in-Continue-1 c = record {
       (rw (c.loop-place.invariant.agents, c.loop-place.invariant.nodes)
       (there c.args.log.now c.args.sites.now _ _ (c.loop-place.place - 1) c.index-log-place.result c.requires.sites
       (omega arith) c.index-log-place.is c.requires.range))
-      (omega arith) c.loop-place.invariant.back (sym c.if-has.true ∙ c.has.ensures) c.add.ensures
+      (omega arith) c.loop-place.invariant.back (sym c.if-has.true ∙ (rw c.site_at-site.ensures at c.has.ensures)) (rw c.site_at-site.ensures at c.add.ensures)
       c.in_ok-push.ensures.items;
 }
 
@@ -49,5 +49,5 @@ loop-place-preserved c = record {
       (rw (c.loop-place.invariant.agents, c.loop-place.invariant.nodes)
       (there c.args.log.now c.args.sites.now _ _ (c.loop-place.place - 1) c.index-log-place.result c.requires.sites
       (omega arith) c.index-log-place.is c.requires.range))
-      (omega arith) c.loop-place.invariant.back (sym c.if-has.false ∙ c.has.ensures);
+      (omega arith) c.loop-place.invariant.back (sym c.if-has.false ∙ (rw c.site_at-site.ensures at c.has.ensures));
 }

@@ -11,9 +11,7 @@ use Rattle.bhs_view.proofs.restricting.closed_set.Goals as goal
 
 pub unclosed-requires-clause-sites : goal.unclosed-requires-clause-sites
 unclosed-requires-clause-sites c =
-    ap length c.deref.ensures.value
-    ∙ (known _ _ _ _ c.in_ok-sites.sites.items c.read.ensures c.in_ok-sites.ensures).count
-    ∙ ap length (sym c.read.ensures.log)
+    c.read.ensures.count ∙ ap (λ (log : List Kept). length log) (sym c.read.ensures.log)
 
 pub unclosed-requires-clause-range : goal.unclosed-requires-clause-range
 unclosed-requires-clause-range c =
@@ -22,18 +20,16 @@ unclosed-requires-clause-range c =
     ∙ ap (λ (setup : Setup). setup.agents) c.read.ensures.setup)
     (ap (λ (needed : Needed). length needed.nodes) c.in_ok-needed.ensures ∙ length_none c.nodes-nodes.result
     ∙ c.nodes-nodes.ensures.count ∙ ap nodes_of c.read.ensures.net)
-    (ap (λ (log : List Kept). footprints_at log c.deref.result.now) c.read.ensures.log
-    ∙ ap (footprints_at c.args.sealed.now.log) c.deref.ensures.value)
-    (known _ _ _ _ c.in_ok-sites.sites.items c.read.ensures c.in_ok-sites.ensures).range
+    (ap (λ (log : List Kept). footprints_at log c.read.result.sites.now) c.read.ensures.log)
+    (known _ _ _ _ _ c.read.ensures).range
 
 pub returns-in-Some-unclosed-clause-fault : goal.returns-in-Some-unclosed-clause-fault
 returns-in-Some-unclosed-clause-fault c =
     let are : IsSetOf c.in_ok-set.set.items c.args.places.now (length c.read.result.log.now) =
     record { count = c.in_ok-set.ensures.length; marks = c.in_ok-set.ensures.marks } in
-    let told = judged_fault c.args.sealed.now c.args.places.now c.read.result.log.now c.in_ok-sites.sites.items
-    c.deref.result.now c.in_ok-set.set.items c.deref-2.result.now c.misplaced.result c.unclosed.result
-    c.read.ensures.log c.deref.ensures.value c.deref-2.ensures.value
-    (known _ _ _ _ c.in_ok-sites.sites.items c.read.ensures c.in_ok-sites.ensures) are c.misplaced.ensures in
+    let told = judged_fault c.args.sealed.now c.args.places.now c.read.result.log.now c.read.result.sites.now
+    c.in_ok-set.set.items c.deref.result.now c.misplaced.result c.unclosed.result
+    c.read.ensures.log c.deref.ensures.value (known _ _ _ _ _ c.read.ensures) are c.misplaced.ensures in
     inr (told c.in_default.is c.unclosed.ensures ∙ ap (fault_of None) c.in-Some-unclosed.is)
 
 pub returns-clause-set : goal.returns-clause-set
@@ -46,10 +42,9 @@ pub returns-clause-fit : goal.returns-clause-fit
 returns-clause-fit c =
     let are : IsSetOf c.in_ok-set.set.items c.args.places.now (length c.read.result.log.now) =
     record { count = c.in_ok-set.ensures.length; marks = c.in_ok-set.ensures.marks } in
-    let told = judged_fault c.args.sealed.now c.args.places.now c.read.result.log.now c.in_ok-sites.sites.items
-    c.deref.result.now c.in_ok-set.set.items c.deref-2.result.now c.misplaced.result c.unclosed.result
-    c.read.ensures.log c.deref.ensures.value c.deref-2.ensures.value
-    (known _ _ _ _ c.in_ok-sites.sites.items c.read.ensures c.in_ok-sites.ensures) are c.misplaced.ensures in
+    let told = judged_fault c.args.sealed.now c.args.places.now c.read.result.log.now c.read.result.sites.now
+    c.in_ok-set.set.items c.deref.result.now c.misplaced.result c.unclosed.result
+    c.read.ensures.log c.deref.ensures.value (known _ _ _ _ _ c.read.ensures) are c.misplaced.ensures in
     told c.in_default.is c.unclosed.ensures ∙ ap (fault_of None) c.in_default-unclosed.is
 
 pub returns-clause-network : goal.returns-clause-network

@@ -14,13 +14,13 @@ loop-place-init c = record {
 
 pub add-requires : goal.add-requires
 add-requires c =
-    rw (c.loop-place.invariant.agents, c.loop-place.invariant.nodes)
+    rw (c.loop-place.invariant.agents, c.loop-place.invariant.nodes, c.site_at-site.ensures)
     (there c.args.log.now c.args.sites.now _ _ (c.loop-place.place - 1) c.index-log-place.result c.requires.sites
     (omega arith) c.index-log-place.is c.requires.range).within
 
 pub has-requires : goal.has-requires
 has-requires c =
-    rw (c.loop-place.invariant.agents, c.loop-place.invariant.nodes)
+    rw (c.loop-place.invariant.agents, c.loop-place.invariant.nodes, c.site_at-site.ensures)
     (there c.args.log.now c.args.sites.now _ _ (c.loop-place.place - 1) c.index-log-place.result c.requires.sites
     (omega arith) c.index-log-place.is c.requires.range).within
 
@@ -34,7 +34,7 @@ loop-place-preserved-then-set-place c = record {
       (rw (c.loop-place.invariant.agents, c.loop-place.invariant.nodes)
       (there c.args.log.now c.args.sites.now _ _ (c.loop-place.place - 1) c.index-log-place.result c.requires.sites
       (omega arith) c.index-log-place.is c.requires.range))
-      (omega arith) (omega (arith, c.requires.set)) c.if-set-place.true c.loop-place.invariant.judged c.add.ensures;
+      (omega arith) (omega (arith, c.requires.set)) c.if-set-place.true c.loop-place.invariant.judged (rw c.site_at-site.ensures at c.add.ensures);
 }
 
 pub loop-place-preserved-then-has : goal.loop-place-preserved-then-has
@@ -47,7 +47,7 @@ loop-place-preserved-then-has c = record {
       (there c.args.log.now c.args.sites.now _ _ (c.loop-place.place - 1) c.index-log-place.result c.requires.sites
       (omega arith) c.index-log-place.is c.requires.range))
       (omega arith) (omega (arith, c.requires.set)) c.if-set-place.false c.loop-place.invariant.judged
-      (sym c.has.ensures ∙ c.if-has.true);
+      (sym (rw c.site_at-site.ensures at c.has.ensures) ∙ c.if-has.true);
 }
 
 pub loop-place-preserved : goal.loop-place-preserved
@@ -60,5 +60,5 @@ loop-place-preserved c = record {
       (there c.args.log.now c.args.sites.now _ _ (c.loop-place.place - 1) c.index-log-place.result c.requires.sites
       (omega arith) c.index-log-place.is c.requires.range))
       (omega arith) (omega (arith, c.requires.set)) c.if-set-place.false c.loop-place.invariant.judged
-      (sym c.has.ensures ∙ c.if-has.false);
+      (sym (rw c.site_at-site.ensures at c.has.ensures) ∙ c.if-has.false);
 }

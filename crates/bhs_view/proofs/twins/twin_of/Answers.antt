@@ -1,36 +1,29 @@
 use Rattle.std.proofs.Common.{ℕ, Option, inr, length, sym, ap, ◌∙◌}
 use Rattle.bhs_net.specs.Network.{nodes_of}
-use Rattle.bhs_model.specs.Setups.{world_of}
 use Rattle.bhs_model.specs.declared.setups.Setup.{Setup}
 use Rattle.bhs_view.specs.Twins.{moved}
-use Rattle.bhs_view.proofs.TwinReadLemmas.{sites_count, left_count, read_arrival, read_hole, read_left, twin_setup}
+use Rattle.bhs_view.proofs.TwinReadLemmas.{counted, left_count, read_arrival, read_hole, read_left, twin_setup}
 use Rattle.bhs_view.proofs.TwinReadLemmas.{fits_twin, fault_is, ended_of}
 use Rattle.bhs_view.proofs.TwinPlayLemmas.{is_twin}
 use Rattle.bhs_view.proofs.twins.twin_of.Goals as goal
 
 pub first_arrival-requires-clause-sites : goal.first_arrival-requires-clause-sites
-first_arrival-requires-clause-sites c = sites_count (world_of c.read.result.net.now c.read.result.setup.now)
-    c.read.result.log.now c.in_ok-sites.sites.items c.deref.result.now c.in_ok-sites.ensures c.deref.ensures.value
+first_arrival-requires-clause-sites c = counted c.read.ensures
 
 pub replaced-old-requires : goal.replaced-old-requires
 replaced-old-requires c = record {
-  sites = sites_count (world_of c.read.result.net.now c.read.result.setup.now)
-      c.read.result.log.now c.in_ok-sites.sites.items c.deref-2.result.now c.in_ok-sites.ensures
-      c.deref-2.ensures.value;
+  sites = counted c.read.ensures;
 }
 
 pub left-requires : goal.left-requires
 left-requires c = record {
-  sites = sites_count (world_of c.read.result.net.now c.read.result.setup.now)
-      c.read.result.log.now c.in_ok-sites.sites.items c.deref-3.result.now c.in_ok-sites.ensures
-      c.deref-3.ensures.value;
+  sites = counted c.read.ensures;
 }
 
 pub returns-in-Some-clause-fault : goal.returns-in-Some-clause-fault
 returns-in-Some-clause-fault c =
     let reached = read_arrival c.args.sealed.now c.read.result.net.now c.read.result.setup.now c.read.result.log.now
-    c.args.node c.in_ok-sites.sites.items c.deref.result.now c.first_arrival.result c.read.ensures c.in_ok-sites.ensures
-    c.deref.ensures.value c.first_arrival.ensures in
+    c.args.node c.read.result.sites.now c.first_arrival.result c.read.ensures c.first_arrival.ensures in
     inr (fault_is c.args.sealed.now c.read.result.net.now c.read.result.setup.now c.nodes-nodes.result c.args.node
     c.is_hole.result _ c.read.ensures.net c.read.ensures.setup c.nodes-nodes.ensures.count
     c.if-node-nodes.false c.if-node-setup.false c.is_hole.ensures c.if-is_hole.false (reached ∙ c.in-Some.is))
@@ -47,10 +40,8 @@ begun-requires c =
 
 pub replay-requires-clause-set : goal.replay-requires-clause-set
 replay-requires-clause-set c =
-    ap length (c.deref-4.ensures.value ∙ c.in_ok-set.ensures) ∙ left_count c.replaced-old.result c.read.result.log.now
-    c.deref-3.result.now
-    (sites_count (world_of c.read.result.net.now c.read.result.setup.now) c.read.result.log.now
-    c.in_ok-sites.sites.items c.deref-3.result.now c.in_ok-sites.ensures c.deref-3.ensures.value)
+    ap length (c.deref.ensures.value ∙ c.in_ok-set.ensures) ∙ left_count c.replaced-old.result c.read.result.log.now
+    c.read.result.sites.now (counted c.read.ensures)
 
 pub returns : goal.returns
 returns c =
@@ -58,21 +49,19 @@ returns c =
     let net = c.read.result.net.now in
     let setup = c.read.result.setup.now in
     let log = c.read.result.log.now in
-    let found = c.in_ok-sites.sites.items in
-    let old = read_hole play net setup log found c.deref-2.result.now c.replaced-old.result c.read.ensures
-    c.in_ok-sites.ensures c.deref-2.ensures.value c.replaced-old.ensures in
-    let unreached = read_arrival play net setup log c.args.node found c.deref.result.now c.first_arrival.result
-    c.read.ensures c.in_ok-sites.ensures c.deref.ensures.value c.first_arrival.ensures in
+    let found = c.read.result.sites.now in
+    let old = read_hole play net setup log found c.replaced-old.result c.read.ensures c.replaced-old.ensures in
+    let unreached = read_arrival play net setup log c.args.node found c.first_arrival.result c.read.ensures
+    c.first_arrival.ensures in
     let moved_setup = twin_setup play net setup c.in_ok-try_clone.field-0 c.in_ok-holes.holes c.replaced-old.result
     c.args.node c.read.ensures.net c.read.ensures.setup c.in_ok-try_clone.ensures c.in_ok-holes.ensures in
-    let twins = is_twin play c.in_ok-replay.field-0 c.in_ok-game.game net _ log c.args.node c.deref-4.result.now
-    c.read.ensures.net c.read.ensures.log (ended_of play net setup log c.read.ensures)
+    let twins = is_twin play c.in_ok-replay.field-0 c.in_ok-game.game net _ log c.args.node c.deref.result.now
+    c.read.ensures.net c.read.ensures.log (ended_of play net setup log found c.read.ensures)
     (rw (sym (c.nodes-nodes.ensures.count ∙ ap nodes_of c.read.ensures.net)) c.if-node-nodes.false)
     (unreached ∙ c.in_default.is)
     (moved_setup ∙ ap (λ (old : Option ℕ). moved play.net play.setup old c.args.node) old) c.in_ok-game.ensures
-    (read_left play net setup log found c.deref-3.result.now c.replaced-old.result c.in_ok-set.set.items
-    c.deref-4.result.now c.read.ensures c.in_ok-sites.ensures c.deref-3.ensures.value old c.in_ok-set.ensures
-    c.deref-4.ensures.value)
+    (read_left play net setup log found c.replaced-old.result c.in_ok-set.set.items c.deref.result.now c.read.ensures old
+    c.in_ok-set.ensures c.deref.ensures.value)
     c.in_ok-replay.ensures.log c.in_ok-replay.ensures.same c.in_ok-replay.ensures.replies in
     record {
       twin = twins.twin;
