@@ -87,7 +87,7 @@ fits_ended quota used heard false same room = (ap (λ (n : ℕ). n + 1) same, ro
 room_for : (used quota : ℕ) → nat_lt used quota ≡ true → used + 1 ≤ quota
 room_for used quota room = let below : used < quota = ltb-true used quota room in omega arith
 
-fits_told : (quota : ℕ) (now : Standing) (used heard ports : ℕ) (command : Command)
+pub fits_told : (quota : ℕ) (now : Standing) (used heard ports : ℕ) (command : Command)
     → accepts now (nat_lt used quota) command ≡ true → Fits quota now used heard →
     Fits quota (standing_after now ports command) (if counts command then used + 1 else used) (heard + 1)
 fits_told quota Outside used heard ports Enter free fits = (omega (arith, fits.0, fits.1), omega (arith, fits.1))
@@ -139,7 +139,7 @@ stays_same quota view view' count count' is_told same none =
       ended = λ other. ap (λ (view : View). has_ended (standing view)) same;
     }
 
-arrived_fit : (quota : ℕ) (now : Standing) (used count : ℕ) → now ≡ Away → Fits quota now used count
+pub arrived_fit : (quota : ℕ) (now : Standing) (used count : ℕ) → now ≡ Away → Fits quota now used count
     → Fits quota Present used count
 arrived_fit quota Outside used count is fits = absurd cc
 arrived_fit quota Present used count is fits = fits

@@ -4,8 +4,8 @@ mod LeastLemmas
 mod NewLemmas
 mod NewsLemmas
 mod DrawLemmas
-mod RecordLemmas
-mod FitLemmas
+pub mod RecordLemmas
+pub mod FitLemmas
 mod PassLemmas
 pub mod SeenLemmas
 mod SpareLemmas
@@ -14,7 +14,7 @@ pub mod ToldLemmas
 pub mod CompareLemmas
 pub mod EndLemmas
 mod WorldLemmas
-mod PlaceLemmas
+pub mod PlaceLemmas
 mod KeptLemmas
 mod FoundLemmas
 pub mod PastLogLemmas

@@ -73,8 +73,11 @@ impl Cell {
     pub fn claim<R: Wait>(&self, rt: &R, agent: u16) -> Option<Pass>
         ensures fresh { IfSome result (IsFresh agent) }
         ensures game { IfSome result (λ pass. pass.game ≡ self.now.game) }
+        ensures quota { IfSome result (λ pass. pass.quota ≡ self.now.setup.quota) }
     {
-        self.unclaimed.lock(rt).take(self.game, agent)
+        self.unclaimed
+            .lock(rt)
+            .take(self.game, self.setup.quota, agent)
     }
 
     /// Tells a command for the agent of a pass, under the match's lock. The answer has a place in the log exactly where

@@ -94,6 +94,9 @@ impl Pass {
 
         // Their places ascend.
         ensures order { Ascend 0 self.now.receipts }
+
+        // Each has its command.
+        ensures paired { length self.now.receipts ≡ length self.now.commands }
     {
         &self.receipts
     }

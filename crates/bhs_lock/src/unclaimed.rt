@@ -40,12 +40,13 @@ impl Unclaimed {
     }
 
     /// Takes out the pass of an agent of a match, if it is there.
-    pub(crate) fn take(&mut self, game: u32, agent: u16) -> Option<Pass>
+    pub(crate) fn take(&mut self, game: u32, quota: u16, agent: u16) -> Option<Pass>
         ensures fresh { IfSome result (IsFresh agent) }
         ensures game { IfSome result (λ pass. pass.game ≡ game) }
+        ensures quota { IfSome result (λ pass. pass.quota ≡ quota) }
     {
         let left = self.left.get_mut(usize::from(agent))?;
-        if is_of_match(left, game) {
+        if is_of_match(left, game, quota) {
             left.take()
         } else {
             None
@@ -59,9 +60,10 @@ impl Unclaimed {
     }
 }
 
-/// Whether this is a pass of the match of this number.
-fn is_of_match(pass: &Option<Pass>, game: u32) -> bool
-    ensures { IsTrue result → IfSome pass.now (λ pass. pass.game ≡ game) }
+/// Whether this is a pass of the match of this number, with this quota.
+fn is_of_match(pass: &Option<Pass>, game: u32, quota: u16) -> bool
+    ensures game { IsTrue result → IfSome pass.now (λ pass. pass.game ≡ game) }
+    ensures quota { IsTrue result → IfSome pass.now (λ pass. pass.quota ≡ quota) }
 {
-    matches!(pass, Some(pass) if pass.game() == game)
+    matches!(pass, Some(pass) if pass.game() == game && pass.quota() == quota)
 }

@@ -1,1 +1,7 @@
 mod SealLemmas
+pub mod DrainedLemmas
+pub mod MetLemmas
+pub mod SameLemmas
+pub mod ServedLemmas
+pub mod StepsLemmas
+pub mod WalkLemmas

@@ -1,22 +1,23 @@
 -- What a session asks of the match of its agent, where threads share the match, and what it hears.
-use Rattle.std.specs.Prelude.{ℕ, ◌≡◌, ◌≤◌, ◌<◌, Option, Some, None, List}
+use Rattle.std.specs.Prelude.{ℕ, ◌≡◌, ◌≢◌, ◌≤◌, ◌<◌, Option, Some, None, List, length, slice_get}
 use Rattle.bhs_model.specs.declared.commands.Command.{Command}
 use Rattle.bhs_model.specs.declared.commands.Command.TheVariants.{Enter}
 use Rattle.bhs_model.specs.declared.replies.Reply.{Reply}
-use Rattle.bhs_model.specs.declared.replies.Reply.TheVariants.{Over}
+use Rattle.bhs_model.specs.declared.replies.Reply.TheVariants.{Over, No}
+use Rattle.bhs_model.specs.declared.replies.Why.TheVariants.{Agent}
 use Rattle.bhs_session.specs.declared.port.Entered.TheVariants.{Key, Taken, In}
 use Rattle.bhs_session.specs.Port.{Asked, Enters, Tells, News, Heard, LetIn, Answers, NoMemory}
 use Rattle.bhs_lineup.specs.KeyTable.{Seat, seat_at}
 use Rattle.bhs_lock.specs.Passes.{Passed}
 use Rattle.bhs_lock.specs.Unclaimed.{IsFresh}
 use Rattle.bhs_lock.specs.Recording.{IsSubmitted}
-use Rattle.bhs_lock.specs.Cells.{IsNews}
+use Rattle.bhs_lock.specs.Cells.{Given, IsNews}
 use Rattle.bhs_server.specs.declared.ports.Played.{Played}
 
--- the keys, how many matches there are, and the agent that is played, once there is one
+-- the keys, the matches as they were given, and the agent that is played, once there is one
 pub record Seated : Type 0 where
   pub keys : List Seat
-  pub games : ℕ
+  pub cells : List Given
   pub played : Option Played
 
 -- the key lets in no agent, or one of no match
@@ -31,15 +32,31 @@ pub record IsKeyOf (keys : List Seat) (games : ℕ) (key : List ℕ) (game agent
   pub seat : seat_at key keys ≡ Some (game, agent)
   pub there : game < games
 
+-- the pass is one of this match: it has its quota
+abbrev pub IsOfCell : List Given → (game : ℕ) → Passed → Type 0
+IsOfCell cells game pass = HasQuota (slice_get cells game) where
+  HasQuota : Option Given → Type 0
+  HasQuota None = ⊥
+  HasQuota (Some given) = pass.quota ≡ given.setup.quota
+
 -- the pass of a key's agent was claimed: it had been told nothing
 pub record IsClaimed (old : Seated) (key : List ℕ) (game : ℕ) (fresh : Passed) : Type 0 where
   pub agent : ℕ
-  pub known : IsKeyOf old.keys old.games key game agent
+  pub known : IsKeyOf old.keys (length old.cells) key game agent
   pub is_fresh : IsFresh agent fresh
+  pub paired : length fresh.receipts ≡ length fresh.commands
+  pub of_cell : IsOfCell old.cells game fresh
 
--- a command was told for this pass, and answered so
-abbrev pub IsToldBy : Passed → Command → Reply → Passed → Type 0
-IsToldBy pass command reply pass' = (place : Option ℕ) × IsSubmitted pass command place reply pass'
+-- what a client is told: where the pass does not agree with the match, that the match is over
+abbrev pub agreed : Reply → Reply
+agreed (No Agent) = Over
+agreed reply = reply
+
+-- a command was told for this pass, and answered so; never as no agent's
+pub record IsToldBy (pass : Passed) (command : Command) (reply : Reply) (pass' : Passed) : Type 0 where
+  pub place : Option ℕ
+  pub submitted : IsSubmitted pass command place reply pass'
+  pub agrees : reply ≢ No Agent
 
 -- the pass of a key's agent was claimed, told Enter, and is played from now on
 pub record IsLetIn (old : Seated) (key : List ℕ) (reply : Reply) (new : Seated) : Type 0 where
@@ -68,9 +85,9 @@ Plays does old reply new = PlaysBy old.played where
 
 -- What a port is asked and answers. What is not listed never comes.
 abbrev pub Calls : Seated → Asked → Heard → Seated → Type 0
-Calls old (Enters key) (LetIn Key) new = (new ≡ old) × IsUnknown old.keys old.games key
+Calls old (Enters key) (LetIn Key) new = (new ≡ old) × IsUnknown old.keys (length old.cells) key
 Calls old (Enters key) (LetIn Taken) new =
-    (new ≡ old) × ((game : ℕ) × ((agent : ℕ) × IsKeyOf old.keys old.games key game agent))
+    (new ≡ old) × ((game : ℕ) × ((agent : ℕ) × IsKeyOf old.keys (length old.cells) key game agent))
 Calls old (Enters key) (LetIn (In reply)) new = IsLetIn old key reply new
 Calls old (Enters key) NoMemory new = IsLeftOut old key new
 Calls old (Tells command) (Answers reply) new =

@@ -3,6 +3,7 @@
 
 mod connections;
 mod dealing;
+mod laws;
 mod pacing;
 mod ports;
 mod serving;
@@ -11,6 +12,7 @@ mod visits;
 
 pub use connections::Held;
 pub use dealing::deal;
+pub use laws::{equal_pasts_are_sent_equal_bytes, sent_as_met, worked_session};
 pub use pacing::{Pace, Step};
 pub use ports::{CellPort, Played};
 pub use serving::{Contest, Served, run_server};

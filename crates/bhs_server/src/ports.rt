@@ -1,9 +1,10 @@
-ghost use Rattle.std.specs.Prelude.{◌≡◌, None, length};
+ghost use Rattle.std.specs.Prelude.{◌≡◌, None};
+ghost use Rattle.bhs_server.specs.Ports.{agreed};
 
 use crate::connections::Held;
 use bhs_lineup::Keys;
 use bhs_lock::{Cell, Gate, Pass};
-use bhs_model::{Command, Reply};
+use bhs_model::{Command, Reply, Why};
 use bhs_net::Memory;
 use bhs_session::{Entered, Port};
 use std::marker::Model;
@@ -27,14 +28,13 @@ pub struct CellPort<'a, R, G, H> {
     played: Option<Played>,
 }
 
-// Contracts see a port as the keys, the number of matches, and the agent that is played, once there is one.
+// Contracts see a port as the keys, the matches as they were given, and the agent that is played, once there is one.
 impl<'a, R, G, H> Model for CellPort<'a, R, G, H> {
-    ghost use Rattle.std.specs.Prelude.{length};
     ghost use Rattle.bhs_server.specs.Ports.{Seated};
 
     ghost Value = { Seated };
 
-    ghost view = { λ port. record { keys = port.keys.now; games = length port.cells.now; played = port.played } };
+    ghost view = { λ port. record { keys = port.keys.now; cells = port.cells.now; played = port.played } };
 }
 
 impl<'a, R: Wait, G: Gate, H: Held> CellPort<'a, R, G, H> {
@@ -46,7 +46,7 @@ impl<'a, R: Wait, G: Gate, H: Held> CellPort<'a, R, G, H> {
         cells: &'a [Cell],
         keys: &'a Keys,
     ) -> CellPort<'a, R, G, H>
-        ensures { result ≡ record { keys = keys.now; games = length cells.now; played = None } }
+        ensures { result ≡ record { keys = keys.now; cells = cells.now; played = None } }
     {
         CellPort {
             rt,
@@ -74,6 +74,16 @@ impl<'a, R: Wait, G: Gate, H: Held> CellPort<'a, R, G, H> {
     }
 }
 
+/// What a client is told: where the pass does not agree with what stands under the lock, that the match is over.
+fn agreed(reply: Reply) -> Reply
+    ensures { result ≡ agreed reply }
+{
+    match reply {
+        Reply::No(Why::Agent) => Reply::Over,
+        reply => reply,
+    }
+}
+
 impl<R: Wait, G: Gate, H: Held> Port for CellPort<'_, R, G, H> {
     ghost use Rattle.bhs_server.specs.Ports.{Calls};
 
@@ -89,10 +99,11 @@ impl<R: Wait, G: Gate, H: Held> Port for CellPort<'_, R, G, H> {
         let Some(pass) = cell.claim(self.rt, agent) else {
             return Ok(Entered::Taken);
         };
+        let _paired = pass.receipts();
         let mut played = Played { game, pass };
         let answer = cell.submit(self.rt, self.gate, &mut played.pass, Command::Enter);
         self.played = Some(played);
-        Ok(Entered::In(answer?.reply))
+        Ok(Entered::In(agreed(answer?.reply)))
     }
 
     fn tell(&mut self, command: Command) -> Result<Reply, Memory> {
@@ -103,7 +114,7 @@ impl<R: Wait, G: Gate, H: Held> Port for CellPort<'_, R, G, H> {
             return Ok(Reply::Over);
         };
         let answer = cell.submit(self.rt, self.gate, pass, command)?;
-        Ok(answer.reply)
+        Ok(agreed(answer.reply))
     }
 
     fn news(&mut self) -> Result<Reply, Memory> {

@@ -1,7 +1,4 @@
-ghost use Rattle.std.specs.Prelude.{◌≡◌, None, length};
-ghost use Rattle.bhs_session.specs.Phase.{Finished};
-ghost use Rattle.bhs_session.specs.Session.{Serves};
-ghost use Rattle.bhs_server.specs.Ports.{Calls, Seated};
+ghost use Rattle.bhs_server.specs.Written.{IsAttended};
 
 use crate::connections::Held;
 use crate::ports::{CellPort, Played};
@@ -34,10 +31,8 @@ pub fn attend<I: Input, O: Output, H: Held, R: Wait, G: Gate>(
     keys: &Keys,
     gate: &G,
 ) -> Visit
-    ensures { (last : Seated) × (last.played ≡ result.played) ×
-        Serves I.gives O.takes Calls reader.old reader.new writer.old writer.new
-        (record { keys = keys.now; games = length cells.now; played = None })
-        last TURNS (Finished result.ended) }
+    ensures { IsAttended I.gives O.takes keys.now cells.now reader.old reader.new writer.old writer.new TURNS
+        result.played result.ended }
 {
     let mut port = CellPort::new(rt, gate, held, cells, keys);
     let ended = serve(alloc, reader, writer, &mut port, TURNS);

@@ -1,6 +1,6 @@
 -- What is known of a session between two answers, and where it stops.
 use Rattle.std.proofs.Common.{◌≡◌, ◌∙◌, ℕ, Bool, true, false, cond, nat_lt, nat_le, bytes_eq, length}
-use Rattle.std.proofs.Common.{List, [], ◌∷◌, ◌++◌, map, refl, sym, ap, subst, append-nil}
+use Rattle.std.proofs.Common.{inl, List, [], ◌∷◌, ◌++◌, map, refl, sym, ap, subst, append-nil}
 use Rattle.bhs_model.specs.declared.commands.Command.{Command}
 use Rattle.bhs_model.specs.declared.commands.Command.TheVariants as commands
 use Rattle.bhs_model.specs.declared.replies.Reply.TheVariants as replies
@@ -98,7 +98,7 @@ StandsIn (Owes text next) past met left last = Stands next past met left last
 StandsIn phase past met left last = Stands phase past met left last
 
 pub record Known (quota limit : ℕ) (written : List ℕ) (taken : List Line) (phase : Phase) (past : View) : Type 0 where
-  pub writes : WritesAsMet quota limit written taken phase
+  pub writes : WritesAsMet quota limit past written taken phase
   pub stands : StandsIn phase past writes.met writes.left writes.last
 
 -- between two answers: all is written, and every line taken was answered
@@ -110,7 +110,7 @@ pub record Answered (quota limit : ℕ) (written : List ℕ) (taken : List Line)
   pub lived : past ≡ view_of met
 
 answered_all : (quota limit : ℕ) (written : List ℕ) (taken : List Line) (phase : Phase) (past : View)
-    (writes : WritesAsMet quota limit written taken phase) →
+    (writes : WritesAsMet quota limit past written taken phase) →
     writes.unwritten ≡ [] → writes.left ≡ [] → writes.last ≡ [] → past ≡ view_of writes.met
     → Answered quota limit written taken past
 answered_all quota limit written taken phase past w unwritten left last lived = record {
@@ -163,7 +163,9 @@ stopped_known quota limit written taken Fresh past cause takes k = record {
   writes = record {
     met = k.writes.met;
     due = k.writes.due;
+    lived = k.writes.lived;
     left = k.writes.left;
+    few = inl k.writes.few;
     said = k.writes.said;
     last = k.writes.last;
     is_last = k.writes.is_last;
@@ -177,7 +179,9 @@ stopped_known quota limit written taken Ready past cause takes k = record {
   writes = record {
     met = k.writes.met;
     due = k.writes.due;
+    lived = k.writes.lived;
     left = k.writes.left;
+    few = inl k.writes.few;
     said = k.writes.said;
     last = k.writes.last;
     is_last = k.writes.is_last;

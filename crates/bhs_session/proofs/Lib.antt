@@ -1,5 +1,6 @@
 pub mod AnsweredLemmas
 pub mod AnsweringLemmas
+pub mod ExampleLemmas
 pub mod HistoryLemmas
 pub mod KnownLemmas
 pub mod MeetingLemmas

@@ -9,3 +9,4 @@ pub mod Port
 pub mod Sent
 pub mod Session
 pub mod Texts
+pub mod AnsweringExamples

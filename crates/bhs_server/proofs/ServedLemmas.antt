@@ -1,0 +1,1038 @@
+-- What a session on a cell's port wrote, step by step.
+use Rattle.std.proofs.Common.{◌≡◌, ◌∙◌, ℕ, zero, suc, inl, inr, Option, Some, None, List, [], ◌∷◌, ◌++◌, map, take, drop, length, get_or, ◌<◌, arith}
+use Rattle.std.proofs.Common.{true, false, option_to_list, refl, sym, ap, ap₂, subst, append_assoc, append-nil}
+use Rattle.std.specs.Prelude.{option_map, slice_get}
+use Rattle.std.proofs.lemmas.List.{map-append, take-append-drop}
+use Rattle.bhs_model.specs.declared.commands.Command.{Command}
+use Rattle.bhs_model.specs.declared.commands.Command.TheVariants as commands
+use Rattle.bhs_model.specs.declared.replies.Reply.{Reply}
+use Rattle.bhs_model.specs.declared.replies.Reply.TheVariants as replies
+use Rattle.bhs_model.specs.declared.replies.Why.{Why}
+use Rattle.bhs_wire.specs.declared.commands.First.{First}
+use Rattle.bhs_wire.specs.declared.commands.First.TheVariants as firsts
+use Rattle.bhs_wire.specs.declared.denials.Denial.{Denial}
+use Rattle.bhs_wire.specs.declared.denials.Denial.TheVariants as denials
+use Rattle.bhs_wire.specs.Lines.{Line, said_by}
+use Rattle.bhs_stream.specs.Streams.{Chunk, Bytes, End, Fails, Taken}
+use Rattle.bhs_lineup.specs.KeyTable.{Seat}
+use Rattle.bhs_lock.specs.declared.model.Receipt.{Receipt}
+use Rattle.bhs_lock.specs.Passes.{Passed, tally_in, kept_command}
+use Rattle.bhs_lock.specs.Recording.{is_unheard, refusal_by, IsSubmitted}
+use Rattle.bhs_lock.specs.Cells.{Given, IsNews}
+use Rattle.bhs_lock.specs.Unclaimed.{IsFresh}
+use Rattle.bhs_session.specs.declared.endings.Ended.{Ended as Ending}
+use Rattle.bhs_session.specs.declared.endings.Ended.TheVariants as endings
+use Rattle.bhs_session.specs.declared.port.Entered.TheVariants as entered
+use Rattle.bhs_session.specs.Port.{Asked, Enters, Tells, News, Heard, LetIn, Answers, NoMemory}
+use Rattle.bhs_session.specs.Phase.{Phase, Fresh, Ready, Awaits, Owes, Leaves, Finished, answered_by, denied, stopped}
+use Rattle.bhs_session.specs.Phase.{Sends, all as goes_out, part as is_cut, none as is_kept_back}
+use Rattle.bhs_session.specs.Texts.{text_of, denial_text, command_by, command_of}
+use Rattle.bhs_session.specs.Machine.{Asks, Denies, ask, hear, behind_text}
+use Rattle.bhs_session.specs.Session.{Point, Step, Session, opens, reads, steps, asks, denies, awaits, sends, lacks}
+use Rattle.bhs_session.specs.Session.{tires, leaves, fresh, TakesLines, after_read, Serves}
+use Rattle.bhs_session.specs.Answering.{IsLastLine, MayLack, IsUnwritten}
+use Rattle.bhs_session.proofs.AnsweredLemmas.{lacks_none}
+use Rattle.bhs_session.proofs.SessionLaws.{InOrder-session}
+use Rattle.bhs_server.specs.declared.ports.Played.{Played}
+use Rattle.bhs_server.specs.Ports.{Seated, IsOfCell, IsToldBy, Calls}
+use Rattle.bhs_server.specs.Exchanges.{Exchange, Took, Refused, Came, receipts_after, reply_in, text_if, text_from}
+use Rattle.bhs_server.specs.Exchanges.{session_text, commands_in, receipts_in, kept_in, arrivals_in, phase_after}
+use Rattle.bhs_server.specs.Exchanges.{phase_from, IsInTurn, AreInTurn}
+use Rattle.bhs_server.specs.Written.{IsFew, Ends, IsWrittenFor, IsAttended}
+use Rattle.bhs_server.proofs.DrainedLemmas.{session_drained, none_more}
+
+-- ---- one exchange more
+
+commands_in-append : (all more : List Exchange) → commands_in (all ++ more) ≡ commands_in all ++ commands_in more
+commands_in-append [] more = refl
+commands_in-append (Took command receipt ∷ all) more =
+    ap (λ (rest : List Command). command ∷ rest) (commands_in-append all more)
+commands_in-append (Refused command ∷ all) more =
+    ap (λ (rest : List Command). command ∷ rest) (commands_in-append all more)
+commands_in-append (Came receipt ∷ all) more = commands_in-append all more
+
+receipts_in-append : (all more : List Exchange) → receipts_in (all ++ more) ≡ receipts_in all ++ receipts_in more
+receipts_in-append [] more = refl
+receipts_in-append (Took command receipt ∷ all) more =
+    ap (λ (rest : List Receipt). receipt ∷ rest) (receipts_in-append all more)
+receipts_in-append (Refused command ∷ all) more = receipts_in-append all more
+receipts_in-append (Came receipt ∷ all) more = receipts_in-append all more
+
+kept_in-append : (all more : List Exchange) → kept_in (all ++ more) ≡ kept_in all ++ kept_in more
+kept_in-append [] more = refl
+kept_in-append (Took command receipt ∷ all) more =
+    ap (λ (rest : List Command). kept_command command receipt.reply ∷ rest) (kept_in-append all more)
+kept_in-append (Refused command ∷ all) more = kept_in-append all more
+kept_in-append (Came receipt ∷ all) more = kept_in-append all more
+
+arrivals_in-append : (all more : List Exchange) → arrivals_in (all ++ more) ≡ arrivals_in all ++ arrivals_in more
+arrivals_in-append [] more = refl
+arrivals_in-append (Took command receipt ∷ all) more = arrivals_in-append all more
+arrivals_in-append (Refused command ∷ all) more = arrivals_in-append all more
+arrivals_in-append (Came receipt ∷ all) more =
+    ap (λ (rest : List Receipt). receipt ∷ rest) (arrivals_in-append all more)
+
+phase_from-one : (phase : Phase) (before : List Exchange) (one : Exchange)
+    → phase_from phase (before ++ one ∷ []) ≡ phase_after one
+phase_from-one phase [] one = refl
+phase_from-one phase (first ∷ before) one = phase_from-one (phase_after first) before one
+
+after_in : (receipts : List Receipt) (first : Exchange) (before : List Exchange)
+    → receipts_after receipts first ++ receipts_in before ≡ receipts ++ receipts_in (first ∷ before)
+after_in receipts (Took command receipt) before = append_assoc receipts (receipt ∷ []) (receipts_in before)
+after_in receipts (Refused command) before = refl
+after_in receipts (Came receipt) before = refl
+
+turn_more : (quota : ℕ) (phase : Phase) (receipts : List Receipt) (before : List Exchange) (one : Exchange)
+    → AreInTurn quota phase receipts before →
+    IsInTurn quota (phase_from phase before) (receipts ++ receipts_in before) one
+    → AreInTurn quota phase receipts (before ++ one ∷ [])
+turn_more quota phase receipts [] one are is =
+    (subst (λ (some : List Receipt). IsInTurn quota phase some one) (append-nil receipts) is, tt)
+turn_more quota phase receipts (first ∷ before) one are is = (
+  are.0,
+  turn_more quota (phase_after first) (receipts_after receipts first) before one are.1
+      (subst (λ (some : List Receipt). IsInTurn quota (phase_from (phase_after first) before) some one)
+      (sym (after_in receipts first before)) is),
+)
+
+text_more : (quota : ℕ) (receipts : List Receipt) (before : List Exchange) (one : Exchange) →
+    text_from quota receipts (before ++ one ∷ [])
+    ≡ text_from quota receipts before ++ text_if (reply_in quota (receipts ++ receipts_in before) one)
+text_more quota receipts [] one =
+    append-nil (text_if (reply_in quota receipts one))
+    ∙ ap (λ (some : List Receipt). text_if (reply_in quota some one)) (sym (append-nil receipts))
+text_more quota receipts (first ∷ before) one =
+    let text = text_if (reply_in quota receipts first) in
+    let later = receipts_after receipts first in
+    ap (λ (rest : List ℕ). text ++ rest) (text_more quota later before one)
+    ∙ sym (append_assoc text (text_from quota later before)
+    (text_if (reply_in quota (later ++ receipts_in before) one)))
+    ∙ ap (λ (some : List Receipt). (text ++ text_from quota later before) ++ text_if (reply_in quota some one))
+    (after_in receipts first before)
+
+-- ---- what is known
+
+-- endings before which an agent is told to leave
+abbrev pub MayLeave : Ending → Type 0
+MayLeave endings.Bye = ⊥
+MayLeave endings.Noted = ⊥
+MayLeave endings.Over = ⊥
+MayLeave endings.Denied = ⊥
+MayLeave ended = Unit {0}
+
+abbrev pub Behind : Phase → Phase → Option Receipt → (left : List Command) → (last : List ℕ) → Type 0
+Behind Fresh now parting left last = ⊥
+Behind Ready now parting left last = (now ≡ Ready) × (parting ≡ None) × (left ≡ []) × (last ≡ [])
+Behind Awaits now parting left last = (now ≡ Awaits) × (parting ≡ None) × (left ≡ []) × (last ≡ [])
+Behind (Owes text next) now parting left last = ⊥
+Behind (Leaves ended) now parting left last = MayLeave ended × (parting ≡ None) × Ends ended now None left last
+Behind (Finished ended) now parting left last = Ends ended now parting left last
+
+-- of a session that plays by this pass
+pub record Talks (written : List ℕ) (taken : List Line) (phase : Phase) (pass : Passed) : Type 0 where
+  pub all : List Exchange
+  pub in_turn : AreInTurn pass.quota Fresh [] all
+  pub parting : Option Receipt
+  pub receipts : pass.receipts ≡ receipts_in all ++ option_to_list parting
+  pub kept : pass.commands ≡ kept_in all ++ map (λ (receipt : Receipt). commands.Leave) (option_to_list parting)
+  pub arrivals : pass.arrivals ≡ arrivals_in all
+  pub left : List Command
+  pub few : IsFew left
+  pub said : map command_of taken ≡ commands_in all ++ left
+  pub last : List ℕ
+  pub is_last : IsLastLine last
+  pub unwritten : List ℕ
+  pub heard : written ++ unwritten ≡ session_text pass.quota all ++ last
+  pub is_unwritten : IsUnwritten phase unwritten
+  pub stands : Behind (behind_text phase) (phase_from Fresh all) parting left last
+
+abbrev pub StandsOutside : Phase → (last : List ℕ) → List Line → Type 0
+StandsOutside Fresh last taken = (last ≡ []) × (taken ≡ [])
+StandsOutside (Finished ended) last taken = Unit {0}
+StandsOutside phase last taken = ⊥
+
+-- of a session that plays no agent
+pub record Alone (written : List ℕ) (taken : List Line) (phase : Phase) : Type 0 where
+  pub last : List ℕ
+  pub is_last : IsLastLine last
+  pub unwritten : List ℕ
+  pub heard : written ++ unwritten ≡ last
+  pub is_unwritten : IsUnwritten phase unwritten
+  pub stands : StandsOutside (behind_text phase) last taken
+
+abbrev pub Known : List ℕ → List Line → Phase → Option Played → Type 0
+Known written taken phase None = Alone written taken phase
+Known written taken phase (Some played) = Talks written taken phase played.pass
+
+-- the pass that is played by is one of its match
+abbrev pub IsPlayedOn : List Given → Option Played → Type 0
+IsPlayedOn cells None = Unit {0}
+IsPlayedOn cells (Some played) = IsOfCell cells played.game played.pass
+
+-- between two answers: all is written, and every line taken was answered
+pub record Answered (written : List ℕ) (taken : List Line) (now : Phase) (pass : Passed) : Type 0 where
+  pub all : List Exchange
+  pub in_turn : AreInTurn pass.quota Fresh [] all
+  pub receipts : pass.receipts ≡ receipts_in all
+  pub kept : pass.commands ≡ kept_in all
+  pub arrivals : pass.arrivals ≡ arrivals_in all
+  pub said : map command_of taken ≡ commands_in all
+  pub heard : written ≡ session_text pass.quota all
+  pub stands : phase_from Fresh all ≡ now
+
+answered_all : (written : List ℕ) (taken : List Line) (phase now : Phase) (pass : Passed)
+    (k : Talks written taken phase pass) → k.unwritten ≡ [] →
+    (phase_from Fresh k.all ≡ now) × (k.parting ≡ None) × (k.left ≡ []) × (k.last ≡ [])
+    → Answered written taken now pass
+answered_all written taken phase now pass k unwritten stands = record {
+  all = k.all;
+  in_turn = k.in_turn;
+  receipts = k.receipts ∙ ap (λ (parting : Option Receipt). receipts_in k.all ++ option_to_list parting) stands.1
+      ∙ append-nil (receipts_in k.all);
+  kept = k.kept ∙ ap (λ (parting : Option Receipt). kept_in k.all
+      ++ map (λ (receipt : Receipt). commands.Leave) (option_to_list parting)) stands.1
+      ∙ append-nil (kept_in k.all);
+  arrivals = k.arrivals;
+  said = k.said ∙ ap (λ (rest : List Command). commands_in k.all ++ rest) stands.2 ∙ append-nil (commands_in k.all);
+  heard = sym (append-nil written) ∙ ap (λ (rest : List ℕ). written ++ rest) (sym unwritten) ∙ k.heard
+      ∙ ap (λ (rest : List ℕ). session_text pass.quota k.all ++ rest) stands.3
+      ∙ append-nil (session_text pass.quota k.all);
+  stands = stands.0;
+}
+
+-- ---- answers
+
+-- something is said and answered, and its line is owed
+more_said : (written : List ℕ) (taken more : List Line) (now : Phase) (pass pass' : Passed) (one : Exchange)
+    (reply : Reply) (next : Phase) → Answered written taken now pass →
+    pass'.quota ≡ pass.quota → pass'.receipts ≡ pass.receipts ++ receipts_in (one ∷ []) →
+    pass'.commands ≡ pass.commands ++ kept_in (one ∷ []) → pass'.arrivals ≡ pass.arrivals ++ arrivals_in (one ∷ []) →
+    map command_of more ≡ commands_in (one ∷ []) → IsInTurn pass.quota now pass.receipts one →
+    reply_in pass.quota pass.receipts one ≡ Some reply → Behind next (phase_after one) None [] [] →
+    Talks written (taken ++ more) (Owes (text_of reply) next) pass'
+more_said written taken more now pass pass' one reply next a quota receipts kept arrivals said turn replied behind =
+    let longer : List Exchange = a.all ++ one ∷ [] in
+    record {
+      all = longer;
+      in_turn = subst (λ (quota : ℕ). AreInTurn quota Fresh [] longer) (sym quota)
+          (turn_more pass.quota Fresh [] a.all one a.in_turn
+          (subst (λ (phase : Phase). IsInTurn pass.quota phase (receipts_in a.all) one) (sym a.stands)
+          (subst (λ (some : List Receipt). IsInTurn pass.quota now some one) a.receipts turn)));
+      parting = None;
+      receipts = receipts ∙ ap (λ (some : List Receipt). some ++ receipts_in (one ∷ [])) a.receipts
+          ∙ sym (receipts_in-append a.all (one ∷ [])) ∙ sym (append-nil (receipts_in longer));
+      kept = kept ∙ ap (λ (some : List Command). some ++ kept_in (one ∷ [])) a.kept
+          ∙ sym (kept_in-append a.all (one ∷ [])) ∙ sym (append-nil (kept_in longer));
+      arrivals = arrivals ∙ ap (λ (some : List Receipt). some ++ arrivals_in (one ∷ [])) a.arrivals
+          ∙ sym (arrivals_in-append a.all (one ∷ []));
+      left = [];
+      few = inl refl;
+      said = map-append command_of taken more ∙ ap₂ (λ (some rest : List Command). some ++ rest) a.said said
+          ∙ sym (commands_in-append a.all (one ∷ [])) ∙ sym (append-nil (commands_in longer));
+      last = [];
+      is_last = inl refl;
+      unwritten = text_of reply;
+      heard = ap₂ (λ (some rest : List ℕ). some ++ rest) a.heard
+          (ap text_if (sym replied) ∙ ap (λ (some : List Receipt). text_if (reply_in pass.quota some one)) a.receipts)
+          ∙ sym (text_more pass.quota [] a.all one) ∙ ap (λ (quota : ℕ). session_text quota longer) (sym quota)
+          ∙ sym (append-nil (session_text pass'.quota longer));
+      is_unwritten = refl;
+      stands = subst (λ (phase : Phase). Behind next phase None [] []) (sym (phase_from-one Fresh a.all one)) behind;
+    }
+
+few_lines : (line : Line) → IsFew (map command_of (line ∷ []))
+few_lines line = inr (command_of line, refl)
+
+-- that the match is over
+ends_over : (written : List ℕ) (taken more : List Line) (now : Phase) (pass pass' : Passed)
+    → IsFew (map command_of more) → pass' ≡ pass → Answered written taken now pass →
+    Talks written (taken ++ more) (Owes (text_of replies.Over) (Finished endings.Over)) pass'
+ends_over written taken more now pass pass' few same a =
+    subst (Talks written (taken ++ more) (Owes (text_of replies.Over) (Finished endings.Over))) (sym same) (record {
+      all = a.all;
+      in_turn = a.in_turn;
+      parting = None;
+      receipts = a.receipts ∙ sym (append-nil (receipts_in a.all));
+      kept = a.kept ∙ sym (append-nil (kept_in a.all));
+      arrivals = a.arrivals;
+      left = map command_of more;
+      few = few;
+      said = map-append command_of taken more
+          ∙ ap (λ (some : List Command). some ++ map command_of more) a.said;
+      last = text_of replies.Over;
+      is_last = inr (inl refl);
+      unwritten = text_of replies.Over;
+      heard = ap (λ (some : List ℕ). some ++ text_of replies.Over) a.heard;
+      is_unwritten = refl;
+      stands = (refl, refl);
+    })
+
+-- no answer, for want of memory
+leaves_without : (written : List ℕ) (taken more : List Line) (now : Phase) (pass : Passed)
+    → IsFew (map command_of more) → Answered written taken now pass
+    → Talks written (taken ++ more) (Leaves endings.Memory) pass
+leaves_without written taken more now pass few a = record {
+  all = a.all;
+  in_turn = a.in_turn;
+  parting = None;
+  receipts = a.receipts ∙ sym (append-nil (receipts_in a.all));
+  kept = a.kept ∙ sym (append-nil (kept_in a.all));
+  arrivals = a.arrivals;
+  left = map command_of more;
+  few = few;
+  said = map-append command_of taken more ∙ ap (λ (some : List Command). some ++ map command_of more) a.said;
+  last = [];
+  is_last = inl refl;
+  unwritten = [];
+  heard = append-nil written ∙ a.heard ∙ sym (append-nil (session_text pass.quota a.all));
+  is_unwritten = tt;
+  stands = (tt, refl, tt);
+}
+
+behind_heard : (reply : Reply) → is_unheard reply ≡ false
+    → Behind (answered_by true reply) (answered_by true reply) None [] []
+behind_heard (replies.Here ports came board) heard = (refl, refl, refl, refl)
+behind_heard replies.Written heard = (refl, refl, refl, refl)
+behind_heard (replies.Changed board) heard = (refl, refl, refl, refl)
+behind_heard replies.Gone heard = (refl, refl, refl, refl)
+behind_heard replies.Noted heard = (refl, refl, refl, refl)
+behind_heard replies.Bye heard = (refl, refl, refl, refl)
+behind_heard replies.Over heard = absurd (cc)
+behind_heard (replies.No why) heard = (refl, refl, refl, refl)
+
+-- why a command was not heard
+by_refusal : (written : List ℕ) (taken : List Line) (line : Line) (now : Phase) (pass : Passed) (reply : Reply)
+    (refusal : Option Why) → TakesLines now → Answered written taken now pass →
+    refusal_by pass.quota (tally_in pass.receipts) (command_of line) ≡ refusal → Some reply ≡ option_map replies.No refusal
+    → Talks written (taken ++ line ∷ []) (Owes (text_of reply) (answered_by true reply)) pass
+by_refusal written taken line now pass reply None takes a is same = absurd (cc)
+by_refusal written taken line now pass reply (Some why) takes a is same =
+    let said : reply ≡ replies.No why = cc in
+    subst (λ (one : Reply). Talks written (taken ++ line ∷ []) (Owes (text_of one) (answered_by true one)) pass)
+    (sym said)
+    (more_said written taken (line ∷ []) now pass pass (Refused (command_of line)) (replies.No why) Ready a refl
+    (sym (append-nil pass.receipts)) (sym (append-nil pass.commands)) (sym (append-nil pass.arrivals)) refl
+    (takes, (why, is)) (ap (option_map replies.No) is) (refl, refl, refl, refl))
+
+-- the answer to a line
+line_answered : (written : List ℕ) (taken : List Line) (line : Line) (now : Phase) (pass pass' : Passed) (reply : Reply)
+    → TakesLines now → Answered written taken now pass → IsToldBy pass (command_of line) reply pass' →
+    Talks written (taken ++ line ∷ []) (Owes (text_of reply) (answered_by true reply)) pass'
+line_answered written taken line now pass pass' reply takes a told = by_place told.place told.submitted
+  where
+    by_place : (place : Option ℕ) → IsSubmitted pass (command_of line) place reply pass' →
+        Talks written (taken ++ line ∷ []) (Owes (text_of reply) (answered_by true reply)) pass'
+    by_place (Some place) is =
+        let receipt : Receipt = record { place = place; reply = reply } in
+        more_said written taken (line ∷ []) now pass pass' (Took (command_of line) receipt) reply
+        (answered_by true reply) a (ap (λ (one : Passed). one.quota) is.gains)
+        (ap (λ (one : Passed). one.receipts) is.gains) (ap (λ (one : Passed). one.commands) is.gains)
+        (ap (λ (one : Passed). one.arrivals) is.gains ∙ sym (append-nil pass.arrivals)) refl takes refl
+        (behind_heard reply is.heard)
+    by_place None is = elim is.why [
+      | inl stray ↦ absurd (told.agrees stray)
+      | inr (inl over) ↦
+          subst (λ (one : Reply). Talks written (taken ++ line ∷ []) (Owes (text_of one) (answered_by true one)) pass')
+          (sym over) (ends_over written taken (line ∷ []) now pass pass' (few_lines line) is.same a)
+      | inr (inr refused) ↦
+          subst (Talks written (taken ++ line ∷ []) (Owes (text_of reply) (answered_by true reply))) (sym is.same)
+          (by_refusal written taken line now pass reply _ takes a refl refused)
+    ]
+
+-- the answer to news
+news_answered : (written : List ℕ) (taken : List Line) (pass pass' : Passed) (reply : Reply)
+    → Answered written taken Awaits pass → IsNews pass reply pass' →
+    Talks written (taken ++ []) (Owes (text_of reply) (answered_by false reply)) pass'
+news_answered written taken pass pass' (replies.Here ports came board) a is =
+    let said : Reply = replies.Here ports came board in
+    more_said written taken [] Awaits pass pass' (Came (record { place = is.place; reply = said })) said Ready a
+    (ap (λ (one : Passed). one.quota) is.gains)
+    (ap (λ (one : Passed). one.receipts) is.gains ∙ sym (append-nil pass.receipts))
+    (ap (λ (one : Passed). one.commands) is.gains ∙ sym (append-nil pass.commands))
+    (ap (λ (one : Passed). one.arrivals) is.gains) refl refl refl (refl, refl, refl, refl)
+news_answered written taken pass pass' replies.Over a is =
+    ends_over written taken [] Awaits pass pass' (inl refl) is a
+news_answered written taken pass pass' replies.Written a is = absurd is
+news_answered written taken pass pass' (replies.Changed board) a is = absurd is
+news_answered written taken pass pass' replies.Gone a is = absurd is
+news_answered written taken pass pass' replies.Noted a is = absurd is
+news_answered written taken pass pass' replies.Bye a is = absurd is
+news_answered written taken pass pass' (replies.No why) a is = absurd is
+
+-- ---- stops
+
+-- between two lines
+stopped_known : (written : List ℕ) (taken : List Line) (phase : Phase) (played : Option Played) (cause : Ending)
+    → MayLeave cause → ((now : Phase) → TakesLines now → Ends cause now None [] []) → TakesLines phase →
+    Known written taken phase played → Known written taken (stopped phase cause) played
+stopped_known written taken Fresh None cause leave ends takes k = record {
+  last = k.last;
+  is_last = k.is_last;
+  unwritten = k.unwritten;
+  heard = k.heard;
+  is_unwritten = subst (MayLack cause) (sym k.is_unwritten) (lacks_none cause);
+  stands = tt;
+}
+stopped_known written taken Fresh (Some played) cause leave ends takes k = absurd k.stands
+stopped_known written taken Ready None cause leave ends takes k = absurd k.stands
+stopped_known written taken Ready (Some played) cause leave ends takes k = record {
+  all = k.all;
+  in_turn = k.in_turn;
+  parting = k.parting;
+  receipts = k.receipts;
+  kept = k.kept;
+  arrivals = k.arrivals;
+  left = k.left;
+  few = k.few;
+  said = k.said;
+  last = k.last;
+  is_last = k.is_last;
+  unwritten = k.unwritten;
+  heard = k.heard;
+  is_unwritten = subst (MayLack cause) (sym k.is_unwritten) (lacks_none cause);
+  stands = (
+    leave,
+    k.stands.1,
+    subst (λ (left : List Command). Ends cause (phase_from Fresh k.all) None left k.last) (sym k.stands.2)
+        (subst (λ (last : List ℕ). Ends cause (phase_from Fresh k.all) None [] last) (sym k.stands.3)
+        (ends (phase_from Fresh k.all) (subst TakesLines (sym k.stands.0) tt))),
+  );
+}
+stopped_known written taken Awaits played cause leave ends takes k = absurd takes
+stopped_known written taken (Owes text next) played cause leave ends takes k = absurd takes
+stopped_known written taken (Leaves ended) played cause leave ends takes k = absurd takes
+stopped_known written taken (Finished ended) played cause leave ends takes k = absurd takes
+
+-- ---- writing
+
+-- a text of which a part went out, where this stops the session
+module _ (written some rest text : List ℕ) (taken : List Line) (cause : Ending) (split : some ++ rest ≡ text)
+    (lacks_any : MayLack cause rest) (leave : MayLeave cause)
+    (ends : (now : Phase) (parting : Option Receipt) (left : List Command) (last : List ℕ)
+    → Ends cause now parting left last) where
+  cut_talk : (next : Phase) (pass : Passed) → Talks written taken (Owes text next) pass
+      → Talks (written ++ some) taken (stopped next cause) pass
+  cut_talk next pass k =
+      go next k.stands
+    where
+      with_phase : (phase : Phase) → IsUnwritten phase rest →
+          Behind (behind_text phase) (phase_from Fresh k.all) k.parting k.left k.last
+          → Talks (written ++ some) taken phase pass
+      with_phase phase is stands = record {
+        all = k.all;
+        in_turn = k.in_turn;
+        parting = k.parting;
+        receipts = k.receipts;
+        kept = k.kept;
+        arrivals = k.arrivals;
+        left = k.left;
+        few = k.few;
+        said = k.said;
+        last = k.last;
+        is_last = k.is_last;
+        unwritten = rest;
+        heard = append_assoc written some rest
+            ∙ ap (λ (all : List ℕ). written ++ all) (split ∙ sym k.is_unwritten) ∙ k.heard;
+        is_unwritten = is;
+        stands = stands;
+      }
+
+      go : (next : Phase) → Behind next (phase_from Fresh k.all) k.parting k.left k.last
+          → Talks (written ++ some) taken (stopped next cause) pass
+      go Fresh stands = absurd stands
+      go Ready stands = with_phase (Leaves cause) lacks_any (leave, stands.1, ends _ _ _ _)
+      go Awaits stands = with_phase (Leaves cause) lacks_any (leave, stands.1, ends _ _ _ _)
+      go (Owes text next) stands = absurd stands
+      go (Leaves ended) stands = with_phase (Leaves cause) lacks_any (leave, stands.1, ends _ _ _ _)
+      go (Finished ended) stands = with_phase (Finished cause) lacks_any (ends _ _ _ _)
+
+  cut_alone : (next : Phase) → Alone written taken (Owes text next)
+      → Alone (written ++ some) taken (stopped next cause)
+  cut_alone next k = go next k.stands
+    where
+      with_ending : Alone (written ++ some) taken (Finished cause)
+      with_ending = record {
+        last = k.last;
+        is_last = k.is_last;
+        unwritten = rest;
+        heard = append_assoc written some rest
+            ∙ ap (λ (all : List ℕ). written ++ all) (split ∙ sym k.is_unwritten) ∙ k.heard;
+        is_unwritten = lacks_any;
+        stands = tt;
+      }
+
+      go : (next : Phase) → StandsOutside next k.last taken → Alone (written ++ some) taken (stopped next cause)
+      go Fresh stands = with_ending
+      go Ready stands = absurd stands
+      go Awaits stands = absurd stands
+      go (Owes text next) stands = absurd stands
+      go (Leaves ended) stands = absurd stands
+      go (Finished ended) stands = with_ending
+
+-- a text that went out
+module _ (written text : List ℕ) (taken : List Line) where
+  out_talk : (next : Phase) (pass : Passed) → Talks written taken (Owes text next) pass
+      → Talks (written ++ text) taken next pass
+  out_talk next pass k =
+      go next k.stands
+    where
+      with_phase : (phase : Phase) → IsUnwritten phase [] →
+          Behind (behind_text phase) (phase_from Fresh k.all) k.parting k.left k.last
+          → Talks (written ++ text) taken phase pass
+      with_phase phase is stands = record {
+        all = k.all;
+        in_turn = k.in_turn;
+        parting = k.parting;
+        receipts = k.receipts;
+        kept = k.kept;
+        arrivals = k.arrivals;
+        left = k.left;
+        few = k.few;
+        said = k.said;
+        last = k.last;
+        is_last = k.is_last;
+        unwritten = [];
+        heard = append-nil (written ++ text) ∙ ap (λ (all : List ℕ). written ++ all) (sym k.is_unwritten) ∙ k.heard;
+        is_unwritten = is;
+        stands = stands;
+      }
+
+      go : (next : Phase) → Behind next (phase_from Fresh k.all) k.parting k.left k.last
+          → Talks (written ++ text) taken next pass
+      go Fresh stands = absurd stands
+      go Ready stands = with_phase Ready refl stands
+      go Awaits stands = with_phase Awaits refl stands
+      go (Owes text next) stands = absurd stands
+      go (Leaves ended) stands = with_phase (Leaves ended) (lacks_none ended) stands
+      go (Finished ended) stands = with_phase (Finished ended) (lacks_none ended) stands
+
+  out_alone : (next : Phase) → Alone written taken (Owes text next) → Alone (written ++ text) taken next
+  out_alone next k =
+      go next k.stands
+    where
+      with_phase : (phase : Phase) → IsUnwritten phase [] → StandsOutside (behind_text phase) k.last taken
+          → Alone (written ++ text) taken phase
+      with_phase phase is stands = record {
+        last = k.last;
+        is_last = k.is_last;
+        unwritten = [];
+        heard = append-nil (written ++ text) ∙ ap (λ (all : List ℕ). written ++ all) (sym k.is_unwritten) ∙ k.heard;
+        is_unwritten = is;
+        stands = stands;
+      }
+
+      go : (next : Phase) → StandsOutside next k.last taken → Alone (written ++ text) taken next
+      go Fresh stands = with_phase Fresh refl stands
+      go Ready stands = absurd stands
+      go Awaits stands = absurd stands
+      go (Owes text next) stands = absurd stands
+      go (Leaves ended) stands = absurd stands
+      go (Finished ended) stands = with_phase (Finished ended) (lacks_none ended) stands
+
+sent_known : {O : Type 0} (takes : O → List ℕ → Taken → O → Type 0) (written : List ℕ) (taken : List Line)
+    (played : Option Played) (old new : O) (phase next : Phase) (some : List ℕ) → Sends takes old phase some new next →
+    Known written taken phase played → Known (written ++ some) taken next played
+sent_known takes written taken None old _ _ _ _ (goes_out text next new puts) k = out_alone written text taken next k
+sent_known takes written taken None old _ _ _ _ (is_cut text next new some) k =
+    cut_alone written (take some.sent text) (drop some.sent text) text taken endings.WriteFault
+    (take-append-drop some.sent text) tt tt (λ now parting left last. tt) next k
+sent_known takes written taken None old _ _ _ _ (is_kept_back text next) k =
+    cut_alone written [] text text taken endings.Memory refl tt tt (λ now parting left last. tt) next k
+sent_known takes written taken (Some played) old _ _ _ _ (goes_out text next new puts) k =
+    out_talk written text taken next played.pass k
+sent_known takes written taken (Some played) old _ _ _ _ (is_cut text next new some) k =
+    cut_talk written (take some.sent text) (drop some.sent text) text taken endings.WriteFault
+    (take-append-drop some.sent text) tt tt (λ now parting left last. tt) next played.pass k
+sent_known takes written taken (Some played) old _ _ _ _ (is_kept_back text next) k =
+    cut_talk written [] text text taken endings.Memory refl tt tt (λ now parting left last. tt) next played.pass k
+
+-- ---- the port
+
+-- a denial is owed
+denied_alone : (written : List ℕ) (taken more : List Line) (denial : Denial) → Alone written taken Fresh
+    → Alone written more (denied denial)
+denied_alone written taken more denial k = record {
+  last = denial_text denial;
+  is_last = inr (inr (denial, refl));
+  unwritten = denial_text denial;
+  heard = ap (λ (some : List ℕ). some ++ denial_text denial)
+      (sym (append-nil written) ∙ ap (λ (rest : List ℕ). written ++ rest) (sym k.is_unwritten) ∙ k.heard
+      ∙ k.stands.0);
+  is_unwritten = refl;
+  stands = tt;
+}
+
+no_length : (xs : List Command) → length xs ≡ 0 → xs ≡ []
+no_length [] none = refl
+no_length (x ∷ xs) none = absurd (omega (arith, none))
+
+-- a pass that was claimed has told nothing
+claimed : (written : List ℕ) (taken : List Line) (agent : ℕ) (pass : Passed) → IsFresh agent pass
+    → length pass.receipts ≡ length pass.commands → Alone written taken Fresh → Answered written taken Fresh pass
+claimed written taken agent pass is paired k = record {
+  all = [];
+  in_turn = tt;
+  receipts = is.receipts;
+  kept = no_length pass.commands (sym paired ∙ ap length is.receipts);
+  arrivals = is.arrivals;
+  said = ap (map command_of) k.stands.1;
+  heard = sym (append-nil written) ∙ ap (λ (rest : List ℕ). written ++ rest) (sym k.is_unwritten) ∙ k.heard
+      ∙ k.stands.0;
+  stands = refl;
+}
+
+-- no answer to an enter, for want of memory
+finished_without : (written : List ℕ) (taken : List Line) (line : Line) (pass : Passed)
+    → Answered written taken Fresh pass → Talks written (taken ++ line ∷ []) (Finished endings.Memory) pass
+finished_without written taken line pass a =
+    let k = leaves_without written taken (line ∷ []) Fresh pass (few_lines line) a in
+    record {
+      all = k.all;
+      in_turn = k.in_turn;
+      parting = k.parting;
+      receipts = k.receipts;
+      kept = k.kept;
+      arrivals = k.arrivals;
+      left = k.left;
+      few = k.few;
+      said = k.said;
+      last = k.last;
+      is_last = k.is_last;
+      unwritten = k.unwritten;
+      heard = k.heard;
+      is_unwritten = tt;
+      stands = tt;
+    }
+
+-- a port by its parts
+abbrev seated : List Seat → List Given → Option Played → Seated
+seated keys cells played = record { keys = keys; cells = cells; played = played }
+
+module _ (written : List ℕ) (taken : List Line) (keys : List Seat) (cells : List Given) where
+  -- the first line
+  first_heard : (line : Line) (key : List ℕ) (heard : Heard) (new : Seated) (says : said_by line ≡ firsts.Enter key) →
+      Calls (seated keys cells None) (Enters key) heard new → Alone written taken Fresh
+      → Known written (taken ++ line ∷ []) (hear Fresh heard) new.played
+  first_heard line key (LetIn entered.Key) new says called k =
+      subst (λ (port : Seated). Known written (taken ++ line ∷ []) (denied denials.Key) port.played) (sym called.0)
+      (denied_alone written taken (taken ++ line ∷ []) denials.Key k)
+  first_heard line key (LetIn entered.Taken) new says called k =
+      subst (λ (port : Seated). Known written (taken ++ line ∷ []) (denied denials.Taken) port.played) (sym called.0)
+      (denied_alone written taken (taken ++ line ∷ []) denials.Taken k)
+  first_heard line key (LetIn (entered.In reply)) new says called k =
+      subst (λ (port : Seated). Known written (taken ++ line ∷ []) (hear Fresh (LetIn (entered.In reply))) port.played)
+      (sym called.plays)
+      (line_answered written taken line Fresh called.fresh called.pass reply tt
+      (claimed written taken called.claimed.agent called.fresh called.claimed.is_fresh called.claimed.paired k)
+      (subst (λ (command : Command). IsToldBy called.fresh command reply called.pass) (sym (ap command_by says))
+      called.told))
+  first_heard line key NoMemory new says called k =
+      subst (λ (port : Seated). Known written (taken ++ line ∷ []) (Finished endings.Memory) port.played)
+      (sym called.plays)
+      (finished_without written taken line called.fresh
+      (claimed written taken called.claimed.agent called.fresh called.claimed.is_fresh called.claimed.paired k))
+  first_heard line key (Answers reply) new says called k = absurd called
+
+  -- a later line
+  later_heard : (line : Line) (played : Played) (heard : Heard) (new : Seated) →
+      Calls (seated keys cells (Some played)) (Tells (command_of line)) heard new → Talks written taken Ready played.pass
+      → Known written (taken ++ line ∷ []) (hear Ready heard) new.played
+  later_heard line played (Answers reply) new called k =
+      subst (λ (port : Seated). Known written (taken ++ line ∷ []) (hear Ready (Answers reply)) port.played)
+      (sym called.2)
+      (line_answered written taken line Ready played.pass called.0 reply tt
+      (answered_all written taken Ready Ready played.pass k k.is_unwritten k.stands) called.1)
+  later_heard line played NoMemory new called k =
+      subst (λ (port : Seated). Known written (taken ++ line ∷ []) (Leaves endings.Memory) port.played) (sym called)
+      (leaves_without written taken (line ∷ []) Ready played.pass (few_lines line)
+      (answered_all written taken Ready Ready played.pass k k.is_unwritten k.stands))
+  later_heard line played (LetIn answer) new called k = absurd called
+
+  -- news
+  news_heard : (played : Played) (heard : Heard) (new : Seated) →
+      Calls (seated keys cells (Some played)) News heard new → Talks written taken Awaits played.pass
+      → Known written taken (hear Awaits heard) new.played
+  news_heard played (Answers reply) new called k =
+      subst (λ (lines : List Line). Known written lines (hear Awaits (Answers reply)) new.played) (append-nil taken)
+      (subst (λ (port : Seated). Known written (taken ++ []) (hear Awaits (Answers reply)) port.played)
+      (sym called.2)
+      (news_answered written taken played.pass called.0 reply
+      (answered_all written taken Awaits Awaits played.pass k k.is_unwritten k.stands) called.1))
+  news_heard played NoMemory new called k =
+      subst (λ (lines : List Line). Known written lines (Leaves endings.Memory) new.played) (append-nil taken)
+      (subst (λ (port : Seated). Known written (taken ++ []) (Leaves endings.Memory) port.played) (sym called)
+      (leaves_without written taken [] Awaits played.pass (inl refl)
+      (answered_all written taken Awaits Awaits played.pass k k.is_unwritten k.stands)))
+  news_heard played (LetIn answer) new called k = absurd called
+
+  -- a Leave that an ending tells
+  leave_ends : (ended : Ending) (now : Phase) (parting : Option Receipt) (left : List Command) (last : List ℕ)
+      → MayLeave ended → Ends ended now None left last → Ends ended now parting left last
+  leave_ends endings.Bye now parting left last leave ends = absurd leave
+  leave_ends endings.Noted now parting left last leave ends = absurd leave
+  leave_ends endings.Over now parting left last leave ends = absurd leave
+  leave_ends endings.Denied now parting left last leave ends = absurd leave
+  leave_ends endings.InputEnded now parting left last leave ends = ends
+  leave_ends endings.ReadFault now parting left last leave ends = ends
+  leave_ends endings.WriteFault now parting left last leave ends = tt
+  leave_ends endings.Memory now parting left last leave ends = tt
+  leave_ends endings.Turns now parting left last leave ends = ends
+
+  with_parting : (ended : Ending) (pass pass' : Passed) (parting : Option Receipt)
+      → (k : Talks written taken (Leaves ended) pass) → pass'.quota ≡ pass.quota →
+      pass'.receipts ≡ pass.receipts ++ option_to_list parting →
+      pass'.commands ≡ pass.commands ++ map (λ (receipt : Receipt). commands.Leave) (option_to_list parting) →
+      pass'.arrivals ≡ pass.arrivals → Talks written taken (Finished ended) pass'
+  with_parting ended pass pass' parting k quota receipts kept arrivals = record {
+    all = k.all;
+    in_turn = subst (λ (quota : ℕ). AreInTurn quota Fresh [] k.all) (sym quota) k.in_turn;
+    parting = parting;
+    receipts = receipts ∙ ap (λ (some : List Receipt). some ++ option_to_list parting)
+        (k.receipts ∙ ap (λ (some : Option Receipt). receipts_in k.all ++ option_to_list some) k.stands.1
+        ∙ append-nil (receipts_in k.all));
+    kept = kept
+        ∙ ap (λ (some : List Command). some ++ map (λ (receipt : Receipt). commands.Leave) (option_to_list parting))
+        (k.kept ∙ ap (λ (some : Option Receipt). kept_in k.all
+        ++ map (λ (receipt : Receipt). commands.Leave) (option_to_list some)) k.stands.1
+        ∙ append-nil (kept_in k.all));
+    arrivals = arrivals ∙ k.arrivals;
+    left = k.left;
+    few = k.few;
+    said = k.said;
+    last = k.last;
+    is_last = k.is_last;
+    unwritten = k.unwritten;
+    heard = k.heard ∙ ap (λ (quota : ℕ). session_text quota k.all ++ k.last) (sym quota);
+    is_unwritten = k.is_unwritten;
+    stands = leave_ends ended (phase_from Fresh k.all) parting k.left k.last k.stands.0 k.stands.2;
+  }
+
+  left_same : (ended : Ending) (pass pass' : Passed) → pass' ≡ pass → Talks written taken (Leaves ended) pass
+      → Talks written taken (Finished ended) pass'
+  left_same ended pass pass' same k =
+      with_parting ended pass pass' None k (ap (λ (one : Passed). one.quota) same)
+      (ap (λ (one : Passed). one.receipts) same ∙ sym (append-nil pass.receipts))
+      (ap (λ (one : Passed). one.commands) same ∙ sym (append-nil pass.commands))
+      (ap (λ (one : Passed). one.arrivals) same)
+
+  left_told : (ended : Ending) (pass pass' : Passed) (reply : Reply) (place : Option ℕ)
+      → IsSubmitted pass commands.Leave place reply pass' → Talks written taken (Leaves ended) pass
+      → Talks written taken (Finished ended) pass'
+  left_told ended pass pass' reply None is k = left_same ended pass pass' is.same k
+  left_told ended pass pass' reply (Some place) is k =
+      with_parting ended pass pass' (Some (record { place = place; reply = reply })) k
+      (ap (λ (one : Passed). one.quota) is.gains) (ap (λ (one : Passed). one.receipts) is.gains)
+      (ap (λ (one : Passed). one.commands) is.gains) (ap (λ (one : Passed). one.arrivals) is.gains)
+
+  leave_heard : (ended : Ending) (played : Played) (heard : Heard) (new : Seated) →
+      Calls (seated keys cells (Some played)) (Tells commands.Leave) heard new
+      → Talks written taken (Leaves ended) played.pass → Known written taken (Finished ended) new.played
+  leave_heard ended played (Answers reply) new called k =
+      subst (λ (port : Seated). Known written taken (Finished ended) port.played) (sym called.2)
+      (left_told ended played.pass called.0 reply called.1.place called.1.submitted k)
+  leave_heard ended played NoMemory new called k =
+      subst (λ (port : Seated). Known written taken (Finished ended) port.played) (sym called)
+      (left_same ended played.pass played.pass refl k)
+  leave_heard ended played (LetIn answer) new called k = absurd called
+
+  -- a line
+  first_known : (line : Line) (asked : Asked) (heard : Heard) (new : Seated) (first : First) → said_by line ≡ first →
+      ask Fresh first ≡ Asks asked → Calls (seated keys cells None) asked heard new → Alone written taken Fresh
+      → Known written (taken ++ line ∷ []) (hear Fresh heard) new.played
+  first_known line asked heard new (firsts.Enter key) says is called k =
+      let same : asked ≡ Enters key = cc in
+      first_heard line key heard new says
+      (subst (λ (one : Asked). Calls (seated keys cells None) one heard new) same called) k
+  first_known line asked heard new (firsts.Tell command) says is called k = absurd (cc)
+
+  asked_known : (phase : Phase) (played : Option Played) (line : Line) (asked : Asked) (heard : Heard) (new : Seated) →
+      ask phase (said_by line) ≡ Asks asked → Calls (seated keys cells played) asked heard new →
+      Known written taken phase played → Known written (taken ++ line ∷ []) (hear phase heard) new.played
+  asked_known Fresh None line asked heard new is called k =
+      first_known line asked heard new (said_by line) refl is called k
+  asked_known Fresh (Some played) line asked heard new is called k = absurd k.stands
+  asked_known Ready None line asked heard new is called k = absurd k.stands
+  asked_known Ready (Some played) line asked heard new is called k =
+      let same : asked ≡ Tells (command_of line) = cc in
+      later_heard line played heard new
+      (subst (λ (one : Asked). Calls (seated keys cells (Some played)) one heard new) same called) k
+  asked_known Awaits played line asked heard new is called k = absurd (cc)
+  asked_known (Owes text next) played line asked heard new is called k = absurd (cc)
+  asked_known (Leaves ended) played line asked heard new is called k = absurd (cc)
+  asked_known (Finished ended) played line asked heard new is called k = absurd (cc)
+
+  denied_known : (phase : Phase) (played : Option Played) (line : Line) (denial : Denial) →
+      ask phase (said_by line) ≡ Denies denial → Known written taken phase played
+      → Known written (taken ++ line ∷ []) (denied denial) played
+  denied_known Fresh None line denial is k = denied_alone written taken (taken ++ line ∷ []) denial k
+  denied_known Fresh (Some played) line denial is k = absurd k.stands
+  denied_known Ready played line denial is k = absurd (cc)
+  denied_known Awaits played line denial is k = absurd (cc)
+  denied_known (Owes text next) played line denial is k = absurd (cc)
+  denied_known (Leaves ended) played line denial is k = absurd (cc)
+  denied_known (Finished ended) played line denial is k = absurd (cc)
+
+  news_known : (played : Option Played) (heard : Heard) (new : Seated) → Calls (seated keys cells played) News heard new
+      → Known written taken Awaits played → Known written taken (hear Awaits heard) new.played
+  news_known None heard new called k = absurd k.stands
+  news_known (Some played) heard new called k = news_heard played heard new called k
+
+  left_known : (ended : Ending) (played : Option Played) (heard : Heard) (new : Seated) →
+      Calls (seated keys cells played) (Tells commands.Leave) heard new → Known written taken (Leaves ended) played
+      → Known written taken (Finished ended) new.played
+  left_known ended None heard new called k = absurd k.stands
+  left_known ended (Some played) heard new called k = leave_heard ended played heard new called k
+
+-- ---- sessions
+
+module _ {O : Type 0} (takes : O → List ℕ → Taken → O → Type 0) where
+  abbrev At : Point O Seated → Type 0
+  At p = Known p.written p.taken p.phase p.port.played
+
+  step_known : (p q : Point O Seated) → Step takes Calls p q → At p → At q
+  step_known _ _ (asks p line asked heard new says next called) k =
+      asked_known p.written p.taken p.port.keys p.port.cells p.phase p.port.played line asked heard new says called k
+  step_known _ _ (denies p line denial says next) k =
+      denied_known p.written p.taken p.port.keys p.port.cells p.phase p.port.played line denial says k
+  step_known _ _ (awaits p heard new at called) k =
+      subst (λ (phase : Phase). Known p.written p.taken (hear phase heard) new.played) (sym at)
+      (news_known p.written p.taken p.port.keys p.port.cells p.port.played heard new called
+      (subst (λ (phase : Phase). Known p.written p.taken phase p.port.played) at k))
+  step_known _ _ (sends p some output next sent) k =
+      sent_known takes p.written p.taken p.port.played p.output output p.phase next some sent k
+  step_known _ _ (lacks p lines some) k =
+      stopped_known p.written p.taken p.phase p.port.played endings.Memory tt (λ now line. tt) lines k
+  step_known _ _ (tires p lines every left) k =
+      stopped_known p.written p.taken p.phase p.port.played endings.Turns tt (λ now line. (line, refl, refl)) lines k
+  step_known _ _ (leaves p ended heard new at called) k =
+      left_known p.written p.taken p.port.keys p.port.cells ended p.port.played heard new called
+      (subst (λ (phase : Phase). Known p.written p.taken phase p.port.played) at k)
+
+  read_known : (p : Point O Seated) (chunk : Chunk) → TakesLines p.phase → At p → At (after_read chunk p)
+  read_known p (Bytes piece) lines k = k
+  read_known p End lines k =
+      stopped_known p.written p.taken p.phase p.port.played endings.InputEnded tt (λ now line. (line, refl, refl)) lines
+      k
+  read_known p Fails lines k =
+      stopped_known p.written p.taken p.phase p.port.played endings.ReadFault tt (λ now line. (line, refl, refl)) lines
+      k
+
+  session_known : {I : Type 0} (gives : I → Chunk → I → Type 0) (from : I) (start : Point O Seated) (input : I)
+      (q : Point O Seated) → Session gives takes Calls from start input q → At start → At q
+  session_known gives from start _ _ opens k = k
+  session_known gives from start _ _ (reads input next p chunk session lines every left is given) k =
+      read_known p chunk lines (session_known gives from start input p session k)
+  session_known gives from start _ _ (steps input p q session step) k =
+      step_known p q step (session_known gives from start input p session k)
+
+-- ---- the match of the pass
+
+quota_told : (pass pass' : Passed) (command : Command) (reply : Reply) (place : Option ℕ)
+    → IsSubmitted pass command place reply pass' → pass'.quota ≡ pass.quota
+quota_told pass pass' command reply (Some place) is = ap (λ (one : Passed). one.quota) is.gains
+quota_told pass pass' command reply None is = ap (λ (one : Passed). one.quota) is.same
+
+quota_news : (pass pass' : Passed) (reply : Reply) → IsNews pass reply pass' → pass'.quota ≡ pass.quota
+quota_news pass pass' (replies.Here ports came board) is = ap (λ (one : Passed). one.quota) is.gains
+quota_news pass pass' replies.Over is = ap (λ (one : Passed). one.quota) is
+quota_news pass pass' replies.Written is = absurd is
+quota_news pass pass' (replies.Changed board) is = absurd is
+quota_news pass pass' replies.Gone is = absurd is
+quota_news pass pass' replies.Noted is = absurd is
+quota_news pass pass' replies.Bye is = absurd is
+quota_news pass pass' (replies.No why) is = absurd is
+
+-- by what the list of matches has there
+of_none : (cells : List Given) (game : ℕ) (pass : Passed) → slice_get cells game ≡ None → IsOfCell cells game pass → ⊥
+of_none [] game pass none is = is
+of_none (first ∷ cells) zero pass none is = absurd (cc)
+of_none (first ∷ cells) (suc game) pass none is = of_none cells game pass none is
+
+pub of_given : (cells : List Given) (game : ℕ) (pass : Passed) (given : Given) → slice_get cells game ≡ Some given
+    → IsOfCell cells game pass → pass.quota ≡ given.setup.quota
+of_given [] game pass given there is = absurd (cc)
+of_given (first ∷ cells) zero pass given there is =
+    let same : first ≡ given = cc in is ∙ ap (λ (one : Given). one.setup.quota) same
+of_given (first ∷ cells) (suc game) pass given there is = of_given cells game pass given there is
+
+of_some : (cells : List Given) (game : ℕ) (pass : Passed) (given : Given) → slice_get cells game ≡ Some given
+    → pass.quota ≡ given.setup.quota → IsOfCell cells game pass
+of_some [] game pass given there is = absurd (cc)
+of_some (first ∷ cells) zero pass given there is =
+    let same : first ≡ given = cc in is ∙ ap (λ (one : Given). one.setup.quota) (sym same)
+of_some (first ∷ cells) (suc game) pass given there is = of_some cells game pass given there is
+
+-- by the match that was found there
+pub of_at : (cells own : List Given) (game : ℕ) (pass : Passed) (given : Given) → cells ≡ own → game < length cells
+    → given ≡ get_or cells game given → pass.quota ≡ given.setup.quota → IsOfCell own game pass
+of_at cells own game pass given same below there is =
+    subst (λ (all : List Given). IsOfCell all game pass) same (go cells game below there)
+  where
+    go : (cells : List Given) (game : ℕ) → game < length cells → given ≡ get_or cells game given
+        → IsOfCell cells game pass
+    go [] game below there = absurd (omega (arith, below))
+    go (first ∷ cells) zero below there = is ∙ ap (λ (one : Given). one.setup.quota) there
+    go (first ∷ cells) (suc game) below there = go cells game (omega (arith, below)) there
+
+of_cell_same : (cells : List Given) (game : ℕ) (pass pass' : Passed) → pass'.quota ≡ pass.quota
+    → IsOfCell cells game pass → IsOfCell cells game pass'
+of_cell_same cells game pass pass' same is = by_given (slice_get cells game) refl
+  where
+    by_given : (found : Option Given) → slice_get cells game ≡ found → IsOfCell cells game pass'
+    by_given None none = absurd (of_none cells game pass none is)
+    by_given (Some given) there = of_some cells game pass' given there (same ∙ of_given cells game pass given there is)
+
+-- the port is of the same matches, and its pass is one of its match
+pub record StaysOn (cells : List Given) (port : Seated) : Type 0 where
+  pub same : port.cells ≡ cells
+  pub plays : IsPlayedOn cells port.played
+
+stays_as : (cells : List Given) (new old : Seated) → new ≡ old → StaysOn cells old → StaysOn cells new
+stays_as cells new old is stays = subst (StaysOn cells) (sym is) stays
+
+module _ (keys : List Seat) (cells : List Given) where
+  stays_after : (asked : Asked) (heard : Heard) (played : Option Played) (new : Seated) →
+      Calls (seated keys cells played) asked heard new → IsPlayedOn cells played → StaysOn cells new
+  stays_after (Enters key) (LetIn entered.Key) played new called on =
+      stays_as cells new (seated keys cells played) called.0 (record { same = refl; plays = on })
+  stays_after (Enters key) (LetIn entered.Taken) played new called on =
+      stays_as cells new (seated keys cells played) called.0 (record { same = refl; plays = on })
+  stays_after (Enters key) (LetIn (entered.In reply)) played new called on =
+      stays_as cells new _ called.plays (record {
+        same = refl;
+        plays = of_cell_same cells called.game called.fresh called.pass
+            (quota_told called.fresh called.pass commands.Enter reply called.told.place called.told.submitted)
+            called.claimed.of_cell;
+      })
+  stays_after (Enters key) (Answers reply) played new called on = absurd called
+  stays_after (Enters key) NoMemory played new called on =
+      stays_as cells new _ called.plays (record { same = refl; plays = called.claimed.of_cell })
+  stays_after (Tells command) (LetIn answer) played new called on = absurd called
+  stays_after (Tells command) (Answers reply) None new called on =
+      stays_as cells new (seated keys cells None) called.1 (record { same = refl; plays = on })
+  stays_after (Tells command) (Answers reply) (Some played) new called on =
+      stays_as cells new _ called.2 (record {
+        same = refl;
+        plays = of_cell_same cells played.game played.pass called.0
+            (quota_told played.pass called.0 command reply called.1.place called.1.submitted) on;
+      })
+  stays_after (Tells command) NoMemory played new called on =
+      stays_as cells new (seated keys cells played) called (record { same = refl; plays = on })
+  stays_after News (LetIn answer) played new called on = absurd called
+  stays_after News (Answers reply) None new called on =
+      stays_as cells new (seated keys cells None) called.1 (record { same = refl; plays = on })
+  stays_after News (Answers reply) (Some played) new called on =
+      stays_as cells new _ called.2 (record {
+        same = refl;
+        plays = of_cell_same cells played.game played.pass called.0 (quota_news played.pass called.0 reply called.1) on;
+      })
+  stays_after News NoMemory played new called on =
+      stays_as cells new (seated keys cells played) called (record { same = refl; plays = on })
+
+-- of a port by itself
+stays_called : (cells : List Given) (asked : Asked) (heard : Heard) (old new : Seated) → Calls old asked heard new
+    → StaysOn cells old → StaysOn cells new
+stays_called cells asked heard old new called stays =
+    let P : List Given → Type 0 = λ own. Calls (seated old.keys own old.played) asked heard new in
+    stays_after old.keys cells asked heard old.played new (subst P stays.same called) stays.plays
+
+module _ {O : Type 0} (takes : O → List ℕ → Taken → O → Type 0) (cells : List Given) where
+  stays_step : (p q : Point O Seated) → Step takes Calls p q → StaysOn cells p.port → StaysOn cells q.port
+  stays_step _ _ (asks p line asked heard new says next called) on =
+      stays_called cells asked heard p.port new called on
+  stays_step _ _ (denies p line denial says next) on = on
+  stays_step _ _ (awaits p heard new at called) on =
+      stays_called cells News heard p.port new called on
+  stays_step _ _ (sends p some output next sent) on = on
+  stays_step _ _ (lacks p lines some) on = on
+  stays_step _ _ (tires p lines every left) on = on
+  stays_step _ _ (leaves p ended heard new at called) on =
+      stays_called cells (Tells commands.Leave) heard p.port new called on
+
+  stays_read : (p : Point O Seated) (chunk : Chunk) → StaysOn cells p.port → StaysOn cells (after_read chunk p).port
+  stays_read p (Bytes piece) on = on
+  stays_read p End on = on
+  stays_read p Fails on = on
+
+  stays_session : {I : Type 0} (gives : I → Chunk → I → Type 0) (from : I) (start : Point O Seated) (input : I)
+      (q : Point O Seated) → Session gives takes Calls from start input q → StaysOn cells start.port
+      → StaysOn cells q.port
+  stays_session gives from start _ _ opens on = on
+  stays_session gives from start _ _ (reads input next p chunk session lines every left is given) on =
+      stays_read p chunk (stays_session gives from start input p session on)
+  stays_session gives from start _ _ (steps input p q session step) on =
+      stays_step p q step (stays_session gives from start input p session on)
+
+ended_known : (cells : List Given) (written : List ℕ) (taken : List Line) (ended : Ending) (played : Option Played)
+    → IsPlayedOn cells played → Known written taken (Finished ended) played
+    → IsWrittenFor cells played (map command_of taken) written ended
+ended_known cells written taken ended None on k = record {
+  last = k.last;
+  is_last = k.is_last;
+  unwritten = k.unwritten;
+  heard = k.heard;
+  is_unwritten = k.is_unwritten;
+}
+ended_known cells written taken ended (Some played) on k = (
+  on,
+  record {
+    all = k.all;
+    in_turn = k.in_turn;
+    parting = k.parting;
+    receipts = k.receipts;
+    kept = k.kept;
+    arrivals = k.arrivals;
+    left = k.left;
+    few = k.few;
+    said = k.said;
+    last = k.last;
+    is_last = k.is_last;
+    unwritten = k.unwritten;
+    heard = k.heard;
+    is_unwritten = k.is_unwritten;
+    ends = k.stands;
+  },
+)
+
+-- what a session on a cell's port wrote, by the pass that it played by
+pub served_lemma : {I O : Type 0} (gives : I → Chunk → I → Type 0) (takes : O → List ℕ → Taken → O → Type 0)
+    (keys : List Seat) (cells : List Given) (from input : I) (old output : O) (last : Seated) (turns : ℕ) (ended : Ending)
+    (serves : Serves gives takes Calls from input old output (seated keys cells None) last turns (Finished ended)) →
+    IsWrittenFor cells last.played (map command_of serves.taken) serves.written ended
+served_lemma gives takes keys cells from input old output last turns ended serves =
+    ended_known cells serves.written serves.taken ended last.played
+    (stays_session takes cells gives from (fresh old (seated keys cells None) turns) input _ serves.session
+    (record { same = refl; plays = tt })).plays
+    (session_known takes gives from (fresh old (seated keys cells None) turns) input _ serves.session (record {
+      last = [];
+      is_last = inl refl;
+      unwritten = [];
+      heard = refl;
+      is_unwritten = refl;
+      stands = (refl, refl);
+    }))
+
+-- the same of a port that begins as a new one
+pub attended_lemma : {I O : Type 0} (gives : I → Chunk → I → Type 0) (takes : O → List ℕ → Taken → O → Type 0)
+    (keys : List Seat) (cells : List Given) (from input : I) (old output : O) (first last : Seated) (turns : ℕ)
+    (played : Option Played) (ended : Ending) → first ≡ seated keys cells None → played ≡ last.played →
+    Serves gives takes Calls from input old output first last turns (Finished ended)
+    → IsAttended gives takes keys cells from input old output turns played ended
+attended_lemma gives takes keys cells from input old output first last turns played ended is plays serves =
+    let whole : Serves gives takes Calls from input old output (seated keys cells None) last turns (Finished ended) =
+    subst (λ (port : Seated). Serves gives takes Calls from input old output port last turns (Finished ended)) is
+    serves in
+    let order = InOrder-session whole.session ([], refl) in
+    record {
+      last = last;
+      plays = sym plays;
+      serves = whole;
+      written = subst (λ (one : Option Played). IsWrittenFor cells one (map command_of whole.taken) whole.written ended)
+          (sym plays) (served_lemma gives takes keys cells from input old output last turns ended whole);
+      more = order.0;
+      in_order = order.1;
+      none_more = none_more whole.read whole.taken order.0 ended
+          (session_drained takes Calls gives from (fresh old (seated keys cells None) turns) input _ whole.session tt)
+          order.1;
+    }

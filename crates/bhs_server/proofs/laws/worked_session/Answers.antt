@@ -1,0 +1,52 @@
+use Rattle.std.proofs.Common.{None, [], ◌∷◌, refl, inl}
+use Rattle.bhs_model.specs.declared.replies.Why.TheVariants.{Twice}
+use Rattle.bhs_wire.proofs.OnLiterals.{bhs_wire_on_literals}
+use Rattle.bhs_server.specs.ContestExample.{settled, pass, all_said}
+use Rattle.bhs_server.proofs.laws.worked_session.Goals as goal
+
+pub returns : goal.returns
+unfolding bhs_wire_on_literals
+returns c = record {
+  text = refl;
+  receipts = refl;
+  arrival = refl;
+  turns = (tt, ((tt, (Twice, refl)), (tt, (refl, (tt, tt)))));
+  past = refl;
+  headline = record {
+    kept = refl;
+    replies = refl;
+    given = record { game = 0; net = settled.net; setup = settled.setup };
+    passes = pass ∷ [];
+    accord = record {
+      world = record { same_net = refl; same_setup = refl };
+      commands = (refl, (refl, tt));
+      arrivals = (refl, tt);
+      closed = refl;
+    };
+    index = 0;
+    handed_in = refl;
+    cells = record { game = 0; net = settled.net; setup = settled.setup } ∷ [];
+    game = 0;
+    cell = refl;
+    of_cell = refl;
+    never_away = (λ same. absurd (cc), (λ same. absurd (cc), (λ same. absurd (cc), tt)));
+    wrote = record {
+      all = all_said;
+      in_turn = (tt, ((tt, (Twice, refl)), (tt, (refl, (tt, tt)))));
+      parting = None;
+      receipts = refl;
+      kept = refl;
+      arrivals = refl;
+      left = [];
+      few = inl refl;
+      said = refl;
+      last = [];
+      is_last = inl refl;
+      unwritten = [];
+      heard = refl;
+      is_unwritten = refl;
+      ends = (refl, refl, refl, refl);
+    };
+    none_more = λ between. absurd (cc);
+  };
+}

@@ -1,0 +1,27 @@
+//! What a session wrote is a function of its agent's past. Each contract is a law; the functions do nothing.
+
+ghost use Rattle.bhs_server.specs.ContestExample.{AllIsInTurn, TheArrivalIsThis, TheHeadlineSpeaksOfIt, TheReceiptsAreThese};
+ghost use Rattle.bhs_server.specs.ContestExample.{ThePastIsOfWhatWasMet, TheTextIsOfWhatWasMet};
+ghost use Rattle.bhs_server.specs.ContestMet.{EqualPastsAreSentEqualBytes, SentAsMet};
+
+/// A session whose pass settled with its match wrote the bytes of what its agent met in the log, and behind them at
+/// most one line; or a front of that, where a write failed or memory ran out.
+pub fn sent_as_met()
+    ensures { SentAsMet }
+{}
+
+/// Two sessions of any two contests, in matches of equal quota and equal whiteboards, whose agents have equal pasts in
+/// the logs that settled and that were fed equal commands, wrote equal bytes: until the close, or the end of their input.
+pub fn equal_pasts_are_sent_equal_bytes()
+    ensures { EqualPastsAreSentEqualBytes }
+{}
+
+/// A session of a client, worked out by hand.
+pub fn worked_session()
+    ensures text { TheTextIsOfWhatWasMet }
+    ensures receipts { TheReceiptsAreThese }
+    ensures arrival { TheArrivalIsThis }
+    ensures turns { AllIsInTurn }
+    ensures past { ThePastIsOfWhatWasMet }
+    ensures headline { TheHeadlineSpeaksOfIt }
+{}
