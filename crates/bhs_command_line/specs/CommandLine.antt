@@ -10,7 +10,7 @@ use Rattle.clap.specs.Words.{App, Kinds, Row, Rule, Shape, Text, all_of, fault_o
 use Rattle.clap.specs.Words.{shape_of, subcommand_of, with_subcommand}
 use Rattle.clap.specs.Simple.{new_shape, on_top}
 use Rattle.clap.specs.Walk.{is_empty}
-use Rattle.clap.specs.declared.builder.action.ArgAction.TheVariants.{Append}
+use Rattle.clap.specs.declared.builder.action.ArgAction.TheVariants.{Append, SetTrue}
 use Rattle.clap.specs.declared.builder.command.Command.{Command}
 use Rattle.clap.specs.declared.builder.command.Command.TheViews.{out-Command as fields_of}
 use Rattle.clap.specs.declared.error.kind.ErrorKind.{ErrorKind}
@@ -18,7 +18,7 @@ use Rattle.clap.specs.declared.error.kind.ErrorKind.TheVariants.{DisplayHelp, Di
 use Rattle.bhs_teams.specs.Teams.{is_team}
 use Rattle.bhs_command_line.specs.declared.orders.Order.{Order}
 use Rattle.bhs_command_line.specs.declared.orders.Order.TheVariants.{Rehearse, Check, Judge, Table, Explain, Twin}
-use Rattle.bhs_command_line.specs.declared.orders.Order.TheVariants.{Serve}
+use Rattle.bhs_command_line.specs.declared.orders.Order.TheVariants.{Serve, Talk}
 use Rattle.bhs_command_line.specs.declared.orders.Entry.{Entry}
 use Rattle.bhs_command_line.specs.declared.orders.Hosting.{Hosting}
 use Rattle.bhs_command_line.specs.declared.Parsed.{Parsed}
@@ -41,6 +41,10 @@ may_have id = record (new_rule id) { value_names = 1 }
 abbrev pub must_have : (id : Text) → Rule
 must_have id = record (new_rule id) { required = true; value_names = 1 }
 
+-- an option that takes no word
+abbrev pub flag : (id : Text) → Rule
+flag id = record (new_rule id) { action = Some SetTrue }
+
 -- a word that stands behind the option of this name
 abbrev pub behind : (option : Text) → Rule → Rule
 behind option rule = record rule { long = Some option }
@@ -60,7 +64,8 @@ entry_words = record (new_rule (codes "entry")) { required = true; action = Some
 
 abbrev pub rehearse : Shape
 rehearse = command (codes "rehearse")
-    (may_have (codes "tournament") ∷ behind (codes "replay") (may_have (codes "prefix")) ∷ [])
+    (may_have (codes "tournament") ∷ behind (codes "replay") (may_have (codes "prefix"))
+    ∷ behind (codes "interactive") (flag (codes "interactive")) ∷ [])
 
 abbrev pub check : Shape
 check = command (codes "check") (must_have (codes "tournament") ∷ [])
@@ -159,11 +164,21 @@ abbrev pub hosting_by : List Row → Option Hosting
 hosting_by rows = hosting_in (text_in (codes "port") rows) (text_in (codes "sessions") rows)
     (text_in (codes "turns") rows) (text_in (codes "pause") rows) (text_in (codes "prefix") rows)
 
+-- whether an option that takes no word is given
+abbrev pub is_given : (id : Text) → List Row → Bool
+is_given id rows = bytes_eq (text_in id rows) (codes "true")
+
+-- the rehearsal of a tournament, by whether its script is played as it comes
+abbrev pub rehearsal_of : (is_live : Bool) → (tournament prefix : Option Text) → Order
+rehearsal_of true tournament prefix = Talk tournament prefix
+rehearsal_of false tournament prefix = Rehearse tournament prefix
+
 -- the order that a command gives
 abbrev pub order_by : Text × List Row → Option Order
 order_by (name, rows) =
     if bytes_eq name (codes "rehearse")
-    then Some (Rehearse (first_of (codes "tournament") rows) (first_of (codes "prefix") rows))
+    then Some (rehearsal_of (is_given (codes "interactive") rows) (first_of (codes "tournament") rows)
+    (first_of (codes "prefix") rows))
     else (if bytes_eq name (codes "check") then Some (Check (text_in (codes "tournament") rows))
     else (if bytes_eq name (codes "judge") then Some (Judge (text_in (codes "replay") rows))
     else (if bytes_eq name (codes "table") then option_map Table (entries_in (texts_in (codes "entry") rows))
@@ -200,6 +215,13 @@ Says words (Rehearse None (Some prefix)) =
     IsName prefix × (words ≡ codes "rehearse" ∷ codes "--replay" ∷ prefix ∷ [])
 Says words (Rehearse (Some name) (Some prefix)) =
     IsName name × IsName prefix × (words ≡ codes "rehearse" ∷ name ∷ codes "--replay" ∷ prefix ∷ [])
+Says words (Talk None None) = words ≡ codes "rehearse" ∷ codes "--interactive" ∷ []
+Says words (Talk (Some name) None) = IsName name × (words ≡ codes "rehearse" ∷ name ∷ codes "--interactive" ∷ [])
+Says words (Talk None (Some prefix)) =
+    IsName prefix × (words ≡ codes "rehearse" ∷ codes "--interactive" ∷ codes "--replay" ∷ prefix ∷ [])
+Says words (Talk (Some name) (Some prefix)) =
+    IsName name × IsName prefix
+    × (words ≡ codes "rehearse" ∷ name ∷ codes "--interactive" ∷ codes "--replay" ∷ prefix ∷ [])
 Says words (Check name) = IsName name × (words ≡ codes "check" ∷ name ∷ [])
 Says words (Judge replay) = IsName replay × (words ≡ codes "judge" ∷ replay ∷ [])
 Says words (Table entries) =

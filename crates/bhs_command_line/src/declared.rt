@@ -62,10 +62,11 @@ fn rehearse_command<'a>(alloc: Global) -> Result<Command<'a>, AllocError>
         help::REHEARSE_AT_LENGTH,
         help::REHEARSE_EXAMPLE,
     );
-    with(
+    let command = with(
         command.arg(optional_tournament(alloc)),
         replay_option(alloc),
-    )
+    );
+    with(command, interactive_option(alloc))
 }
 
 fn check_command<'a>(alloc: Global) -> Result<Command<'a>, AllocError>
@@ -255,6 +256,16 @@ fn replay_option<'a>(alloc: Global) -> Arg<'a>
         "Writes the replay of each match M that has ended to the file PREFIXM.jsonl",
     )
     .long("replay")
+}
+
+fn interactive_option<'a>(alloc: Global) -> Arg<'a>
+    ensures rule { rule_of result ≡ specs.behind (codes "interactive") (specs.flag (codes "interactive")) }
+    ensures local { result.global ≡ false }
+{
+    Arg::new(alloc, "interactive")
+        .action(ArgAction::SetTrue)
+        .long("interactive")
+        .help(help::INTERACTIVE)
 }
 
 fn entry_words<'a>(alloc: Global) -> Arg<'a>

@@ -2,7 +2,7 @@
 
 ghost use Rattle.std.specs.Prelude.{◌≡◌, ◌<◌, ◌^◌, IfOk, option_and_then, codes};
 ghost use Rattle.bhs_command_line.specs.CommandLine.{order_by, hosting_by, number_by, entries_in};
-ghost use Rattle.bhs_command_line.specs.CommandLine.{text_in, texts_in};
+ghost use Rattle.bhs_command_line.specs.CommandLine.{is_given, rehearsal_of, text_in, texts_in};
 ghost use Rattle.clap.specs.Words.{first_of, found_of, rows_of, subcommand_rows_of};
 
 use crate::numbers::{AGENT, NODE, Number, PAUSE, PORT, SESSIONS, TURNS};
@@ -34,10 +34,11 @@ fn order_named(
     ensures { IfOk result (λ order. order_by (name.now, rows_of (found_of words.now)) ≡ order) }
 {
     match name {
-        "rehearse" => Ok(Some(Order::Rehearse {
-            tournament: text_if_any(alloc, words, "tournament")?,
-            prefix: text_if_any(alloc, words, "prefix")?,
-        })),
+        "rehearse" => {
+            let tournament = text_if_any(alloc, words, "tournament")?;
+            let prefix = text_if_any(alloc, words, "prefix")?;
+            Ok(Some(rehearsal(is_given(words, "interactive"), tournament, prefix)))
+        }
         "check" => Ok(Some(Order::Check {
             tournament: text_given(alloc, words, "tournament")?,
         })),
@@ -71,6 +72,24 @@ fn order_named(
         },
         _ => Ok(None),
     }
+}
+
+// The rehearsal of a tournament, by whether its script is played as it comes.
+fn rehearsal(is_live: bool, tournament: Option<Text>, prefix: Option<Text>) -> Order
+    ensures { result ≡ rehearsal_of is_live tournament prefix }
+{
+    if is_live {
+        Order::Talk { tournament, prefix }
+    } else {
+        Order::Rehearse { tournament, prefix }
+    }
+}
+
+// Whether an option that takes no word is given.
+fn is_given(words: &ArgMatches<'_>, id: &str) -> bool
+    ensures { result ≡ is_given id.now (rows_of (found_of words.now)) }
+{
+    words.get_str(id).unwrap_or("") == "true"
 }
 
 // The hosting that the words of `serve` say.

@@ -51,7 +51,16 @@ agent is on a link its lines wait.
 
 With --replay each match M that the script has ended is written to the file
 PREFIXM.jsonl, once all lines are printed. A file that stands there is replaced.
-Where one cannot be written, the others still are.";
+Where one cannot be written, the others still are.
+
+With --interactive each line is played as it comes, so that a program can choose
+the next line by what was sent. What a line sends is printed, and then an empty
+line, before more is read; an empty line and a # line are answered by the empty
+line alone. A script may be of any length, a line of it at most 1048576 bytes. A
+line that is refused ends the rehearsal, and what was printed before stays.";
+
+pub(crate) const INTERACTIVE: &str =
+    "Plays each line as it comes, and ends each answer by an empty line";
 
 pub(crate) const REHEARSE_EXAMPLE: &str = "\
 Example:

@@ -14,6 +14,11 @@ pub enum Order {
         tournament: Option<Text>,
         prefix: Option<Text>,
     },
+    /// The same, but the script is played as it comes, each of its lines answered before more is read.
+    Talk {
+        tournament: Option<Text>,
+        prefix: Option<Text>,
+    },
     /// Reads the tournament file of this name and the networks that it names, and says what its matches are.
     Check {
         tournament: Text,

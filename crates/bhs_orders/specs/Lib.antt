@@ -7,3 +7,7 @@ pub mod RehearsedTournaments
 pub mod Reports
 pub mod Showing
 pub mod Filing
+pub mod Talking
+pub mod Players
+pub mod TalkedTournaments
+pub mod Dialogues

@@ -81,6 +81,33 @@ fn obey<'s>(
     }
 }
 
+// The same of an instruction that is lent for this call alone.
+pub(crate) fn obey_lent(
+    rehearsal: &mut Rehearsal<'_>,
+    instruction: &Instruction<'_>,
+    text: &mut Vec<u8>,
+) -> Result<(), Memory>
+    ensures text { OnOk result (text.new.items ≡ text.old.items
+        ++ all_printed (step rehearsal.old.stage (seen instruction.now)).outs) }
+    ensures stage { OnOk result (rehearsal.new.stage ≡ (step rehearsal.old.stage (seen instruction.now)).stage) }
+{
+    match instruction {
+        Instruction::Feed { conn, bytes } => {
+            let sent = rehearsal.feed_copied(*conn, bytes.as_slice());
+            push_once(rehearsal, text, sent)
+        }
+        Instruction::End { conn } => {
+            let sent = rehearsal.end(*conn);
+            push_once(rehearsal, text, sent)
+        }
+        Instruction::Draw { game, word } => {
+            let sent = rehearsal.draw(*game, *word);
+            push_once(rehearsal, text, sent)
+        }
+        Instruction::Close { game } => push_all(text, rehearsal.close(*game)),
+    }
+}
+
 // Adds what is printed of a call that sends to one connection at most, and gives its memory back.
 fn push_once(
     rehearsal: &mut Rehearsal<'_>,

@@ -11,6 +11,8 @@ use Rattle.bhs_orders.specs.declared.faults.Fault.TheVariants.{Write, Memory, Tw
 use Rattle.bhs_orders.specs.Filing.{Files, all_filed, unfiled_one}
 use Rattle.bhs_orders.specs.Rehearsal.{Rehearses, done, unfiled, ends}
 use Rattle.bhs_orders.specs.RehearsedTournaments.{RehearsesNamed, rehearses_on, refuses_file}
+use Rattle.bhs_orders.specs.TalkedTournaments.{TalksNamed, TalksWhole, refuses_talk, talks_done, talks_end, talks_on}
+use Rattle.bhs_orders.specs.TalkedTournaments.{talks_unfiled}
 use Rattle.bhs_orders.specs.Showing.{Prints, all, part, held_back, PrintsByLine, whole, cut_off, kept_back, Reports}
 use Rattle.bhs_orders.specs.Showing.{prints, stops}
 use Rattle.bhs_orders.specs.declared.statuses.TheConstants.{DONE}
@@ -79,6 +81,17 @@ module _ {P I O : Type 0} (files : P → List ℕ → Taken → P → Type 0) (g
   of_named prefix (rehearses_on lineup assembled rehearsal) = of_rehearsal _ _ _ rehearsal
   of_named prefix (refuses_file fault is rests) = inr (inr (fault, is))
 
+  of_talk : (prefix : Option (List ℕ)) (stage : Stage) → TalksWhole files gives takes flushes prefix stage input input'
+      output output' code → IsStatus code
+  of_talk prefix stage (talks_done games out is filed) = inl is
+  of_talk prefix stage (talks_unfiled fault is some games out) = inr (inr (fault, is))
+  of_talk prefix stage (talks_end fault is ended) = inr (inr (fault, is))
+
+  of_named_talk : (prefix : Option (List ℕ)) → TalksNamed files gives takes flushes prefix input input' output output'
+      code → IsStatus code
+  of_named_talk prefix (talks_on lineup assembled talk) = of_talk _ _ talk
+  of_named_talk prefix (refuses_talk fault is rests) = inr (inr (fault, is))
+
   of_served : (port : ℕ) → Serves files takes flushes port output output' code → IsStatus code
   of_served port (serves_on lineup assembled heard shows hosts) = of_host files takes flushes _ heard output' code hosts
   of_served port (goes_unheard lineup assembled is print) = inr (inr (Write, is))
@@ -87,6 +100,8 @@ module _ {P I O : Type 0} (files : P → List ℕ → Taken → P → Type 0) (g
   of_deed : (order : Order) → Does files gives takes flushes order input input' output output' code → IsStatus code
   of_deed (order.Rehearse None prefix) rehearsal = of_rehearsal _ _ _ rehearsal
   of_deed (order.Rehearse (Some name) prefix) named = of_named prefix named
+  of_deed (order.Talk None prefix) talk = of_talk _ _ talk
+  of_deed (order.Talk (Some name) prefix) named = of_named_talk prefix named
   of_deed (order.Check name) check = of_text takes flushes output output' code _ check.1
   of_deed (order.Judge replay) judged = of_text takes flushes output output' code _ judged.1
   of_deed (order.Table entries) table = of_text takes flushes output output' code _ table.1

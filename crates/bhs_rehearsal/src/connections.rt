@@ -1,4 +1,4 @@
-ghost use Rattle.std.specs.Prelude.{◌≡◌, [], ◌∷◌, ◌++◌, map, false, true, Some, Option, OnOk};
+ghost use Rattle.std.specs.Prelude.{◌≡◌, [], ◌∷◌, ◌++◌, map, false, true, Some, Option, IfOk, OnOk};
 ghost use Rattle.std.specs.Prelude.{slice_get, option_map};
 ghost use Rattle.bhs_wire.specs.Lines.{seen, found_in, left_by};
 ghost use Rattle.bhs_rehearsal.specs.Connections.{Says, Ends, unfed, shut, taken, after};
@@ -11,6 +11,7 @@ use bhs_lineup::Ready;
 use bhs_net::Memory;
 use bhs_wire::{LineReader, Lines, Raw};
 use std::alloc::Global;
+use std::borrow::CowSlice;
 use std::collections::VecDeque;
 use std::marker::Model;
 
@@ -109,6 +110,19 @@ impl<'s> Connection<'s> {
         queue_lines(&mut self.queue, found)
     }
 
+    // The same of bytes that are lent for this call alone: the lines that end in them are copied.
+    pub(crate) fn receive_copied(&mut self, alloc: Global, bytes: &[u8]) -> Result<(), Memory>
+        ensures queued { OnOk result (self.new ≡ record self.old {
+          unfinished = left_by self.old.unfinished bytes.now;
+          queue = self.old.queue ++ map Says (found_in self.old.unfinished bytes.now);
+        }) }
+        ensures seat { self.new.seat ≡ self.old.seat }
+    {
+        let mut found = VecDeque::new(alloc);
+        self.lines.feed_into(bytes, &mut found)?;
+        queue_copies(alloc, &mut self.queue, &mut found)
+    }
+
     // Its input ends.
     pub(crate) fn end(&mut self, alloc: Global) -> Result<(), Memory>
         ensures ended { OnOk result (self.new
@@ -175,4 +189,31 @@ fn queue_lines<'s>(
         queue.push_back(Item::Says(line))?;
     }
     Ok(())
+}
+
+fn queue_copies<'s>(
+    alloc: Global,
+    queue: &mut VecDeque<Item<'s>>,
+    found: &mut VecDeque<Raw<'_>>,
+) -> Result<(), Memory>
+    ensures { OnOk result (map seen_item queue.new.items ≡ map seen_item queue.old.items
+        ++ map Says (map seen found.old.items)) }
+{
+    while let Some(line) = found.pop_front() {
+        let copy = copy_of(alloc, &line)?;
+        queue.push_back(Item::Says(copy))?;
+    }
+    Ok(())
+}
+
+fn copy_of<'s>(alloc: Global, line: &Raw<'_>) -> Result<Raw<'s>, Memory>
+    ensures { IfOk result (λ copy. seen copy ≡ seen line.now) }
+{
+    match line {
+        Raw::Whole(bytes) => {
+            let bytes = Vec::from_slice(alloc, bytes.as_slice())?;
+            Ok(Raw::Whole(CowSlice::Owned(bytes)))
+        }
+        Raw::Over => Ok(Raw::Over),
+    }
 }

@@ -44,6 +44,22 @@ impl<'s> Rehearsal<'s> {
         Ok(self.sent_to(conn, text))
     }
 
+    // The same of bytes that are lent for this call alone.
+    pub(crate) fn fed_copied(&mut self, conn: u16, bytes: &[u8]) -> Result<Option<Out>, Memory>
+        requires { conn < length self.old.stage.connections }
+        ensures { IsStepped sent_once self.old (feeds self.old.stage conn bytes.now) result self.new }
+    {
+        let alloc = *self.connections.allocator();
+        let connection = &mut self.connections[usize::from(conn)];
+        if connection.has_ended() {
+            return Ok(None);
+        }
+        connection.receive_copied(alloc, bytes)?;
+        let mut text = self.empty_text(alloc);
+        self.moves(alloc, conn, &mut text)?;
+        Ok(self.sent_to(conn, text))
+    }
+
     // The input of a connection ends.
     pub(crate) fn ended(&mut self, conn: u16) -> Result<Option<Out>, Memory>
         requires { conn < length self.old.stage.connections }

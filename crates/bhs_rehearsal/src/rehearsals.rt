@@ -102,6 +102,21 @@ impl<'s> Rehearsal<'s> {
         self.settled(outs)
     }
 
+    /// Feeds bytes that are lent for this call alone: lines of them that wait are copied. `Conn` where there is no such
+    /// connection.
+    pub fn feed_copied(&mut self, conn: u16, bytes: &[u8]) -> Result<Option<Out>, RehearsalFault>
+        ensures { Follows sent_once self.old (Feeds conn bytes.now) result self.new }
+    {
+        if self.has_failed {
+            return Err(RehearsalFault::Memory);
+        }
+        if usize::from(conn) >= self.connections.len() {
+            return Err(RehearsalFault::Conn);
+        }
+        let outs = self.fed_copied(conn, bytes);
+        self.settled(outs)
+    }
+
     /// Ends the input of a connection. `Conn` where there is no such connection.
     pub fn end(&mut self, conn: u16) -> Result<Option<Out>, RehearsalFault>
         ensures { Follows sent_once self.old (EndsInput conn) result self.new }

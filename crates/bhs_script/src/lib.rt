@@ -10,6 +10,7 @@ mod script;
 
 pub use faults::ScriptFault;
 pub use instructions::{CONNECTIONS, Instruction};
+pub use meanings::Meaning;
 pub use numbers::number_of;
 pub use printing::push_printed;
-pub use script::instructions_in;
+pub use script::{instructions_in, meaning_of};

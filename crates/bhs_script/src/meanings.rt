@@ -2,7 +2,7 @@ use crate::instructions::Instruction;
 
 /// What a line of a script means.
 #[derive(Drop)]
-pub(crate) enum Meaning<'s> {
+pub enum Meaning<'s> {
     /// It is skipped.
     Skipped,
     /// It gives this instruction.

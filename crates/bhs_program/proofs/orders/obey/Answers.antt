@@ -8,6 +8,12 @@ returns-in-Rehearse g c = rw c.in-Rehearse.is (elim c.rehearse_named.ensures [
   | inr (coded, rests) ↦ lacks_memory coded rests
 ])
 
+pub returns-in-Talk : goal.returns-in-Talk
+returns-in-Talk g c = rw c.in-Talk.is (elim c.rehearse_live_named.ensures [
+  | inl deed ↦ does deed
+  | inr (coded, rests) ↦ lacks_memory coded rests
+])
+
 pub returns-in-Check : goal.returns-in-Check
 returns-in-Check g c = rw c.in-Check.is (does (refl, c.check.ensures))
 

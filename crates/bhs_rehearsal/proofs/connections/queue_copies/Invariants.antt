@@ -1,0 +1,14 @@
+-- What is queued, with the lines that are left, is what was queued and all lines.
+use Rattle.std.proofs.Common.{◌≡◌, ◌++◌, map, length}
+use Rattle.bhs_wire.specs.Lines.{seen}
+use Rattle.bhs_rehearsal.specs.Connections.{Says}
+use Rattle.bhs_rehearsal.specs.Rehearsing.{seen_item}
+use Rattle.bhs_rehearsal.proofs.connections.queue_copies.Given as goal
+
+abbrev pub invariant-loop-line : goal.invariant-loop-line
+invariant-loop-line l =
+    map seen_item l.queue.items ++ map Says (map seen l.found.items)
+    ≡ map seen_item l.fn.queue.items ++ map Says (map seen l.fn.found.items)
+
+abbrev pub decreases-loop-line : goal.decreases-loop-line
+decreases-loop-line l = length l.found.items
