@@ -1,6 +1,7 @@
 -- A match stays in order: what it keeps follows from its log, and there is room for the next event.
 use Rattle.std.proofs.Common.{◌≡◌, ℕ, suc, ◌+◌, ◌*◌, ◌<◌, ◌≤◌, ◌^◌, append-nil, Bool, true, false, not, ◌&&◌, ◌||◌}
-use Rattle.std.proofs.Common.{Option, Some, None, List, [], ◌∷◌, ◌++◌, length, map, IsSome, refl, sym, ap, ap₂, ◌∙◌, subst}
+use Rattle.std.proofs.Common.{Option, Some, None, List, [], ◌∷◌, ◌++◌, length, map, IsSome, refl, sym, ap, ap₂, ◌∙◌}
+use Rattle.std.proofs.Common.{subst}
 use Rattle.std.proofs.Common.{inl, inr, arith, nat_lt, if◌then◌else◌, length-append, length-set}
 use Rattle.std.specs.Prelude.{is_some, IfSome}
 use Rattle.std.proofs.lemmas.List.Elements.{All-nil, All-cons, All-append}
@@ -319,7 +320,8 @@ pub sites_after : (table new : Table) (log log' : List Kept) (pool : List Bound)
     IsReady table new log pool news event mark → AreSites table log found → new.net ≡ table.net
     → site ≡ site_by table event → IfSome site (λ node. node < nodes_of table.net) →
     log' ≡ log ++ record { event = event; mark = mark } ∷ [] → found' ≡ found ++ site ∷ [] → AreSites new log' found'
-sites_after table new log log' pool news found found' event mark site is_ready are same_net is_site range is_log is_found =
+sites_after table new log log' pool news found found' event mark site is_ready are same_net is_site range is_log
+    is_found =
     let one : Kept = record { event = event; mark = mark } in
     let IsIn : Option ℕ → Type 0 = λ site. IfSome site (λ node. node < nodes_of table.net) in
     rw (is_log, is_found) (record {

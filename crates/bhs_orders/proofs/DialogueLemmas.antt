@@ -1,6 +1,7 @@
 -- What a rehearsal whose script is played as it comes has read and written.
 use Rattle.std.proofs.Common.{◌≡◌, ◌∙◌, ◌⊎◌, refl, sym, ap, subst, inl, inr, ℕ, ◌+◌, List, [], ◌∷◌, ◌++◌, length, Bool}
-use Rattle.std.proofs.Common.{true, false, append-nil, append_assoc, arith, length-append, nat_lt, if◌then◌else◌, Result, Ok, ◌≢◌}
+use Rattle.std.proofs.Common.{true, false, append-nil, append_assoc, arith, length-append, nat_lt, if◌then◌else◌}
+use Rattle.std.proofs.Common.{Result, Ok, ◌≢◌}
 use Rattle.std.specs.declared.option.Option.{Option}
 use Rattle.std.specs.List.{AllByRecursion, list_any}
 use Rattle.std.specs.Io.KnownBytes.{Appends, Consumes}
@@ -10,7 +11,8 @@ use Rattle.bhs_wire.specs.Lines.{is_line_feed}
 use Rattle.bhs_stream.specs.Streams.{known_gives, known_takes}
 use Rattle.bhs_stream.proofs.OverMemory.{Appends-from_all}
 use Rattle.bhs_rehearsal.specs.Stages.{Stage, Instruction, stands_after, step}
-use Rattle.bhs_script.specs.Script.{Gives, Meaning, Refused, Skipped, before, instructions_from, lines_of, meaning, with_meaning}
+use Rattle.bhs_script.specs.Script.{Gives, Meaning, Refused, Skipped, before, instructions_from, lines_of, meaning}
+use Rattle.bhs_script.specs.Script.{with_meaning}
 use Rattle.bhs_script.specs.Transcript.{all_printed, transcript}
 use Rattle.bhs_script.proofs.LineLemmas.{lines_of-found}
 use Rattle.bhs_orders.specs.Dialogues.{dialogue, IsDialogue, IsTranscribed, joined, joined_apart, known_flushes, Mean}
@@ -234,7 +236,8 @@ module _ {R W : Type 0} (remaining : R → Option (List ℕ)) (contents : W → 
       }
 
   pub is_dialogue : (reads : ℕ) (is_over : Bool) (talk : Talk) (input' : R) (output' : W)
-      → TalksKnown reads is_over talk input' output' → IsDialogue remaining contents stage input input' output output' talk
+      → TalksKnown reads is_over talk input' output' → IsDialogue remaining contents stage input input' output output'
+      talk
   is_dialogue reads is_over talk input' output' talks =
       let all = so_far reads is_over talk input' output' talks in record {
         script = all.script;

@@ -14,7 +14,8 @@ use Rattle.bhs_rehearsal.specs.Stages.{Stage}
 use Rattle.bhs_model.specs.declared.limits.TheConstants.{MAX_TEXT}
 use Rattle.bhs_script.specs.Script.{Meaning, Refused, meaning}
 use Rattle.bhs_orders.specs.Players.{IsConcluded, IsRefusal, IsReplied, talk_of}
-use Rattle.bhs_orders.specs.Talking.{Answers, none, more, AnswersPart, BreaksAt, BreaksWithin, IsNext, IsPart, IsRefused}
+use Rattle.bhs_orders.specs.Talking.{Answers, none, more, AnswersPart, BreaksAt, BreaksWithin, IsNext, IsPart}
+use Rattle.bhs_orders.specs.Talking.{IsRefused}
 use Rattle.bhs_orders.specs.Talking.{unmeant, overlong, Talk, Talks, answer, answers, ended, judged, onward, told}
 use Rattle.bhs_orders.specs.Talking.{Breaks, TalksOut, TalkStops, closes, hears, silence, with_end}
 use Rattle.bhs_rehearsal.specs.Rehearsing.{Rehearsing}
@@ -50,7 +51,8 @@ either_not true b e f = cc
 pub unended-append : (front bytes : List ℕ) → list_any is_line_feed front ≡ false
     → list_any is_line_feed bytes ≡ false → list_any is_line_feed (front ++ bytes) ≡ false
 unended-append front bytes e f =
-    list_any-append is_line_feed front bytes ∙ either_not (list_any is_line_feed front) (list_any is_line_feed bytes) e f
+    list_any-append is_line_feed front bytes ∙ either_not (list_any is_line_feed front) (list_any is_line_feed bytes) e
+    f
 
 -- two places of a script are the same
 pub same_talk : {stage stage' : Stage} {answered answered' : ℕ} {held held' : List ℕ} → stage ≡ stage'
@@ -76,7 +78,8 @@ module _ {I O : Type 0} (gives : I → Chunk → I → Type 0) (takes : O → Li
       → (talk' : Talk) (there' : O) → Answers takes (length stage.games) talk there talk' there'
       → Talks gives takes flushes turns stage input output reads is_over talk' here there'
   talks_on reads is_over talk here there talks talk' there' none = talks
-  talks_on reads is_over talk here there talks talk' there' (more mid line rest mid_out next others is_next meant puts) =
+  talks_on reads is_over talk here there talks talk' there' (more mid line rest mid_out next others is_next meant
+  puts) =
       answers reads is_over mid line rest here mid_out next
       (talks_on reads is_over talk here there talks mid mid_out others) is_next meant puts
 

@@ -59,9 +59,11 @@ moves_same : (log : List Kept) (mark : Option Mark) (before : ℕ)
 moves_same log mark before = grind arith
 
 delivered_follows : (world : World) (nodes : ℕ) (log : List Kept) (walk : Walk) (found : Findings) (mark : Option Mark)
-    (position : Position) → nodes ≤ MAX_NODES → IfSome (node_reached world position) (λ node. node < nodes) → Follows walk found
+    (position : Position) → nodes ≤ MAX_NODES → IfSome (node_reached world position) (λ node. node < nodes)
+    → Follows walk found
     → Follows (walk_delivered walk mark (node_reached world position))
-    (record { accused = found.accused; reached = reached_by world (read_if log mark) position found.reached; moves = found.moves })
+    (record { accused = found.accused; reached = reached_by world (read_if log mark) position found.reached;
+    moves = found.moves })
 delivered_follows world nodes log walk found None position many range follows = follows
 delivered_follows world nodes log walk found (Some mark) Before many range follows = follows
 delivered_follows world nodes log walk found (Some mark) (At node came) many range follows = follows
@@ -74,13 +76,15 @@ delivered_follows world nodes log walk found (Some mark) (Bound node port) many 
       accused = follows.accused;
       reached = each_set (λ (k : ℕ) (mark : Bool). mark ≡ changed found.reached there true k) walk.reached there true
           false (omega (arith, follows.nodes, range, many)) (sym (changed_same found.reached there true))
-          (λ (k : ℕ) (apart : (k == there) ≡ false). follows.reached k ∙ sym (changed_other found.reached there k true apart));
+          (λ (k : ℕ) (apart : (k == there) ≡ false). follows.reached k ∙ sym
+          (changed_other found.reached there k true apart));
       moves = follows.moves;
     }
 
 told_follows : (world : World) (log : List Kept) (walk : Walk) (state : State) (found : Findings) (agent : ℕ)
     (command : Command) (mark : Option Mark) (site : Option ℕ) → Follows walk found → agent < MAX_AGENTS
-    → site ≡ node_said world (state.position agent) command → read_if log mark ≡ reply world state (Tell agent command) →
+    → site ≡ node_said world (state.position agent) command → read_if log mark ≡ reply world state (Tell agent command)
+    →
     Follows (walk_by walk (Tell agent command) mark site) (found_after world state found (Tell agent command))
 told_follows world log walk state found agent command mark site follows within is_site read =
     let position = state.position agent in
@@ -104,7 +108,8 @@ told_follows world log walk state found agent command mark site follows within i
           ∙ ap (moves_by answer) follows.moves;
     }
 
-by_follows : (world : World) (nodes : ℕ) (log : List Kept) (walk : Walk) (state : State) (lost : ℕ → Bool) (found : Findings)
+by_follows : (world : World) (nodes : ℕ) (log : List Kept) (walk : Walk) (state : State) (lost : ℕ → Bool)
+    (found : Findings)
     (event : Event) (mark : Option Mark) → world.agents ≤ MAX_AGENTS → nodes ≤ MAX_NODES
     → IfSome (site world state event) (λ node. node < nodes) → Follows walk found →
     keeps world state lost event ≡ true → read_if log mark ≡ reply world state event →
@@ -114,7 +119,8 @@ by_follows world nodes log walk state lost found (Tell agent command) mark few m
     told_follows world log walk state found agent command mark _ follows (omega arith) (cond-true _ _ _ is_kept) read
 by_follows world nodes log walk state lost found (Deliver agent) mark few many range follows is_kept read =
     subst (λ (answer : Option Reply). Follows (walk_delivered walk mark (node_reached world (state.position agent)))
-    (record { accused = found.accused; reached = reached_by world answer (state.position agent) found.reached; moves = found.moves }))
+    (record { accused = found.accused; reached = reached_by world answer (state.position agent) found.reached;
+    moves = found.moves }))
     read (delivered_follows world nodes log walk found mark (state.position agent) many range follows)
 by_follows world nodes log walk state lost found Close mark few many range follows is_kept read = follows
 
@@ -124,7 +130,8 @@ follows_from : (world : World) (nodes : ℕ) (log rest : List Kept) (walk : Walk
     → All (λ site. IfSome site (λ node. node < nodes)) (sites_from world state (events_of rest)) → Follows walk found →
     kept_from world state lost (events_of rest) ≡ events_of rest
     → map (λ (one : Kept). read_if log one.mark) rest ≡ replies_from world state (events_of rest) →
-    Follows (walk_from walk rest (sites_from world state (events_of rest))) (found_from world state found (events_of rest))
+    Follows (walk_from walk rest (sites_from world state (events_of rest)))
+    (found_from world state found (events_of rest))
 follows_from world nodes log [] walk state lost found few many range follows same read = follows
 follows_from world nodes log (one ∷ others) walk state lost found few many range follows same read =
     let IsIn : Option ℕ → Type 0 = λ site. IfSome site (λ node. node < nodes) in

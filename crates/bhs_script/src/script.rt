@@ -18,8 +18,8 @@ use hex::FromHexError;
 use std::alloc::Global;
 use std::borrow::CowSlice;
 
-/// What a line of a script means in a rehearsal of this number of matches. `ended` is the line with its line feed, if it
-/// has one.
+/// What a line of a script means in a rehearsal of this number of matches. `ended` is the line with its line feed, if
+/// it has one.
 pub fn meaning_of<'s>(
     alloc: Global,
     games: usize,

@@ -155,7 +155,8 @@ ended_here : (stands : Standing) → stands ≡ Ended → stands ≢ Away
 ended_here stands ended away = absurd (cc)
 
 -- what an ending that is whole leaves
-pub record IsAllWritten (ended : Ending) (stands : Standing) (left : List Command) (last unwritten : List ℕ) : Type 0 where
+pub record IsAllWritten (ended : Ending) (stands : Standing) (left : List Command) (last unwritten : List ℕ) : Type 0
+    where
   pub none_left : left ≡ []
   pub no_last : last ≡ []
   pub all_written : unwritten ≡ []
@@ -214,7 +215,8 @@ pub record IsWalked (one : Attended) (w : IsWrittenBy one.pass one.said one.writ
 
 -- the quota of the pass is that of the match
 own_quota : (one : Attended) → TookPart one → one.pass.quota ≡ one.play.setup.quota
-own_quota one part = of_given part.cells part.game one.pass part.given part.cell part.of_cell ∙ ap (λ (setup : Setup). setup.quota) (sym part.accord.world.same_setup)
+own_quota one part = of_given part.cells part.game one.pass part.given part.cell part.of_cell
+    ∙ ap (λ (setup : Setup). setup.quota) (sym part.accord.world.same_setup)
 
 walked_lemma : (one : Attended) (part : TookPart one) → IsWalked one part.wrote
 walked_lemma one part =

@@ -1,5 +1,6 @@
 -- A past and the commands say what was written.
-use Rattle.std.proofs.Common.{◌≡◌, ◌∙◌, ℕ, zero, suc, ◌+◌, ◌⊎◌, inl, inr, Bool, true, false, cond, List, [], ◌∷◌, ◌++◌, map, length}
+use Rattle.std.proofs.Common.{◌≡◌, ◌∙◌, ℕ, zero, suc, ◌+◌, ◌⊎◌, inl, inr, Bool, true, false, cond, List, [], ◌∷◌}
+use Rattle.std.proofs.Common.{◌++◌, map, length}
 use Rattle.std.proofs.Common.{refl, sym, ap, ap₂, subst, arith, append-nil, append_assoc, length-append}
 use Rattle.std.proofs.lemmas.List.{map-append}
 use Rattle.bhs_model.specs.declared.commands.Command.{Command}
@@ -7,7 +8,8 @@ use Rattle.bhs_model.specs.declared.commands.Command.TheVariants as commands
 use Rattle.bhs_model.specs.declared.replies.Reply.{Reply}
 use Rattle.bhs_model.specs.declared.replies.Reply.TheVariants as replies
 use Rattle.bhs_model.specs.declared.replies.Why.{Why}
-use Rattle.bhs_model.specs.Views.{View, Start, Told, Arrived, Nothing, Standing, Outside, Present, Away, Ended, standing}
+use Rattle.bhs_model.specs.Views.{View, Start, Told, Arrived, Nothing, Standing, Outside, Present, Away, Ended}
+use Rattle.bhs_model.specs.Views.{standing}
 use Rattle.bhs_model.specs.Views.{standing_after, ports}
 use Rattle.bhs_model.specs.Replying.{accepts, hears, refusal}
 use Rattle.bhs_lock.specs.Passes.{kind_of, kept_command}

@@ -1,5 +1,6 @@
 -- What a session on a cell's port wrote, step by step.
-use Rattle.std.proofs.Common.{◌≡◌, ◌∙◌, ℕ, zero, suc, inl, inr, Option, Some, None, List, [], ◌∷◌, ◌++◌, map, take, drop, length, get_or, ◌<◌, arith}
+use Rattle.std.proofs.Common.{◌≡◌, ◌∙◌, ℕ, zero, suc, inl, inr, Option, Some, None, List, [], ◌∷◌, ◌++◌, map, take}
+use Rattle.std.proofs.Common.{drop, length, get_or, ◌<◌, arith}
 use Rattle.std.proofs.Common.{true, false, option_to_list, refl, sym, ap, ap₂, subst, append_assoc, append-nil}
 use Rattle.std.specs.Prelude.{option_map, slice_get}
 use Rattle.std.proofs.lemmas.List.{map-append, take-append-drop}
@@ -304,7 +305,8 @@ behind_heard (replies.No why) heard = (refl, refl, refl, refl)
 -- why a command was not heard
 by_refusal : (written : List ℕ) (taken : List Line) (line : Line) (now : Phase) (pass : Passed) (reply : Reply)
     (refusal : Option Why) → TakesLines now → Answered written taken now pass →
-    refusal_by pass.quota (tally_in pass.receipts) (command_of line) ≡ refusal → Some reply ≡ option_map replies.No refusal
+    refusal_by pass.quota (tally_in pass.receipts) (command_of line) ≡ refusal
+    → Some reply ≡ option_map replies.No refusal
     → Talks written (taken ++ line ∷ []) (Owes (text_of reply) (answered_by true reply)) pass
 by_refusal written taken line now pass reply None takes a is same = absurd (cc)
 by_refusal written taken line now pass reply (Some why) takes a is same =
@@ -636,7 +638,8 @@ module _ (written : List ℕ) (taken : List Line) (keys : List Seat) (cells : Li
 
   -- a later line
   later_heard : (line : Line) (played : Played) (heard : Heard) (new : Seated) →
-      Calls (seated keys cells (Some played)) (Tells (command_of line)) heard new → Talks written taken Ready played.pass
+      Calls (seated keys cells (Some played)) (Tells (command_of line)) heard new
+      → Talks written taken Ready played.pass
       → Known written (taken ++ line ∷ []) (hear Ready heard) new.played
   later_heard line played (Answers reply) new called k =
       subst (λ (port : Seated). Known written (taken ++ line ∷ []) (hear Ready (Answers reply)) port.played)
@@ -997,7 +1000,8 @@ ended_known cells written taken ended (Some played) on k = (
 
 -- what a session on a cell's port wrote, by the pass that it played by
 pub served_lemma : {I O : Type 0} (gives : I → Chunk → I → Type 0) (takes : O → List ℕ → Taken → O → Type 0)
-    (keys : List Seat) (cells : List Given) (from input : I) (old output : O) (last : Seated) (turns : ℕ) (ended : Ending)
+    (keys : List Seat) (cells : List Given) (from input : I) (old output : O) (last : Seated) (turns : ℕ)
+    (ended : Ending)
     (serves : Serves gives takes Calls from input old output (seated keys cells None) last turns (Finished ended)) →
     IsWrittenFor cells last.played (map command_of serves.taken) serves.written ended
 served_lemma gives takes keys cells from input old output last turns ended serves =

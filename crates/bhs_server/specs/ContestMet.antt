@@ -23,8 +23,8 @@ use Rattle.bhs_server.specs.Written.{IsFew, IsWrittenBy, is_between}
 
 -- ---- a session whose match settled
 
--- the match, the pass that the session played by, the commands of the lines that it took, those of the lines that it read
--- and did not take, what it wrote, and how it ended
+-- the match, the pass that the session played by, the commands of the lines that it took, those of the lines that it
+-- read and did not take, what it wrote, and how it ended
 pub record Attended : Type 0 where
   pub play : Play
   pub pass : Passed
@@ -118,7 +118,8 @@ SentAsMet = (one : Attended) → TookPart one → IsSentAsMet one
 -- ---- the headline
 
 -- Two sessions of any two contests, in matches of equal quota and equal whiteboards, whose agents have equal pasts in
--- the logs that settled and that were fed equal commands, wrote equal bytes: until the close, or the end of their input.
+-- the logs that settled and that were fed equal commands, wrote equal bytes: until the close, or the end of their
+-- input.
 abbrev pub EqualPastsAreSentEqualBytes : Type 0
 EqualPastsAreSentEqualBytes =
     (one two : Attended) → TookPart one → TookPart two → is_whole one.ended ≡ true → is_whole two.ended ≡ true →

@@ -1,5 +1,6 @@
 -- What a session wrote, by the pass that it played by.
-use Rattle.std.specs.Prelude.{ℕ, ◌≡◌, ◌⊎◌, Bool, true, false, Option, Some, None, List, [], ◌∷◌, ◌++◌, map, option_to_list}
+use Rattle.std.specs.Prelude.{ℕ, ◌≡◌, ◌⊎◌, Bool, true, false, Option, Some, None, List, [], ◌∷◌, ◌++◌, map}
+use Rattle.std.specs.Prelude.{option_to_list}
 use Rattle.bhs_model.specs.declared.commands.Command.{Command}
 use Rattle.bhs_model.specs.declared.commands.Command.TheVariants.{Leave}
 use Rattle.bhs_model.specs.declared.replies.Reply.TheVariants.{Over}
@@ -79,8 +80,8 @@ is_between endings.ReadFault = true
 is_between endings.Turns = true
 is_between ended = false
 
--- What `attend` makes of a reader and a writer: a session, by the port's calls, and what it wrote by the pass that comes
--- back.
+-- What `attend` makes of a reader and a writer: a session, by the port's calls, and what it wrote by the pass that
+-- comes back.
 pub record IsAttended {I O : Type 0} (gives : I → Chunk → I → Type 0) (takes : O → List ℕ → Taken → O → Type 0)
     (keys : List Seat) (cells : List Given) (input_old input_new : I) (output_old output_new : O) (turns : ℕ)
     (played : Option Played) (ended : Ended) : Type 0 where

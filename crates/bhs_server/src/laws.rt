@@ -1,6 +1,7 @@
 //! What a session wrote is a function of its agent's past. Each contract is a law; the functions do nothing.
 
-ghost use Rattle.bhs_server.specs.ContestExample.{AllIsInTurn, TheArrivalIsThis, TheHeadlineSpeaksOfIt, TheReceiptsAreThese};
+ghost use Rattle.bhs_server.specs.ContestExample.{AllIsInTurn, TheArrivalIsThis, TheHeadlineSpeaksOfIt};
+ghost use Rattle.bhs_server.specs.ContestExample.{TheReceiptsAreThese};
 ghost use Rattle.bhs_server.specs.ContestExample.{ThePastIsOfWhatWasMet, TheTextIsOfWhatWasMet};
 ghost use Rattle.bhs_server.specs.ContestMet.{EqualPastsAreSentEqualBytes, SentAsMet};
 
@@ -11,7 +12,8 @@ pub fn sent_as_met()
 {}
 
 /// Two sessions of any two contests, in matches of equal quota and equal whiteboards, whose agents have equal pasts in
-/// the logs that settled and that were fed equal commands, wrote equal bytes: until the close, or the end of their input.
+/// the logs that settled and that were fed equal commands, wrote equal bytes: until the close, or the end of their
+/// input.
 pub fn equal_pasts_are_sent_equal_bytes()
     ensures { EqualPastsAreSentEqualBytes }
 {}

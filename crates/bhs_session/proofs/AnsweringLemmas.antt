@@ -372,7 +372,8 @@ module _ {P : Type 0} (calls : P → Asked → Heard → P → Type 0) (quota li
       Known quota limit written taken Awaits (past old) → OnPort written taken (hear Awaits heard) new
   news_known written taken old new (Answers reply) called k =
       now_known written taken (hear Awaits (Answers reply)) new
-      (news_answered quota limit written taken (past old) (past new) reply k.stands.3 (port.arrives old new reply called)
+      (news_answered quota limit written taken (past old) (past new) reply k.stands.3
+      (port.arrives old new reply called)
       (at_wait quota limit written taken (past old) k))
   news_known written taken old new NoMemory called k = record {
     answered = old;
@@ -509,7 +510,8 @@ module _ {O P : Type 0} (takes : O → List ℕ → Taken → O → Type 0) (cal
       since_lines (Finished ended) lines since = absurd lines
 
   -- what is behind a text that was sent, or of which a part was
-  since_sent : (old new : O) (phase next : Phase) (some : List ℕ) (answered now : P) → Sends takes old phase some new next
+  since_sent : (old new : O) (phase next : Phase) (some : List ℕ) (answered now : P)
+      → Sends takes old phase some new next
       → (written : List ℕ) (taken : List Line) → Known quota limit written taken phase (past answered) →
       Since calls (behind_text phase) answered now → Since calls (behind_text next) answered now
   since_sent old _ _ _ _ answered now (all text next new puts) written taken k since = go next k.stands since

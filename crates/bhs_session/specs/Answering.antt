@@ -15,7 +15,8 @@ use Rattle.bhs_session.specs.Port.{Asked, Enters, Tells, News, Heard, LetIn, Ans
 use Rattle.bhs_session.specs.Phase.{Phase, Owes, Leaves, Finished}
 use Rattle.bhs_session.specs.Machine.{behind_text}
 use Rattle.bhs_session.specs.Texts.{command_of, text_of, denial_text}
-use Rattle.bhs_session.specs.Met.{Meeting, Hears, Refuses, Arrives, past_after, view_of, command_in, commands, answer_to}
+use Rattle.bhs_session.specs.Met.{Meeting, Hears, Refuses, Arrives, past_after, view_of, command_in, commands}
+use Rattle.bhs_session.specs.Met.{answer_to}
 use Rattle.bhs_session.specs.Met.{bytes, AreDue}
 
 -- ---- the port
@@ -123,8 +124,8 @@ Since {P} calls (Finished ended) answered port =
     ⊎ ((middle : P) × (Lacks calls answered middle × ((heard : Heard) × calls middle (Tells Leave) heard port)))
 Since calls phase answered port = port ≡ answered
 
--- A session on a port: what it wrote is the bytes of what its agent met, by the past that the port had of it at its last
--- answer.
+-- A session on a port: what it wrote is the bytes of what its agent met, by the past that the port had of it at its
+-- last answer.
 pub record WritesOn {P : Type 0} (calls : P → Asked → Heard → P → Type 0) (quota limit : ℕ) (past : P → View)
     (written : List ℕ) (taken : List Line) (phase : Phase) (port : P) : Type 0 where
   pub answered : P

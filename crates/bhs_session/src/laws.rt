@@ -28,9 +28,9 @@ pub fn no_turns<I: Input, O: Output, P: Port>()
         (p.read ≡ []) }
 {}
 
-/// On a port that answers as the definitions say, a session has written the bytes of what its agent met, by the past that
-/// the port had of it at its last answer, and behind them at most one line: that the match is over, or a denial. Where a
-/// write failed or memory ran out, it has written a front of that.
+/// On a port that answers as the definitions say, a session has written the bytes of what its agent met, by the past
+/// that the port had of it at its last answer, and behind them at most one line: that the match is over, or a denial.
+/// Where a write failed or memory ran out, it has written a front of that.
 pub fn written_as_met<I: Input, O: Output, P: Port>()
     ensures { (quota limit : ℕ) (past : P → View) (from input : I) (output : O) (start : P) (turns : ℕ)
         (p : Point O P) → AnswersByPasts P.calls quota limit past

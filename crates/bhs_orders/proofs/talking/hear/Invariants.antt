@@ -6,7 +6,8 @@ use Rattle.bhs_orders.proofs.talking.hear.Given as goal
 
 abbrev pub invariant-loop-end : goal.invariant-loop-end
 invariant-loop-end g l =
-    Answers g.W.Output.takes l.fn.player.games (talk_of l.fn.player l.piece) l.fn.writer (talk_of l.player l.after) l.writer
+    Answers g.W.Output.takes l.fn.player.games (talk_of l.fn.player l.piece) l.fn.writer (talk_of l.player l.after)
+    l.writer
     × IsPart l.player.line.items
     × (l.player.games ≡ l.fn.player.games)
     × (l.player.answered + (length l.player.line.items + length l.after)

@@ -1,4 +1,5 @@
-use Rattle.std.proofs.Common.{◌≡◌, ◌<◌, ◌≤◌, ◌+◌, ◌*◌, [], List, ℕ, true, false, length, take, arith, rules, refl, subst}
+use Rattle.std.proofs.Common.{◌≡◌, ◌<◌, ◌≤◌, ◌+◌, ◌*◌, [], List, ℕ, true, false, length, take, arith, rules, refl}
+use Rattle.std.proofs.Common.{subst}
 use Rattle.std.proofs.Common.{length-take-le}
 use Rattle.bhs_stream.specs.Streams.{Chunk, chunk_by}
 use Rattle.bhs_stream.specs.Reading.{IsPiece}
@@ -7,7 +8,8 @@ use Rattle.bhs_stream.proofs.ChunkLemmas.{chunk_by-take}
 use Rattle.bhs_orders.specs.Players.{talk_of}
 use Rattle.bhs_orders.specs.Talking.{IsPart, Talk, Talks, begins, ended}
 use Rattle.bhs_orders.proofs.PlayLemmas.{fault_is}
-use Rattle.bhs_orders.proofs.TalkLemmas.{piece_read, silent, stops_by, stops_within, talks_before, talks_ended, talks_more}
+use Rattle.bhs_orders.proofs.TalkLemmas.{piece_read, silent, stops_by, stops_within, talks_before, talks_ended}
+use Rattle.bhs_orders.proofs.TalkLemmas.{talks_more}
 use Rattle.bhs_orders.proofs.TalkLemmas.{part_of, talks_out}
 use Rattle.bhs_orders.proofs.talking.talk.Goals as goal
 

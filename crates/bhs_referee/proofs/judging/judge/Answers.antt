@@ -9,7 +9,8 @@ use Rattle.bhs_referee.proofs.VerdictLemmas.{verdict_same}
 use Rattle.bhs_referee.proofs.judging.judge.Goals as goal
 
 pub walked-walk-requires-clause-sites : goal.walked-walk-requires-clause-sites
-walked-walk-requires-clause-sites c = c.sites.ensures.count ∙ ap (λ (log : List Kept). length log) (sym c.log.ensures.log)
+walked-walk-requires-clause-sites c = c.sites.ensures.count ∙ ap (λ (log : List Kept). length log)
+    (sym c.log.ensures.log)
 
 pub returns : goal.returns
 returns c = verdict_same c.args.sealed.now _ _ c.walked-walk.result _ _

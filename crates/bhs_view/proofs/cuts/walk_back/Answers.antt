@@ -35,7 +35,8 @@ loop-place-preserved-in-Continue-1 c = record {
       (rw (c.loop-place.invariant.agents, c.loop-place.invariant.nodes)
       (there c.args.log.now c.args.sites.now _ _ (c.loop-place.place - 1) c.index-log-place.result c.requires.sites
       (omega arith) c.index-log-place.is c.requires.range))
-      (omega arith) c.loop-place.invariant.back (sym c.if-has.true ∙ (rw c.site_at-site.ensures at c.has.ensures)) (rw c.site_at-site.ensures at c.add.ensures)
+      (omega arith) c.loop-place.invariant.back (sym c.if-has.true ∙ (rw c.site_at-site.ensures at c.has.ensures))
+      (rw c.site_at-site.ensures at c.add.ensures)
       c.in_ok-push.ensures.items;
 }
 

@@ -34,7 +34,8 @@ loop-place-preserved-then-set-place c = record {
       (rw (c.loop-place.invariant.agents, c.loop-place.invariant.nodes)
       (there c.args.log.now c.args.sites.now _ _ (c.loop-place.place - 1) c.index-log-place.result c.requires.sites
       (omega arith) c.index-log-place.is c.requires.range))
-      (omega arith) (omega (arith, c.requires.set)) c.if-set-place.true c.loop-place.invariant.judged (rw c.site_at-site.ensures at c.add.ensures);
+      (omega arith) (omega (arith, c.requires.set)) c.if-set-place.true c.loop-place.invariant.judged
+      (rw c.site_at-site.ensures at c.add.ensures);
 }
 
 pub loop-place-preserved-then-has : goal.loop-place-preserved-then-has

@@ -60,7 +60,8 @@ returns c =
     (rw (sym (c.nodes-nodes.ensures.count ∙ ap nodes_of c.read.ensures.net)) c.if-node-nodes.false)
     (unreached ∙ c.in_default.is)
     (moved_setup ∙ ap (λ (old : Option ℕ). moved play.net play.setup old c.args.node) old) c.in_ok-game.ensures
-    (read_left play net setup log found c.replaced-old.result c.in_ok-set.set.items c.deref.result.now c.read.ensures old
+    (read_left play net setup log found c.replaced-old.result c.in_ok-set.set.items c.deref.result.now c.read.ensures
+    old
     c.in_ok-set.ensures c.deref.ensures.value)
     c.in_ok-replay.ensures.log c.in_ok-replay.ensures.same c.in_ok-replay.ensures.replies in
     record {
