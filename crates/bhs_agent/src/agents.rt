@@ -78,7 +78,7 @@ impl Agent {
         }
     }
 
-    /// Whether the black hole has destroyed it. Nobody is told: it stays on its link.
+    /// Whether a black hole or a dark link has destroyed it. Nobody is told: it stays on its link.
     pub fn lost(&self) -> bool
         ensures { result ≡ self.now.lost }
     {

@@ -95,13 +95,13 @@ impl Match {
             event }
         ensures same { (self.new.net ≡ self.old.net) × (self.new.setup ≡ self.old.setup) }
     {
-        let is_kept = self.world.keeps(&event);
+        if !self.world.keeps(&event) {
+            let mark = self.world.step(&self.log, &event);
+            return Answer { place: None, mark };
+        }
         let was = link_by(&self.world, &event);
         let site = site_of(&self.world, &event);
         let mark = self.world.step(&self.log, &event);
-        if !is_kept {
-            return Answer { place: None, mark };
-        }
         let now = link_by(&self.world, &event);
         let place = self.log.len() as u32;
         settle(&mut self.pool, &event, was, now);
@@ -203,7 +203,7 @@ impl Match {
         &self.sites
     }
 
-    /// What the agent is doing, and where. A number that is no agent's is outside.
+    /// What the agent is doing, and where. `Outside` if there is no such agent.
     pub fn standing(&self, agent: u16) -> Standing
         ensures { position_of result ≡ (state_of self.now).position agent }
     {
@@ -213,7 +213,7 @@ impl Match {
         self.world.agent(agent).standing()
     }
 
-    /// Whether the agent is lost. A number that is no agent's is not.
+    /// Whether the agent is lost. False if there is no such agent.
     pub fn is_lost(&self, agent: u16) -> bool
         ensures { result ≡ lost (world_in self.now) (events_of self.now.log) agent }
     {

@@ -71,14 +71,14 @@ impl Sealed {
         self.game.sites()
     }
 
-    /// What the agent was doing at the end, and where. A number that is no agent's is outside.
+    /// What the agent was doing at the end, and where. `Outside` if there was no such agent.
     pub fn standing(&self, agent: u16) -> Standing
         ensures { position_of result ≡ (state_of self.now).position agent }
     {
         self.game.standing(agent)
     }
 
-    /// Whether the agent is lost. A number that is no agent's is not.
+    /// Whether the agent is lost. False if there was no such agent.
     pub fn is_lost(&self, agent: u16) -> bool
         ensures { result ≡ lost (world_in self.now) (events_of self.now.log) agent }
     {

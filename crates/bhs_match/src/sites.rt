@@ -52,6 +52,7 @@ pub(crate) fn site_of(world: &World, event: &Event) -> Site
     ensures site { result ≡ site_by world.now event.now }
     ensures range { IfSome result (λ node. node < nodes_of world.now.net) }
 {
+    // The proof needs how many nodes a network may have.
     let _nodes = world.net().nodes();
     Site::new(node(world, event))
 }

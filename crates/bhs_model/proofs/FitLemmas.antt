@@ -1,8 +1,8 @@
 -- The past of an agent says what its position does.
-use Rattle.std.proofs.Common.{ℕ, ◌≡◌, ◌<◌, true, false, List, [], ◌∷◌, ◌==◌, nat_lt}
+use Rattle.std.proofs.Common.{arith, ℕ, ◌≡◌, ◌<◌, true, false, List, [], ◌∷◌, ◌==◌, nat_lt}
 use Rattle.std.proofs.lemmas.Bool.{ltb-true}
 use Rattle.bhs_model.specs.declared.commands.Command.{Command}
-use Rattle.bhs_model.specs.declared.commands.Command.TheVariants.{Enter, Look, Write, Depart, Accuse, Leave, Bad}
+use Rattle.bhs_model.specs.declared.commands.Command.TheVariants.{Enter, Look, Write, Depart, Accuse, Bad}
 use Rattle.bhs_model.specs.declared.events.Event.{Event}
 use Rattle.bhs_model.specs.declared.events.Event.TheVariants.{Tell, Deliver, Close}
 use Rattle.bhs_model.specs.Views.{View}
@@ -22,7 +22,6 @@ InRange world position = Unit {0}
 told_in_range : (world : World) (position : Position) (command : Command) → StaysInRange world → InRange world position
     → InRange world (position_after world position command)
 told_in_range world position Enter range placed = range.home
-told_in_range world position Leave range placed = tt
 told_in_range world (At node came) Look range placed = placed
 told_in_range world (At node came) (Write expect put) range placed = placed
 told_in_range world (At node came) (Depart port) range placed =
@@ -38,16 +37,7 @@ told_in_range world (Bound node p) (Write expect put) range placed = placed
 told_in_range world (Bound node p) (Depart port) range placed = placed
 told_in_range world (Bound node p) (Accuse port) range placed = placed
 told_in_range world (Bound node p) Bad range placed = placed
-told_in_range world Before Look range placed = tt
-told_in_range world Before (Write expect put) range placed = tt
-told_in_range world Before (Depart port) range placed = tt
-told_in_range world Before (Accuse port) range placed = tt
-told_in_range world Before Bad range placed = tt
-told_in_range world After Look range placed = tt
-told_in_range world After (Write expect put) range placed = tt
-told_in_range world After (Depart port) range placed = tt
-told_in_range world After (Accuse port) range placed = tt
-told_in_range world After Bad range placed = tt
+told_in_range world position command range placed = grind arith
 
 abbrev pub AllInRange : World → State → Type 0
 AllInRange world state = (agent : ℕ) → InRange world (state.position agent)

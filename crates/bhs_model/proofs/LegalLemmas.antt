@@ -1,8 +1,9 @@
 -- What an agent knows of where it is: its standing, and how many ports its node has, are those of its position.
-use Rattle.std.proofs.Common.{◌≡◌, ℕ, Bool, true, false, nat_lt, List, [], ◌∷◌, refl, ap, ◌∙◌, inl, inr, if◌then◌else◌}
+use Rattle.std.proofs.Common.{arith, ◌≡◌, ℕ, Bool, true, false, nat_lt, List, [], ◌∷◌, refl, ap, ◌∙◌, inl, inr}
+use Rattle.std.proofs.Common.{if◌then◌else◌}
 use Rattle.std.proofs.lemmas.Bool.Decides.{eqb_tells}
 use Rattle.bhs_model.specs.declared.commands.Command.{Command}
-use Rattle.bhs_model.specs.declared.commands.Command.TheVariants.{Enter, Look, Write, Depart, Accuse, Leave, Bad}
+use Rattle.bhs_model.specs.declared.commands.Command.TheVariants.{Depart, Accuse, Bad}
 use Rattle.bhs_model.specs.declared.events.Event.{Event}
 use Rattle.bhs_model.specs.declared.events.Event.TheVariants.{Tell, Deliver, Close}
 use Rattle.bhs_model.specs.Views.{View, Told, Standing, standing, standing_after, ports}
@@ -25,16 +26,6 @@ pub record IsLegal (world : World) (view : View) (position : Position) : Type 0 
 pub standing_told : (world : World) (view : View) (position : Position) (command : Command)
     → KnowsPorts world view position → standing_after (standing_at position) (ports view) command ≡ standing_at
     (position_after world position command)
-standing_told world view Before Enter knows = refl
-standing_told world view Before Look knows = refl
-standing_told world view Before (Write expect put) knows = refl
-standing_told world view Before (Depart port) knows = refl
-standing_told world view Before (Accuse port) knows = refl
-standing_told world view Before Leave knows = refl
-standing_told world view Before Bad knows = refl
-standing_told world view (At node came) Enter knows = refl
-standing_told world view (At node came) Look knows = refl
-standing_told world view (At node came) (Write expect put) knows = refl
 standing_told world view (At node came) (Depart port) knows =
     rw knows (by_cases (nat_lt port (world.net.degree node)) _
     (λ (h : nat_lt port (world.net.degree node) ≡ true). rw h refl)
@@ -43,59 +34,20 @@ standing_told world view (At node came) (Accuse port) knows =
     rw knows (by_cases (nat_lt port (world.net.degree node)) _
     (λ (h : nat_lt port (world.net.degree node) ≡ true). rw h refl)
     (λ (h : nat_lt port (world.net.degree node) ≡ false). rw h refl))
-standing_told world view (At node came) Leave knows = refl
-standing_told world view (At node came) Bad knows = refl
-standing_told world view (Bound node p) Enter knows = refl
-standing_told world view (Bound node p) Look knows = refl
-standing_told world view (Bound node p) (Write expect put) knows = refl
-standing_told world view (Bound node p) (Depart port) knows = refl
-standing_told world view (Bound node p) (Accuse port) knows = refl
-standing_told world view (Bound node p) Leave knows = refl
-standing_told world view (Bound node p) Bad knows = refl
-standing_told world view After Enter knows = refl
-standing_told world view After Look knows = refl
-standing_told world view After (Write expect put) knows = refl
-standing_told world view After (Depart port) knows = refl
-standing_told world view After (Accuse port) knows = refl
-standing_told world view After Leave knows = refl
-standing_told world view After Bad knows = refl
+standing_told world view position command knows = grind arith
 
 -- what is known of the ports then
 pub ports_told : (world : World) (state : State) (view : View) (position : Position) (command : Command)
     → KnowsPorts world view position → KnowsPorts world (Told view command (glance world state position command))
     (position_after world position command)
-ports_told world state view Before Enter knows = refl
-ports_told world state view Before Look knows = tt
-ports_told world state view Before (Write expect put) knows = tt
-ports_told world state view Before (Depart port) knows = tt
-ports_told world state view Before (Accuse port) knows = tt
-ports_told world state view Before Leave knows = tt
-ports_told world state view Before Bad knows = tt
-ports_told world state view (At node came) Enter knows = refl
-ports_told world state view (At node came) Look knows = refl
-ports_told world state view (At node came) (Write expect put) knows = refl
 ports_told world state view (At node came) (Depart port) knows =
     by_cases (nat_lt port (world.net.degree node)) _ (λ (h : nat_lt port (world.net.degree node) ≡ true). rw h tt)
     (λ (h : nat_lt port (world.net.degree node) ≡ false). rw h knows)
 ports_told world state view (At node came) (Accuse port) knows =
     by_cases (nat_lt port (world.net.degree node)) _ (λ (h : nat_lt port (world.net.degree node) ≡ true). rw h tt)
     (λ (h : nat_lt port (world.net.degree node) ≡ false). rw h knows)
-ports_told world state view (At node came) Leave knows = tt
 ports_told world state view (At node came) Bad knows = knows
-ports_told world state view (Bound node p) Enter knows = refl
-ports_told world state view (Bound node p) Look knows = tt
-ports_told world state view (Bound node p) (Write expect put) knows = tt
-ports_told world state view (Bound node p) (Depart port) knows = tt
-ports_told world state view (Bound node p) (Accuse port) knows = tt
-ports_told world state view (Bound node p) Leave knows = tt
-ports_told world state view (Bound node p) Bad knows = tt
-ports_told world state view After Enter knows = refl
-ports_told world state view After Look knows = tt
-ports_told world state view After (Write expect put) knows = tt
-ports_told world state view After (Depart port) knows = tt
-ports_told world state view After (Accuse port) knows = tt
-ports_told world state view After Leave knows = tt
-ports_told world state view After Bad knows = tt
+ports_told world state view position command knows = grind arith
 
 pub legal_told : (world : World) (state : State) (view : View) (position : Position) (command : Command)
     → IsLegal world view position → IsLegal world (Told view command (glance world state position command))

@@ -32,7 +32,7 @@ pub record AreAnsweredAlike (one : World) (events : List Event) (agent : ℕ)
       reply one (run one events) (Tell agent command) ≡ reply two (run two others) (Tell other command)
 
 -- Agents with equal pasts are answered alike, in whatever networks, among however many agents, and
--- wherever the black hole is: of the world only the quota and the size of a whiteboard count.
+-- whatever destroys: of the world only the quota and the size of a whiteboard count.
 abbrev pub EqualPasts : Type 0
 EqualPasts = (one two : World) (events others : List Event) (agent other : ℕ) →
     one.quota ≡ two.quota → one.board ≡ two.board →

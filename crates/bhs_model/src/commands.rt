@@ -11,7 +11,7 @@ pub enum Command {
     Write { expect: Text, put: Text },
     /// Leave the node by a port.
     Depart { port: u16 },
-    /// Say that the link at a port leads to the black hole, and end.
+    /// Say that the link at a port destroys: that it leads to a black hole or is dark. End.
     Accuse { port: u16 },
     /// End.
     Leave,

@@ -55,7 +55,7 @@ ghost use Rattle.bhs_model.specs.Laws.{
 };
 
 /// Agents with equal pasts are answered alike, whatever else differs: the network, the other agents,
-/// the black hole.
+/// black holes and dark links.
 pub fn equal_pasts()
     ensures { EqualPasts }
 {}
@@ -102,7 +102,7 @@ pub fn cuts_suffice()
     ensures { CutsSuffice }
 {}
 
-/// No agent can tell the black hole from links that are slow.
+/// No agent can tell black holes and dark links from links that are slow.
 pub fn hole_looks_slow()
     ensures looks { HoleLooksSlow }
     ensures there_is_one { HasSlowTwin }

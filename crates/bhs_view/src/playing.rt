@@ -44,6 +44,7 @@ pub(crate) fn replay(mut game: Match, log: &[Kept], set: &[bool]) -> Result<Seal
         }
     }
     game.apply(Event::Close);
+    // The proof needs what the log says of itself.
     let _legal = game.log();
     match game.sealed() {
         Ok(sealed) => Ok(sealed),

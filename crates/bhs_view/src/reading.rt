@@ -18,6 +18,7 @@ pub(crate) fn read(sealed: &Sealed) -> Reading<'_>
     ensures { IsRead sealed.now result.net.now result.setup.now result.log.now result.sites.now }
 {
     let net = sealed.net();
+    // The proof needs how many nodes a network may have.
     let _nodes = net.nodes();
     Reading {
         net,

@@ -77,13 +77,6 @@ pub told_reads : (net : Network) (setup : Setup) (state : State) (log : List Kep
     seen command (glance (world_of net setup) state position command)
 told_reads net setup state log boards room seen Before Enter shows limited placed heard known =
     here_reads (world_of net setup) state log boards setup.home None shows
-told_reads net setup state log boards room seen Before Look shows limited placed heard known = cc
-told_reads net setup state log boards room seen Before (Write expect put) shows limited placed heard known = cc
-told_reads net setup state log boards room seen Before (Depart port) shows limited placed heard known = cc
-told_reads net setup state log boards room seen Before (Accuse port) shows limited placed heard known = cc
-told_reads net setup state log boards room seen Before Leave shows limited placed heard known = cc
-told_reads net setup state log boards room seen Before Bad shows limited placed heard known = cc
-told_reads net setup state log boards room seen (At node came) Enter shows limited placed heard known = cc
 told_reads net setup state log boards room seen (At node came) Look shows limited placed heard known =
     here_reads (world_of net setup) state log boards node came shows
 told_reads net setup state log boards room seen (At node came) (Write expect put) shows limited placed heard known =
@@ -94,23 +87,7 @@ told_reads net setup state log boards room seen (At node came) (Depart port) sho
 told_reads net setup state log boards room seen (At node came) (Accuse port) shows limited placed heard known =
     port_reads log (nat_lt port (degree_of net node)) marks.Noted
     ∙ ap (λ (ports : ℕ). if nat_lt port ports then replies.Noted else replies.No whys.Port) (sym known)
-told_reads net setup state log boards room seen (At node came) Leave shows limited placed heard known = refl
-told_reads net setup state log boards room seen (At node came) Bad shows limited placed heard known = refl
-told_reads net setup state log boards room seen (Bound node p) Enter shows limited placed heard known = cc
-told_reads net setup state log boards room seen (Bound node p) Look shows limited placed heard known = refl
-told_reads net setup state log boards room seen (Bound node p) (Write expect put) shows limited placed heard known =
-    refl
-told_reads net setup state log boards room seen (Bound node p) (Depart port) shows limited placed heard known = refl
-told_reads net setup state log boards room seen (Bound node p) (Accuse port) shows limited placed heard known = refl
-told_reads net setup state log boards room seen (Bound node p) Leave shows limited placed heard known = refl
-told_reads net setup state log boards room seen (Bound node p) Bad shows limited placed heard known = refl
-told_reads net setup state log boards room seen After Enter shows limited placed heard known = cc
-told_reads net setup state log boards room seen After Look shows limited placed heard known = cc
-told_reads net setup state log boards room seen After (Write expect put) shows limited placed heard known = cc
-told_reads net setup state log boards room seen After (Depart port) shows limited placed heard known = cc
-told_reads net setup state log boards room seen After (Accuse port) shows limited placed heard known = cc
-told_reads net setup state log boards room seen After Leave shows limited placed heard known = cc
-told_reads net setup state log boards room seen After Bad shows limited placed heard known = cc
+told_reads net setup state log boards room seen position command shows limited placed heard known = grind arith
 
 -- where a mark names a place, a Write stands there
 
@@ -144,26 +121,7 @@ told_named limit world last_write log boards (At node came) (Depart port) shows 
     either (λ mark. IsNamed log (Some mark)) (nat_lt port (world.net.degree node)) _ _ tt tt
 told_named limit world last_write log boards (At node came) (Accuse port) shows =
     either (λ mark. IsNamed log (Some mark)) (nat_lt port (world.net.degree node)) _ _ tt tt
-told_named limit world last_write log boards (At node came) Leave shows = tt
-told_named limit world last_write log boards (At node came) Bad shows = tt
-told_named limit world last_write log boards Before Look shows = tt
-told_named limit world last_write log boards Before (Write expect put) shows = tt
-told_named limit world last_write log boards Before (Depart port) shows = tt
-told_named limit world last_write log boards Before (Accuse port) shows = tt
-told_named limit world last_write log boards Before Leave shows = tt
-told_named limit world last_write log boards Before Bad shows = tt
-told_named limit world last_write log boards (Bound node p) Look shows = tt
-told_named limit world last_write log boards (Bound node p) (Write expect put) shows = tt
-told_named limit world last_write log boards (Bound node p) (Depart port) shows = tt
-told_named limit world last_write log boards (Bound node p) (Accuse port) shows = tt
-told_named limit world last_write log boards (Bound node p) Leave shows = tt
-told_named limit world last_write log boards (Bound node p) Bad shows = tt
-told_named limit world last_write log boards After Look shows = tt
-told_named limit world last_write log boards After (Write expect put) shows = tt
-told_named limit world last_write log boards After (Depart port) shows = tt
-told_named limit world last_write log boards After (Accuse port) shows = tt
-told_named limit world last_write log boards After Leave shows = tt
-told_named limit world last_write log boards After Bad shows = tt
+told_named limit world last_write log boards position command shows = grind arith
 
 -- what the whiteboards show after a command that is heard
 

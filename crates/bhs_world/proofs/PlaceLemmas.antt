@@ -59,26 +59,7 @@ told_shown world log boards written (At node came) (Depart port) same =
     (port_shown log written (nat_lt port (world.net.degree node)) _).0
 told_shown world log boards written (At node came) (Accuse port) same =
     (port_shown log written (nat_lt port (world.net.degree node)) _).1
-told_shown world log boards written (At node came) Leave same = refl
-told_shown world log boards written (At node came) Bad same = refl
-told_shown world log boards written Before Look same = refl
-told_shown world log boards written Before (Write expect put) same = refl
-told_shown world log boards written Before (Depart port) same = refl
-told_shown world log boards written Before (Accuse port) same = refl
-told_shown world log boards written Before Leave same = refl
-told_shown world log boards written Before Bad same = refl
-told_shown world log boards written (Bound node p) Look same = refl
-told_shown world log boards written (Bound node p) (Write expect put) same = refl
-told_shown world log boards written (Bound node p) (Depart port) same = refl
-told_shown world log boards written (Bound node p) (Accuse port) same = refl
-told_shown world log boards written (Bound node p) Leave same = refl
-told_shown world log boards written (Bound node p) Bad same = refl
-told_shown world log boards written After Look same = refl
-told_shown world log boards written After (Write expect put) same = refl
-told_shown world log boards written After (Depart port) same = refl
-told_shown world log boards written After (Accuse port) same = refl
-told_shown world log boards written After Leave same = refl
-told_shown world log boards written After Bad same = refl
+told_shown world log boards written position command same = grind arith
 
 -- and one that is not heard
 pub unheard_shown : (log : List Kept) (written : ℕ → Option ℕ) (x y z : Bool) (mark : Mark) (why : Why)

@@ -1,9 +1,10 @@
 -- Which answers speak of a whiteboard.
-use Rattle.std.proofs.Common.{◌≡◌, ℕ, ◌<◌, Bool, true, false, not, ◌&&◌, Option, List, length, refl, sym, ap, ◌∙◌}
+use Rattle.std.proofs.Common.{arith, ◌≡◌, ℕ, ◌<◌, Bool, true, false, not, ◌&&◌, Option, List, length, refl, sym, ap}
+use Rattle.std.proofs.Common.{◌∙◌}
 use Rattle.std.proofs.Common.{nat_lt, if◌then◌else◌}
 use Rattle.std.specs.Prelude.{nat_le, bytes_eq}
 use Rattle.bhs_model.specs.declared.commands.Command.{Command}
-use Rattle.bhs_model.specs.declared.commands.Command.TheVariants.{Enter, Look, Write, Depart, Accuse, Leave, Bad}
+use Rattle.bhs_model.specs.declared.commands.Command.TheVariants.{Write, Depart, Accuse}
 use Rattle.bhs_model.specs.declared.events.Event.TheVariants.{Tell}
 use Rattle.bhs_model.specs.declared.marks.Mark.{Mark}
 use Rattle.bhs_model.specs.declared.marks.Mark.TheVariants as marks
@@ -48,31 +49,13 @@ HasLimit boards limit position = Unit {0}
 told_shows_board : (world : World) (log : List Kept) (boards : List Whiteboard) (limit : ℕ) (position : Position)
     (command : Command) → HasLimit boards limit position →
     is_of_board (mark_told world log boards position command) ≡ shows_from limit position command
-told_shows_board world log boards limit position Leave has = refl
-told_shows_board world log boards limit position Enter has = refl
-told_shows_board world log boards limit (At node came) Look has = refl
 told_shows_board world log boards limit (At node came) (Write expect put) has =
     write_shows log (board_at boards node) expect put limit has
 told_shows_board world log boards limit (At node came) (Depart port) has =
     by_port (nat_lt port (world.net.degree node)) marks.Gone refl
 told_shows_board world log boards limit (At node came) (Accuse port) has =
     by_port (nat_lt port (world.net.degree node)) marks.Noted refl
-told_shows_board world log boards limit (At node came) Bad has = refl
-told_shows_board world log boards limit Before Look has = refl
-told_shows_board world log boards limit Before (Write expect put) has = refl
-told_shows_board world log boards limit Before (Depart port) has = refl
-told_shows_board world log boards limit Before (Accuse port) has = refl
-told_shows_board world log boards limit Before Bad has = refl
-told_shows_board world log boards limit (Bound node _) Look has = refl
-told_shows_board world log boards limit (Bound node _) (Write expect put) has = refl
-told_shows_board world log boards limit (Bound node _) (Depart port) has = refl
-told_shows_board world log boards limit (Bound node _) (Accuse port) has = refl
-told_shows_board world log boards limit (Bound node _) Bad has = refl
-told_shows_board world log boards limit After Look has = refl
-told_shows_board world log boards limit After (Write expect put) has = refl
-told_shows_board world log boards limit After (Depart port) has = refl
-told_shows_board world log boards limit After (Accuse port) has = refl
-told_shows_board world log boards limit After Bad has = refl
+told_shows_board world log boards limit position command has = grind arith
 
 by_hearing : (known closed hears : Bool) (mark : Mark) (why : Why) (shows : Bool) → is_of_board mark ≡ shows →
     is_of_board (if known then (if closed then marks.Over else (if hears then mark else marks.No why)) else marks.No
