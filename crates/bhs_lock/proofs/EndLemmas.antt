@@ -1,12 +1,12 @@
 -- The second number: an agent has ended in the log where the definitions say that it stands ended.
-use Rattle.std.proofs.Common.{◌≡◌, ℕ, Bool, true, false, ◌||◌, List, length, refl, nat_lt, if◌then◌else◌}
+use Rattle.std.proofs.Common.{arith, ◌≡◌, ℕ, Bool, true, false, ◌||◌, List, length, refl, nat_lt, if◌then◌else◌}
 use Rattle.std.specs.Prelude.{nat_le, bytes_eq}
 use Rattle.std.proofs.lemmas.Bool.{cond_both}
 use Rattle.bhs_model.specs.declared.commands.Command.{Command}
-use Rattle.bhs_model.specs.declared.commands.Command.TheVariants.{Enter, Look, Write, Depart, Accuse, Leave, Bad}
+use Rattle.bhs_model.specs.declared.commands.Command.TheVariants.{Enter, Look, Write, Depart, Accuse}
 use Rattle.bhs_model.specs.declared.replies.Reply.TheVariants.{Written, Changed, Gone, Noted, No}
 use Rattle.bhs_model.specs.declared.replies.Why.TheVariants.{Long, Port}
-use Rattle.bhs_model.specs.Views.{Standing, Outside, Present, Away, Ended, standing_after, Glance, Nothing, Saw, Seen}
+use Rattle.bhs_model.specs.Views.{Standing, Outside, Present, Away, Ended, standing_after, Glance, Saw, Seen}
 use Rattle.bhs_model.specs.Replying.{text, accepts, answer, sight_answer}
 use Rattle.bhs_lock.specs.Tallies.{has_ended}
 use Rattle.bhs_lock.specs.Passes.{is_end}
@@ -18,19 +18,7 @@ quiet limit (Write expect put) (Saw (Seen ports came last_write)) =
     (λ reply. is_end reply ≡ false)
     (λ fits. cond_both (bytes_eq shown expect) Written (Changed shown) (λ reply. is_end reply ≡ false) (λ e. refl)
     (λ e. refl)) (λ long. refl)
-quiet limit (Write expect put) Nothing = refl
-quiet limit Enter (Saw (Seen ports came last_write)) = refl
-quiet limit Enter Nothing = refl
-quiet limit Look (Saw (Seen ports came last_write)) = refl
-quiet limit Look Nothing = refl
-quiet limit (Depart port) (Saw (Seen ports came last_write)) = refl
-quiet limit (Depart port) Nothing = refl
-quiet limit (Accuse port) (Saw (Seen ports came last_write)) = refl
-quiet limit (Accuse port) Nothing = refl
-quiet limit Leave (Saw (Seen ports came last_write)) = refl
-quiet limit Leave Nothing = refl
-quiet limit Bad (Saw (Seen ports came last_write)) = refl
-quiet limit Bad Nothing = refl
+quiet limit command glance = grind arith
 
 by_port : (b : Bool) → is_end (if b then Noted else No Port) ≡ has_ended (if b then Ended else Present)
 by_port true = refl
@@ -45,30 +33,8 @@ pub ends_standing : (limit : ℕ) (now : Standing) (room : Bool) (ports : ℕ) (
     → accepts now room command ≡ true →
     (has_ended now || is_end (answer limit now ports command glance)) ≡ has_ended (standing_after now ports command)
 ends_standing limit Outside room ports Enter glance free = quiet limit Enter glance
-ends_standing limit Outside room ports Look glance free = cc
-ends_standing limit Outside room ports (Write expect put) glance free = cc
-ends_standing limit Outside room ports (Depart port) glance free = cc
-ends_standing limit Outside room ports (Accuse port) glance free = cc
-ends_standing limit Outside room ports Leave glance free = cc
-ends_standing limit Outside room ports Bad glance free = cc
-ends_standing limit Present room ports Enter glance free = cc
 ends_standing limit Present room ports Look glance free = quiet limit Look glance
 ends_standing limit Present room ports (Write expect put) glance free = quiet limit (Write expect put) glance
 ends_standing limit Present room ports (Depart port) glance free = by_gone (nat_lt port ports)
 ends_standing limit Present room ports (Accuse port) glance free = by_port (nat_lt port ports)
-ends_standing limit Present room ports Leave glance free = refl
-ends_standing limit Present room ports Bad glance free = refl
-ends_standing limit Away room ports Enter glance free = cc
-ends_standing limit Away room ports Look glance free = refl
-ends_standing limit Away room ports (Write expect put) glance free = refl
-ends_standing limit Away room ports (Depart port) glance free = refl
-ends_standing limit Away room ports (Accuse port) glance free = refl
-ends_standing limit Away room ports Leave glance free = refl
-ends_standing limit Away room ports Bad glance free = refl
-ends_standing limit Ended room ports Enter glance free = cc
-ends_standing limit Ended room ports Look glance free = cc
-ends_standing limit Ended room ports (Write expect put) glance free = cc
-ends_standing limit Ended room ports (Depart port) glance free = cc
-ends_standing limit Ended room ports (Accuse port) glance free = cc
-ends_standing limit Ended room ports Leave glance free = cc
-ends_standing limit Ended room ports Bad glance free = cc
+ends_standing limit now room ports command glance free = grind arith

@@ -91,13 +91,6 @@ pub fits_told : (quota : ℕ) (now : Standing) (used heard ports : ℕ) (command
     → accepts now (nat_lt used quota) command ≡ true → Fits quota now used heard →
     Fits quota (standing_after now ports command) (if counts command then used + 1 else used) (heard + 1)
 fits_told quota Outside used heard ports Enter free fits = (omega (arith, fits.0, fits.1), omega (arith, fits.1))
-fits_told quota Outside used heard ports Look free fits = absurd cc
-fits_told quota Outside used heard ports (Write expect put) free fits = absurd cc
-fits_told quota Outside used heard ports (Depart port) free fits = absurd cc
-fits_told quota Outside used heard ports (Accuse port) free fits = absurd cc
-fits_told quota Outside used heard ports Leave free fits = absurd cc
-fits_told quota Outside used heard ports Bad free fits = absurd cc
-fits_told quota Present used heard ports Enter free fits = absurd cc
 fits_told quota Present used heard ports Look free fits = (ap (λ (n : ℕ). n + 1) fits.0, room_for used quota free)
 fits_told quota Present used heard ports (Write expect put) free fits =
     (ap (λ (n : ℕ). n + 1) fits.0, room_for used quota free)
@@ -107,7 +100,6 @@ fits_told quota Present used heard ports (Accuse port) free fits =
     fits_ended quota used heard (nat_lt port ports) fits.0 (room_for used quota free)
 fits_told quota Present used heard ports Leave free fits = omega arith
 fits_told quota Present used heard ports Bad free fits = (ap (λ (n : ℕ). n + 1) fits.0, room_for used quota free)
-fits_told quota Away used heard ports Enter free fits = absurd cc
 fits_told quota Away used heard ports Look free fits = (ap (λ (n : ℕ). n + 1) fits.0, room_for used quota free)
 fits_told quota Away used heard ports (Write expect put) free fits =
     (ap (λ (n : ℕ). n + 1) fits.0, room_for used quota free)
@@ -115,13 +107,7 @@ fits_told quota Away used heard ports (Depart port) free fits = (ap (λ (n : ℕ
 fits_told quota Away used heard ports (Accuse port) free fits = (ap (λ (n : ℕ). n + 1) fits.0, room_for used quota free)
 fits_told quota Away used heard ports Leave free fits = omega arith
 fits_told quota Away used heard ports Bad free fits = (ap (λ (n : ℕ). n + 1) fits.0, room_for used quota free)
-fits_told quota Ended used heard ports Enter free fits = absurd cc
-fits_told quota Ended used heard ports Look free fits = absurd cc
-fits_told quota Ended used heard ports (Write expect put) free fits = absurd cc
-fits_told quota Ended used heard ports (Depart port) free fits = absurd cc
-fits_told quota Ended used heard ports (Accuse port) free fits = absurd cc
-fits_told quota Ended used heard ports Leave free fits = absurd cc
-fits_told quota Ended used heard ports Bad free fits = absurd cc
+fits_told quota now used heard ports command free fits = grind arith
 
 -- ---- events
 

@@ -2,7 +2,7 @@
 use Rattle.std.proofs.Common.{◌≡◌, ℕ, ◌+◌, ◌-◌, ◌<◌, ◌≤◌, Bool, true, false, not, ◌&&◌, Option, Some, None, List}
 use Rattle.std.proofs.Common.{length, refl, sym, ap, ◌∙◌, subst, nat_lt, ◌==◌, if◌then◌else◌, arith, inl, inr, ◌⊎◌}
 use Rattle.std.specs.Prelude.{nat_le, bytes_eq, option_map}
-use Rattle.std.proofs.lemmas.Bool.{cond_both, cond-true, cond-false, eq-eqb}
+use Rattle.std.proofs.lemmas.Bool.{cond_both, cond-true, cond-false, eq-eqb, and_parts, ltb-true}
 use Rattle.std.proofs.lemmas.Bool.Decides.{eqb_tells, nat_tests}
 use Rattle.bhs_model.specs.declared.commands.Command.{Command}
 use Rattle.bhs_model.specs.declared.commands.Command.TheVariants.{Enter, Look, Write, Depart, Accuse, Leave, Bad}
@@ -11,7 +11,7 @@ use Rattle.bhs_model.specs.declared.replies.Reply.{Reply}
 use Rattle.bhs_model.specs.declared.replies.Reply.TheVariants.{Written, Changed, Gone, Noted, Over, No}
 use Rattle.bhs_model.specs.declared.replies.Why.{Why}
 use Rattle.bhs_model.specs.declared.replies.Why.TheVariants as whys
-use Rattle.bhs_model.specs.Views.{View, Standing, Outside, Present, Away, Ended, standing, used, ports, Glance, Nothing}
+use Rattle.bhs_model.specs.Views.{View, Standing, Outside, Present, Away, Ended, standing, used, ports, Glance}
 use Rattle.bhs_model.specs.Views.{Saw, Seen}
 use Rattle.bhs_model.specs.Replying.{text, accepts, hears, answer, sight_answer, refusal}
 use Rattle.bhs_model.specs.Runs.{heard, glance, reply}
@@ -35,19 +35,7 @@ sight_heard limit (Write expect put) (Saw (Seen ports came last_write)) =
     (λ reply. is_unheard reply ≡ false)
     (λ fits. cond_both (bytes_eq shown expect) Written (Changed shown) (λ reply. is_unheard reply ≡ false) (λ e. refl)
     (λ e. refl)) (λ long. refl)
-sight_heard limit (Write expect put) Nothing = refl
-sight_heard limit Enter (Saw (Seen ports came last_write)) = refl
-sight_heard limit Enter Nothing = refl
-sight_heard limit Look (Saw (Seen ports came last_write)) = refl
-sight_heard limit Look Nothing = refl
-sight_heard limit (Depart port) (Saw (Seen ports came last_write)) = refl
-sight_heard limit (Depart port) Nothing = refl
-sight_heard limit (Accuse port) (Saw (Seen ports came last_write)) = refl
-sight_heard limit (Accuse port) Nothing = refl
-sight_heard limit Leave (Saw (Seen ports came last_write)) = refl
-sight_heard limit Leave Nothing = refl
-sight_heard limit Bad (Saw (Seen ports came last_write)) = refl
-sight_heard limit Bad Nothing = refl
+sight_heard limit command glance = grind arith
 
 port_heard : (b : Bool) (reply : Reply) → is_unheard reply ≡ false
     → is_unheard (if b then reply else No whys.Port) ≡ false
@@ -56,19 +44,6 @@ port_heard false reply is = refl
 
 answer_heard : (limit : ℕ) (now : Standing) (ports : ℕ) (command : Command) (glance : Glance)
     → is_unheard (answer limit now ports command glance) ≡ false
-answer_heard limit Outside ports Leave glance = refl
-answer_heard limit Present ports Leave glance = refl
-answer_heard limit Away ports Leave glance = refl
-answer_heard limit Ended ports Leave glance = refl
-answer_heard limit Away ports Enter glance = refl
-answer_heard limit Away ports Look glance = refl
-answer_heard limit Away ports (Write expect put) glance = refl
-answer_heard limit Away ports (Depart port) glance = refl
-answer_heard limit Away ports (Accuse port) glance = refl
-answer_heard limit Away ports Bad glance = refl
-answer_heard limit Outside ports Bad glance = refl
-answer_heard limit Present ports Bad glance = refl
-answer_heard limit Ended ports Bad glance = refl
 answer_heard limit Outside ports (Depart port) glance = port_heard (nat_lt port ports) Gone refl
 answer_heard limit Present ports (Depart port) glance = port_heard (nat_lt port ports) Gone refl
 answer_heard limit Ended ports (Depart port) glance = port_heard (nat_lt port ports) Gone refl
@@ -84,6 +59,7 @@ answer_heard limit Ended ports Look glance = sight_heard limit Look glance
 answer_heard limit Outside ports (Write expect put) glance = sight_heard limit (Write expect put) glance
 answer_heard limit Present ports (Write expect put) glance = sight_heard limit (Write expect put) glance
 answer_heard limit Ended ports (Write expect put) glance = sight_heard limit (Write expect put) glance
+answer_heard limit now ports command glance = grind arith
 
 -- ---- why a command is not heard, by the numbers
 
@@ -109,7 +85,6 @@ spent_means quota used n ended b why some going full = cond-false _ _ _ some ∙
 pub refusal_same : (quota : ℕ) (now : Standing) (used : ℕ) (tally : Tally) (command : Command)
     → tally.ended ≡ has_ended now → Fits quota now used tally.heard → accepts now (nat_lt used quota) command ≡ false →
     refusal_by quota tally command ≡ Some (refusal now command)
-refusal_same quota Outside used tally Enter ended fits none = absurd cc
 refusal_same quota Outside used tally Look ended fits none = cond-true _ _ _ (eq-eqb tally.heard 0 fits.0)
 refusal_same quota Outside used tally (Write expect put) ended fits none = cond-true _ _ _ (eq-eqb tally.heard 0 fits.0)
 refusal_same quota Outside used tally (Depart port) ended fits none = cond-true _ _ _ (eq-eqb tally.heard 0 fits.0)
@@ -129,7 +104,6 @@ refusal_same quota Present used tally (Depart port) ended fits none =
 refusal_same quota Present used tally (Accuse port) ended fits none =
     spent_means quota used tally.heard tally.ended true None (not_none tally.heard used fits.0) ended
     (all_spent tally.heard used quota fits.0 fits.1 none)
-refusal_same quota Present used tally Leave ended fits none = absurd cc
 refusal_same quota Present used tally Bad ended fits none =
     spent_means quota used tally.heard tally.ended true None (not_none tally.heard used fits.0) ended
     (all_spent tally.heard used quota fits.0 fits.1 none)
@@ -146,7 +120,6 @@ refusal_same quota Away used tally (Depart port) ended fits none =
 refusal_same quota Away used tally (Accuse port) ended fits none =
     spent_means quota used tally.heard tally.ended true None (not_none tally.heard used fits.0) ended
     (all_spent tally.heard used quota fits.0 fits.1 none)
-refusal_same quota Away used tally Leave ended fits none = absurd cc
 refusal_same quota Away used tally Bad ended fits none =
     spent_means quota used tally.heard tally.ended true None (not_none tally.heard used fits.0) ended
     (all_spent tally.heard used quota fits.0 fits.1 none)
@@ -163,6 +136,52 @@ refusal_same quota Ended used tally Leave ended fits none = cond-false _ _ _ (so
     ∙ cond-true _ _ _ ended
 refusal_same quota Ended used tally Bad ended fits none = cond-false _ _ _ (some_not_none tally.heard fits)
     ∙ cond-true _ _ _ ended
+refusal_same quota now used tally command ended fits none = grind arith
+
+-- what is heard is not refused by the numbers
+
+has_room : (n used quota : ℕ) → n ≡ used + 1 → nat_lt used quota ≡ true → (n - 1 == quota) ≡ false
+has_room n used quota is room =
+    let below : used < quota = ltb-true used quota room in
+    elim (eqb_tells (n - 1) quota) [ inl h ↦ absurd (omega (arith, h.1, is, below)) | inr h ↦ h.0 ]
+
+free_with_room : (quota used n : ℕ) (ended : Bool) → n ≡ used + 1 → ended ≡ false → nat_lt used quota ≡ true
+    → (if n == 0 then Some whys.Outside else (if ended then Some whys.Ended else (if n - 1 == quota then Some whys.Spent
+    else None))) ≡ None
+free_with_room quota used n ended is going room = cond-false _ _ _ (not_none n used is) ∙ cond-false _ _ _ going
+    ∙ cond-false _ _ _ (has_room n used quota is room)
+
+free_to_leave : (used n : ℕ) (ended : Bool) → n ≡ used + 1 → ended ≡ false
+    → (if n == 0 then Some whys.Outside else (if ended then Some whys.Ended else None)) ≡ None
+free_to_leave used n ended is going = cond-false _ _ _ (not_none n used is) ∙ cond-false _ _ _ going
+
+pub free_none : (quota : ℕ) (now : Standing) (used : ℕ) (tally : Tally) (command : Command)
+    → tally.ended ≡ has_ended now → Fits quota now used tally.heard → accepts now (nat_lt used quota) command ≡ true
+    → refusal_by quota tally command ≡ None
+free_none quota Outside used tally Enter ended fits free = cond-true _ _ _ (eq-eqb tally.heard 0 fits.0)
+free_none quota Present used tally Leave ended fits free = free_to_leave used tally.heard tally.ended fits.0 ended
+free_none quota Present used tally Look ended fits free =
+    free_with_room quota used tally.heard tally.ended fits.0 ended free
+free_none quota Present used tally (Write expect put) ended fits free =
+    free_with_room quota used tally.heard tally.ended fits.0 ended free
+free_none quota Present used tally (Depart port) ended fits free =
+    free_with_room quota used tally.heard tally.ended fits.0 ended free
+free_none quota Present used tally (Accuse port) ended fits free =
+    free_with_room quota used tally.heard tally.ended fits.0 ended free
+free_none quota Present used tally Bad ended fits free =
+    free_with_room quota used tally.heard tally.ended fits.0 ended free
+free_none quota Away used tally Leave ended fits free = free_to_leave used tally.heard tally.ended fits.0 ended
+free_none quota Away used tally Look ended fits free =
+    free_with_room quota used tally.heard tally.ended fits.0 ended free
+free_none quota Away used tally (Write expect put) ended fits free =
+    free_with_room quota used tally.heard tally.ended fits.0 ended free
+free_none quota Away used tally (Depart port) ended fits free =
+    free_with_room quota used tally.heard tally.ended fits.0 ended free
+free_none quota Away used tally (Accuse port) ended fits free =
+    free_with_room quota used tally.heard tally.ended fits.0 ended free
+free_none quota Away used tally Bad ended fits free =
+    free_with_room quota used tally.heard tally.ended fits.0 ended free
+free_none quota now used tally command ended fits free = grind arith
 
 -- ---- what is said of a command
 
@@ -182,34 +201,7 @@ some_same x y is = cc
 
 -- the refusals are not replies to what is heard
 refused_unheard : (now : Standing) (command : Command) → is_unheard (No (refusal now command)) ≡ true
-refused_unheard Outside Enter = refl
-refused_unheard Outside Look = refl
-refused_unheard Outside (Write expect put) = refl
-refused_unheard Outside (Depart port) = refl
-refused_unheard Outside (Accuse port) = refl
-refused_unheard Outside Leave = refl
-refused_unheard Outside Bad = refl
-refused_unheard Present Enter = refl
-refused_unheard Present Look = refl
-refused_unheard Present (Write expect put) = refl
-refused_unheard Present (Depart port) = refl
-refused_unheard Present (Accuse port) = refl
-refused_unheard Present Leave = refl
-refused_unheard Present Bad = refl
-refused_unheard Away Enter = refl
-refused_unheard Away Look = refl
-refused_unheard Away (Write expect put) = refl
-refused_unheard Away (Depart port) = refl
-refused_unheard Away (Accuse port) = refl
-refused_unheard Away Leave = refl
-refused_unheard Away Bad = refl
-refused_unheard Ended Enter = refl
-refused_unheard Ended Look = refl
-refused_unheard Ended (Write expect put) = refl
-refused_unheard Ended (Depart port) = refl
-refused_unheard Ended (Accuse port) = refl
-refused_unheard Ended Leave = refl
-refused_unheard Ended Bad = refl
+refused_unheard now command = grind arith
 
 -- a command of a pass that agrees
 submitted_agreed : (hall : Housed) (pass pass' : Passed) (command : Command) (place : Option ℕ) (mark : Mark)
@@ -222,9 +214,19 @@ submitted_agreed hall pass pass' command place mark said play' has fit above is 
     let here : place ≡ Some (length hall.play.log) = is.at ∙ cond-true _ _ _ is_heard in
     let how : HeardCommand hall.play pass.agent command = heard_command hall.play pass.agent command is_heard in
     let answered = some_same _ _ (is.replied ∙ reply_heard hall.play pass.agent command how) in
+    let play : Play = hall.play in
+    let view : View = (state_of play).past pass.agent in
+    let inside = (and_parts (nat_lt pass.agent play.setup.agents) _ is_heard).1 in
+    let free = (and_parts (not (state_of play).closed) _ inside).1 in
+    let none : refusal_by play.setup.quota (tally_of pass.agent play) command ≡ None =
+    free_none play.setup.quota (standing view) (used view) (tally_of pass.agent play) command refl (fit pass.agent)
+    free in
     subst (λ (place : Option ℕ). IsSubmitted pass command place said pass') (sym here) (record {
       gains = subst (λ (place : Option ℕ). pass' ≡ gained pass command place said) here is.kept;
       above = above;
+      arrived = has.arrived;
+      free = ap (λ (quota : ℕ). refusal_by quota (tally_in pass.receipts) command) has.quota
+          ∙ ap (λ (tally : Tally). refusal_by play.setup.quota tally command) (sym has.tally) ∙ none;
       heard = ap is_unheard answered ∙ answer_heard _ _ _ command _;
     })
 submitted_agreed hall pass pass' command place mark said play' has fit above is false unheard =

@@ -1,10 +1,11 @@
 -- The text in a reply is the one that the agent sees before its command.
-use Rattle.std.proofs.Common.{◌≡◌, ℕ, Bool, true, Option, Some, None, List, length, refl, sym, ap, ◌∙◌, subst, nat_lt}
+use Rattle.std.proofs.Common.{arith, ◌≡◌, ℕ, Bool, true, Option, Some, None, List, length, refl, sym, ap, ◌∙◌, subst}
+use Rattle.std.proofs.Common.{nat_lt}
 use Rattle.std.proofs.Common.{if◌then◌else◌}
 use Rattle.std.proofs.lemmas.Bool.{cond_both}
 use Rattle.std.specs.Prelude.{bytes_eq, nat_le}
 use Rattle.bhs_model.specs.declared.commands.Command.{Command}
-use Rattle.bhs_model.specs.declared.commands.Command.TheVariants.{Enter, Look, Write, Depart, Accuse, Leave, Bad}
+use Rattle.bhs_model.specs.declared.commands.Command.TheVariants.{Write, Depart, Accuse}
 use Rattle.bhs_model.specs.declared.marks.Mark.{Mark}
 use Rattle.bhs_model.specs.declared.marks.Mark.TheVariants as marks
 use Rattle.bhs_model.specs.declared.marks.Kept.{Kept}
@@ -15,7 +16,7 @@ use Rattle.bhs_model.specs.declared.events.Event.TheVariants.{Tell}
 use Rattle.bhs_model.specs.Views.{View, Told, Standing, standing, used, ports as ports_of}
 use Rattle.bhs_model.specs.Replying.{text, accepts, hears, answer, rep, refusal}
 use Rattle.bhs_model.specs.Worlds.{World}
-use Rattle.bhs_model.specs.Runs.{Position, Before, At, Bound, After, State, glance, heard, next, reply, reply_in_play}
+use Rattle.bhs_model.specs.Runs.{Position, At, State, glance, heard, next, reply, reply_in_play}
 use Rattle.bhs_model.specs.Runs.{reply_to_command}
 use Rattle.bhs_model.specs.Marks.{events_of, read}
 use Rattle.bhs_model.specs.Standings.{standing_at}
@@ -39,15 +40,6 @@ answer_shows : (world : World) (state : State) (position : Position) (room : Boo
     → accepts (standing_at position) room command ≡ true →
     Shows (shown_at world state position) (answer world.board (standing_at position) ports command
     (glance world state position command))
-answer_shows world state Before room ports Enter free = refl
-answer_shows world state Before room ports Look free = cc
-answer_shows world state Before room ports (Write expect put) free = cc
-answer_shows world state Before room ports (Depart port) free = cc
-answer_shows world state Before room ports (Accuse port) free = cc
-answer_shows world state Before room ports Leave free = cc
-answer_shows world state Before room ports Bad free = cc
-answer_shows world state (At node came) room ports Enter free = cc
-answer_shows world state (At node came) room ports Look free = refl
 answer_shows world state (At node came) room ports (Write expect put) free =
     let shown : List ℕ = text world.board (state.last_write node) in
     cond_both (nat_le (length put) world.board) (if bytes_eq shown expect then Written else Changed shown)
@@ -58,22 +50,7 @@ answer_shows world state (At node came) room ports (Depart port) free =
     cond_both (nat_lt port ports) Gone (No Port) (Shows (shown_at world state (At node came))) (λ e. tt) (λ e. tt)
 answer_shows world state (At node came) room ports (Accuse port) free =
     cond_both (nat_lt port ports) Noted (No Port) (Shows (shown_at world state (At node came))) (λ e. tt) (λ e. tt)
-answer_shows world state (At node came) room ports Leave free = tt
-answer_shows world state (At node came) room ports Bad free = tt
-answer_shows world state (Bound node port) room ports Enter free = cc
-answer_shows world state (Bound node port) room ports Look free = tt
-answer_shows world state (Bound node port) room ports (Write expect put) free = tt
-answer_shows world state (Bound node port) room ports (Depart _) free = tt
-answer_shows world state (Bound node port) room ports (Accuse _) free = tt
-answer_shows world state (Bound node port) room ports Leave free = tt
-answer_shows world state (Bound node port) room ports Bad free = tt
-answer_shows world state After room ports Enter free = cc
-answer_shows world state After room ports Look free = cc
-answer_shows world state After room ports (Write expect put) free = cc
-answer_shows world state After room ports (Depart port) free = cc
-answer_shows world state After room ports (Accuse port) free = cc
-answer_shows world state After room ports Leave free = cc
-answer_shows world state After room ports Bad free = cc
+answer_shows world state position room ports command free = grind arith
 
 -- the same of the reply, whether the command is heard or not
 reply_shows : (world : World) (state : State) (agent : ℕ) (command : Command) → AllLegal world state

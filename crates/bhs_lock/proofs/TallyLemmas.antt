@@ -60,6 +60,7 @@ pub record HasAgreed (hall : Housed) (pass : Passed) : Type 0 where
   pub agent : pass.agent < hall.play.setup.agents
   pub tally : tally_of pass.agent hall.play ≡ tally_in pass.receipts
   pub below : is_below pass.receipts (length hall.play.log) ≡ true
+  pub arrived : is_below pass.arrivals (length hall.play.log) ≡ true
 
 pub has_agreed : (hall : Housed) (pass : Passed) → agrees hall pass ≡ true → HasAgreed hall pass
 has_agreed hall pass e =
@@ -67,7 +68,14 @@ has_agreed hall pass e =
     let two = and_parts (pass.quota == hall.play.setup.quota) _ one in
     let three = and_parts (nat_lt pass.agent hall.play.setup.agents) _ two.1 in
     let four = and_parts (same_tally (tally_of pass.agent hall.play) (tally_in pass.receipts)) _ three.1 in
-    record { quota = eqb-true _ _ two.0; agent = ltb-true _ _ three.0; tally = tally_is _ _ four.0; below = four.1 }
+    let five = and_parts (is_below pass.receipts (length hall.play.log)) _ four.1 in
+    record {
+      quota = eqb-true _ _ two.0;
+      agent = ltb-true _ _ three.0;
+      tally = tally_is _ _ four.0;
+      below = five.0;
+      arrived = five.1;
+    }
 
 -- what `Match::log` says of the match after a command
 abbrev pub IsLegalLog : Play → Type 0

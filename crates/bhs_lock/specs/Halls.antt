@@ -46,12 +46,13 @@ place_below None length = true
 abbrev pub is_below : List Receipt → (length : ℕ) → Bool
 is_below receipts most = place_below (slice_get receipts (length receipts - 1)) most
 
--- whether a pass agrees with what stands under the lock
+-- whether a pass agrees with what stands under the lock: it is of this match, it has as many receipts as its agent has
+-- heard commands, and what it holds stands in this log
 abbrev pub agrees : Housed → Passed → Bool
 agrees hall pass =
     (pass.game == hall.game) && ((pass.quota == hall.play.setup.quota) && (nat_lt pass.agent hall.play.setup.agents
-    && (same_tally (tally_of pass.agent hall.play) (tally_in pass.receipts) && is_below pass.receipts
-    (length hall.play.log))))
+    && (same_tally (tally_of pass.agent hall.play) (tally_in pass.receipts)
+    && (is_below pass.receipts (length hall.play.log) && is_below pass.arrivals (length hall.play.log)))))
 
 -- the reply of a mark whose whiteboard shows this text
 abbrev pub spoken : Mark → (text : List ℕ) → Reply

@@ -7,6 +7,7 @@ use Rattle.bhs_model.specs.declared.replies.Reply.TheVariants.{Over, No}
 use Rattle.bhs_model.specs.declared.replies.Why.{Why}
 use Rattle.bhs_model.specs.declared.replies.Why.TheVariants.{Agent, Outside, Twice, Ended, Spent}
 use Rattle.bhs_lock.specs.declared.model.Tally.{Tally}
+use Rattle.bhs_lock.specs.Halls.{is_below}
 use Rattle.bhs_lock.specs.Passes.{Passed, AreBelow, tally_in, gained}
 
 -- whether a command that is answered so was not heard
@@ -31,10 +32,13 @@ refusal_by quota tally Enter = if tally.heard == 0 then None else Some Twice
 refusal_by quota tally command =
     if tally.heard == 0 then Some Outside else (if tally.ended then Some Ended else spent_by quota tally.heard command)
 
--- a command that was heard: the pass gains its receipt, whose place is above those before it
+-- a command that was heard: the pass gains its receipt, whose place is above those before it and above that of the last
+-- arrival; the pass's own numbers do not refuse it
 pub record IsRecorded (pass : Passed) (command : Command) (place : ℕ) (said : Reply) (pass' : Passed) : Type 0 where
   pub gains : pass' ≡ gained pass command (Some place) said
   pub above : AreBelow place pass.receipts
+  pub arrived : is_below pass.arrivals place ≡ true
+  pub free : refusal_by pass.quota (tally_in pass.receipts) command ≡ None
   pub heard : is_unheard said ≡ false
 
 -- a command that was not heard: the pass is as it was, and the reply is that the pass is no agent's, that the match is

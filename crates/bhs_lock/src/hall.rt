@@ -12,7 +12,7 @@ ghost use Rattle.bhs_match.specs.declared.answers.Answer.{Answer as MatchAnswer}
 ghost use Rattle.bhs_deal.specs.Links.{held_in};
 ghost use Rattle.bhs_deal.specs.Drawing.{drawn, IsPlayedIf};
 
-use crate::model::{Answer, Tally};
+use crate::model::{Answer, Receipt, Tally};
 use crate::pass::Pass;
 use bhs_deal::{Drawn, Held, draw};
 use bhs_match::{Match, Sealed};
@@ -59,6 +59,7 @@ impl Hall {
         requires tallies { tallies.items ≡ replicate play.setup.agents nothing }
         ensures { result ≡ empty_hall game play }
     {
+        // The proof needs what the log says of itself.
         let _legal = play.log();
         Hall {
             game,
@@ -100,7 +101,8 @@ impl Hall {
             && pass.quota() == self.play.setup().quota
             && agent < self.play.setup().agents
             && same_tally(self.tallies[usize::from(agent)], pass.tally())
-            && is_below(pass, self.play.log().len())
+            && is_below(pass.receipts(), self.play.log().len())
+            && is_below(pass.arrivals(), self.play.log().len())
     }
 
     /// Tells a command for the agent of a pass.
@@ -121,8 +123,10 @@ impl Hall {
             });
         }
         let agent = pass.agent();
+        // The proof needs that the places of the receipts ascend.
         let _order = pass.receipts();
         let step = pass.tell(&mut self.play, command)?;
+        // The proof needs what the log says of itself.
         let _legal = self.play.log();
         if step.place.is_some() {
             self.tallies[usize::from(agent)] = pass.tally();
@@ -141,6 +145,7 @@ impl Hall {
         ensures game { self.new.game ≡ self.old.game }
     {
         let drawn = draw(&mut self.play, held, word);
+        // The proof needs what the log says of itself.
         let _legal = self.play.log();
         drawn
     }
@@ -151,6 +156,7 @@ impl Hall {
         ensures game { self.new.game ≡ self.old.game }
     {
         self.play.apply(Event::Close);
+        // The proof needs what the log says of itself.
         let _legal = self.play.log();
     }
 
@@ -211,11 +217,11 @@ fn same_tally(one: Tally, two: Tally) -> bool
     one.heard == two.heard && (if one.ended { two.ended } else { !two.ended })
 }
 
-/// Whether the last receipt's place is below this length.
-fn is_below(pass: &Pass, length: usize) -> bool
-    ensures { result ≡ is_below pass.now.receipts length }
+/// Whether the place of the last one, if there is one, is below this length.
+fn is_below(receipts: &[Receipt], length: usize) -> bool
+    ensures { result ≡ is_below receipts.now length }
 {
-    match pass.receipts().last() {
+    match receipts.last() {
         Some(receipt) => (receipt.place as usize) < length,
         None => true,
     }

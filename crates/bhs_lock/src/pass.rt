@@ -75,7 +75,8 @@ impl Pass {
         self.game
     }
 
-    pub(crate) fn quota(&self) -> u16
+    /// The most commands that its agent may tell, Enter and Leave aside.
+    pub fn quota(&self) -> u16
         ensures { result ≡ self.now.quota }
     {
         self.quota

@@ -1,5 +1,7 @@
 mod SealLemmas
 pub mod DrainedLemmas
+pub mod ExchangeLemmas
+pub mod KnownLemmas
 pub mod MetLemmas
 pub mod SameLemmas
 pub mod ServedLemmas

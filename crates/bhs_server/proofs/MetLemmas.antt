@@ -1,14 +1,12 @@
 -- What a session wrote is the bytes of what its agent met.
-use Rattle.std.proofs.Common.{◌≡◌, ◌≢◌, ◌∙◌, ℕ, zero, suc, ◌⊎◌, inl, inr, Bool, true, false, Option, Some, None}
+use Rattle.std.proofs.Common.{◌≡◌, ◌≢◌, ◌∙◌, ℕ, zero, suc, ◌⊎◌, inl, inr, true, Option, Some, None}
 use Rattle.std.proofs.Common.{List, [], ◌∷◌, ◌++◌, map, take, drop, length, refl, sym, ap, ap₂, subst}
-use Rattle.std.proofs.Common.{option_to_list, if◌then◌else◌}
+use Rattle.std.proofs.Common.{option_to_list}
 use Rattle.std.specs.Prelude.{slice_get}
 use Rattle.std.specs.List.{AllByRecursion}
 use Rattle.bhs_model.specs.declared.commands.Command.{Command}
 use Rattle.bhs_model.specs.declared.commands.Command.TheVariants as commands
 use Rattle.bhs_model.specs.declared.replies.Reply.{Reply}
-use Rattle.bhs_model.specs.declared.replies.Reply.TheVariants.{No}
-use Rattle.bhs_model.specs.declared.replies.Why.TheVariants as whys
 use Rattle.bhs_model.specs.declared.setups.Setup.{Setup}
 use Rattle.bhs_model.specs.Views.{View, Start, Told, Arrived, Glance, Nothing, Standing, Present, Away, Ended}
 use Rattle.bhs_model.specs.Views.{standing}
@@ -28,12 +26,12 @@ use Rattle.bhs_session.specs.Met.{takes_commands, view_of, bytes}
 use Rattle.bhs_session.specs.Answering.{MayLack}
 use Rattle.bhs_server.specs.Exchanges.{Exchange, Took, Refused, Came, session_text, commands_in, receipts_in, kept_in}
 use Rattle.bhs_server.specs.Exchanges.{phase_from, AreInTurn}
-use Rattle.bhs_server.specs.Written.{Ends, IsWrittenBy, is_between}
-use Rattle.bhs_server.specs.ContestMet.{Attended, TookPart, IsLeftAs, IsLeftAway, is_whole, SentAsMet}
+use Rattle.bhs_server.specs.Written.{Ends, MayBeOver, IsWrittenBy, is_between}
+use Rattle.bhs_server.specs.ContestMet.{Attended, TookPart, IsLeftAs, IsLeftAway, IsLastOf, is_whole, SentAsMet}
 use Rattle.bhs_server.specs.Steps.{Step, Spoke, Arrives, heard_of, arrivals_of, view_along, AreSteps}
 use Rattle.bhs_server.proofs.ServedLemmas.{of_given}
 use Rattle.bhs_server.proofs.StepsLemmas.{steps_of}
-use Rattle.bhs_server.proofs.WalkLemmas.{Sits, takes_there, entries_in, NeverAway, Walked, walk, ended_still}
+use Rattle.bhs_server.proofs.WalkLemmas.{Sits, takes_there, entries_in, Walked, walk, ended_still, kept_leave}
 use Rattle.bhs_server.proofs.WalkLemmas.{left_ended}
 
 -- ---- what a settlement says of one pass
@@ -75,36 +73,13 @@ receipted_in (Took command receipt ∷ all) parting =
 receipted_in (Refused command ∷ all) parting = receipted_in all parting
 receipted_in (Came receipt ∷ all) parting = receipted_in all parting
 
-never_away : (steps : List Step) (receipts : List Receipt) (kept : List Command)
-    → AllByRecursion (λ (receipt : Receipt). receipt.reply ≢ No whys.Away) receipts →
-    heard_of steps ≡ receipted receipts kept → NeverAway steps
-never_away [] receipts kept all same = tt
-never_away (Arrives place sight reply ∷ steps) receipts kept all same = never_away steps receipts kept all same
-never_away (Spoke place command glance reply ∷ steps) [] kept all same = absurd (cc)
-never_away (Spoke place command glance reply ∷ steps) (receipt ∷ receipts) [] all same = absurd (cc)
-never_away (Spoke place command glance reply ∷ steps) (receipt ∷ receipts) (own ∷ kept) all same =
-    let first : ◌≡◌ {A = Heard} (record { place = place; command = kept_command command reply; reply = Some reply })
-    (record { place = receipt.place; command = own; reply = Some receipt.reply }) = cc in
-    let others : heard_of steps ≡ receipted receipts kept = cc in
-    let some_reply : ◌≡◌ {A = Option Reply} (Some reply) (Some receipt.reply) = ap (λ (one : Heard). one.reply) first in
-    let is : reply ≡ receipt.reply = cc in
-    (λ away. all.0 (sym is ∙ away), never_away steps receipts kept all.1 others)
+-- what an ending told is a Leave
+parting_leaves : (parting : Option Receipt) → AllByRecursion (λ (one : Heard). one.command ≡ commands.Leave)
+    (receipted (option_to_list parting) (map (λ (receipt : Receipt). commands.Leave) (option_to_list parting)))
+parting_leaves None = tt
+parting_leaves (Some receipt) = (refl, tt)
 
 -- ---- what is left
-
-kept_leave : (command : Command) (reply : Reply) → kept_command command reply ≡ commands.Leave
-    → command ≡ commands.Leave
-kept_leave commands.Enter reply is = is
-kept_leave commands.Look reply is = is
-kept_leave (commands.Write expect put) reply is = absurd (never _ is)
-  where
-    never : (shown : Bool) → (if shown then commands.Write expect put else commands.Write [] []) ≡ commands.Leave → ⊥
-    never true e = cc
-    never false e = cc
-kept_leave (commands.Depart port) reply is = is
-kept_leave (commands.Accuse port) reply is = is
-kept_leave commands.Leave reply is = is
-kept_leave commands.Bad reply is = is
 
 -- a Leave alone
 left_told : (quota limit : ℕ) (view : View) (place : ℕ) (command : Command) (glance : Glance) (reply : Reply)
@@ -202,6 +177,19 @@ all_written endings.Denied phase stands parting left last unwritten whole ends l
 all_written endings.WriteFault phase stands parting left last unwritten whole ends lack sits = absurd (cc)
 all_written endings.Memory phase stands parting left last unwritten whole ends lack sits = absurd (cc)
 
+-- the line behind it
+last_of : (ended : Ending) (phase : Phase) (parting : Option Receipt) (left : List Command) (last : List ℕ)
+    → MayBeOver last → Ends ended phase parting left last → IsLastOf ended last
+last_of endings.Bye phase parting left last may ends = ends.3
+last_of endings.Noted phase parting left last may ends = ends.3
+last_of endings.Over phase parting left last may ends = ends.1
+last_of endings.Denied phase parting left last may ends = ends
+last_of endings.InputEnded phase parting left last may ends = ends.2
+last_of endings.ReadFault phase parting left last may ends = ends.2
+last_of endings.Turns phase parting left last may ends = ends.2
+last_of endings.WriteFault phase parting left last may ends = may
+last_of endings.Memory phase parting left last may ends = may
+
 -- ---- the law
 
 -- the steps of the agent, beside what its session said and was answered
@@ -247,11 +235,11 @@ walked_lemma one part =
       steps = s.steps;
       walked = walk play.setup.quota play.setup.board Start Fresh [] w.all s.steps
           (receipted (option_to_list w.parting)
-          (map (λ (receipt : Receipt). commands.Leave) (option_to_list w.parting))) more refl
+          (map (λ (receipt : Receipt). commands.Leave) (option_to_list w.parting))) more [] 0 refl
           (record { counts = (refl, refl); ended = refl })
-          (subst (λ (quota : ℕ). AreInTurn quota Fresh [] w.all) (own_quota one part) w.in_turn) s.are (said ∙ spoke)
+          (subst (λ (quota : ℕ). AreInTurn quota Fresh [] [] w.all) (own_quota one part) w.in_turn) s.are (said ∙ spoke)
           (fronts ∙ ap (λ (own : List Receipt). own ++ more) w.arrivals)
-          (never_away s.steps pass.receipts pass.commands part.never_away said);
+          s.in_order (parting_leaves w.parting);
       past = s.ends;
     }
 
@@ -276,7 +264,7 @@ sent_as_met_lemma one part =
           (left_away one.play.setup.quota one.play.setup.board (view_of met.met) met.rest w.parting met.are_steps
           met.heard);
       last = w.last;
-      is_last = w.is_last;
+      is_last = last_of one.ended (phase_from Fresh w.all) w.parting w.left w.last w.is_last w.ends;
       unwritten = w.unwritten;
       sent = w.heard ∙ ap (λ (own : List ℕ). own ++ w.last) text;
       is_unwritten = w.is_unwritten;

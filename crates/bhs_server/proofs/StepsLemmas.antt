@@ -1,6 +1,6 @@
 -- The steps of an agent in a log that is a legal history.
 use Rattle.std.proofs.Common.{◌≡◌, ◌∙◌, ℕ, ◌+◌, Bool, true, false, cond, not, ◌==◌, Option, Some, None}
-use Rattle.std.proofs.Common.{List, [], ◌∷◌, ◌++◌, map, length, refl, sym, ap, ap₂, subst, append_assoc}
+use Rattle.std.proofs.Common.{List, [], ◌∷◌, ◌++◌, map, length, refl, sym, ap, ap₂, subst, append_assoc, arith}
 use Rattle.std.proofs.Common.{if◌then◌else◌, length-append, nat_lt}
 use Rattle.std.specs.Prelude.{option_map, option_and_then, slice_get}
 use Rattle.std.proofs.lemmas.Bool.{eq-eqb, eqb-true, and_parts}
@@ -29,7 +29,7 @@ use Rattle.bhs_match.specs.Matches.{is_arrival, arrivals_from}
 use Rattle.bhs_lock.specs.declared.model.Receipt.{Receipt}
 use Rattle.bhs_lock.specs.Arrivals.{arrival_mark, receipt_at}
 use Rattle.bhs_lock.specs.Comparing.{Heard, kept_if, entry_first, heard_from}
-use Rattle.bhs_server.specs.Steps.{Step, Spoke, Arrives, heard_of, arrivals_of, view_along, AreSteps}
+use Rattle.bhs_server.specs.Steps.{Step, Spoke, Arrives, heard_of, arrivals_of, view_along, AreSteps, StandInOrder}
 
 -- ---- what others do
 
@@ -77,7 +77,7 @@ leave_shows world state (At node came) = refl
 leave_shows world state (Bound node port) = refl
 leave_shows world state After = refl
 
-get_there : {A : Type 0} (before : List A) (one : A) (others : List A)
+pub get_there : {A : Type 0} (before : List A) (one : A) (others : List A)
     → slice_get (before ++ one ∷ others) (length before) ≡ Some one
 get_there [] one others = refl
 get_there (first ∷ before) one others = get_there before one others
@@ -88,9 +88,16 @@ pub record StepsOf (world : World) (state : State) (agent : ℕ) (whole : List K
     (log : List Kept) : Type 0 where
   pub steps : List Step
   pub are : AreSteps world.quota world.board (state.past agent) steps
+  pub in_order : StandInOrder place steps
   pub ends : view_along (state.past agent) steps ≡ (run_from world state (events_of log)).past agent
   pub heard : heard_from whole agent place log ≡ heard_of steps
   pub arrived : map (receipt_at whole) (arrivals_from agent place log) ≡ map Some (arrivals_of steps)
+
+-- places that ascend from a later one
+pub from_less : (least : ℕ) (steps : List Step) → StandInOrder (least + 1) steps → StandInOrder least steps
+from_less least [] order = tt
+from_less least (Spoke place command glance reply ∷ steps) order = (omega (arith, order.0), order.1)
+from_less least (Arrives place sight reply ∷ steps) order = (omega (arith, order.0), order.1)
 
 abbrev kept_as : Event → Option Mark → Kept
 kept_as event mark = record { event = event; mark = mark }
@@ -110,6 +117,7 @@ module _ (world : World) (state : State) (agent : ℕ) (whole : List Kept) (plac
   own_not event mark same heard arrived rest = record {
     steps = rest.steps;
     are = subst (λ (view : View). AreSteps world.quota world.board view rest.steps) same rest.are;
+    in_order = from_less place rest.steps rest.in_order;
     ends = ap (λ (view : View). view_along view rest.steps) (sym same) ∙ rest.ends;
     heard = heard ∙ rest.heard;
     arrived = ap (map (receipt_at whole)) arrived ∙ rest.arrived;
@@ -147,6 +155,7 @@ module _ (world : World) (state : State) (agent : ℕ) (whole : List Kept) (plac
               ∙ leave_shows world state (state.position agent),
           subst (λ (view : View). AreSteps world.quota world.board view rest.steps) grown rest.are,
         );
+        in_order = (omega arith, rest.in_order);
         ends = ap (λ (view : View). view_along view rest.steps) (sym grown) ∙ rest.ends;
         heard = ap (λ (own : Bool). entry_first whole place (if own then Some command else None) mark
             (heard_from whole agent (place + 1) log)) (eq-eqb agent agent refl)
@@ -203,6 +212,7 @@ module _ (world : World) (state : State) (agent : ℕ) (whole : List Kept) (plac
           refl,
           subst (λ (view : View). AreSteps world.quota world.board view rest.steps) grown rest.are,
         );
+        in_order = (omega arith, rest.in_order);
         ends = ap (λ (view : View). view_along view rest.steps) (sym grown) ∙ rest.ends;
         heard = rest.heard;
         arrived = ap (λ (own : Bool). map (receipt_at whole) (if own then place ∷ arrivals_from agent (place + 1) log
@@ -258,6 +268,7 @@ pub steps_of : (world : World) (state : State) (lost : ℕ → Bool) (agent : �
 steps_of world state lost agent whole before [] place prior split at is kept replied = record {
   steps = [];
   are = tt;
+  in_order = tt;
   ends = refl;
   heard = refl;
   arrived = refl;

@@ -1,33 +1,31 @@
 -- What a session said and was answered, beside its agent's own steps in the log.
-use Rattle.std.proofs.Common.{◌≡◌, ◌≢◌, ◌∙◌, ℕ, ◌+◌, ◌-◌, ◌<◌, ◌⊎◌, inl, inr, Bool, true, false, ◌||◌, ◌==◌, nat_lt}
+use Rattle.std.proofs.Common.{◌≡◌, ◌∙◌, ℕ, ◌+◌, ◌-◌, ◌≤◌, Bool, true, false, ◌||◌, nat_lt}
 use Rattle.std.proofs.Common.{Option, Some, None, List, [], ◌∷◌, ◌++◌, length, refl, sym, ap, ap₂, subst, arith}
 use Rattle.std.proofs.Common.{if◌then◌else◌, length-append}
-use Rattle.std.specs.Prelude.{option_map}
-use Rattle.std.specs.List.{list_any}
-use Rattle.std.proofs.lemmas.Bool.{cond-true, cond-false, eq-eqb, ltb-true}
-use Rattle.std.proofs.lemmas.Bool.Decides.{eqb_tells}
+use Rattle.std.specs.Prelude.{option_map, slice_get}
+use Rattle.std.specs.List.{list_any, AllByRecursion}
+use Rattle.std.proofs.lemmas.Bool.{le-ltb}
 use Rattle.bhs_model.specs.declared.commands.Command.{Command}
 use Rattle.bhs_model.specs.declared.commands.Command.TheVariants as commands
 use Rattle.bhs_model.specs.declared.replies.Reply.{Reply}
 use Rattle.bhs_model.specs.declared.replies.Reply.TheVariants.{No}
 use Rattle.bhs_model.specs.declared.replies.Reply.TheVariants as replies
 use Rattle.bhs_model.specs.declared.replies.Why.{Why}
-use Rattle.bhs_model.specs.declared.replies.Why.TheVariants as whys
 use Rattle.bhs_model.specs.Views.{View, Told, Arrived, Glance, Standing, Outside, Present, Away, Ended, standing}
 use Rattle.bhs_model.specs.Views.{standing_after, ports, used}
 use Rattle.bhs_model.specs.Replying.{accepts, hears, answer, refusal}
 use Rattle.bhs_model.proofs.StepLemmas.{by_cases}
 use Rattle.bhs_lock.specs.declared.model.Receipt.{Receipt}
-use Rattle.bhs_lock.specs.declared.model.Tally.{Tally}
 use Rattle.bhs_lock.specs.Tallies.{has_ended}
 use Rattle.bhs_lock.specs.Fitting.{Fits as Counts}
+use Rattle.bhs_lock.specs.Halls.{is_below, place_below}
 use Rattle.bhs_lock.specs.Passes.{is_end, is_last, tally_in, kept_command}
 use Rattle.bhs_lock.specs.Recording.{refusal_by}
 use Rattle.bhs_lock.specs.Comparing.{Heard}
 use Rattle.bhs_lock.proofs.EndLemmas.{ends_standing}
 use Rattle.bhs_lock.proofs.FitLemmas.{fits_told, arrived_fit}
 use Rattle.bhs_lock.proofs.PlaceLemmas.{any_push}
-use Rattle.bhs_lock.proofs.RecordLemmas.{refusal_same}
+use Rattle.bhs_lock.proofs.RecordLemmas.{refusal_same, free_none}
 use Rattle.bhs_session.specs.declared.endings.Ended.TheVariants as endings
 use Rattle.bhs_session.specs.Phase.{Phase, Fresh, Ready, Awaits, Owes, Leaves, Finished, answered_by}
 use Rattle.bhs_session.specs.Session.{TakesLines}
@@ -38,7 +36,8 @@ use Rattle.bhs_session.proofs.AnsweredLemmas.{Fits, meeting_fits}
 use Rattle.bhs_server.specs.Exchanges.{Exchange, Took, Refused, Came, text_if, text_from, commands_in}
 use Rattle.bhs_server.specs.Exchanges.{arrivals_in, phase_from, AreInTurn}
 use Rattle.bhs_server.specs.ContestMet.{AreSaid}
-use Rattle.bhs_server.specs.Steps.{Step, Spoke, Arrives, heard_of, arrivals_of, view_along, AreSteps}
+use Rattle.bhs_server.specs.Steps.{Step, Spoke, Arrives, heard_of, arrivals_of, view_along, AreSteps, StandInOrder}
+use Rattle.bhs_server.proofs.StepsLemmas.{get_there}
 
 -- ---- the phase and the standing
 
@@ -97,48 +96,6 @@ pub record Tallied (quota : ℕ) (view : View) (receipts : List Receipt) : Type 
   pub counts : Counts quota (standing view) (used view) (length receipts)
   pub ended : list_any is_last receipts ≡ has_ended (standing view)
 
-some_heard : (n used : ℕ) → n ≡ used + 1 → (n == 0) ≡ false
-some_heard n used is = elim (eqb_tells n 0) [ inl h ↦ absurd (omega (arith, h.1, is)) | inr h ↦ h.0 ]
-
-has_room : (n used quota : ℕ) → n ≡ used + 1 → nat_lt used quota ≡ true → (n - 1 == quota) ≡ false
-has_room n used quota is room =
-    let below : used < quota = ltb-true used quota room in
-    elim (eqb_tells (n - 1) quota) [ inl h ↦ absurd (omega (arith, h.1, is, below)) | inr h ↦ h.0 ]
-
-free_with_room : (quota used n : ℕ) (ended : Bool) → n ≡ used + 1 → ended ≡ false → nat_lt used quota ≡ true
-    → (if n == 0 then Some whys.Outside else (if ended then Some whys.Ended else (if n - 1 == quota then Some whys.Spent
-    else None))) ≡ None
-free_with_room quota used n ended is going room = cond-false _ _ _ (some_heard n used is) ∙ cond-false _ _ _ going
-    ∙ cond-false _ _ _ (has_room n used quota is room)
-
--- what is heard is not refused by the numbers
-free_none : (quota : ℕ) (now : Standing) (used : ℕ) (tally : Tally) (command : Command)
-    → takes_commands now ≡ true → tally.ended ≡ has_ended now → Counts quota now used tally.heard →
-    accepts now (nat_lt used quota) command ≡ true → refusal_by quota tally command ≡ None
-free_none quota Outside used tally commands.Enter takes ended counts free =
-    cond-true _ _ _ (eq-eqb tally.heard 0 counts.0)
-free_none quota Outside used tally commands.Look takes ended counts free = absurd cc
-free_none quota Outside used tally (commands.Write expect put) takes ended counts free = absurd cc
-free_none quota Outside used tally (commands.Depart port) takes ended counts free = absurd cc
-free_none quota Outside used tally (commands.Accuse port) takes ended counts free = absurd cc
-free_none quota Outside used tally commands.Leave takes ended counts free = absurd cc
-free_none quota Outside used tally commands.Bad takes ended counts free = absurd cc
-free_none quota Present used tally commands.Enter takes ended counts free = absurd cc
-free_none quota Present used tally commands.Look takes ended counts free =
-    free_with_room quota used tally.heard tally.ended counts.0 ended free
-free_none quota Present used tally (commands.Write expect put) takes ended counts free =
-    free_with_room quota used tally.heard tally.ended counts.0 ended free
-free_none quota Present used tally (commands.Depart port) takes ended counts free =
-    free_with_room quota used tally.heard tally.ended counts.0 ended free
-free_none quota Present used tally (commands.Accuse port) takes ended counts free =
-    free_with_room quota used tally.heard tally.ended counts.0 ended free
-free_none quota Present used tally commands.Leave takes ended counts free =
-    cond-false _ _ _ (some_heard tally.heard used counts.0) ∙ cond-false _ _ _ ended
-free_none quota Present used tally commands.Bad takes ended counts free =
-    free_with_room quota used tally.heard tally.ended counts.0 ended free
-free_none quota Away used tally command takes ended counts free = absurd cc
-free_none quota Ended used tally command takes ended counts free = absurd cc
-
 -- a command that the numbers refuse is not heard, and refused so
 pub record IsRefusedBy (quota : ℕ) (view : View) (receipts : List Receipt) (command : Command) : Type 0 where
   pub unheard : hears quota view command ≡ false
@@ -151,7 +108,7 @@ refused_by quota view receipts command why takes tallied refused =
     by_cases (hears quota view command) (IsRefusedBy quota view receipts command)
     (λ free. absurd (
     let none : refusal_by quota (tally_in receipts) command ≡ None =
-    free_none quota (standing view) (used view) (tally_in receipts) command takes tallied.ended tallied.counts free in
+    free_none quota (standing view) (used view) (tally_in receipts) command tallied.ended tallied.counts free in
     never why (sym refused ∙ none)))
     (λ unheard. record {
       unheard = unheard;
@@ -194,12 +151,6 @@ entries_in (Took command receipt ∷ others) =
 entries_in (Refused command ∷ others) = entries_in others
 entries_in (Came receipt ∷ others) = entries_in others
 
--- no step is answered that the agent is on a link
-abbrev pub NeverAway : List Step → Type 0
-NeverAway [] = Unit {0}
-NeverAway (Spoke place command glance reply ∷ steps) = (reply ≢ No whys.Away) × NeverAway steps
-NeverAway (Arrives place sight reply ∷ steps) = NeverAway steps
-
 pub record Walked (quota limit : ℕ) (view : View) (phase : Phase) (receipts : List Receipt) (all : List Exchange)
     (steps : List Step) (parting : List Heard) (more : List Receipt) : Type 0 where
   pub met : List Meeting
@@ -222,15 +173,20 @@ ended_still quota limit view (Spoke place command glance reply ∷ steps) ended 
     let free = are.0 in cc)
 ended_still quota limit view (Arrives place sight reply ∷ steps) ended are = absurd (let away = are.0 in cc)
 
-away_answer : (limit ports : ℕ) (command : Command) (glance : Glance)
-    → (command ≡ commands.Leave) ⊎ (answer limit Away ports command glance ≡ No whys.Away)
-away_answer limit ports commands.Enter glance = inr refl
-away_answer limit ports commands.Look glance = inr refl
-away_answer limit ports (commands.Write expect put) glance = inr refl
-away_answer limit ports (commands.Depart port) glance = inr refl
-away_answer limit ports (commands.Accuse port) glance = inr refl
-away_answer limit ports commands.Leave glance = inl refl
-away_answer limit ports commands.Bad glance = inr refl
+-- what is kept of no other command is a Leave
+pub kept_leave : (command : Command) (reply : Reply) → kept_command command reply ≡ commands.Leave
+    → command ≡ commands.Leave
+kept_leave commands.Enter reply is = is
+kept_leave commands.Look reply is = is
+kept_leave (commands.Write expect put) reply is = absurd (never _ is)
+  where
+    never : (shown : Bool) → (if shown then commands.Write expect put else commands.Write [] []) ≡ commands.Leave → ⊥
+    never true e = cc
+    never false e = cc
+kept_leave (commands.Depart port) reply is = is
+kept_leave (commands.Accuse port) reply is = is
+kept_leave commands.Leave reply is = is
+kept_leave commands.Bad reply is = is
 
 pub left_ended : (view : View) (command : Command) (glance : Glance) → command ≡ commands.Leave
     → standing (Told view command glance) ≡ Ended
@@ -243,24 +199,62 @@ left_ended view command glance is = ap (λ (one : Command). standing_after (stan
     leave_ends Away = refl
     leave_ends Ended = refl
 
--- an agent on a link that speaks does not arrive any more
-no_arrival : (quota limit : ℕ) (view : View) (place : ℕ) (command : Command) (glance : Glance) (reply : Reply)
-    (steps : List Step) → standing view ≡ Away →
-    AreSteps quota limit view (Spoke place command glance reply ∷ steps) → reply ≢ No whys.Away → arrivals_of steps ≡ []
-no_arrival quota limit view place command glance reply steps away are never =
-    elim (away_answer limit (ports view) command glance) [
-      | inl leave ↦ ap arrivals_of (ended_still quota limit (Told view command glance) steps
-          (left_ended view command glance leave) are.3)
-      | inr is ↦ absurd (never (are.1
-          ∙ ap (λ (stands : Standing). answer limit stands (ports view) command glance) away ∙ is))
-    ]
+-- ---- what comes after an arrival
+
+-- the arrivals in steps whose places ascend from this one on
+arrivals_above : (low least : ℕ) (steps : List Step) → low ≤ least → StandInOrder least steps
+    → AllByRecursion (λ (receipt : Receipt). low ≤ receipt.place) (arrivals_of steps)
+arrivals_above low least [] below order = tt
+arrivals_above low least (Spoke place command glance reply ∷ steps) below order =
+    arrivals_above low (place + 1) steps (omega (arith, below, order.0)) order.1
+arrivals_above low least (Arrives place sight reply ∷ steps) below order =
+    (omega (arith, below, order.0), arrivals_above low (place + 1) steps (omega (arith, below, order.0)) order.1)
+
+all_front : {A : Type 0} (P : A → Type 0) (front rest : List A) → AllByRecursion P (front ++ rest)
+    → AllByRecursion P front
+all_front P [] rest all = tt
+all_front P (one ∷ front) rest all = (all.0, all_front P front rest all.1)
+
+-- what came last is not below a lesser place
+not_below : (arrivals : List Receipt) (receipt : Receipt) (place : ℕ) → place ≤ receipt.place
+    → is_below (arrivals ++ receipt ∷ []) place ≡ false
+not_below arrivals receipt place above =
+    let count : length (arrivals ++ receipt ∷ []) ≡ length arrivals + 1 = length-append arrivals (receipt ∷ []) in
+    let last : length (arrivals ++ receipt ∷ []) - 1 ≡ length arrivals = omega (arith, count) in
+    ap (λ (n : ℕ). place_below (slice_get (arrivals ++ receipt ∷ []) n) place) last
+    ∙ ap (λ (one : Option Receipt). place_below one place) (get_there arrivals receipt [])
+    ∙ le-ltb receipt.place place above
+
+-- where this entry comes first and stands below all arrivals, nothing more was said in turn: it is one of the parting
+said_last : (quota : ℕ) (phase : Phase) (receipts arrivals : List Receipt) (all : List Exchange) (entry : Heard)
+    (others parting : List Heard) → entry ∷ others ≡ entries_in all ++ parting
+    → is_below arrivals entry.place ≡ false
+    → AllByRecursion (λ (receipt : Receipt). entry.place + 1 ≤ receipt.place) (arrivals_in all)
+    → AreInTurn quota phase receipts arrivals all → parting ≡ entry ∷ others
+said_last quota phase receipts arrivals [] entry others parting first late above turn = sym first
+said_last quota phase receipts arrivals (Refused command ∷ all) entry others parting first late above turn =
+    said_last quota Ready receipts arrivals all entry others parting first late above turn.1
+said_last quota phase receipts arrivals (Came receipt ∷ all) entry others parting first late above turn =
+    said_last quota Ready receipts (arrivals ++ receipt ∷ []) all entry others parting first
+    (not_below arrivals receipt entry.place (omega (arith, above.0))) above.1 turn.1
+said_last quota phase receipts arrivals (Took command receipt ∷ all) entry others parting first late above turn =
+    let same : entry ≡ record {
+      place = receipt.place;
+      command = kept_command command receipt.reply;
+      reply = Some receipt.reply;
+    } = cc in
+    let at : entry.place ≡ receipt.place = ap (λ (one : Heard). one.place) same in
+    let early : is_below arrivals entry.place ≡ true = ap (is_below arrivals) at ∙ turn.0.2 in
+    absurd (let both : true ≡ false = sym early ∙ late in cc)
 
 pub walk : (quota limit : ℕ) (view : View) (phase : Phase) (receipts : List Receipt) (all : List Exchange)
-    (steps : List Step) (parting : List Heard) (more : List Receipt) → Sits phase (standing view)
-    → Tallied quota view receipts → AreInTurn quota phase receipts all → AreSteps quota limit view steps
-    → heard_of steps ≡ entries_in all ++ parting → arrivals_of steps ≡ arrivals_in all ++ more → NeverAway steps
+    (steps : List Step) (parting : List Heard) (more arrivals : List Receipt) (least : ℕ) → Sits phase (standing view)
+    → Tallied quota view receipts → AreInTurn quota phase receipts arrivals all → AreSteps quota limit view steps
+    → heard_of steps ≡ entries_in all ++ parting → arrivals_of steps ≡ arrivals_in all ++ more
+    → StandInOrder least steps → AllByRecursion (λ (one : Heard). one.command ≡ commands.Leave) parting
     → Walked quota limit view phase receipts all steps parting more
-walk quota limit view phase receipts [] steps parting more sits tallied turn are heard arrived never = record {
+walk quota limit view phase receipts [] steps parting more arrivals least sits tallied turn are heard arrived order
+    leaves = record {
   met = [];
   rest = steps;
   due = tt;
@@ -272,11 +266,12 @@ walk quota limit view phase receipts [] steps parting more sits tallied turn are
   arrived = arrived;
   sits = sits;
 }
-walk quota limit view phase receipts (Refused command ∷ all) steps parting more sits tallied turn are heard arrived
-    never =
+walk quota limit view phase receipts (Refused command ∷ all) steps parting more arrivals least sits tallied turn are
+    heard arrived order leaves =
     let takes = takes_there phase (standing view) turn.0.0 sits in
     let refused = refused_by quota view receipts command turn.0.1.0 takes tallied turn.0.1.1 in
-    let w = walk quota limit view Ready receipts all steps parting more takes tallied turn.1 are heard arrived never in
+    let w = walk quota limit view Ready receipts all steps parting more arrivals least takes tallied turn.1 are heard
+    arrived order leaves in
     record {
       met = Refuses command ∷ w.met;
       rest = w.rest;
@@ -290,14 +285,14 @@ walk quota limit view phase receipts (Refused command ∷ all) steps parting mor
       arrived = w.arrived;
       sits = w.sits;
     }
-walk quota limit view phase receipts (Took command receipt ∷ all) [] parting more sits tallied turn are heard arrived
-    never = absurd cc
-walk quota limit view phase receipts (Took command receipt ∷ all) (Arrives place sight reply ∷ steps) parting more sits
-    tallied turn are heard arrived never =
-    absurd (let takes = takes_there phase (standing view) turn.0 sits in let away = ap takes_commands are.0 in cc)
+walk quota limit view phase receipts (Took command receipt ∷ all) [] parting more arrivals least sits tallied turn are
+    heard arrived order leaves = absurd cc
+walk quota limit view phase receipts (Took command receipt ∷ all) (Arrives place sight reply ∷ steps) parting more
+    arrivals least sits tallied turn are heard arrived order leaves =
+    absurd (let takes = takes_there phase (standing view) turn.0.0 sits in let away = ap takes_commands are.0 in cc)
 walk quota limit view phase receipts (Took command receipt ∷ all) (Spoke place own glance reply ∷ steps) parting more
-    sits tallied turn are heard arrived never =
-    let takes = takes_there phase (standing view) turn.0 sits in
+    arrivals least sits tallied turn are heard arrived order leaves =
+    let takes = takes_there phase (standing view) turn.0.0 sits in
     let first : ◌≡◌ {A = Heard} (record { place = place; command = kept_command own reply; reply = Some reply })
     (record { place = receipt.place; command = kept_command command receipt.reply; reply = Some receipt.reply }) = cc in
     let others : heard_of steps ≡ entries_in all ++ parting = cc in
@@ -312,8 +307,9 @@ walk quota limit view phase receipts (Took command receipt ∷ all) (Spoke place
     (fits_sits (answer limit (standing view) (ports view) own glance) (standing (Told view own glance))
     (end_ends quota limit view own glance are.0) fits.1) in
     let w = walk quota limit (Told view own glance) (answered_by true receipt.reply) (receipts ++ receipt ∷ []) all
-    steps parting more now (tallied_told quota limit view receipts own glance receipt are.0 is tallied) turn.1 are.3
-    others arrived never.1 in
+    steps parting more arrivals (place + 1) now
+    (tallied_told quota limit view receipts own glance receipt are.0 is tallied) turn.1 are.3 others arrived order.1
+    leaves in
     record {
       met = Hears own glance ∷ w.met;
       rest = w.rest;
@@ -329,19 +325,31 @@ walk quota limit view phase receipts (Took command receipt ∷ all) (Spoke place
       arrived = w.arrived;
       sits = w.sits;
     }
-walk quota limit view phase receipts (Came receipt ∷ all) [] parting more sits tallied turn are heard arrived never =
-    absurd cc
-walk quota limit view phase receipts (Came receipt ∷ all) (Spoke place own glance reply ∷ steps) parting more sits
-    tallied turn are heard arrived never =
-    absurd (let away : standing view ≡ Away = subst (λ (one : Phase). Sits one (standing view)) turn.0 sits in
-    let none = no_arrival quota limit view place own glance reply steps away are never.0 in cc)
-walk quota limit view phase receipts (Came receipt ∷ all) (Arrives place sight reply ∷ steps) parting more sits tallied
-    turn are heard arrived never =
+walk quota limit view phase receipts (Came receipt ∷ all) [] parting more arrivals least sits tallied turn are heard
+    arrived order leaves = absurd cc
+walk quota limit view phase receipts (Came receipt ∷ all) (Spoke place own glance reply ∷ steps) parting more
+    arrivals least sits tallied turn are heard arrived order leaves =
+    let entry : Heard = record { place = place; command = kept_command own reply; reply = Some reply } in
+    let above : AllByRecursion (λ (one : Receipt). place + 1 ≤ one.place) (receipt ∷ arrivals_in all ++ more) =
+    subst (AllByRecursion (λ (one : Receipt). place + 1 ≤ one.place)) arrived
+    (arrivals_above (place + 1) (place + 1) steps (omega arith) order.1) in
+    let last : parting ≡ entry ∷ heard_of steps =
+    said_last quota Ready receipts (arrivals ++ receipt ∷ []) all entry (heard_of steps) parting heard
+    (not_below arrivals receipt place (omega (arith, above.0)))
+    (all_front (λ (one : Receipt). place + 1 ≤ one.place) (arrivals_in all) more above.1) turn.1 in
+    let own_leave : AllByRecursion (λ (one : Heard). one.command ≡ commands.Leave) (entry ∷ heard_of steps) =
+    subst (AllByRecursion (λ (one : Heard). one.command ≡ commands.Leave)) last leaves in
+    let leave : own ≡ commands.Leave = kept_leave own reply own_leave.0 in
+    absurd (let none : arrivals_of steps ≡ [] = ap arrivals_of
+    (ended_still quota limit (Told view own glance) steps (left_ended view own glance leave) are.3) in cc)
+walk quota limit view phase receipts (Came receipt ∷ all) (Arrives place sight reply ∷ steps) parting more
+    arrivals least sits tallied turn are heard arrived order leaves =
     let first : ◌≡◌ {A = Receipt} (record { place = place; reply = reply }) receipt = cc in
     let others : arrivals_of steps ≡ arrivals_in all ++ more = cc in
     let same_reply : reply ≡ receipt.reply = ap (λ (one : Receipt). one.reply) first in
-    let w = walk quota limit (Arrived view sight) Ready receipts all steps parting more refl
-    (tallied_arrived quota view receipts sight are.0 tallied) turn.1 are.2 heard others never in
+    let w = walk quota limit (Arrived view sight) Ready receipts all steps parting more (arrivals ++ receipt ∷ [])
+    (place + 1) refl (tallied_arrived quota view receipts sight are.0 tallied) turn.1 are.2 heard others order.1 leaves
+    in
     record {
       met = Meets sight ∷ w.met;
       rest = w.rest;

@@ -1,11 +1,9 @@
 -- What a session wrote is the bytes of what its agent met in the log of its match, where the match settled with the
 -- pass that the session played by.
-use Rattle.std.specs.Prelude.{ℕ, ◌≡◌, ◌≢◌, ◌⊎◌, Bool, true, false, Some, List, [], ◌∷◌, ◌++◌, map, slice_get}
-use Rattle.std.specs.List.{AllByRecursion}
+use Rattle.std.specs.Prelude.{ℕ, ◌≡◌, ◌⊎◌, Bool, true, false, Some, List, [], ◌∷◌, ◌++◌, map, slice_get}
 use Rattle.bhs_model.specs.declared.commands.Command.{Command}
 use Rattle.bhs_model.specs.declared.commands.Command.TheVariants.{Leave}
-use Rattle.bhs_model.specs.declared.replies.Reply.TheVariants.{No}
-use Rattle.bhs_model.specs.declared.replies.Why.TheVariants.{Away as OnLink}
+use Rattle.bhs_model.specs.declared.replies.Reply.TheVariants.{Over}
 use Rattle.bhs_model.specs.Views.{View, Start, Told, Arrived, Nothing, Sight, Away, Ended as Stopped, standing}
 use Rattle.bhs_model.specs.Kept.{kept}
 use Rattle.bhs_model.specs.Marks.{events_of, read_if}
@@ -17,9 +15,10 @@ use Rattle.bhs_lock.specs.Disputes.{AreInAccord}
 use Rattle.bhs_session.specs.declared.endings.Ended.{Ended}
 use Rattle.bhs_session.specs.declared.endings.Ended.TheVariants as endings
 use Rattle.bhs_session.specs.Met.{Meeting, Hears, Refuses, Arrives, view_of, answer_to, bytes, AreDue}
-use Rattle.bhs_session.specs.Answering.{IsLastLine, MayLack}
+use Rattle.bhs_session.specs.Answering.{MayLack}
 use Rattle.bhs_server.specs.Ports.{IsOfCell}
-use Rattle.bhs_server.specs.Written.{IsFew, IsWrittenBy, is_between}
+use Rattle.bhs_session.specs.Texts.{text_of}
+use Rattle.bhs_server.specs.Written.{IsFew, MayBeOver, IsWrittenBy, is_between}
 
 -- ---- a session whose match settled
 
@@ -37,8 +36,7 @@ pub record Attended : Type 0 where
 abbrev pub fed : Attended → List Command
 fed one = one.said ++ one.more
 
--- The match has ended and settled with the pass, among others; and the session is one on this pass. No receipt says
--- that the agent is on a link: a session tells nothing there.
+-- The match has ended and settled with the pass, among others; and the session is one on this pass.
 pub record TookPart (one : Attended) : Type 0 where
   -- as a `Sealed` shows it
   pub kept : kept (world_in one.play) (events_of one.play.log) ≡ events_of one.play.log
@@ -55,7 +53,6 @@ pub record TookPart (one : Attended) : Type 0 where
   pub game : ℕ
   pub cell : slice_get cells game ≡ Some given
   pub of_cell : IsOfCell cells game one.pass
-  pub never_away : AllByRecursion (λ receipt. receipt.reply ≢ No OnLink) one.pass.receipts
   -- as `attend` says it
   pub wrote : IsWrittenBy one.pass one.said one.written one.ended
   pub none_more : is_between one.ended ≡ true → one.more ≡ []
@@ -92,6 +89,15 @@ is_whole endings.ReadFault = true
 is_whole endings.Turns = true
 is_whole ended = false
 
+-- The line behind what was met, by how the session ended: that the match is over, if it ended by that. If a write failed
+-- or memory ran out, that line or none; else none.
+abbrev pub IsLastOf : Ended → (last : List ℕ) → Type 0
+IsLastOf endings.Over last = last ≡ text_of Over
+IsLastOf endings.WriteFault last = MayBeOver last
+IsLastOf endings.Memory last = MayBeOver last
+IsLastOf endings.Denied last = ⊥
+IsLastOf ended last = last ≡ []
+
 -- What was met has the past that the log gives the agent, and its bytes were written.
 pub record IsSentAsMet (one : Attended) : Type 0 where
   pub met : List Meeting
@@ -103,7 +109,7 @@ pub record IsSentAsMet (one : Attended) : Type 0 where
   pub are_said : AreSaid one.play.setup.board Start met heard
   pub lived : IsLeftAway (view_of met) ((state_of one.play).past one.pass.agent)
   pub last : List ℕ
-  pub is_last : IsLastLine last
+  pub is_last : IsLastOf one.ended last
   pub unwritten : List ℕ
   pub sent : one.written ++ unwritten ≡ bytes one.play.setup.board met ++ last
   pub is_unwritten : MayLack one.ended unwritten
@@ -117,9 +123,9 @@ SentAsMet = (one : Attended) → TookPart one → IsSentAsMet one
 
 -- ---- the headline
 
--- Two sessions of any two contests, in matches of equal quota and equal whiteboards, whose agents have equal pasts in
--- the logs that settled and that were fed equal commands, wrote equal bytes: until the close, or the end of their
--- input.
+-- Two sessions of any two contests, in matches of equal quota and whiteboards of equal size, whose agents have equal
+-- pasts in the logs that settled and that were fed equal commands, wrote equal bytes, if each ended by a Bye, an
+-- accusation, or the end of its input or turns.
 abbrev pub EqualPastsAreSentEqualBytes : Type 0
 EqualPastsAreSentEqualBytes =
     (one two : Attended) → TookPart one → TookPart two → is_whole one.ended ≡ true → is_whole two.ended ≡ true →

@@ -7,6 +7,7 @@ use Rattle.bhs_model.specs.declared.replies.Reply.TheVariants.{No}
 use Rattle.bhs_model.specs.declared.replies.Why.{Why}
 use Rattle.bhs_lock.specs.declared.model.Receipt.{Receipt}
 use Rattle.bhs_lock.specs.Passes.{tally_in, kept_command}
+use Rattle.bhs_lock.specs.Halls.{is_below}
 use Rattle.bhs_lock.specs.Recording.{refusal_by}
 use Rattle.bhs_session.specs.Texts.{text_of}
 use Rattle.bhs_session.specs.Phase.{Phase, Ready, Awaits, answered_by}
@@ -27,6 +28,12 @@ abbrev pub receipts_after : List Receipt → Exchange → List Receipt
 receipts_after receipts (Took command receipt) = receipts ++ receipt ∷ []
 receipts_after receipts (Refused command) = receipts
 receipts_after receipts (Came receipt) = receipts
+
+-- the receipts of arrivals after it
+abbrev pub arrivals_after : List Receipt → Exchange → List Receipt
+arrivals_after arrivals (Took command receipt) = arrivals
+arrivals_after arrivals (Refused command) = arrivals
+arrivals_after arrivals (Came receipt) = arrivals ++ receipt ∷ []
 
 -- what is answered, where there are these receipts; a refusal follows from them
 abbrev pub reply_in : (quota : ℕ) → List Receipt → Exchange → Option Reply
@@ -84,15 +91,18 @@ abbrev pub phase_from : Phase → List Exchange → Phase
 phase_from phase [] = phase
 phase_from phase (one ∷ others) = phase_from (phase_after one) others
 
--- a command is taken where the session takes lines, and not heard where the pass's own numbers refuse it; an arrival
--- comes where it is awaited, behind a Gone
-abbrev pub IsInTurn : (quota : ℕ) → Phase → List Receipt → Exchange → Type 0
-IsInTurn quota phase receipts (Took command receipt) = TakesLines phase
-IsInTurn quota phase receipts (Refused command) =
+-- A command is taken where the session takes lines. It is not heard exactly where the pass's own numbers refuse it; one
+-- that is heard stands in the log above the last arrival. An arrival comes where it is awaited, behind a Gone.
+abbrev pub IsInTurn : (quota : ℕ) → Phase → (receipts arrivals : List Receipt) → Exchange → Type 0
+IsInTurn quota phase receipts arrivals (Took command receipt) =
+    TakesLines phase × (refusal_by quota (tally_in receipts) command ≡ None)
+    × (is_below arrivals receipt.place ≡ true)
+IsInTurn quota phase receipts arrivals (Refused command) =
     TakesLines phase × ((why : Why) × (refusal_by quota (tally_in receipts) command ≡ Some why))
-IsInTurn quota phase receipts (Came receipt) = phase ≡ Awaits
+IsInTurn quota phase receipts arrivals (Came receipt) = phase ≡ Awaits
 
-abbrev pub AreInTurn : (quota : ℕ) → Phase → List Receipt → List Exchange → Type 0
-AreInTurn quota phase receipts [] = Unit {0}
-AreInTurn quota phase receipts (one ∷ others) =
-    IsInTurn quota phase receipts one × AreInTurn quota (phase_after one) (receipts_after receipts one) others
+abbrev pub AreInTurn : (quota : ℕ) → Phase → (receipts arrivals : List Receipt) → List Exchange → Type 0
+AreInTurn quota phase receipts arrivals [] = Unit {0}
+AreInTurn quota phase receipts arrivals (one ∷ others) =
+    IsInTurn quota phase receipts arrivals one
+    × AreInTurn quota (phase_after one) (receipts_after receipts one) (arrivals_after arrivals one) others

@@ -1,6 +1,6 @@
 -- An agent's own steps in a log: its heard commands and its arrivals, oldest first. This carries proofs; a reader of
 -- contracts needs none of it.
-use Rattle.std.specs.Prelude.{ℕ, ◌≡◌, true, Some, List, [], ◌∷◌}
+use Rattle.std.specs.Prelude.{ℕ, ◌+◌, ◌≤◌, ◌≡◌, true, Some, List, [], ◌∷◌}
 use Rattle.bhs_model.specs.declared.commands.Command.{Command}
 use Rattle.bhs_model.specs.declared.commands.Command.TheVariants.{Leave}
 use Rattle.bhs_model.specs.declared.replies.Reply.{Reply}
@@ -31,6 +31,12 @@ abbrev pub view_along : View → List Step → View
 view_along view [] = view
 view_along view (Spoke place command glance reply ∷ steps) = view_along (Told view command glance) steps
 view_along view (Arrives place sight reply ∷ steps) = view_along (Arrived view sight) steps
+
+-- their places ascend, from this one on
+abbrev pub StandInOrder : (least : ℕ) → List Step → Type 0
+StandInOrder least [] = Unit {0}
+StandInOrder least (Spoke place command glance reply ∷ steps) = (least ≤ place) × StandInOrder (place + 1) steps
+StandInOrder least (Arrives place sight reply ∷ steps) = (least ≤ place) × StandInOrder (place + 1) steps
 
 -- each is one of an agent with this past, and answered as the definitions say
 abbrev pub AreSteps : (quota limit : ℕ) → View → List Step → Type 0

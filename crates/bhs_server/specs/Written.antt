@@ -25,6 +25,10 @@ use Rattle.bhs_server.specs.Exchanges.{phase_from, AreInTurn}
 abbrev pub IsFew : List Command → Type 0
 IsFew left = (left ≡ []) ⊎ ((command : Command) × (left ≡ command ∷ []))
 
+-- at most the line that the match is over
+abbrev pub MayBeOver : (last : List ℕ) → Type 0
+MayBeOver last = (last ≡ []) ⊎ (last ≡ text_of Over)
+
 -- Where a session stands that has ended so: behind Bye or Noted nothing was told or is left; Over is the last line;
 -- between two lines, where the input ends, nothing is left. Where a write failed or memory ran out, anything may be.
 abbrev pub Ends : Ended → Phase → Option Receipt → (left : List Command) → (last : List ℕ) → Type 0
@@ -41,11 +45,11 @@ Ends endings.WriteFault phase parting left last = Unit {0}
 Ends endings.Memory phase parting left last = Unit {0}
 
 -- Of a session that took these commands, wrote this and ended so, by this pass: what it wrote is the text of what it
--- said and was answered, which is made of the receipts and arrivals of the pass, and behind it at most one line; or a
--- front of that, where a write failed or memory ran out. A Leave that an ending told has its receipt last.
+-- said and was answered, which is made of the receipts and arrivals of the pass, and behind it at most that the match is
+-- over; or a front of that, where a write failed or memory ran out. A Leave that an ending told has its receipt last.
 pub record IsWrittenBy (pass : Passed) (commands : List Command) (written : List ℕ) (ended : Ended) : Type 0 where
   pub all : List Exchange
-  pub in_turn : AreInTurn pass.quota Fresh [] all
+  pub in_turn : AreInTurn pass.quota Fresh [] [] all
   pub parting : Option Receipt
   pub receipts : pass.receipts ≡ receipts_in all ++ option_to_list parting
   pub kept : pass.commands ≡ kept_in all ++ map (λ receipt. Leave) (option_to_list parting)
@@ -54,7 +58,7 @@ pub record IsWrittenBy (pass : Passed) (commands : List Command) (written : List
   pub few : IsFew left
   pub said : commands ≡ commands_in all ++ left
   pub last : List ℕ
-  pub is_last : IsLastLine last
+  pub is_last : MayBeOver last
   pub unwritten : List ℕ
   pub heard : written ++ unwritten ≡ session_text pass.quota all ++ last
   pub is_unwritten : MayLack ended unwritten

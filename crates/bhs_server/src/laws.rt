@@ -3,6 +3,7 @@
 ghost use Rattle.bhs_server.specs.ContestExample.{AllIsInTurn, TheArrivalIsThis, TheHeadlineSpeaksOfIt};
 ghost use Rattle.bhs_server.specs.ContestExample.{TheReceiptsAreThese};
 ghost use Rattle.bhs_server.specs.ContestExample.{ThePastIsOfWhatWasMet, TheTextIsOfWhatWasMet};
+ghost use Rattle.bhs_server.specs.ContestExample.{TheHeadlineSpeaksOfTheOther, ThePastsAreEqual, TheSameWasFed};
 ghost use Rattle.bhs_server.specs.ContestMet.{EqualPastsAreSentEqualBytes, SentAsMet};
 
 /// A session whose pass settled with its match wrote the bytes of what its agent met in the log, and behind them at
@@ -11,14 +12,15 @@ pub fn sent_as_met()
     ensures { SentAsMet }
 {}
 
-/// Two sessions of any two contests, in matches of equal quota and equal whiteboards, whose agents have equal pasts in
-/// the logs that settled and that were fed equal commands, wrote equal bytes: until the close, or the end of their
-/// input.
+/// Two sessions of any two contests, in matches of equal quota and whiteboards of equal size, whose agents have equal
+/// pasts in the logs that settled and that were fed equal commands, wrote equal bytes, if each ended by a Bye, an
+/// accusation, or the end of its input or turns.
 pub fn equal_pasts_are_sent_equal_bytes()
     ensures { EqualPastsAreSentEqualBytes }
 {}
 
-/// A session of a client, worked out by hand.
+/// A session of a client, worked out by hand; and one in a match on another network, with other black holes and another
+/// number of agents, of which the headline says that it wrote the same.
 pub fn worked_session()
     ensures text { TheTextIsOfWhatWasMet }
     ensures receipts { TheReceiptsAreThese }
@@ -26,4 +28,7 @@ pub fn worked_session()
     ensures turns { AllIsInTurn }
     ensures past { ThePastIsOfWhatWasMet }
     ensures headline { TheHeadlineSpeaksOfIt }
+    ensures other { TheHeadlineSpeaksOfTheOther }
+    ensures equal_pasts { ThePastsAreEqual }
+    ensures equal_commands { TheSameWasFed }
 {}

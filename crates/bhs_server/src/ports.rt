@@ -99,6 +99,7 @@ impl<R: Wait, G: Gate, H: Held> Port for CellPort<'_, R, G, H> {
         let Some(pass) = cell.claim(self.rt, agent) else {
             return Ok(Entered::Taken);
         };
+        // The proof needs that each receipt has its command.
         let _paired = pass.receipts();
         let mut played = Played { game, pass };
         let answer = cell.submit(self.rt, self.gate, &mut played.pass, Command::Enter);

@@ -1,11 +1,11 @@
 -- What is known of a session between two answers, and where it stops.
-use Rattle.std.proofs.Common.{◌≡◌, ◌∙◌, ℕ, Bool, true, false, cond, nat_lt, nat_le, bytes_eq, length}
+use Rattle.std.proofs.Common.{arith, ◌≡◌, ◌∙◌, ℕ, Bool, true, false, cond, nat_lt, nat_le, bytes_eq, length}
 use Rattle.std.proofs.Common.{inl, List, [], ◌∷◌, ◌++◌, map, refl, sym, ap, subst, append-nil}
 use Rattle.bhs_model.specs.declared.commands.Command.{Command}
 use Rattle.bhs_model.specs.declared.commands.Command.TheVariants as commands
 use Rattle.bhs_model.specs.declared.replies.Reply.TheVariants as replies
 use Rattle.bhs_model.specs.declared.replies.Why.TheVariants as whys
-use Rattle.bhs_model.specs.Views.{View, Start, Glance, Nothing, Saw, Seen, Standing, Outside, Present}
+use Rattle.bhs_model.specs.Views.{View, Start, Glance, Saw, Seen, Standing, Present}
 use Rattle.bhs_model.specs.Views.{Away, Ended, standing, standing_after, ports, used}
 use Rattle.bhs_model.specs.Replying.{accepts, answer, text}
 use Rattle.bhs_wire.specs.Lines.{Line}
@@ -50,26 +50,11 @@ accuse_fits false = refl
 heard_fits : (limit : ℕ) (stands : Standing) (room : Bool) (ports : ℕ) (command : Command) (glance : Glance)
     → takes_commands stands ≡ true → accepts stands room command ≡ true →
     Fits (answered_by true (answer limit stands ports command glance)) (standing_after stands ports command)
-heard_fits limit Outside room ports commands.Enter (Saw (Seen count came last_write)) takes allowed = refl
-heard_fits limit Outside room ports commands.Enter Nothing takes allowed = refl
-heard_fits limit Outside room ports commands.Look glance takes allowed = absurd (cc)
-heard_fits limit Outside room ports (commands.Write expect put) glance takes allowed = absurd (cc)
-heard_fits limit Outside room ports (commands.Depart port) glance takes allowed = absurd (cc)
-heard_fits limit Outside room ports (commands.Accuse port) glance takes allowed = absurd (cc)
-heard_fits limit Outside room ports commands.Leave glance takes allowed = absurd (cc)
-heard_fits limit Outside room ports commands.Bad glance takes allowed = absurd (cc)
-heard_fits limit Present room ports commands.Enter glance takes allowed = absurd (cc)
-heard_fits limit Present room ports commands.Look (Saw (Seen count came last_write)) takes allowed = refl
-heard_fits limit Present room ports commands.Look Nothing takes allowed = refl
 heard_fits limit Present room ports (commands.Write expect put) (Saw (Seen count came last_write)) takes allowed =
     write_fits (nat_le (length put) limit) (bytes_eq (text limit last_write) expect) (text limit last_write)
-heard_fits limit Present room ports (commands.Write expect put) Nothing takes allowed = refl
 heard_fits limit Present room ports (commands.Depart port) glance takes allowed = depart_fits (nat_lt port ports)
 heard_fits limit Present room ports (commands.Accuse port) glance takes allowed = accuse_fits (nat_lt port ports)
-heard_fits limit Present room ports commands.Leave glance takes allowed = tt
-heard_fits limit Present room ports commands.Bad glance takes allowed = refl
-heard_fits limit Away room ports command glance takes allowed = absurd (cc)
-heard_fits limit Ended room ports command glance takes allowed = absurd (cc)
+heard_fits limit stands room ports command glance takes allowed = grind arith
 
 -- a meeting that a command makes, of an agent of which commands are taken
 pub meeting_fits : (quota limit : ℕ) (old : View) (command : Command) (meeting : Meeting)

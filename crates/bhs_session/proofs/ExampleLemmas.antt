@@ -1,17 +1,14 @@
 -- What a session that took an Enter may have written.
-use Rattle.std.proofs.Common.{◌≡◌, ◌∙◌, ℕ, inl, inr, Option, Some, None, List, [], ◌∷◌, ◌++◌, map, refl, sym, ap, subst}
+use Rattle.std.proofs.Common.{◌≡◌, ◌∙◌, ℕ, inl, Option, Some, None, List, [], ◌∷◌, ◌++◌, refl, sym, ap, subst}
 use Rattle.std.proofs.Common.{append-nil, arith}
 use Rattle.std.specs.Prelude.{slice_get}
 use Rattle.bhs_model.specs.declared.commands.Command.{Command}
 use Rattle.bhs_model.specs.declared.commands.Command.TheVariants.{Enter}
 use Rattle.bhs_model.specs.declared.replies.Reply.TheVariants.{Here}
-use Rattle.bhs_model.specs.Views.{View, Start, Told, Glance, Saw, Seen, Unwritten}
-use Rattle.bhs_wire.specs.Lines.{Line}
+use Rattle.bhs_model.specs.Views.{Start, Saw, Seen, Unwritten}
 use Rattle.bhs_wire.proofs.OnLiterals.{bhs_wire_on_literals}
-use Rattle.bhs_session.specs.Phase.{Ready}
-use Rattle.bhs_session.specs.Texts.{text_of, command_of}
+use Rattle.bhs_session.specs.Texts.{text_of}
 use Rattle.bhs_session.specs.Met.{Meeting, Hears, Refuses, Arrives, view_from, commands, bytes, AreDue}
-use Rattle.bhs_session.specs.Answering.{WritesAsMet}
 use Rattle.bhs_session.specs.AnsweringExamples.{entered, TheSightIsWritten, AnInventedSightIsRefused}
 
 -- what was met by an Enter alone

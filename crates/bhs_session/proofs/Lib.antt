@@ -5,6 +5,7 @@ pub mod HistoryLemmas
 pub mod KnownLemmas
 pub mod MeetingLemmas
 pub mod Moving
+pub mod PastLemmas
 pub mod Playing
 pub mod SessionLaws
 pub mod Taking

@@ -2,6 +2,7 @@ use Rattle.std.proofs.Common.{None, [], ◌∷◌, refl, inl}
 use Rattle.bhs_model.specs.declared.replies.Why.TheVariants.{Twice}
 use Rattle.bhs_wire.proofs.OnLiterals.{bhs_wire_on_literals}
 use Rattle.bhs_server.specs.ContestExample.{settled, pass, all_said}
+use Rattle.bhs_server.specs.ContestExample.{settled_elsewhere, pass_beside, pass_elsewhere, said_elsewhere}
 use Rattle.bhs_server.proofs.laws.worked_session.Goals as goal
 
 pub returns : goal.returns
@@ -10,7 +11,7 @@ returns c = record {
   text = refl;
   receipts = refl;
   arrival = refl;
-  turns = (tt, ((tt, (Twice, refl)), (tt, (refl, (tt, tt)))));
+  turns = ((tt, refl, refl), ((tt, (Twice, refl)), ((tt, refl, refl), (refl, ((tt, refl, refl), tt)))));
   past = refl;
   headline = record {
     kept = refl;
@@ -29,10 +30,9 @@ returns c = record {
     game = 0;
     cell = refl;
     of_cell = refl;
-    never_away = (λ same. absurd (cc), (λ same. absurd (cc), (λ same. absurd (cc), tt)));
     wrote = record {
       all = all_said;
-      in_turn = (tt, ((tt, (Twice, refl)), (tt, (refl, (tt, tt)))));
+      in_turn = ((tt, refl, refl), ((tt, (Twice, refl)), ((tt, refl, refl), (refl, ((tt, refl, refl), tt)))));
       parting = None;
       receipts = refl;
       kept = refl;
@@ -49,4 +49,42 @@ returns c = record {
     };
     none_more = λ between. absurd (cc);
   };
+  other = record {
+    kept = refl;
+    replies = refl;
+    given = record { game = 3; net = settled_elsewhere.net; setup = settled_elsewhere.setup };
+    passes = pass_beside ∷ pass_elsewhere ∷ [];
+    accord = record {
+      world = record { same_net = refl; same_setup = refl };
+      commands = (refl, (refl, (refl, tt)));
+      arrivals = (refl, (refl, tt));
+      closed = refl;
+    };
+    index = 1;
+    handed_in = refl;
+    cells = record { game = 3; net = settled_elsewhere.net; setup = settled_elsewhere.setup } ∷ [];
+    game = 0;
+    cell = refl;
+    of_cell = refl;
+    wrote = record {
+      all = said_elsewhere;
+      in_turn = ((tt, refl, refl), ((tt, (Twice, refl)), ((tt, refl, refl), (refl, ((tt, refl, refl), tt)))));
+      parting = None;
+      receipts = refl;
+      kept = refl;
+      arrivals = refl;
+      left = [];
+      few = inl refl;
+      said = refl;
+      last = [];
+      is_last = inl refl;
+      unwritten = [];
+      heard = refl;
+      is_unwritten = refl;
+      ends = (refl, refl, refl, refl);
+    };
+    none_more = λ between. absurd (cc);
+  };
+  equal_pasts = refl;
+  equal_commands = refl;
 }
