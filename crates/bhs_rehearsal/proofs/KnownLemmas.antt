@@ -7,11 +7,10 @@ use Rattle.std.proofs.lemmas.Bool.{cond-true, eqb-true, eqb-false}
 use Rattle.std.proofs.lemmas.List.{map-append, get_or-set_other}
 use Rattle.bhs_model.specs.declared.commands.Command.{Command}
 use Rattle.bhs_model.specs.declared.setups.Setup.{Setup}
-use Rattle.bhs_model.specs.declared.replies.Reply.TheVariants as replies
 use Rattle.bhs_model.specs.Views.{View, Start, Ended, standing}
 use Rattle.bhs_wire.specs.Lines.{Line, lines, held_of, found_in, left_by}
 use Rattle.bhs_wire.proofs.StreamLaws.{lines-append, held_of-append}
-use Rattle.bhs_session.specs.Texts.{text_of, command_of}
+use Rattle.bhs_session.specs.Texts.{command_of}
 use Rattle.bhs_rehearsal.specs.Games.{Game, state_of, is_away}
 use Rattle.bhs_rehearsal.specs.Connections.{Item, Says, Ends, Connection, shut, Taken, taken, after}
 use Rattle.bhs_rehearsal.specs.Stages.{Stage, game_at, connection_at, with_game, with_connection, Entry, Waits, Sits}
@@ -22,10 +21,11 @@ use Rattle.bhs_rehearsal.proofs.TurnLemmas.{placed, plays_turn, enters_turn, tur
 use Rattle.bhs_rehearsal.proofs.SettledLemmas.{seat_after}
 use Rattle.bhs_session.specs.Met.{Meeting, view_from, view_of, commands, bytes_from, bytes, takes_commands, AreDue}
 use Rattle.bhs_rehearsal.specs.Clients.{Fed, fed_more, at_end}
-use Rattle.bhs_rehearsal.specs.SentAsMet.{IsDenial, IsPastOf, IsSentOf}
+use Rattle.bhs_rehearsal.specs.SentAsMet.{IsDenial, IsPastOf, over_text}
+use Rattle.bhs_rehearsal.proofs.OverLemmas.{EndsLast, has_end, last_says, last_end, over_same, nothing_first}
 use Rattle.bhs_rehearsal.proofs.EventLemmas.{Alike, alike_itself}
-use Rattle.bhs_rehearsal.proofs.TookLemmas.{lines_of, lines_of-append, lines_of-says, has_end, has_end-says}
-use Rattle.bhs_rehearsal.proofs.TookLemmas.{has_end-end, IsQuiet, Took, took, taken_alike}
+use Rattle.bhs_rehearsal.proofs.TookLemmas.{lines_of, lines_of-append, lines_of-says, has_end-says}
+use Rattle.bhs_rehearsal.proofs.TookLemmas.{has_end-end, IsQuiet, IsOpen, Took, took, taken_alike}
 
 -- ---- what is known of a connection that plays
 
@@ -41,6 +41,7 @@ pub record Going (setup : Setup) (past : View) (connection : Connection) (input 
   pub still : connection.ended ≡ false → connection.unfinished ≡ held_of input.bytes
   pub ends : connection.ended ≡ input.has_ended
   pub end_waits : has_end connection.queue ≡ input.has_ended
+  pub last : EndsLast connection.queue
   pub lives : standing past ≢ Ended
 
 -- it is done
@@ -53,13 +54,19 @@ pub record Done (setup : Setup) (past : View) (closed away : Bool) (connection :
   pub said : commands met ≡ map command_of taken
   pub due : AreDue setup.quota Start met
   pub lived : IsPastOf input.has_ended (view_of met) past
-  pub heard : IsSentOf closed (bytes setup.board met) sent
+  pub heard : sent ≡ bytes setup.board met ++ over_text closed (standing (view_of met)) over
+  pub mute : closed ≡ false → over_text true (standing (view_of met)) over ≡ []
+  pub by_end : over ≡ [] → takes_commands (standing (view_of met)) ≡ true → input.has_ended ≡ true
   pub quiet : IsQuiet closed away
   pub ended : connection.ended ≡ true
   pub done_by : closed ≡ false → input.has_ended ≡ false → takes_commands (standing (view_of met)) ≡ false
 
+-- it goes on, and is told if its agent arrives
+abbrev pub GoesOn : Setup → View → (closed away : Bool) → Connection → (input : Fed) (sent : List ℕ) → Type 0
+GoesOn setup past closed away connection input sent = Going setup past connection input sent × IsOpen closed away
+
 abbrev pub MetBy : Setup → View → (closed away : Bool) → Connection → (input : Fed) (sent : List ℕ) → Type 0
-MetBy setup past closed away connection input sent = Going setup past connection input sent
+MetBy setup past closed away connection input sent = GoesOn setup past closed away connection input sent
     ⊎ Done setup past closed away connection input sent
 
 -- of the agent of a match
@@ -82,7 +89,8 @@ met_alike game new agent connection input sent same met =
 -- ---- it plays
 
 module _ (setup : Setup) (past : View) (connection : Connection) (input : Fed) (sent : List ℕ)
-    (going : Going setup past connection input sent) (closed : Bool) (agent : ℕ) (seat : ℕ × ℕ) where
+    (going : Going setup past connection input sent) (closed was_away : Bool) (open_yet : IsOpen closed was_away)
+    (agent : ℕ) (seat : ℕ × ℕ) where
   abbrev all_met : List Meeting → List Meeting
   all_met more = going.met ++ more
 
@@ -112,10 +120,10 @@ module _ (setup : Setup) (past : View) (connection : Connection) (input : Fed) (
 
   met_more : (game : Game) (is_done : Bool) (left : List Item) (text : List ℕ) →
       let done : Taken = record { game = game; is_done = is_done; left = left; text = text } in
-      Took setup closed past connection.queue done agent →
+      Took setup closed was_away past connection.queue done agent →
       MetBy setup ((state_of game).past agent) closed (is_away game agent)
       (after (record connection { seat = Some seat }) done) input (sent ++ text)
-  met_more game false left text t = inl (record {
+  met_more game false left text t = inl ((record {
     met = going.met ++ t.met;
     taken = going.taken ++ t.lines;
     split = split_joined t.lines t.over t.split
@@ -127,8 +135,9 @@ module _ (setup : Setup) (past : View) (connection : Connection) (input : Fed) (
     still = going.still;
     ends = going.ends;
     end_waits = sym (t.end_left refl) ∙ going.end_waits;
+    last = t.last_left refl going.last;
     lives = t.lives refl;
-  })
+  }), t.open_left refl open_yet)
   met_more game true left text t = inr (record {
     met = going.met ++ t.met;
     taken = going.taken ++ t.lines;
@@ -139,15 +148,15 @@ module _ (setup : Setup) (past : View) (connection : Connection) (input : Fed) (
     lived = subst (λ (view : View). IsPastOf input.has_ended view ((state_of game).past agent)) (view_joined t.met)
         (subst (λ (at : Bool). IsPastOf at (view_from past t.met) ((state_of game).past agent))
         going.end_waits (t.died refl));
-    heard = elim (t.last refl) [
-      | inl e ↦ inl (ap (λ (more : List ℕ). sent ++ more) e ∙ bytes_joined t.met)
-      | inr p ↦ inr (
-        ap (λ (more : List ℕ). sent ++ more) p.0
-            ∙ sym (append_assoc sent (bytes_from setup.board past t.met) (text_of replies.Over))
-            ∙ ap (λ (own : List ℕ). own ++ text_of replies.Over) (bytes_joined t.met),
-        p.1,
-      )
-    ];
+    heard = ap (λ (more : List ℕ). sent ++ more) (t.last refl)
+        ∙ sym (append_assoc sent (bytes_from setup.board past t.met)
+        (over_text closed (standing (view_from past t.met)) t.over))
+        ∙ ap₂ (λ (own rest : List ℕ). own ++ rest) (bytes_joined t.met)
+        (ap (λ (view : View). over_text closed (standing view) t.over) (view_joined t.met));
+    mute = λ still. ap (λ (view : View). over_text true (standing view) t.over) (sym (view_joined t.met))
+        ∙ t.mute refl still;
+    by_end = λ none takes. sym going.end_waits ∙ t.by_end refl none
+        (ap (λ (view : View). takes_commands (standing view)) (view_joined t.met) ∙ takes);
     quiet = t.quiet refl;
     ended = refl;
     done_by = λ still unended. ap (λ (view : View). takes_commands (standing view)) (sym (view_joined t.met))
@@ -157,21 +166,23 @@ module _ (setup : Setup) (past : View) (connection : Connection) (input : Fed) (
 -- its items are taken
 pub met_taken : (game : Game) (agent : ℕ) (seat : ℕ × ℕ) (connection : Connection) (input : Fed) (sent : List ℕ)
     → agent < game.setup.agents →
-    Going game.setup ((state_of game).past agent) connection input sent →
+    GoesOn game.setup ((state_of game).past agent) (state_of game).closed (is_away game agent) connection input sent →
     let done = taken game agent connection.queue in
     MetIn done.game agent (after (record connection { seat = Some seat }) done) input (sent ++ done.text)
-met_taken game agent seat connection input sent within going =
+met_taken game agent seat connection input sent within (going, open_yet) =
     let done = taken game agent connection.queue in
-    let t : Took game.setup (state_of game).closed ((state_of game).past agent) connection.queue done agent =
+    let t : Took game.setup (state_of game).closed (is_away game agent) ((state_of game).past agent) connection.queue
+    done agent =
     took game.setup (state_of game).closed game agent connection.queue (record { setup_is = refl; within = within })
-    going.lives refl in
+    going.lives refl going.last in
     subst (λ (setup : Setup). MetBy setup ((state_of done.game).past agent) (state_of done.game).closed
     (is_away done.game agent) (after (record connection { seat = Some seat }) done) input (sent ++ done.text))
     (sym t.is_in.setup_is)
     (subst (λ (closed : Bool). MetBy game.setup ((state_of done.game).past agent) closed (is_away done.game agent)
     (after (record connection { seat = Some seat }) done) input (sent ++ done.text))
     (sym t.closed_is)
-    (met_more game.setup ((state_of game).past agent) connection input sent going (state_of game).closed agent seat
+    (met_more game.setup ((state_of game).past agent) connection input sent going (state_of game).closed
+    (is_away game agent) open_yet agent seat
     done.game done.is_done done.left done.text t))
 
 -- ---- it is fed
@@ -204,6 +215,7 @@ going_fed setup past connection input sent fed open_yet going = record {
       ∙ sym (held_of-append input.bytes fed);
   ends = going.ends;
   end_waits = has_end-says connection.queue (found_in connection.unfinished fed) ∙ going.end_waits;
+  last = last_says connection.queue (found_in connection.unfinished fed) (going.end_waits ∙ sym going.ends ∙ open_yet);
   lives = going.lives;
 }
 
@@ -213,9 +225,10 @@ ending connection = record connection { unfinished = Some []; queue = connection
 lines_of-end : (items : List Item) → lines_of (items ++ Ends ∷ []) ≡ lines_of items
 lines_of-end items = lines_of-append items (Ends ∷ []) ∙ append-nil (lines_of items)
 
-pub going_ends : (setup : Setup) (past : View) (connection : Connection) (input : Fed) (sent : List ℕ) →
+pub going_ends : (setup : Setup) (past : View) (connection : Connection) (input : Fed) (sent : List ℕ)
+    → connection.ended ≡ false →
     Going setup past connection input sent → Going setup past (ending connection) (at_end input) sent
-going_ends setup past connection input sent going = record {
+going_ends setup past connection input sent open_yet going = record {
   met = going.met;
   taken = going.taken;
   split = going.split ∙ ap (λ (queued : List Line). going.taken ++ queued) (sym (lines_of-end connection.queue));
@@ -226,6 +239,7 @@ going_ends setup past connection input sent going = record {
   still = λ again. absurd (cc);
   ends = refl;
   end_waits = has_end-end connection.queue;
+  last = last_end connection.queue (going.end_waits ∙ sym going.ends ∙ open_yet);
   lives = going.lives;
 }
 
@@ -238,12 +252,16 @@ pub met_unread : (setup : Setup) (past : View) (closed away : Bool) (connection 
     MetBy setup past closed away connection input sent → MetBy setup past closed away connection (fed_if input fed) sent
 met_unread setup past closed away connection input sent fed ended (inl going) =
     subst (λ (new : Fed). MetBy setup past closed away connection new sent)
-    (sym (cond-true _ _ _ (sym going.ends ∙ ended))) (inl going)
+    (sym (cond-true _ _ _ (sym going.0.ends ∙ ended))) (inl going)
 met_unread setup past closed away connection input sent fed ended (inr done) =
     by_bool input.has_ended (λ (has : Bool). MetBy setup past closed away connection
     (cond has input (fed_more input fed)) sent)
     (λ has. inr done)
-    (λ not_yet. inr (record {
+    (λ not_yet.
+    let awaited : done.over ≡ [] → takes_commands (standing (view_of done.met)) ≡ true → ⊥ =
+    λ none takes. absurd (let both = sym (done.by_end none takes) ∙ not_yet in cc) in
+    let found = found_in (held_of input.bytes) fed in
+    inr (record {
       met = done.met;
       taken = done.taken;
       over = done.over ++ found_in (held_of input.bytes) fed;
@@ -253,7 +271,10 @@ met_unread setup past closed away connection input sent fed ended (inr done) =
       said = done.said;
       due = done.due;
       lived = done.lived;
-      heard = done.heard;
+      heard = done.heard ∙ ap (λ (last : List ℕ). bytes setup.board done.met ++ last)
+          (sym (over_same closed (standing (view_of done.met)) done.over found awaited));
+      mute = λ still. over_same true (standing (view_of done.met)) done.over found awaited ∙ done.mute still;
+      by_end = λ none takes. absurd (awaited (nothing_first done.over found none) takes);
       quiet = done.quiet;
       ended = done.ended;
       done_by = done.done_by;
@@ -264,7 +285,7 @@ pub met_unended : (setup : Setup) (past : View) (closed away : Bool) (connection
     MetBy setup past closed away connection input sent → MetBy setup past closed away connection (at_end input) sent
 met_unended setup past closed away connection input sent ended (inl going) =
     subst (λ (has : Bool). MetBy setup past closed away connection (record input { has_ended = has }) sent)
-    (sym going.ends ∙ ended) (inl going)
+    (sym going.0.ends ∙ ended) (inl going)
 met_unended setup past closed away connection input sent ended (inr done) = inr (record {
   met = done.met;
   taken = done.taken;
@@ -274,6 +295,8 @@ met_unended setup past closed away connection input sent ended (inr done) = inr 
   due = done.due;
   lived = elim done.lived [ inl e ↦ inl e | inr p ↦ inr (p.0, refl) ];
   heard = done.heard;
+  mute = done.mute;
+  by_end = λ none takes. refl;
   quiet = done.quiet;
   ended = done.ended;
   done_by = λ still unended. absurd (cc);
@@ -287,6 +310,7 @@ pub record Unseated (connection : Connection) (input : Fed) (sent : List ℕ) : 
   pub still : connection.ended ≡ false → connection.unfinished ≡ held_of input.bytes
   pub ends : connection.ended ≡ input.has_ended
   pub end_waits : has_end connection.queue ≡ input.has_ended
+  pub last : EndsLast connection.queue
 
 abbrev pub IsKnown : Stage → Connection → (input : Fed) (sent : List ℕ) → Option (ℕ × ℕ) → Type 0
 IsKnown stage connection input sent None = Unseated connection input sent ⊎ ((connection.ended ≡ true) × IsDenial sent)
@@ -298,7 +322,8 @@ abbrev pub IsReady : Stage → Connection → (input : Fed) (sent : List ℕ) �
 IsReady stage connection input sent None = Unseated connection input sent
 IsReady stage connection input sent (Some seat) =
     seat.1 < (game_at stage seat.0).setup.agents
-    → Going (game_at stage seat.0).setup ((state_of (game_at stage seat.0)).past seat.1) connection input sent
+    → GoesOn (game_at stage seat.0).setup ((state_of (game_at stage seat.0)).past seat.1)
+    (state_of (game_at stage seat.0)).closed (is_away (game_at stage seat.0) seat.1) connection input sent
 
 pub unseated_fed : (connection : Connection) (input : Fed) (sent fed : List ℕ) → connection.ended ≡ false
     → Unseated connection input sent →
@@ -310,16 +335,18 @@ unseated_fed connection input sent fed open_yet is = record {
       ∙ sym (held_of-append input.bytes fed);
   ends = is.ends;
   end_waits = has_end-says connection.queue (found_in connection.unfinished fed) ∙ is.end_waits;
+  last = last_says connection.queue (found_in connection.unfinished fed) (is.end_waits ∙ sym is.ends ∙ open_yet);
 }
 
-pub unseated_ends : (connection : Connection) (input : Fed) (sent : List ℕ) → Unseated connection input sent
-    → Unseated (ending connection) (at_end input) sent
-unseated_ends connection input sent is = record {
+pub unseated_ends : (connection : Connection) (input : Fed) (sent : List ℕ) → connection.ended ≡ false
+    → Unseated connection input sent → Unseated (ending connection) (at_end input) sent
+unseated_ends connection input sent open_yet is = record {
   heard = is.heard;
   split = is.split ∙ sym (lines_of-end connection.queue);
   still = λ again. absurd (cc);
   ends = refl;
   end_waits = has_end-end connection.queue;
+  last = last_end connection.queue (is.end_waits ∙ sym is.ends ∙ open_yet);
 }
 
 -- who is not played has met nothing
@@ -411,7 +438,7 @@ module _ (stage : Stage) (conn : ℕ) (connection : Connection) where
     -- who is let in has met nothing
     begins : (seat : ℕ × ℕ) → Untouched (game_at stage seat.0) seat.1 → IsReady stage connection input sent None
         → IsReady stage connection input sent (Some seat)
-    begins seat untouched ready = λ within. record {
+    begins seat untouched ready = λ within. (record {
       met = [];
       taken = [];
       split = ready.split;
@@ -422,8 +449,9 @@ module _ (stage : Stage) (conn : ℕ) (connection : Connection) where
       still = ready.still;
       ends = ready.ends;
       end_waits = ready.end_waits;
+      last = ready.last;
       lives = λ ended. let is = ap standing untouched.past in cc;
-    }
+    }, inr untouched.at)
 
     own_enter : (how : Entry) → connection.seat ≡ None →
         ((seat : ℕ × ℕ) → (enters_turn stage connection how).connection.seat ≡ Some seat
@@ -439,6 +467,7 @@ module _ (stage : Stage) (conn : ℕ) (connection : Connection) where
           still = ready.still;
           ends = ready.ends;
           end_waits = ready.end_waits;
+          last = ready.last;
         }))
     own_enter (Sits seat) outside untouched ready =
         own_play seat (begins seat (untouched seat

@@ -1,5 +1,6 @@
 pub mod ApartLemmas
 pub mod AwayLemmas
+pub mod CallLemmas
 pub mod CuttingLemmas
 pub mod EntryLemmas
 pub mod EventLemmas
@@ -17,6 +18,7 @@ pub mod MetCloseLemmas
 pub mod MetLemmas
 pub mod OfMatchLemmas
 pub mod OneMachineLemmas
+pub mod OverLemmas
 pub mod PlayedLemmas
 pub mod SameLemmas
 pub mod ScriptIsolationLemmas

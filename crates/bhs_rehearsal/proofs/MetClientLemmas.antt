@@ -97,19 +97,22 @@ fed_ready stage connection input sent fed None still (inl known) =
 fed_ready stage connection input sent fed None still (inr known) = absurd (let ended = known.0 in cc)
 fed_ready stage connection input sent fed (Some seat) still known =
     λ within. elim (known within) [
-      | inl going ↦ subst (λ (new : Fed). Going (game_at stage seat.0).setup
-          ((state_of (game_at stage seat.0)).past seat.1) (grown connection fed) new sent)
-          (sym (cond-false _ _ _ (sym going.ends ∙ still))) (going_fed _ _ connection input sent fed still going)
+      | inl (going, open_yet) ↦ (
+        subst (λ (new : Fed). Going (game_at stage seat.0).setup
+            ((state_of (game_at stage seat.0)).past seat.1) (grown connection fed) new sent)
+            (sym (cond-false _ _ _ (sym going.ends ∙ still))) (going_fed _ _ connection input sent fed still going),
+        open_yet,
+      )
       | inr done ↦ absurd (let ended = done.ended in cc)
     ]
 
 pub end_ready : (stage : Stage) (connection : Connection) (input : Fed) (sent : List ℕ) (own : Option (ℕ × ℕ))
     → connection.ended ≡ false →
     IsKnown stage connection input sent own → IsReady stage (ending connection) (at_end input) sent own
-end_ready stage connection input sent None still (inl known) = unseated_ends connection input sent known
+end_ready stage connection input sent None still (inl known) = unseated_ends connection input sent still known
 end_ready stage connection input sent None still (inr known) = absurd (let ended = known.0 in cc)
 end_ready stage connection input sent (Some seat) still known =
     λ within. elim (known within) [
-      | inl going ↦ going_ends _ _ connection input sent going
+      | inl (going, open_yet) ↦ (going_ends _ _ connection input sent still going, open_yet)
       | inr done ↦ absurd (let ended = done.ended in cc)
     ]

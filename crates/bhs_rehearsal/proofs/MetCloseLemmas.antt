@@ -8,10 +8,10 @@ use Rattle.bhs_model.specs.declared.events.Event.TheVariants.{Close}
 use Rattle.bhs_model.specs.declared.setups.Setup.{Setup}
 use Rattle.bhs_model.specs.declared.replies.Reply.TheVariants as replies
 use Rattle.bhs_model.specs.Replying.{here}
-use Rattle.bhs_model.specs.Views.{View}
+use Rattle.bhs_model.specs.Views.{View, Away, standing}
 use Rattle.bhs_model.specs.Runs.{State, is_bound}
 use Rattle.bhs_session.specs.Texts.{text_of}
-use Rattle.bhs_rehearsal.specs.Games.{Game, state_of, played, is_away}
+use Rattle.bhs_rehearsal.specs.Games.{Game, state_of, played, is_away, world_in}
 use Rattle.bhs_rehearsal.specs.Connections.{Item, Connection, unfed, shut}
 use Rattle.bhs_rehearsal.specs.Stages.{Stage, game_at, connection_at, with_game}
 use Rattle.bhs_rehearsal.specs.Stages.{sent_to}
@@ -24,7 +24,10 @@ use Rattle.bhs_rehearsal.proofs.ApartLemmas.{sent_elsewhere, bytes_among-append,
 use Rattle.bhs_rehearsal.proofs.SettlingLemmas.{seat-shut_if, shut_at}
 use Rattle.bhs_rehearsal.proofs.SlowGameLemmas.{state_of-played}
 use Rattle.bhs_rehearsal.specs.Clients.{Fed}
-use Rattle.bhs_rehearsal.specs.SentAsMet.{IsDenial}
+use Rattle.bhs_session.specs.Met.{view_of, bytes, takes_commands}
+use Rattle.bhs_rehearsal.specs.SentAsMet.{IsDenial, over_text}
+use Rattle.bhs_rehearsal.proofs.FitLemmas.{fits_here, away_stands}
+use Rattle.bhs_rehearsal.proofs.OverLemmas.{over_away}
 use Rattle.bhs_rehearsal.proofs.EventLemmas.{setup-played}
 use Rattle.bhs_rehearsal.proofs.TookLemmas.{lines_of}
 use Rattle.bhs_rehearsal.proofs.KnownLemmas.{MetBy, MetIn}
@@ -116,12 +119,16 @@ met_closed game agent connection input sent waits was_open is met =
     (cond waits (shut connection) connection) input (sent ++ cond waits (text_of replies.Over) [])) (sym c.closed)
     (subst (λ (away : Bool). MetBy game.setup ((state_of game).past agent) true away
     (cond waits (shut connection) connection) input (sent ++ cond waits (text_of replies.Over) [])) (sym c.away)
-    (by_waits (is_away game agent) waits is met)))) where
-      by_waits : (away waits : Bool) → waits ≡ away → MetBy game.setup ((state_of game).past agent)
+    (by_waits (is_away game agent) waits is (away_stands (world_in game) ((state_of game).past agent)
+    ((state_of game).position agent) (fits_here game agent)) met)))) where
+      by_waits : (away waits : Bool) → waits ≡ away → (away ≡ true → standing ((state_of game).past agent) ≡ Away)
+          → MetBy game.setup ((state_of game).past agent)
           (state_of game).closed away connection input sent →
           MetBy game.setup ((state_of game).past agent) true away (cond waits (shut connection) connection) input
           (sent ++ cond waits (text_of replies.Over) [])
-      by_waits away true is (inl g) = inr (record {
+      by_waits away true is stands (inl (g, open_yet)) =
+          let on_link : standing (view_of g.met) ≡ Away = ap standing (sym g.lived) ∙ stands (sym is) in
+          inr (record {
         met = g.met;
         taken = g.taken;
         over = lines_of connection.queue;
@@ -129,13 +136,16 @@ met_closed game agent connection input sent waits was_open is met =
         said = g.said;
         due = g.due;
         lived = inl g.lived;
-        heard = inr (ap (λ (own : List ℕ). own ++ text_of replies.Over) g.heard, refl);
+        heard = ap₂ (λ (own last : List ℕ). own ++ last) g.heard
+            (sym (over_away (standing (view_of g.met)) (lines_of connection.queue) on_link));
+        mute = λ still. absurd (cc);
+        by_end = λ none takes. absurd (let both = sym takes ∙ ap takes_commands on_link in cc);
         quiet = inl refl;
         ended = refl;
         done_by = λ still unended. absurd (cc);
       })
-      by_waits away true is (inr d) = absurd (elim d.quiet [ inl closed ↦ cc | inr here ↦ cc ])
-      by_waits away false is (inl g) = inl (record {
+      by_waits away true is stands (inr d) = absurd (elim d.quiet [ inl closed ↦ cc | inr here ↦ cc ])
+      by_waits away false is stands (inl (g, open_yet)) = inl (record {
         met = g.met;
         taken = g.taken;
         split = g.split;
@@ -146,9 +156,10 @@ met_closed game agent connection input sent waits was_open is met =
         still = g.still;
         ends = g.ends;
         end_waits = g.end_waits;
+        last = g.last;
         lives = g.lives;
-      })
-      by_waits away false is (inr d) = inr (record {
+      }, inr (sym is))
+      by_waits away false is stands (inr d) = inr (record {
         met = d.met;
         taken = d.taken;
         over = d.over;
@@ -156,7 +167,12 @@ met_closed game agent connection input sent waits was_open is met =
         said = d.said;
         due = d.due;
         lived = d.lived;
-        heard = elim d.heard [ inl e ↦ inl (append-nil sent ∙ e) | inr p ↦ inr (append-nil sent ∙ p.0, refl) ];
+        heard = append-nil sent ∙ d.heard
+            ∙ ap (λ (closed : Bool). bytes game.setup.board d.met
+            ++ over_text closed (standing (view_of d.met)) d.over) was_open
+            ∙ ap (λ (last : List ℕ). bytes game.setup.board d.met ++ last) (sym (d.mute was_open));
+        mute = λ still. absurd (cc);
+        by_end = d.by_end;
         quiet = inl refl;
         ended = d.ended;
         done_by = λ still unended. absurd (cc);
@@ -235,6 +251,7 @@ module _ (stage : Stage) (game conn : ℕ) (input : Fed) (sent : List ℕ) (with
         still = k.still;
         ends = k.ends;
         end_waits = k.end_waits;
+        last = k.last;
       })
   close_by None unfinished queue ended (inr k) = inr (k.0, subst IsDenial (sym (append-nil sent)) k.1)
   close_by (Some seat) unfinished queue ended known =

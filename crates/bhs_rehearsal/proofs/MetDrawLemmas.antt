@@ -35,7 +35,7 @@ use Rattle.bhs_rehearsal.specs.Clients.{Fed}
 use Rattle.bhs_rehearsal.proofs.EventLemmas.{Alike, alike_itself, alike-delivered, alike-no_arrival, setup-played}
 use Rattle.bhs_rehearsal.proofs.FitLemmas.{fits_here, away_stands}
 use Rattle.bhs_session.proofs.MeetingLemmas.{view_from-append, bytes_from-append, commands-append, due-append}
-use Rattle.bhs_rehearsal.proofs.KnownLemmas.{Going}
+use Rattle.bhs_rehearsal.proofs.KnownLemmas.{Going, GoesOn}
 use Rattle.bhs_rehearsal.proofs.KnownLemmas.{IsKnown}
 use Rattle.bhs_rehearsal.proofs.KnownLemmas.{IsReady, untouched_alike, FreeAreUntouched, known_alike}
 use Rattle.bhs_rehearsal.proofs.MetMoveLemmas.{Knows, moved}
@@ -115,6 +115,7 @@ going_arrives setup old new connection input sent sight away is going = record {
   still = going.still;
   ends = going.ends;
   end_waits = going.end_waits;
+  last = going.last;
   lives = λ ended. let at = ap standing is in cc;
 }
 
@@ -196,19 +197,21 @@ module _ (stage : Stage) (game agent conn : ℕ) (input : Fed) (sent : List ℕ)
         let bound = away_arrives (world_in old_game) (state_of old_game) agent comes in
         subst (λ (own : Option (ℕ × ℕ)). IsReady drawn_in old input
         (sent ++ text_of (here old_game.setup.board a.sight)) own) (sym mine)
-        (subst (λ (one : Game). agent < one.setup.agents → Going one.setup ((state_of one).past agent) old input
+        (subst (λ (one : Game). agent < one.setup.agents → GoesOn one.setup ((state_of one).past agent)
+        (state_of one).closed (is_away one agent) old input
         (sent ++ text_of (here old_game.setup.board a.sight))) (sym found)
         (λ inside.
         let setup_is = setup-played old_game (Deliver agent) in
-        subst (λ (setup : Setup). Going setup ((state_of new_game).past agent) old input
+        (subst (λ (setup : Setup). Going setup ((state_of new_game).past agent) old input
         (sent ++ text_of (here old_game.setup.board a.sight))) (sym setup_is)
         (elim (known (subst (λ (setup : Setup). agent < setup.agents) setup_is inside)) [
-          | inl going ↦ going_arrives old_game.setup ((state_of old_game).past agent) ((state_of new_game).past agent)
+          | inl (going, open_yet) ↦ going_arrives old_game.setup ((state_of old_game).past agent)
+          ((state_of new_game).past agent)
               old input sent a.sight (away_stands (world_in old_game) ((state_of old_game).past agent)
               ((state_of old_game).position agent) (fits_here old_game agent) bound.0) a.new_is going
           | inr done ↦ absurd (elim done.quiet
               [ inl closed ↦ (let open_match = bound.1 in cc) | inr here ↦ (let away = bound.0 in cc) ])
-        ])))
+        ]), inr (arrived_here old_game agent comes))))
 
     draw_moves : IsSettled (moves drawn_in holder).stage →
         Knows (moves drawn_in holder).stage conn input

@@ -1,7 +1,7 @@
 -- What is known of a connection, through each instruction.
 use Rattle.std.proofs.Common.{◌≡◌, ◌≢◌, ◌∙◌, ℕ, zero, suc, ◌<◌, ◌≤◌, inl, inr, Bool, true, false, cond}
 use Rattle.std.proofs.Common.{nat_lt, ◌==◌, Option, Some, None, List, [], ◌∷◌, ◌++◌, length, get_or, replicate, refl}
-use Rattle.std.proofs.Common.{sym, ap, subst, append_assoc, arith}
+use Rattle.std.proofs.Common.{sym, ap, subst, append_assoc, append-nil, arith}
 use Rattle.std.specs.List.{position}
 use Rattle.std.proofs.lemmas.Bool.{cond-true, cond-false, ltb-true, ltb-false, eqb-true, eq-eqb}
 use Rattle.std.proofs.lemmas.List.{get_or_past, length-set, length-map}
@@ -14,7 +14,7 @@ use Rattle.bhs_model.specs.Runs.{initial, is_bound}
 use Rattle.bhs_model.specs.Runs.{run_from}
 use Rattle.bhs_lineup.specs.KeyTable.{Seat}
 use Rattle.bhs_rehearsal.specs.Games.{Game, world_in, state_of, played, reply_to, is_away, drawn}
-use Rattle.bhs_rehearsal.specs.Connections.{Connection, unfed, shut}
+use Rattle.bhs_rehearsal.specs.Connections.{Connection, Item, unfed, shut}
 use Rattle.bhs_rehearsal.specs.Stages.{Stage, game_at, connection_at, with_game, with_connection, has_seat, Entry}
 use Rattle.bhs_rehearsal.specs.Stages.{Waits, Sits, IsDenied, Goes, entry, enters, moves_in, moves, Instruction}
 use Rattle.bhs_rehearsal.specs.Stages.{Feeds, EndsInput, Draws, Closes, Stepped, stepped, nothing}
@@ -25,11 +25,12 @@ use Rattle.bhs_rehearsal.specs.Clients.{bytes_among, bytes_to}
 use Rattle.bhs_rehearsal.proofs.CuttingLemmas.{by_bool}
 use Rattle.bhs_rehearsal.proofs.TurnLemmas.{grown}
 use Rattle.bhs_rehearsal.proofs.SettlingLemmas.{settle_lemma, scripts_lemma}
-use Rattle.bhs_session.specs.Met.{bytes, takes_commands}
+use Rattle.bhs_session.specs.Met.{view_of, bytes, takes_commands}
 use Rattle.bhs_rehearsal.specs.Clients.{Fed, nothing_fed, at_end, fed_by, fed_to}
 use Rattle.bhs_rehearsal.specs.Headline.{beginning, outcome, sent_in, match_of, past_of}
-use Rattle.bhs_rehearsal.specs.SentAsMet.{IsDenial, OthersAreDenied, IsSentOf, IsSentAsMet, SentAsMet}
-use Rattle.bhs_rehearsal.proofs.FitLemmas.{fits_here, away_stands}
+use Rattle.bhs_rehearsal.specs.SentAsMet.{IsDenial, OthersAreDenied, over_text, IsSentAsMet, SentAsMet}
+use Rattle.bhs_rehearsal.proofs.OverLemmas.{over_none}
+use Rattle.bhs_rehearsal.proofs.FitLemmas.{fits_here, away_stands, here_stands}
 use Rattle.bhs_rehearsal.proofs.TookLemmas.{lines_of}
 use Rattle.bhs_rehearsal.proofs.KnownLemmas.{MetBy, ending}
 use Rattle.bhs_rehearsal.proofs.KnownLemmas.{fed_if, IsKnown}
@@ -221,7 +222,14 @@ begun_known games keys connections conn there fresh_logs =
     let start = begun games keys connections in
     record {
       known = subst (λ (one : Connection). IsKnown start one nothing_fed [] one.seat) (sym (fresh_at connections conn))
-          (inl (record { heard = refl; split = refl; still = λ again. refl; ends = refl; end_waits = refl }));
+          (inl (record {
+            heard = refl;
+            split = refl;
+            still = λ again. refl;
+            ends = refl;
+            end_waits = refl;
+            last = tt;
+          }));
       free = λ game agent free. record {
         past = ap (λ (log : List Event). (run_from (world_in (game_at start game)) initial log).past agent)
             (fresh_logs game);
@@ -233,32 +241,40 @@ begun_known games keys connections conn there fresh_logs =
     }
 
 sent_of : (setup : Setup) (past : View) (closed away : Bool) (connection : Connection) (input : Fed) (sent : List ℕ)
-    (waits : Bool) →
+    (waits : Bool) → waits ≡ away → (away ≡ false → standing past ≢ Away) →
     (waits ≡ false → connection.queue ≡ []) → (waits ≡ true → standing past ≡ Away) →
     MetBy setup past closed away connection input sent → IsSentAsMet setup past closed input sent
-sent_of setup past closed away connection input sent waits settled on_link (inl g) = record {
+sent_of setup past closed away connection input sent waits is here settled on_link (inl (g, open_yet)) = record {
   met = g.met;
   taken = g.taken;
-  over = lines_of connection.queue;
+  untaken = lines_of connection.queue;
   split = g.split;
   said = g.said;
   due = g.due;
   lived = inl g.lived;
-  heard = inl g.heard;
+  sends = g.heard ∙ sym (append-nil (bytes setup.board g.met))
+      ∙ ap (λ (last : List ℕ). bytes setup.board g.met ++ last) (sym (elim open_yet [
+        | inl open_match ↦ ap (λ (closed : Bool). over_text closed (standing (view_of g.met))
+            (lines_of connection.queue)) open_match
+        | inr stays ↦ ap (λ (items : List Item). over_text closed (standing (view_of g.met)) (lines_of items))
+            (settled (is ∙ stays))
+            ∙ over_none closed (standing (view_of g.met))
+            (λ on. here stays (ap standing g.lived ∙ on))
+      ]));
   all_taken = λ still unended takes. by_bool waits (λ (is : Bool). waits ≡ is → lines_of connection.queue ≡ [])
       (λ first on. absurd (let at = ap (λ (view : View). takes_commands (standing view)) g.lived in
       let away_now = ap takes_commands (on_link on) in cc))
       (λ first off. ap lines_of (settled off)) refl;
 }
-sent_of setup past closed away connection input sent waits settled on_link (inr d) = record {
+sent_of setup past closed away connection input sent waits is here settled on_link (inr d) = record {
   met = d.met;
   taken = d.taken;
-  over = d.over;
+  untaken = d.over;
   split = d.split;
   said = d.said;
   due = d.due;
   lived = d.lived;
-  heard = d.heard;
+  sends = d.heard;
   all_taken = λ still unended takes. absurd (let never = d.done_by still unended in cc);
 }
 
@@ -281,7 +297,9 @@ sent_as_met_lemma one conn seat fresh_logs seated inside =
     ap (λ (own : Option (ℕ × ℕ)). awaits_arrival final (record (connection_at final conn) { seat = own })) seated in
     sent_of game.setup (past_of one seat) (state_of game).closed (is_away game seat.1)
     (connection_at final conn) fed sent
-    (awaits_arrival final (connection_at final conn)) (knows.settled.all_taken conn)
+    (awaits_arrival final (connection_at final conn)) waits
+    (here_stands (world_in game) (past_of one seat) ((state_of game).position seat.1) (fits_here game seat.1))
+    (knows.settled.all_taken conn)
     (λ on. away_stands (world_in game) (past_of one seat) ((state_of game).position seat.1) (fits_here game seat.1)
     (sym waits ∙ on)) (known inside))
     (λ first past.
@@ -291,10 +309,6 @@ sent_as_met_lemma one conn seat fresh_logs seated inside =
     absurd (let never = sym (ap (λ (it : Connection). it.seat) (get_or_past final.connections conn unfed few))
     ∙ seated in cc))
     refl
-
-pub sent_alone : (own sent : List ℕ) → IsSentOf false own sent → sent ≡ own
-sent_alone own sent (inl e) = e
-sent_alone own sent (inr p) = absurd (let never = p.1 in cc)
 
 denied_of : (stage : Stage) (connection : Connection) (input : Fed) (sent : List ℕ)
     → IsKnown stage connection input sent None → IsDenial sent

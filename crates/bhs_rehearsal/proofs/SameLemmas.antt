@@ -1,6 +1,6 @@
 -- A past and the commands say what was met.
-use Rattle.std.proofs.Common.{◌≡◌, ◌∙◌, ℕ, zero, suc, ◌+◌, inl, inr, Bool, true, false, List, [], ◌∷◌, ◌++◌, map, refl}
-use Rattle.std.proofs.Common.{sym, ap, ap₂, subst, arith}
+use Rattle.std.proofs.Common.{◌≡◌, ◌∙◌, ℕ, ◌+◌, inl, inr, Bool, true, false, List, [], ◌∷◌, ◌++◌, map, refl}
+use Rattle.std.proofs.Common.{sym, ap, ap₂, subst, append-nil}
 use Rattle.std.proofs.lemmas.List.{map-append}
 use Rattle.bhs_model.specs.declared.commands.Command.{Command}
 use Rattle.bhs_model.specs.declared.setups.Setup.{Setup}
@@ -10,60 +10,11 @@ use Rattle.bhs_wire.specs.Lines.{lines}
 use Rattle.bhs_session.specs.Texts.{command_of}
 use Rattle.bhs_session.specs.Met.{Meeting, Hears, Refuses, Arrives, view_from, view_of, commands, bytes, takes_commands}
 use Rattle.bhs_session.specs.Met.{AreDue}
+use Rattle.bhs_session.proofs.PastLemmas.{same_start, no_circle}
 use Rattle.bhs_rehearsal.specs.Clients.{Fed, nothing_fed, fed_to}
 use Rattle.bhs_rehearsal.specs.Headline.{Rehearsed, sent_in, match_of, past_of, Plays, EqualPastsAreSentEqualBytes}
 use Rattle.bhs_rehearsal.specs.SentAsMet.{IsPastOf, IsSentAsMet, PastsAndCommandsSayWhatWasMet}
-use Rattle.bhs_rehearsal.proofs.MetLemmas.{sent_alone, sent_as_met_lemma}
-
--- how many steps of a past they make
-abbrev steps : List Meeting → ℕ
-steps [] = zero
-steps (Hears command glance ∷ met) = suc (steps met)
-steps (Refuses command ∷ met) = steps met
-steps (Arrives sight ∷ met) = suc (steps met)
-
-abbrev size : View → ℕ
-size Start = zero
-size (Told view command glance) = suc (size view)
-size (Arrived view sight) = suc (size view)
-
-size-from : (view : View) (met : List Meeting) → size (view_from view met) ≡ steps met + size view
-size-from view [] = omega arith
-size-from view (Hears command glance ∷ met) = let rest = size-from (Told view command glance) met in omega (arith, rest)
-size-from view (Refuses command ∷ met) = size-from view met
-size-from view (Arrives sight ∷ met) = let rest = size-from (Arrived view sight) met in omega (arith, rest)
-
-abbrev before : View → View
-before Start = Start
-before (Told view command glance) = view
-before (Arrived view sight) = view
-
-abbrev without_last : ℕ → View → View
-without_last zero view = view
-without_last (suc count) view = before (without_last count view)
-
-without_last-from : (view : View) (met : List Meeting) → without_last (steps met) (view_from view met) ≡ view
-without_last-from view [] = refl
-without_last-from view (Hears command glance ∷ met) = ap before (without_last-from (Told view command glance) met)
-without_last-from view (Refuses command ∷ met) = without_last-from view met
-without_last-from view (Arrives sight ∷ met) = ap before (without_last-from (Arrived view sight) met)
-
--- pasts of one size that came to the same began alike
-same_start : (view other : View) (met more : List Meeting) → size view ≡ size other
-    → view_from view met ≡ view_from other more → view ≡ other
-same_start view other met more sizes same =
-    let one = size-from view met in
-    let two = size-from other more in
-    let whole : size (view_from view met) ≡ size (view_from other more) = ap size same in
-    let count : steps met ≡ steps more = omega (arith, one, two, whole, sizes) in
-    sym (without_last-from view met) ∙ ap₂ without_last count same ∙ without_last-from other more
-
--- a past does not come to itself by a step
-no_circle : (view longer : View) (met : List Meeting) → size longer ≡ suc (size view) → view ≡ view_from longer met → ⊥
-no_circle view longer met is same =
-    let one = size-from longer met in
-    let whole : size view ≡ size (view_from longer met) = ap size same in
-    absurd (omega (arith, one, whole, is))
+use Rattle.bhs_rehearsal.proofs.MetLemmas.{sent_as_met_lemma}
 
 -- Pasts that are met with the same commands first were met alike, where commands are left over only of an agent of
 -- which none is taken.
@@ -142,10 +93,10 @@ lived_alone has_ended view past still (inr p) = absurd (let never = p.1 in cc)
 -- all commands that were fed: those that were met, and those left over
 said_first : (setup : Setup) (past : View) (closed : Bool) (fed : Fed) (sent : List ℕ)
     (is : IsSentAsMet setup past closed fed sent) →
-    commands is.met ++ map command_of is.over ≡ map command_of (lines fed.bytes)
+    commands is.met ++ map command_of is.untaken ≡ map command_of (lines fed.bytes)
 said_first setup past closed fed sent is =
-    ap (λ (first : List Command). first ++ map command_of is.over) is.said
-    ∙ sym (map-append command_of is.taken is.over) ∙ ap (map command_of) (sym is.split)
+    ap (λ (first : List Command). first ++ map command_of is.untaken) is.said
+    ∙ sym (map-append command_of is.taken is.untaken) ∙ ap (map command_of) (sym is.split)
 
 sent_alike : (setup setup2 : Setup) (past past2 : View) (fed fed2 : Fed) (sent sent2 : List ℕ) →
     (first : IsSentAsMet setup past false fed sent) (second : IsSentAsMet setup2 past2 false fed2 sent2) →
@@ -153,14 +104,15 @@ sent_alike : (setup setup2 : Setup) (past past2 : View) (fed fed2 : Fed) (sent s
     past ≡ past2 → map command_of (lines fed.bytes) ≡ map command_of (lines fed2.bytes) → sent ≡ sent2
 sent_alike setup setup2 past past2 fed fed2 sent sent2 first second quotas boards still still2 pasts said =
     let mets : first.met ≡ second.met =
-    same_met setup.quota Start first.met second.met (map command_of first.over) (map command_of second.over)
+    same_met setup.quota Start first.met second.met (map command_of first.untaken) (map command_of second.untaken)
     first.due (subst (λ (quota : ℕ). AreDue quota Start second.met) (sym quotas) second.due)
     (sym (lived_alone fed.has_ended (view_of first.met) past still first.lived) ∙ pasts
     ∙ lived_alone fed2.has_ended (view_of second.met) past2 still2 second.lived)
     (said_first setup past false fed sent first ∙ said ∙ sym (said_first setup2 past2 false fed2 sent2 second))
     (λ takes. ap (map command_of) (first.all_taken refl still takes))
     (λ takes. ap (map command_of) (second.all_taken refl still2 takes)) in
-    sent_alone _ sent first.heard ∙ ap₂ bytes boards mets ∙ sym (sent_alone _ sent2 second.heard)
+    first.sends ∙ append-nil (bytes setup.board first.met) ∙ ap₂ bytes boards mets
+    ∙ sym (second.sends ∙ append-nil (bytes setup2.board second.met))
 
 met_of : (one : Rehearsed) (conn : ℕ) (seat : ℕ × ℕ) → Plays one conn seat →
     IsSentAsMet (match_of one seat).setup (past_of one seat) false (fed_to conn nothing_fed one.script)

@@ -7,7 +7,7 @@ use Rattle.bhs_model.specs.declared.events.Event.TheVariants.{Tell}
 use Rattle.bhs_model.specs.declared.setups.Setup.{Setup}
 use Rattle.bhs_model.specs.declared.replies.Reply.{Reply}
 use Rattle.bhs_model.specs.declared.replies.Reply.TheVariants as replies
-use Rattle.bhs_model.specs.Views.{View, Told, Nothing, Ended, standing}
+use Rattle.bhs_model.specs.Views.{View, Told, Nothing, Away, Ended, standing}
 use Rattle.bhs_model.specs.Worlds.{World}
 use Rattle.bhs_model.specs.Runs.{State, Position, is_bound, glance, position_after, heard, told, next}
 use Rattle.bhs_model.proofs.StepLemmas.{changed_same}
@@ -19,7 +19,9 @@ use Rattle.bhs_rehearsal.proofs.CuttingLemmas.{by_bool, behind}
 use Rattle.bhs_rehearsal.proofs.SlowGameLemmas.{state_of-played}
 use Rattle.bhs_session.specs.Met.{Meeting, past_after, view_from, commands, answer_to, bytes_from, takes_commands}
 use Rattle.bhs_session.specs.Met.{AreDue}
-use Rattle.bhs_rehearsal.specs.SentAsMet.{IsPastOf, IsSentOf}
+use Rattle.bhs_rehearsal.specs.SentAsMet.{IsPastOf, over_text}
+use Rattle.bhs_rehearsal.proofs.OverLemmas.{EndsLast, has_end, over_none, over_next, over_ended}
+use Rattle.bhs_rehearsal.proofs.FitLemmas.{fits_here, here_stands}
 use Rattle.bhs_rehearsal.proofs.EventLemmas.{IsIn, played_in, Alike, alike_itself, alike_through, alike-told}
 use Rattle.bhs_rehearsal.proofs.EventLemmas.{closed-told, Answered, answered-open, answered-closed, unheard-closed}
 
@@ -38,12 +40,6 @@ pub lines_of-says : (lines : List Line) → lines_of (map Says lines) ≡ lines
 lines_of-says [] = refl
 lines_of-says (line ∷ lines) = ap (λ (rest : List Line). line ∷ rest) (lines_of-says lines)
 
--- whether the end of the input is among items
-abbrev pub has_end : List Item → Bool
-has_end [] = false
-has_end (Says line ∷ items) = has_end items
-has_end (Ends ∷ items) = true
-
 pub has_end-says : (items : List Item) (lines : List Line) → has_end (items ++ map Says lines) ≡ has_end items
 has_end-says [] [] = refl
 has_end-says [] (line ∷ lines) = has_end-says [] lines
@@ -61,7 +57,11 @@ has_end-end (Ends ∷ items) = refl
 abbrev pub IsQuiet : (closed away : Bool) → Type 0
 IsQuiet closed away = (closed ≡ true) ⊎ (away ≡ false)
 
-pub record Took (setup : Setup) (closed : Bool) (old : View) (items : List Item) (done : Taken)
+-- or before the close: an agent on a link is waited for
+abbrev pub IsOpen : (closed away : Bool) → Type 0
+IsOpen closed away = (closed ≡ false) ⊎ (away ≡ false)
+
+pub record Took (setup : Setup) (closed was_away : Bool) (old : View) (items : List Item) (done : Taken)
     (agent : ℕ) : Type 0 where
   pub met : List Meeting
   pub lines : List Line
@@ -69,12 +69,20 @@ pub record Took (setup : Setup) (closed : Bool) (old : View) (items : List Item)
   pub split : lines_of items ≡ lines ++ over
   pub left : done.is_done ≡ false → over ≡ lines_of done.left
   pub end_left : done.is_done ≡ false → has_end items ≡ has_end done.left
+  pub last_left : done.is_done ≡ false → EndsLast items → EndsLast done.left
+  pub open_left : done.is_done ≡ false → IsOpen closed was_away → IsOpen closed (is_away done.game agent)
   pub said : commands met ≡ map command_of lines
   pub due : AreDue setup.quota old met
   pub lived : done.is_done ≡ false → (state_of done.game).past agent ≡ view_from old met
   pub died : done.is_done ≡ true → IsPastOf (has_end items) (view_from old met) ((state_of done.game).past agent)
   pub heard : done.is_done ≡ false → done.text ≡ bytes_from setup.board old met
-  pub last : done.is_done ≡ true → IsSentOf closed (bytes_from setup.board old met) done.text
+  pub last : done.is_done ≡ true
+      → done.text ≡ bytes_from setup.board old met ++ over_text closed (standing (view_from old met)) over
+  -- who is done before the close is told nothing at the close; and who took all lines and may say more, by the end of
+  -- its input
+  pub mute : done.is_done ≡ true → closed ≡ false → over_text true (standing (view_from old met)) over ≡ []
+  pub by_end : done.is_done ≡ true → over ≡ [] → takes_commands (standing (view_from old met)) ≡ true
+      → has_end items ≡ true
   pub quiet : done.is_done ≡ true → IsQuiet closed (is_away done.game agent)
   -- it goes on with an agent that has not ended; before the close and the end of the input it is done by the agent's
   -- end
@@ -91,7 +99,7 @@ not_back false is = refl
 -- nothing is taken
 took-leaves : (setup : Setup) (closed : Bool) (game : Game) (agent : ℕ) (items : List Item) → IsIn setup agent game
     → standing ((state_of game).past agent) ≢ Ended → (state_of game).closed ≡ closed →
-    Took setup closed ((state_of game).past agent) items (leaves game items) agent
+    Took setup closed (is_away game agent) ((state_of game).past agent) items (leaves game items) agent
 took-leaves setup closed game agent items is lives at = record {
   met = [];
   lines = [];
@@ -99,12 +107,16 @@ took-leaves setup closed game agent items is lives at = record {
   split = refl;
   left = λ goes_on. refl;
   end_left = λ goes_on. refl;
+  last_left = λ goes_on last. last;
+  open_left = λ goes_on open_yet. open_yet;
   said = refl;
   due = tt;
   lived = λ goes_on. refl;
   died = λ done. inl refl;
   heard = λ goes_on. refl;
-  last = λ done. inl refl;
+  last = λ done. absurd (cc);
+  mute = λ done. absurd (cc);
+  by_end = λ done. absurd (cc);
   quiet = λ done. absurd (cc);
   lives = λ goes_on. lives;
   done_by = λ done. absurd (cc);
@@ -136,25 +148,31 @@ left_past world state agent =
     )) (λ unheard. inl refl)
 
 took-end : (setup : Setup) (closed : Bool) (game : Game) (agent : ℕ) (items : List Item) → IsIn setup agent game
-    → (state_of game).closed ≡ closed → is_away game agent ≡ false →
-    Took setup closed ((state_of game).past agent) (Ends ∷ items)
+    → (state_of game).closed ≡ closed → is_away game agent ≡ false → items ≡ [] →
+    Took setup closed (is_away game agent) ((state_of game).past agent) (Ends ∷ items)
     (record { game = played game (Tell agent Leave); is_done = true; left = []; text = [] }) agent
-took-end setup closed game agent items is at here =
+took-end setup closed game agent items is at here none =
+    let standing_here = here_stands (world_in game) ((state_of game).past agent) ((state_of game).position agent)
+    (fits_here game agent) here in
     let stands = state_of-played game (Tell agent Leave) in
     record {
       met = [];
       lines = [];
-      over = lines_of items;
-      split = refl;
+      over = [];
+      split = ap lines_of none;
       left = λ goes_on. absurd (cc);
       end_left = λ goes_on. absurd (cc);
+      last_left = λ goes_on. absurd (cc);
+      open_left = λ goes_on. absurd (cc);
       said = refl;
       due = tt;
       lived = λ goes_on. absurd (cc);
       died = λ done. subst (λ (state : State). IsPastOf true ((state_of game).past agent) (state.past agent))
           (sym stands) (left_past (world_in game) (state_of game) agent);
       heard = λ goes_on. refl;
-      last = λ done. inl refl;
+      last = λ done. sym (over_none closed (standing ((state_of game).past agent)) standing_here);
+      mute = λ done still. over_none true (standing ((state_of game).past agent)) standing_here;
+      by_end = λ done untaken takes. refl;
       quiet = λ done. inr (ap (λ (state : State). is_bound (state.position agent)) stands
           ∙ left_position (world_in game) (state_of game) agent here);
       lives = λ goes_on. absurd (cc);
@@ -166,7 +184,7 @@ took-end setup closed game agent items is at here =
 -- a line behind the close
 took-over : (setup : Setup) (game : Game) (agent : ℕ) (line : Line) (items : List Item) → IsIn setup agent game
     → standing ((state_of game).past agent) ≢ Ended → (state_of game).closed ≡ true → is_away game agent ≡ false →
-    Took setup true ((state_of game).past agent) (Says line ∷ items)
+    Took setup true (is_away game agent) ((state_of game).past agent) (Says line ∷ items)
     (record {
       game = played game (Tell agent (command_of line));
       is_done = true;
@@ -183,12 +201,16 @@ took-over setup game agent line items is lives at here =
       split = refl;
       left = λ goes_on. absurd (cc);
       end_left = λ goes_on. absurd (cc);
+      last_left = λ goes_on. absurd (cc);
+      open_left = λ goes_on. absurd (cc);
       said = refl;
       due = tt;
       lived = λ goes_on. absurd (cc);
       died = λ done. inl (ap (λ (state : State). state.past agent) still);
       heard = λ goes_on. absurd (cc);
-      last = λ done. inr (refl, refl);
+      last = λ done. sym (over_next (standing ((state_of game).past agent)) line (lines_of items) lives);
+      mute = λ done still. absurd (cc);
+      by_end = λ done none. absurd (cc);
       quiet = λ done. inl refl;
       lives = λ goes_on. absurd (cc);
       done_by = λ done still. absurd (cc);
@@ -215,22 +237,34 @@ module _ (setup : Setup) (game : Game) (agent : ℕ) (line : Line) (items : List
   took-last : (a : Answered setup old new command (reply_to game (Tell agent command)) (not (is_away next_game agent)))
       →
       is_last (answer_to setup.board old a.meeting) ≡ true →
-      Took setup false old (Says line ∷ items)
+      Took setup false (is_away game agent) old (Says line ∷ items)
       (record { game = next_game; is_done = true; left = []; text = text_of (answer_to setup.board old a.meeting) })
       agent
-  took-last a is_last_one = record {
+  took-last a is_last_one =
+    let text = text_of (answer_to setup.board old a.meeting) in
+    let stopped : takes_commands (standing (past_after old a.meeting)) ≡ false =
+    ap (λ (view : View). takes_commands (standing view)) (sym a.new_is) ∙ a.ends_it is_last_one in
+    let here_now : standing (past_after old a.meeting) ≢ Away =
+    subst (λ (view : View). standing view ≢ Away) a.new_is
+    (here_stands (world_in next_game) new ((state_of next_game).position agent) (fits_here next_game agent)
+    (not_back (is_away next_game agent) (a.stays is_last_one))) in
+    record {
     met = a.meeting ∷ [];
     lines = line ∷ [];
     over = lines_of items;
     split = refl;
     left = λ goes_on. absurd (cc);
     end_left = λ goes_on. absurd (cc);
+    last_left = λ goes_on. absurd (cc);
+    open_left = λ goes_on. absurd (cc);
     said = ap (λ (said : List Command). said ++ []) a.command_is;
     due = (a.due, tt);
     lived = λ goes_on. absurd (cc);
     died = λ done. inl a.new_is;
     heard = λ goes_on. absurd (cc);
-    last = λ done. inl (sym (append-nil (text_of (answer_to setup.board old a.meeting))));
+    last = λ done. sym (append-nil (text ++ []) ∙ append-nil text);
+    mute = λ done still. over_ended (standing (past_after old a.meeting)) (lines_of items) stopped here_now;
+    by_end = λ done none takes. absurd (let both = sym stopped ∙ takes in cc);
     quiet = λ done. inr (not_back (is_away next_game agent) (a.stays is_last_one));
     lives = λ goes_on. absurd (cc);
     done_by = λ done still unended. ap (λ (view : View). takes_commands (standing view)) (sym a.new_is)
@@ -241,8 +275,9 @@ module _ (setup : Setup) (game : Game) (agent : ℕ) (line : Line) (items : List
 
   took-more : (a : Answered setup old new command (reply_to game (Tell agent command)) (not (is_away next_game agent)))
       → (others : Taken) →
-      Took setup false new items others agent →
-      Took setup false old (Says line ∷ items) (behind (text_of (answer_to setup.board old a.meeting)) others) agent
+      Took setup false (is_away next_game agent) new items others agent →
+      Took setup false (is_away game agent) old (Says line ∷ items) (behind
+      (text_of (answer_to setup.board old a.meeting)) others) agent
   took-more a others more =
       let m = a.meeting in
       let text = text_of (answer_to setup.board old m) in
@@ -254,6 +289,8 @@ module _ (setup : Setup) (game : Game) (agent : ℕ) (line : Line) (items : List
         split = ap (λ (lines : List Line). line ∷ lines) more.split;
         left = more.left;
         end_left = more.end_left;
+        last_left = more.last_left;
+        open_left = λ goes_on open_yet. inl refl;
         said = ap₂ (λ (one two : List Command). one ++ two) a.command_is more.said;
         due = (a.due, subst (λ (view : View). AreDue setup.quota view more.met) same more.due);
         lived = λ goes_on. more.lived goes_on ∙ ap (λ (view : View). view_from view more.met) same;
@@ -261,11 +298,14 @@ module _ (setup : Setup) (game : Game) (agent : ℕ) (line : Line) (items : List
             ((state_of others.game).past agent)) same (more.died done);
         heard = λ goes_on. ap (λ (rest : List ℕ). text ++ rest)
             (more.heard goes_on ∙ ap (λ (view : View). bytes_from setup.board view more.met) same);
-        last = λ done. elim (more.last done) [
-          | inl e ↦ inl (ap (λ (rest : List ℕ). text ++ rest)
-              (e ∙ ap (λ (view : View). bytes_from setup.board view more.met) same))
-          | inr p ↦ absurd (let never = p.1 in cc)
-        ];
+        last = λ done. ap (λ (rest : List ℕ). text ++ rest)
+            (more.last done ∙ append-nil (bytes_from setup.board new more.met)
+            ∙ ap (λ (view : View). bytes_from setup.board view more.met) same)
+            ∙ sym (append-nil (text ++ bytes_from setup.board (past_after old m) more.met));
+        mute = λ done still. ap (λ (view : View). over_text true (standing (view_from view more.met)) more.over)
+            (sym same) ∙ more.mute done still;
+        by_end = λ done none takes. more.by_end done none
+            (ap (λ (view : View). takes_commands (standing (view_from view more.met))) same ∙ takes);
         quiet = more.quiet;
         lives = more.lives;
         done_by = λ done still unended. ap (λ (view : View). takes_commands (standing (view_from view more.met)))
@@ -274,58 +314,61 @@ module _ (setup : Setup) (game : Game) (agent : ℕ) (line : Line) (items : List
         is_in = more.is_in;
       }
 
-  took-line : (others : Taken) → (standing new ≢ Ended → Took setup false new items others agent) →
-      Took setup false old (Says line ∷ items) (answers (reply_to game (Tell agent command)) next_game others) agent
+  took-line : (others : Taken)
+      → (standing new ≢ Ended → Took setup false (is_away next_game agent) new items others agent) →
+      Took setup false (is_away game agent) old (Says line ∷ items) (answers (reply_to game (Tell agent command))
+      next_game others) agent
   took-line others more =
       let a = answered-open setup game agent command is here lives at in
       let reply = answer_to setup.board old a.meeting in
-      subst (λ (replied : Option Reply). Took setup false old (Says line ∷ items) (answers replied next_game others)
-      agent) (sym a.replied_is)
+      subst (λ (replied : Option Reply). Took setup false (is_away game agent) old (Says line ∷ items)
+      (answers replied next_game others) agent) (sym a.replied_is)
       (by_bool (is_last reply)
-      (λ (last : Bool). is_last reply ≡ last → Took setup false old (Says line ∷ items)
+      (λ (last : Bool). is_last reply ≡ last → Took setup false (is_away game agent) old (Says line ∷ items)
       (cond last (record { game = next_game; is_done = true; left = []; text = text_of reply })
       (behind (text_of reply) others)) agent)
       (λ first last. took-last a last) (λ first goes_on. took-more a others (more (a.goes_on goes_on))) refl)
 
 pub took : (setup : Setup) (closed : Bool) (game : Game) (agent : ℕ) (items : List Item) → IsIn setup agent game
-    → standing ((state_of game).past agent) ≢ Ended → (state_of game).closed ≡ closed →
-    Took setup closed ((state_of game).past agent) items (taken game agent items) agent
-took setup closed game agent [] is lives at = took-leaves setup closed game agent [] is lives at
-took setup closed game agent (Says line ∷ items) is lives at =
+    → standing ((state_of game).past agent) ≢ Ended → (state_of game).closed ≡ closed → EndsLast items →
+    Took setup closed (is_away game agent) ((state_of game).past agent) items (taken game agent items) agent
+took setup closed game agent [] is lives at last = took-leaves setup closed game agent [] is lives at
+took setup closed game agent (Says line ∷ items) is lives at last =
     let event = Tell agent (command_of line) in
     let next_game = played game event in
     let others = taken next_game agent items in
     by_bool (is_away game agent)
-    (λ (away : Bool). Took setup closed ((state_of game).past agent) (Says line ∷ items)
+    (λ (away : Bool). Took setup closed (is_away game agent) ((state_of game).past agent) (Says line ∷ items)
     (cond away (leaves game (Says line ∷ items)) (answers (reply_to game event) next_game others)) agent)
     (λ away. took-leaves setup closed game agent (Says line ∷ items) is lives at)
     (λ here. by_closed setup closed game agent line items is lives at here others
     (λ still_lives. took setup closed next_game agent items (played_in setup agent game event is) still_lives
-    (closed-told game agent (command_of line) ∙ at)))
+    (closed-told game agent (command_of line) ∙ at) last))
   where
     by_closed : (setup : Setup) (closed : Bool) (game : Game) (agent : ℕ) (line : Line) (items : List Item)
         → IsIn setup agent game → standing ((state_of game).past agent) ≢ Ended → (state_of game).closed ≡ closed →
         is_away game agent ≡ false → (others : Taken) →
         (standing ((state_of (played game (Tell agent (command_of line)))).past agent) ≢ Ended
-        → Took setup closed ((state_of (played game (Tell agent (command_of line)))).past agent) items others agent)
+        → Took setup closed (is_away (played game (Tell agent (command_of line))) agent)
+        ((state_of (played game (Tell agent (command_of line)))).past agent) items others agent)
         →
-        Took setup closed ((state_of game).past agent) (Says line ∷ items)
+        Took setup closed (is_away game agent) ((state_of game).past agent) (Says line ∷ items)
         (answers (reply_to game (Tell agent (command_of line))) (played game (Tell agent (command_of line))) others)
         agent
     by_closed setup true game agent line items is lives at here others more =
-        subst (λ (replied : Option Reply). Took setup true ((state_of game).past agent) (Says line ∷ items)
-        (answers replied (played game (Tell agent (command_of line))) others) agent)
+        subst (λ (replied : Option Reply). Took setup true (is_away game agent) ((state_of game).past agent)
+        (Says line ∷ items) (answers replied (played game (Tell agent (command_of line))) others) agent)
         (sym (answered-closed setup game agent (command_of line) is here lives at))
         (took-over setup game agent line items is lives at here)
     by_closed setup false game agent line items is lives at here others more =
         took-line setup game agent line items is lives at here others more
-took setup closed game agent (Ends ∷ items) is lives at =
+took setup closed game agent (Ends ∷ items) is lives at last =
     by_bool (is_away game agent)
-    (λ (away : Bool). Took setup closed ((state_of game).past agent) (Ends ∷ items)
+    (λ (away : Bool). Took setup closed (is_away game agent) ((state_of game).past agent) (Ends ∷ items)
     (cond away (leaves game (Ends ∷ items))
     (record { game = played game (Tell agent Leave); is_done = true; left = []; text = [] })) agent)
     (λ away. took-leaves setup closed game agent (Ends ∷ items) is lives at)
-    (λ here. took-end setup closed game agent items is at here)
+    (λ here. took-end setup closed game agent items is at here last)
 
 -- ---- and of the others
 

@@ -47,8 +47,8 @@ pub record Plays (one : Rehearsed) (conn : ℕ) (seat : ℕ × ℕ) : Type 0 whe
   pub still_open : (state_of (match_of one seat)).closed ≡ false
   pub goes_on : (fed_to conn nothing_fed one.script).has_ended ≡ false
 
--- Two connections in any two rehearsals, in matches of equal quota and equal whiteboards, whose agents have equal
--- pasts and that were fed equal commands, were sent equal bytes.
+-- Two connections in any two rehearsals, in matches of equal quota and whiteboards of equal size, whose agents have
+-- equal pasts and that were fed equal commands, were sent equal bytes.
 abbrev pub EqualPastsAreSentEqualBytes : Type 0
 EqualPastsAreSentEqualBytes =
     (one two : Rehearsed) (conn conn2 : ℕ) (seat seat2 : ℕ × ℕ) → Plays one conn seat → Plays two conn2 seat2 →

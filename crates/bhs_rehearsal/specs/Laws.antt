@@ -178,7 +178,7 @@ OtherMatchesAreNotHeard =
     (game : ℕ) (stage : Stage) (script : List Instruction) →
     HeardAlike game stage script stage (without game stage script)
 
--- ---- the silence of the black hole
+-- ---- the silence of black holes and dark links
 
 -- these links are held where the match holds a link or destroys on it
 abbrev pub HoldsAsWell : Game → (held : List (ℕ × ℕ)) → Type 0
@@ -217,7 +217,8 @@ pub record IsSlowStageFor (game : ℕ) (one two : Stage) : Type 0 where
   pub slow : IsSlowFor (game_at one game) (game_at two game)
   pub connections : one.connections ≡ two.connections
 
--- no client can tell the black hole from links that are slow: each script sends the same, instruction by instruction
+-- no client can tell black holes and dark links from links that are slow: each script sends the same, instruction by
+-- instruction
 abbrev pub HoleSoundsSlow : Type 0
 HoleSoundsSlow =
     (game : ℕ) (one two : Stage) (script : List Instruction) → IsSlowStageFor game one two →

@@ -4,6 +4,7 @@ use Rattle.bhs_model.specs.declared.commands.Command.TheVariants.{Enter, Look, D
 use Rattle.bhs_model.specs.Views.{Nothing, Saw, Seen, Unwritten}
 use Rattle.bhs_rehearsal.specs.Stages.{Feeds, Draws}
 use Rattle.bhs_session.specs.Met.{Meeting, Hears, Arrives, view_of, bytes}
+use Rattle.bhs_rehearsal.specs.Games.{Game}
 use Rattle.bhs_rehearsal.specs.Headline.{Rehearsed, past_of, sent_in, Plays}
 use Rattle.bhs_rehearsal.specs.Examples.{triangle, keys, says, line, enter_ka, depart_by_0, look, here_at_home}
 use Rattle.bhs_rehearsal.specs.Examples.{gone, here_by_0}
@@ -35,3 +36,34 @@ TheBytesAreThese = bytes 8 met_there ≡ line here_at_home ++ (line gone ++ (lin
 -- the headline speaks of it
 abbrev pub TheHeadlineSpeaksOfIt : Type 0
 TheHeadlineSpeaksOfIt = Plays hasty_look 0 (0, 0)
+
+-- ---- the same elsewhere
+
+-- Another network: a ring of four nodes, of which node 2 and node 3 are black holes and the link between nodes 1 and 2
+-- is dark. Node 0 is the home base, and there are three agents.
+abbrev pub ring_of_four : Game
+ring_of_four = record {
+  net = ((1, 0) ∷ (3, 1) ∷ []) ∷ ((0, 0) ∷ (2, 0) ∷ []) ∷ ((1, 1) ∷ (3, 0) ∷ []) ∷ ((2, 1) ∷ (0, 1) ∷ []) ∷ [];
+  setup = record { home = 0; holes = 2 ∷ 3 ∷ []; dark = (1, 1) ∷ []; agents = 3; quota = 10; board = 8 };
+  held = [];
+  log = [];
+}
+
+-- the client says the same there, and its agent arrives before the client looks
+abbrev pub look_elsewhere : Rehearsed
+look_elsewhere = record {
+  games = ring_of_four ∷ [];
+  keys = keys;
+  connections = 5;
+  script = says 0 enter_ka ∷ says 0 depart_by_0 ∷ Draws 0 7 ∷ says 0 look ∷ [];
+}
+
+abbrev pub TheHeadlineSpeaksOfTheOther : Type 0
+TheHeadlineSpeaksOfTheOther = Plays look_elsewhere 0 (0, 0)
+
+-- the agents cannot tell the networks apart
+abbrev pub ThePastsAreEqual : Type 0
+ThePastsAreEqual = past_of hasty_look (0, 0) ≡ past_of look_elsewhere (0, 0)
+
+abbrev pub TheBytesAreEqual : Type 0
+TheBytesAreEqual = sent_in hasty_look 0 ≡ sent_in look_elsewhere 0

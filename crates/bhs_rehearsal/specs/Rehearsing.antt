@@ -72,6 +72,14 @@ pub record Rehearsing : Type 0 where
   -- whether memory ran out in a call
   pub has_failed : Bool
 
+-- a rehearsal as `new` makes it of a lineup, with this number of connections
+abbrev pub made_of : Lineup → (connections : ℕ) → Rehearsing
+made_of lineup connections = record {
+  stage = first_stage lineup connections;
+  teams = map team_of lineup.ready.items;
+  has_failed = false;
+}
+
 -- where a connection plays, there is the match
 abbrev pub IsSeated : (games : ℕ) → Option (ℕ × ℕ) → Type 0
 IsSeated games None = Unit {0}

@@ -1,9 +1,9 @@
 -- Who plays an agent is sent the bytes of what the agent met, and who plays none nothing or one denial.
-use Rattle.std.specs.Prelude.{ℕ, ◌≡◌, ◌<◌, ◌⊎◌, Bool, true, false, Some, None, List, [], ◌++◌, map}
+use Rattle.std.specs.Prelude.{ℕ, ◌≡◌, ◌<◌, ◌⊎◌, Bool, true, false, Some, None, List, [], ◌∷◌, ◌++◌, map}
 use Rattle.bhs_model.specs.declared.commands.Command.TheVariants.{Leave}
 use Rattle.bhs_model.specs.declared.replies.Reply.TheVariants.{Over}
 use Rattle.bhs_model.specs.declared.setups.Setup.{Setup}
-use Rattle.bhs_model.specs.Views.{View, Start, Told, Nothing, standing}
+use Rattle.bhs_model.specs.Views.{View, Start, Told, Nothing, Standing, Outside, Present, Away, Ended, standing}
 use Rattle.bhs_wire.specs.declared.denials.Denial.{Denial}
 use Rattle.bhs_wire.specs.Lines.{Line, lines}
 use Rattle.bhs_session.specs.Met.{Meeting, view_of, commands, bytes, takes_commands, AreDue}
@@ -19,25 +19,32 @@ use Rattle.bhs_rehearsal.specs.Headline.{Rehearsed, outcome, BeginsEmpty, sent_i
 abbrev pub IsPastOf : (has_ended : Bool) → View → View → Type 0
 IsPastOf has_ended view past = (past ≡ view) ⊎ ((past ≡ Told view Leave Nothing) × (has_ended ≡ true))
 
--- what is sent: these bytes, and behind them at most once that the match is over
-abbrev pub IsSentOf : (closed : Bool) → List ℕ → List ℕ → Type 0
-IsSentOf closed own sent = (sent ≡ own) ⊎ ((sent ≡ own ++ text_of Over) × (closed ≡ true))
+-- What is sent of the close: that the match is over. An agent on a link is told so at the close; one at a node, or one
+-- that has not entered, at its next line, which is the first that was not taken; one that has ended never.
+abbrev pub over_text : (closed : Bool) → Standing → (untaken : List Line) → List ℕ
+over_text false stands untaken = []
+over_text true Away untaken = text_of Over
+over_text true Ended untaken = []
+over_text true Outside [] = []
+over_text true Outside (line ∷ untaken) = text_of Over
+over_text true Present [] = []
+over_text true Present (line ∷ untaken) = text_of Over
 
 -- What a connection was fed and sent, where its agent has this past.
 pub record IsSentAsMet (setup : Setup) (past : View) (closed : Bool) (fed : Fed) (sent : List ℕ) : Type 0 where
   pub met : List Meeting
   -- the lines that were taken, and those that were not
   pub taken : List Line
-  pub over : List Line
-  pub split : lines fed.bytes ≡ taken ++ over
+  pub untaken : List Line
+  pub split : lines fed.bytes ≡ taken ++ untaken
   pub said : commands met ≡ map command_of taken
   pub due : AreDue setup.quota Start met
   pub lived : IsPastOf fed.has_ended (view_of met) past
-  pub heard : IsSentOf closed (bytes setup.board met) sent
+  pub sends : sent ≡ bytes setup.board met ++ over_text closed (standing (view_of met)) untaken
   -- before the close and the end of the input, all lines were taken of an agent of which commands are taken
-  pub all_taken : closed ≡ false → fed.has_ended ≡ false → takes_commands (standing (view_of met)) ≡ true → over ≡ []
+  pub all_taken : closed ≡ false → fed.has_ended ≡ false → takes_commands (standing (view_of met)) ≡ true → untaken ≡ []
 
--- Whoever plays an agent was sent the bytes of what the agent met, and nothing else.
+-- Whoever plays an agent was sent the bytes of what the agent met, and of the close what its standing says.
 abbrev pub SentAsMet : Type 0
 SentAsMet =
     (one : Rehearsed) (conn : ℕ) (seat : ℕ × ℕ) → BeginsEmpty one →

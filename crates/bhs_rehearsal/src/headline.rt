@@ -3,17 +3,25 @@
 ghost use Rattle.bhs_rehearsal.specs.Headline.{EqualPastsAreSentEqualBytes};
 ghost use Rattle.bhs_rehearsal.specs.SentAsMet.{OthersAreDenied, PastsAndCommandsSayWhatWasMet, SentAsMet};
 ghost use Rattle.bhs_rehearsal.specs.MetExample.{TheBytesAreOfWhatWasMet, TheBytesAreThese, TheHeadlineSpeaksOfIt};
-ghost use Rattle.bhs_rehearsal.specs.MetExample.{ThePastIsOfWhatWasMet};
+ghost use Rattle.bhs_rehearsal.specs.Calls.{EqualPastsAreAnsweredAlike};
+ghost use Rattle.bhs_rehearsal.specs.MetExample.{TheBytesAreEqual, ThePastIsOfWhatWasMet, ThePastsAreEqual};
+ghost use Rattle.bhs_rehearsal.specs.MetExample.{TheHeadlineSpeaksOfTheOther};
 
-/// Two connections in any two rehearsals, in matches of equal quota and equal whiteboards, whose agents have equal
-/// pasts and that were fed equal commands, were sent equal bytes, as long as neither their matches nor their inputs
-/// have ended.
+/// Two connections of any two rehearsals that were made by `new` of lineups with empty logs, in matches of equal quota
+/// and of whiteboards of equal size, whose agents have equal pasts and that were fed equal commands, were sent equal
+/// bytes by the calls, as long as neither their matches nor their inputs have ended.
+pub fn equal_pasts_are_answered_alike()
+    ensures { EqualPastsAreAnsweredAlike }
+{}
+
+/// The same of scripts, as the definitions play them.
 pub fn equal_pasts_are_sent_equal_bytes()
     ensures { EqualPastsAreSentEqualBytes }
 {}
 
-/// A connection that plays an agent was sent the bytes of what the agent met, and behind them at most once that the
-/// match is over. A connection that plays no agent was sent nothing, or one denial.
+/// A connection that plays an agent was sent the bytes of what the agent met. If the match is closed, it was then sent
+/// that the match is over: at the close if its agent was on a link, at its next line if its agent was at a node or had
+/// not entered, never if its agent had ended. A connection that plays no agent was sent nothing, or one denial.
 pub fn sent_as_met()
     ensures sent { SentAsMet }
     ensures others { OthersAreDenied }
@@ -24,10 +32,14 @@ pub fn met_as_past_and_commands()
     ensures { PastsAndCommandsSayWhatWasMet }
 {}
 
-/// A script with what its client met, worked out by hand.
+/// A script with what its client met, worked out by hand; and one on another network, with other black holes and
+/// another number of agents, where a client with an equal past is sent equal bytes.
 pub fn worked_meetings()
     ensures past { ThePastIsOfWhatWasMet }
     ensures bytes { TheBytesAreOfWhatWasMet }
     ensures texts { TheBytesAreThese }
     ensures plays { TheHeadlineSpeaksOfIt }
+    ensures other { TheHeadlineSpeaksOfTheOther }
+    ensures equal_pasts { ThePastsAreEqual }
+    ensures equal_bytes { TheBytesAreEqual }
 {}

@@ -88,8 +88,8 @@ pub fn matches_are_apart()
     ensures scripts { OtherMatchesAreNotHeard }
 {}
 
-/// No client can tell the black hole from links that are slow: for every script the bytes are the same, instruction by
-/// instruction.
+/// No client can tell black holes and dark links from links that are slow: for every script the bytes are the same,
+/// instruction by instruction.
 pub fn hole_sounds_slow()
     ensures sounds { HoleSoundsSlow }
     ensures begins { SlowMatchesBegin }

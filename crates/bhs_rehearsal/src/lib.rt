@@ -16,7 +16,8 @@ mod takings;
 
 pub use faults::RehearsalFault;
 pub use headline::{
-    equal_pasts_are_sent_equal_bytes, met_as_past_and_commands, sent_as_met, worked_meetings,
+    equal_pasts_are_answered_alike, equal_pasts_are_sent_equal_bytes, met_as_past_and_commands,
+    sent_as_met, worked_meetings,
 };
 pub use laws::{
     acts_as_a_session, clients_keep_to_themselves, cuts_do_alike, hole_sounds_slow,

@@ -1,7 +1,7 @@
 ghost use Rattle.std.specs.Prelude.{◌≡◌, [], false, map, IfOk, replicate};
 ghost use Rattle.bhs_rehearsal.specs.Connections.{unfed};
 ghost use Rattle.bhs_rehearsal.specs.Stages.{Feeds, EndsInput, Draws, Closes};
-ghost use Rattle.bhs_rehearsal.specs.Rehearsing.{Follows, first_stage, game_of, sent_all, sent_once, team_of};
+ghost use Rattle.bhs_rehearsal.specs.Rehearsing.{Follows, game_of, made_of, sent_all, sent_once, team_of};
 ghost use Rattle.bhs_rehearsal.specs.Takings.{IsConcluded};
 
 use crate::connections::Connection;
@@ -67,11 +67,7 @@ impl<'s> Rehearsal<'s> {
     /// A rehearsal of these matches, with so many connections that were fed nothing. A key of a match that is not
     /// in the list lets nobody in.
     pub fn new(alloc: Global, lineup: Lineup, conns: u16) -> Result<Rehearsal<'s>, Memory>
-        ensures { IfOk result (λ rehearsal. rehearsal ≡ record {
-          stage = first_stage lineup conns;
-          teams = map team_of lineup.ready.items;
-          has_failed = false;
-        }) }
+        ensures { IfOk result (λ rehearsal. rehearsal ≡ made_of lineup conns) }
     {
         let connections = no_connections(alloc, conns)?;
         let holders = Holders::new(alloc, lineup.ready.len())?;
@@ -102,7 +98,7 @@ impl<'s> Rehearsal<'s> {
         self.settled(outs)
     }
 
-    /// Feeds bytes that are lent for this call alone: lines of them that wait are copied. `Conn` where there is no such
+    /// Feeds bytes that are lent for this call alone: lines of them that wait are copied. `Conn` if there is no such
     /// connection.
     pub fn feed_copied(&mut self, conn: u16, bytes: &[u8]) -> Result<Option<Out>, RehearsalFault>
         ensures { Follows sent_once self.old (Feeds conn bytes.now) result self.new }
