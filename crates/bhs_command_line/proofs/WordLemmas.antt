@@ -14,7 +14,7 @@ use Rattle.bhs_command_line.specs.CommandLine.{AsksHelp, AskAfter, Says, arena, 
 use Rattle.bhs_command_line.specs.CommandLine.{number_in, entries_in, order_by}
 use Rattle.bhs_command_line.specs.declared.orders.Order.{Order}
 use Rattle.bhs_command_line.specs.declared.orders.Order.TheVariants.{Check, Explain, Judge, Rehearse, Serve, Table}
-use Rattle.bhs_command_line.specs.declared.orders.Order.TheVariants.{Talk, Twin}
+use Rattle.bhs_command_line.specs.declared.orders.Order.TheVariants.{RehearseInteractively, Twin}
 use Rattle.bhs_command_line.specs.declared.orders.Entry.{Entry}
 use Rattle.bhs_command_line.specs.declared.orders.Hosting.{Hosting}
 use Rattle.bhs_command_line.proofs.NumberLemmas.{hosting_plain}
@@ -117,35 +117,36 @@ rehearse_both name prefix e f =
     (reads_more (read_plain (leaf_of rehearse) _ 2 (option (codes "prefix")) prefix f refl)
     (reads_none (leaf_of rehearse) _)))) refl refl
 
-talk_alone : Gives (codes "rehearse" ∷ codes "--interactive" ∷ []) (Talk None None)
+interaction_alone : Gives (codes "rehearse" ∷ codes "--interactive" ∷ []) (RehearseInteractively None None)
 unfolding clap_on_literals
-talk_alone =
+interaction_alone =
     order_read rehearse_enters (codes "--interactive" ∷ []) _ _
     (reads_more (record { faultless = refl; goes = refl }) (reads_none (leaf_of rehearse) _)) refl refl
 
-talk_named : (name : Text) → is_dashed name ≡ false
-    → Gives (codes "rehearse" ∷ name ∷ codes "--interactive" ∷ []) (Talk (Some name) None)
+interaction_named : (name : Text) → is_dashed name ≡ false
+    → Gives (codes "rehearse" ∷ name ∷ codes "--interactive" ∷ []) (RehearseInteractively (Some name) None)
 unfolding clap_on_literals
-talk_named name e =
+interaction_named name e =
     order_read rehearse_enters (name ∷ codes "--interactive" ∷ []) _ _
     (reads_more (read_plain (leaf_of rehearse) _ 1 idle name e refl)
     (reads_more (record { faultless = refl; goes = refl }) (reads_none (leaf_of rehearse) _))) refl refl
 
-talk_written : (prefix : Text) → is_dashed prefix ≡ false
-    → Gives (codes "rehearse" ∷ codes "--interactive" ∷ codes "--replay" ∷ prefix ∷ []) (Talk None (Some prefix))
+interaction_written : (prefix : Text) → is_dashed prefix ≡ false
+    → Gives (codes "rehearse" ∷ codes "--interactive" ∷ codes "--replay" ∷ prefix ∷ [])
+    (RehearseInteractively None (Some prefix))
 unfolding clap_on_literals
-talk_written prefix e =
+interaction_written prefix e =
     order_read rehearse_enters (codes "--interactive" ∷ codes "--replay" ∷ prefix ∷ []) _ _
     (reads_more (record { faultless = refl; goes = refl })
     (reads_more (record { faultless = refl; goes = refl })
     (reads_more (read_plain (leaf_of rehearse) _ 1 (option (codes "prefix")) prefix e refl)
     (reads_none (leaf_of rehearse) _)))) refl refl
 
-talk_both : (name prefix : Text) → is_dashed name ≡ false → is_dashed prefix ≡ false
+interaction_both : (name prefix : Text) → is_dashed name ≡ false → is_dashed prefix ≡ false
     → Gives (codes "rehearse" ∷ name ∷ codes "--interactive" ∷ codes "--replay" ∷ prefix ∷ [])
-    (Talk (Some name) (Some prefix))
+    (RehearseInteractively (Some name) (Some prefix))
 unfolding clap_on_literals
-talk_both name prefix e f =
+interaction_both name prefix e f =
     order_read rehearse_enters (name ∷ codes "--interactive" ∷ codes "--replay" ∷ prefix ∷ []) _ _
     (reads_more (read_plain (leaf_of rehearse) _ 1 idle name e refl)
     (reads_more (record { faultless = refl; goes = refl })
@@ -244,11 +245,12 @@ says_gives words (Rehearse (Some name) None) (plain, is) = here words _ _ is (re
 says_gives words (Rehearse None (Some prefix)) (plain, is) = here words _ _ is (rehearse_written prefix plain)
 says_gives words (Rehearse (Some name) (Some prefix)) (plain, also, is) =
     here words _ _ is (rehearse_both name prefix plain also)
-says_gives words (Talk None None) is = here words _ _ is talk_alone
-says_gives words (Talk (Some name) None) (plain, is) = here words _ _ is (talk_named name plain)
-says_gives words (Talk None (Some prefix)) (plain, is) = here words _ _ is (talk_written prefix plain)
-says_gives words (Talk (Some name) (Some prefix)) (plain, also, is) =
-    here words _ _ is (talk_both name prefix plain also)
+says_gives words (RehearseInteractively None None) is = here words _ _ is interaction_alone
+says_gives words (RehearseInteractively (Some name) None) (plain, is) = here words _ _ is (interaction_named name plain)
+says_gives words (RehearseInteractively None (Some prefix)) (plain, is) = here words _ _ is
+    (interaction_written prefix plain)
+says_gives words (RehearseInteractively (Some name) (Some prefix)) (plain, also, is) =
+    here words _ _ is (interaction_both name prefix plain also)
 says_gives words (Check name) (plain, is) = here words _ _ is (check_named name plain)
 says_gives words (Judge replay) (plain, is) = here words _ _ is (judge_named replay plain)
 says_gives words (Table entries) (word, plain, says, is) =

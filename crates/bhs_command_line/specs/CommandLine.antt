@@ -18,7 +18,7 @@ use Rattle.clap.specs.declared.error.kind.ErrorKind.TheVariants.{DisplayHelp, Di
 use Rattle.bhs_teams.specs.Teams.{is_team}
 use Rattle.bhs_command_line.specs.declared.orders.Order.{Order}
 use Rattle.bhs_command_line.specs.declared.orders.Order.TheVariants.{Rehearse, Check, Judge, Table, Explain, Twin}
-use Rattle.bhs_command_line.specs.declared.orders.Order.TheVariants.{Serve, Talk}
+use Rattle.bhs_command_line.specs.declared.orders.Order.TheVariants.{Serve, RehearseInteractively}
 use Rattle.bhs_command_line.specs.declared.orders.Entry.{Entry}
 use Rattle.bhs_command_line.specs.declared.orders.Hosting.{Hosting}
 use Rattle.bhs_command_line.specs.declared.Parsed.{Parsed}
@@ -169,8 +169,8 @@ abbrev pub is_given : (id : Text) → List Row → Bool
 is_given id rows = bytes_eq (text_in id rows) (codes "true")
 
 -- the rehearsal of a tournament, by whether its script is played as it comes
-abbrev pub rehearsal_of : (is_live : Bool) → (tournament prefix : Option Text) → Order
-rehearsal_of true tournament prefix = Talk tournament prefix
+abbrev pub rehearsal_of : (is_interactive : Bool) → (tournament prefix : Option Text) → Order
+rehearsal_of true tournament prefix = RehearseInteractively tournament prefix
 rehearsal_of false tournament prefix = Rehearse tournament prefix
 
 -- the order that a command gives
@@ -215,11 +215,12 @@ Says words (Rehearse None (Some prefix)) =
     IsName prefix × (words ≡ codes "rehearse" ∷ codes "--replay" ∷ prefix ∷ [])
 Says words (Rehearse (Some name) (Some prefix)) =
     IsName name × IsName prefix × (words ≡ codes "rehearse" ∷ name ∷ codes "--replay" ∷ prefix ∷ [])
-Says words (Talk None None) = words ≡ codes "rehearse" ∷ codes "--interactive" ∷ []
-Says words (Talk (Some name) None) = IsName name × (words ≡ codes "rehearse" ∷ name ∷ codes "--interactive" ∷ [])
-Says words (Talk None (Some prefix)) =
+Says words (RehearseInteractively None None) = words ≡ codes "rehearse" ∷ codes "--interactive" ∷ []
+Says words (RehearseInteractively (Some name) None) = IsName name × (words ≡ codes "rehearse" ∷ name ∷ codes
+    "--interactive" ∷ [])
+Says words (RehearseInteractively None (Some prefix)) =
     IsName prefix × (words ≡ codes "rehearse" ∷ codes "--interactive" ∷ codes "--replay" ∷ prefix ∷ [])
-Says words (Talk (Some name) (Some prefix)) =
+Says words (RehearseInteractively (Some name) (Some prefix)) =
     IsName name × IsName prefix
     × (words ≡ codes "rehearse" ∷ name ∷ codes "--interactive" ∷ codes "--replay" ∷ prefix ∷ [])
 Says words (Check name) = IsName name × (words ≡ codes "check" ∷ name ∷ [])

@@ -75,11 +75,11 @@ fn order_named(
 }
 
 // The rehearsal of a tournament, by whether its script is played as it comes.
-fn rehearsal(is_live: bool, tournament: Option<Text>, prefix: Option<Text>) -> Order
-    ensures { result ≡ rehearsal_of is_live tournament prefix }
+fn rehearsal(is_interactive: bool, tournament: Option<Text>, prefix: Option<Text>) -> Order
+    ensures { result ≡ rehearsal_of is_interactive tournament prefix }
 {
-    if is_live {
-        Order::Talk { tournament, prefix }
+    if is_interactive {
+        Order::RehearseInteractively { tournament, prefix }
     } else {
         Order::Rehearse { tournament, prefix }
     }

@@ -15,7 +15,7 @@ pub enum Order {
         prefix: Option<Text>,
     },
     /// The same, but the script is played as it comes, each of its lines answered before more is read.
-    Talk {
+    RehearseInteractively {
         tournament: Option<Text>,
         prefix: Option<Text>,
     },

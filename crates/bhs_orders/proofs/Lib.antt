@@ -5,5 +5,5 @@ pub mod SummaryLemmas
 pub mod ReportLemmas
 pub mod FreshLemmas
 pub mod FilingLemmas
-pub mod TalkLemmas
-pub mod DialogueLemmas
+pub mod InteractiveLemmas
+pub mod AnsweredLemmas

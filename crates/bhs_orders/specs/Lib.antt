@@ -7,7 +7,7 @@ pub mod RehearsedTournaments
 pub mod Reports
 pub mod Showing
 pub mod Filing
-pub mod Talking
+pub mod Interactive
 pub mod Players
-pub mod TalkedTournaments
-pub mod Dialogues
+pub mod InteractiveTournaments
+pub mod Answered

@@ -3,14 +3,14 @@ use Rattle.std.specs.Prelude.{◌≡◌, ◌≢◌, ℕ, Bool, true, false, List
 use Rattle.bhs_stream.specs.Streams.{Taken}
 use Rattle.bhs_rehearsal.specs.Stages.{Stage}
 use Rattle.bhs_script.specs.Script.{Meaning, Refused}
-use Rattle.bhs_orders.specs.Talking.{Answers, Talk, answer, ended, onward}
+use Rattle.bhs_orders.specs.Interactive.{Answers, Progress, answer, ended, onward}
 use Rattle.bhs_orders.specs.declared.faults.Fault.{Fault}
 use Rattle.bhs_orders.specs.declared.faults.Fault.TheVariants.{Line, Write}
-use Rattle.bhs_orders.specs.declared.talking.Player.{Player}
+use Rattle.bhs_orders.specs.declared.interactive.Player.{Player}
 
 -- where the player is that has this still to go over
-abbrev pub talk_of : Player → (after : List ℕ) → Talk
-talk_of player after = record {
+abbrev pub progress_of : Player → (after : List ℕ) → Progress
+progress_of player after = record {
   stage = player.rehearsal.stage;
   answered = player.answered;
   held = player.line.items ++ after;
@@ -32,9 +32,9 @@ IsRefusal flushes line output output' fault = ⊥
 -- behind the end of the input the last line was answered, and all was passed on
 pub record IsConcluded {O : Type 0} (takes : O → List ℕ → Taken → O → Type 0) (flushes : O → Bool → O → Type 0)
     (old new : Player) (output output' : O) : Type 0 where
-  pub talk : Talk
+  pub progress : Progress
   pub there : O
-  pub answers : Answers takes old.games (ended (talk_of old [])) output talk there
-  pub all : talk.held ≡ []
-  pub left : talk.stage ≡ new.rehearsal.stage
+  pub answers : Answers takes old.games (ended (progress_of old [])) output progress there
+  pub all : progress.held ≡ []
+  pub left : progress.stage ≡ new.rehearsal.stage
   pub passed : flushes there true output'

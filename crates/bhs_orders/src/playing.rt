@@ -64,24 +64,14 @@ fn obey<'s>(
         ++ all_printed (step rehearsal.old.stage (seen instruction.now)).outs) }
     ensures stage { OnOk result (rehearsal.new.stage ≡ (step rehearsal.old.stage (seen instruction.now)).stage) }
 {
-    match instruction {
-        Instruction::Feed { conn, bytes } => {
-            let sent = rehearsal.feed(*conn, bytes.as_slice());
-            push_once(rehearsal, text, sent)
-        }
-        Instruction::End { conn } => {
-            let sent = rehearsal.end(*conn);
-            push_once(rehearsal, text, sent)
-        }
-        Instruction::Draw { game, word } => {
-            let sent = rehearsal.draw(*game, *word);
-            push_once(rehearsal, text, sent)
-        }
-        Instruction::Close { game } => push_all(text, rehearsal.close(*game)),
+    if let Instruction::Feed { conn, bytes } = instruction {
+        let sent = rehearsal.feed(*conn, bytes.as_slice());
+        return push_once(rehearsal, text, sent);
     }
+    obey_lent(rehearsal, instruction, text)
 }
 
-// The same of an instruction that is lent for this call alone.
+// The same of an instruction that is lent for this call alone: lines of a feed that wait are copied.
 pub(crate) fn obey_lent(
     rehearsal: &mut Rehearsal<'_>,
     instruction: &Instruction<'_>,

@@ -11,8 +11,9 @@ use Rattle.bhs_orders.specs.declared.faults.Fault.TheVariants.{Write, Memory, Tw
 use Rattle.bhs_orders.specs.Filing.{Files, all_filed, unfiled_one}
 use Rattle.bhs_orders.specs.Rehearsal.{Rehearses, done, unfiled, ends}
 use Rattle.bhs_orders.specs.RehearsedTournaments.{RehearsesNamed, rehearses_on, refuses_file}
-use Rattle.bhs_orders.specs.TalkedTournaments.{TalksNamed, TalksWhole, refuses_talk, talks_done, talks_end, talks_on}
-use Rattle.bhs_orders.specs.TalkedTournaments.{talks_unfiled}
+use Rattle.bhs_orders.specs.InteractiveTournaments.{InteractsNamed, InteractsWhole, tournament_refused}
+use Rattle.bhs_orders.specs.InteractiveTournaments.{interaction_done, interaction_ends, interaction_on}
+use Rattle.bhs_orders.specs.InteractiveTournaments.{interaction_unfiled}
 use Rattle.bhs_orders.specs.Showing.{Prints, all, part, held_back, PrintsByLine, whole, cut_off, kept_back, Reports}
 use Rattle.bhs_orders.specs.Showing.{prints, stops}
 use Rattle.bhs_orders.specs.declared.statuses.TheConstants.{DONE}
@@ -81,16 +82,18 @@ module _ {P I O : Type 0} (files : P → List ℕ → Taken → P → Type 0) (g
   of_named prefix (rehearses_on lineup assembled rehearsal) = of_rehearsal _ _ _ rehearsal
   of_named prefix (refuses_file fault is rests) = inr (inr (fault, is))
 
-  of_talk : (prefix : Option (List ℕ)) (stage : Stage) → TalksWhole files gives takes flushes prefix stage input input'
+  of_interaction : (prefix : Option (List ℕ)) (stage : Stage) → InteractsWhole files gives takes flushes prefix stage
+      input input'
       output output' code → IsStatus code
-  of_talk prefix stage (talks_done games out is filed) = inl is
-  of_talk prefix stage (talks_unfiled fault is some games out) = inr (inr (fault, is))
-  of_talk prefix stage (talks_end fault is ended) = inr (inr (fault, is))
+  of_interaction prefix stage (interaction_done games out is filed) = inl is
+  of_interaction prefix stage (interaction_unfiled fault is some games out) = inr (inr (fault, is))
+  of_interaction prefix stage (interaction_ends fault is ended) = inr (inr (fault, is))
 
-  of_named_talk : (prefix : Option (List ℕ)) → TalksNamed files gives takes flushes prefix input input' output output'
+  of_named_interaction : (prefix : Option (List ℕ)) → InteractsNamed files gives takes flushes prefix input input'
+      output output'
       code → IsStatus code
-  of_named_talk prefix (talks_on lineup assembled talk) = of_talk _ _ talk
-  of_named_talk prefix (refuses_talk fault is rests) = inr (inr (fault, is))
+  of_named_interaction prefix (interaction_on lineup assembled rehearsal) = of_interaction _ _ rehearsal
+  of_named_interaction prefix (tournament_refused fault is rests) = inr (inr (fault, is))
 
   of_served : (port : ℕ) → Serves files takes flushes port output output' code → IsStatus code
   of_served port (serves_on lineup assembled heard shows hosts) = of_host files takes flushes _ heard output' code hosts
@@ -100,8 +103,8 @@ module _ {P I O : Type 0} (files : P → List ℕ → Taken → P → Type 0) (g
   of_deed : (order : Order) → Does files gives takes flushes order input input' output output' code → IsStatus code
   of_deed (order.Rehearse None prefix) rehearsal = of_rehearsal _ _ _ rehearsal
   of_deed (order.Rehearse (Some name) prefix) named = of_named prefix named
-  of_deed (order.Talk None prefix) talk = of_talk _ _ talk
-  of_deed (order.Talk (Some name) prefix) named = of_named_talk prefix named
+  of_deed (order.RehearseInteractively None prefix) rehearsal = of_interaction _ _ rehearsal
+  of_deed (order.RehearseInteractively (Some name) prefix) named = of_named_interaction prefix named
   of_deed (order.Check name) check = of_text takes flushes output output' code _ check.1
   of_deed (order.Judge replay) judged = of_text takes flushes output output' code _ judged.1
   of_deed (order.Table entries) table = of_text takes flushes output output' code _ table.1

@@ -7,7 +7,7 @@ use Rattle.bhs_command_line.specs.declared.orders.Order.{Order}
 use Rattle.bhs_command_line.specs.declared.orders.Order.TheVariants as order
 use Rattle.bhs_orders.specs.Fault.{IsOfFault}
 use Rattle.bhs_orders.specs.RehearsedTournaments.{RehearsesEither, Rests}
-use Rattle.bhs_orders.specs.TalkedTournaments.{TalksEither}
+use Rattle.bhs_orders.specs.InteractiveTournaments.{InteractsEither}
 use Rattle.bhs_orders.specs.Reports.{IsJudgement, IsTable, IsPast, IsTwinReplay, HasNoTwin}
 use Rattle.bhs_orders.specs.Showing.{Prints, PrintsByLine, Reports}
 use Rattle.bhs_orders.specs.Summary.{IsSummary}
@@ -32,8 +32,8 @@ module _ {P I O : Type 0} (files : P → List ℕ → Taken → P → Type 0) (g
   abbrev pub Does : Order → (input input' : I) → (output output' : O) → ℕ → Type 0
   Does (order.Rehearse tournament prefix) input input' output output' code =
       RehearsesEither files gives takes flushes tournament prefix input input' output output' code
-  Does (order.Talk tournament prefix) input input' output output' code =
-      TalksEither files gives takes flushes tournament prefix input input' output output' code
+  Does (order.RehearseInteractively tournament prefix) input input' output output' code =
+      InteractsEither files gives takes flushes tournament prefix input input' output output' code
   Does (order.Check name) input input' output output' code = (input' ≡ input) × Tells IsSummary output output' code
   Does (order.Judge replay) input input' output output' code = (input' ≡ input) × Tells IsJudgement output output' code
   Does (order.Table entries) input input' output output' code =

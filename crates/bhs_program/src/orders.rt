@@ -7,7 +7,7 @@ use crate::serving::serve_named;
 use bhs_command_line::{Order, Parsed, order_of};
 use bhs_orders::{
     Fault, REFUSED_WORDS, check, print_past, print_table, print_twin, print_verdict,
-    rehearse_live_named, rehearse_named, report, show_text,
+    rehearse_interactively_named, rehearse_named, report, show_text,
 };
 use bhs_stream::{Input, Output, send};
 use std::alloc::Global;
@@ -57,8 +57,8 @@ fn obey<
         Order::Rehearse { tournament, prefix } => {
             rehearse_named(alloc, rt, tournament, prefix, reader, writer, errors)
         }
-        Order::Talk { tournament, prefix } => {
-            rehearse_live_named(alloc, rt, tournament, prefix, reader, writer, errors)
+        Order::RehearseInteractively { tournament, prefix } => {
+            rehearse_interactively_named(alloc, rt, tournament, prefix, reader, writer, errors)
         }
         Order::Check { tournament } => check(alloc, rt, tournament.as_str(), writer, errors),
         Order::Judge { replay } => print_verdict(alloc, rt, replay.as_str(), writer, errors),

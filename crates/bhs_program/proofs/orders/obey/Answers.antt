@@ -8,8 +8,8 @@ returns-in-Rehearse g c = rw c.in-Rehearse.is (elim c.rehearse_named.ensures [
   | inr (coded, rests) ↦ lacks_memory coded rests
 ])
 
-pub returns-in-Talk : goal.returns-in-Talk
-returns-in-Talk g c = rw c.in-Talk.is (elim c.rehearse_live_named.ensures [
+pub returns-in-RehearseInteractively : goal.returns-in-RehearseInteractively
+returns-in-RehearseInteractively g c = rw c.in-RehearseInteractively.is (elim c.rehearse_interactively_named.ensures [
   | inl deed ↦ does deed
   | inr (coded, rests) ↦ lacks_memory coded rests
 ])

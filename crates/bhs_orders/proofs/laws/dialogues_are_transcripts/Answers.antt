@@ -1,5 +1,0 @@
-use Rattle.bhs_orders.proofs.DialogueLemmas.{is_transcribed}
-use Rattle.bhs_orders.proofs.laws.dialogues_are_transcripts.Goals as goal
-
-pub returns : goal.returns
-returns c games stage lines script mean = is_transcribed games lines script mean stage
