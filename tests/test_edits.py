@@ -79,6 +79,22 @@ class Reading(unittest.TestCase):
                 self.read(*lines)
 
 
+class Kept(unittest.TestCase):
+    """The edits of this repository."""
+
+    def test_each_fits_its_text(self) -> None:
+        for name in prover.libraries_of():
+            for path in edits.edits_of(name, ["must-fail", "more-edits"]):
+                with self.subTest(edit=f"{name}/{path.stem}"):
+                    edit = edits.read_edit(path, prover.CRATES / name)
+                    self.assertTrue(all(old != new for _, old, new in edit.changes))
+
+    def test_the_gate_tries_at_most_ten_of_a_crate(self) -> None:
+        for name in prover.libraries_of():
+            with self.subTest(crate=name):
+                self.assertLessEqual(len(edits.edits_of(name, ["must-fail"])), 10)
+
+
 class Answers(unittest.TestCase):
     def told(self, only: str, whole: str, old: str = "2 * number\n}") -> str:
         """What is printed of an edit of a crate whose checks end so."""

@@ -91,7 +91,7 @@ def quota_and_port(stage: Stage) -> None:
 
 @case("lines that are none are of a quota")
 def quota_and_lines(stage: Stage) -> None:
-    spends(stage, [('{"do":"jump"}', BAD), ("x" * 16_385, BAD)], 8)
+    spends(stage, [('{"do":"jump"}', BAD), ("x" * (MAX_LINE + 1), BAD)], 8)
 
 
 @case("bytes may come one by one")
@@ -353,6 +353,10 @@ def refused_contests(stage: Stage) -> None:
         expect(stage.run(serve("tri.toml", port)), b"", b"tri.toml: missing seed\n", REFUSED_TEXT)
 
 
+# what is answered to who enters before the close, and after it
+SIGHT, OVER = HERE.partition(" ")[2].encode(), b'{"ok":"over"}\n'
+
+
 def hears(port: int, line: str) -> bytes:
     """All that a client hears that says a line and ends its input."""
     with socket.create_connection(("127.0.0.1", port), timeout=PATIENCE) as client:
@@ -380,7 +384,7 @@ def contest(stage: Stage) -> None:
             child.kill()
     row = "  1 red              silent          0    0"
     expect(Run(child.returncode, first + printed, told), f"listening {port}\n{TABLE_HEAD}\n{row}\n".encode())
-    if not heard.endswith(b"}\n"):
+    if heard not in (SIGHT, OVER):
         raise Wrong(f"the client heard {heard!r}")
     replays = sorted(path.name for path in stage.folder.glob("*.jsonl"))
     if replays != ["hosted0.jsonl"]:

@@ -176,6 +176,15 @@ class Match:
             self.log.append({"do": "close", "reply": None})
         self.closed = True
 
+    def play(self, event: Object) -> None:
+        """Plays an event of a replay anew, whatever its reply is there."""
+        if event["do"] == "close":
+            self.close()
+        elif event["do"] == "deliver":
+            self.deliver(event["agent"])
+        else:
+            self.tell(event["agent"], {name: event[name] for name in event if name not in ("agent", "reply")})
+
     def head(self) -> Object:
         """The head of the match's replay."""
         setup = self.setup
@@ -192,19 +201,24 @@ class Match:
         return "".join(spelled(line) + "\n" for line in lines)
 
 
+def objects_of(text: str) -> List[Object]:
+    """The head and the events of a replay."""
+    return [json.loads(line) for line in text.split("\n")[:-2]]
+
+
+def begun(head: Object) -> Match:
+    """The match of a replay's head, before anything happens in it."""
+    return Match(Setup(head["nodes"], [tuple(link) for link in head["links"]], head["home"], head["holes"],
+                       head["agents"], head["quota"], head["board"], [tuple(place) for place in head["dark"]]))
+
+
 def played(text: str) -> Match:
     """The match that a replay is of, played anew: its setup, and the commands and deliveries of its events. The text is
     a replay by these rules where the match has that replay too."""
-    head, *events, _ = [json.loads(line) for line in text.split("\n")[:-1]]
-    match = Match(Setup(head["nodes"], [tuple(link) for link in head["links"]], head["home"], head["holes"],
-                        head["agents"], head["quota"], head["board"], [tuple(place) for place in head["dark"]]))
+    head, *events = objects_of(text)
+    match = begun(head)
     for event in events:
-        if event["do"] == "close":
-            match.close()
-        elif event["do"] == "deliver":
-            match.deliver(event["agent"])
-        else:
-            match.tell(event["agent"], {name: event[name] for name in event if name not in ("agent", "reply")})
+        match.play(event)
     return match
 
 

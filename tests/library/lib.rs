@@ -2,13 +2,17 @@
 //! contracts and proofs. `tools/library_tests.py` runs them.
 #![tactic(auto)]
 
+mod boards;
 mod cells;
 mod draws;
+mod halls;
 mod limits;
+mod lines;
 mod locks;
 mod matches;
 mod memory;
 mod model;
+mod networks;
 mod paces;
 mod pasts;
 mod played;
@@ -24,3 +28,4 @@ mod streams;
 mod triangle;
 mod verdicts;
 mod views;
+mod worlds;

@@ -1,5 +1,7 @@
 //! Matches under their locks.
 
+mod under;
+
 use super::cells::cell;
 use bhs_deal::{Dealer, Drawn};
 use bhs_lock::{Cell, Dispute, Gate, Open, Pass, settle};

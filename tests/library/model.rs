@@ -32,6 +32,8 @@ fn copies_are_equal(rt: HostRuntime) -> Result<(), Fail> {
         command: write(alloc, "", "abcde€")?,
     };
     assert_eq!(rt; event.try_clone()?, event);
+    let deliver = Event::Deliver { agent: 63 };
+    assert_eq!(rt; deliver.try_clone()?, deliver);
     let here = Reply::Here {
         ports: 2,
         came: Some(0),

@@ -39,7 +39,7 @@ pub fn played(
         board: 8,
     };
     let mut game = Match::new(alloc, Net::try_new(alloc, nodes, &list)?, setup)?;
-    for word in row.split(' ') {
+    for word in row.split(' ').filter(|word| !word.is_empty()) {
         game.apply(event(alloc, word.as_bytes())?);
     }
     game.apply(Event::Close);

@@ -3,9 +3,9 @@
 mod clients;
 mod contests;
 mod gates;
+mod logs;
 
 use bhs_lock::{Gate, Open};
-use bhs_match::Sealed;
 use bhs_server::{Contest, Served, run_server};
 use bhs_session::Ended;
 use clients::{
@@ -14,6 +14,7 @@ use clients::{
 };
 use contests::{Patience, contest};
 use gates::Turnstile;
+use logs::{lengths, log_of, played_by};
 use std::alloc::Global;
 use std::net::{Ipv4Addr, Net, SocketAddr, TcpListener, TcpStream};
 use std::sync::Wait;
@@ -24,15 +25,6 @@ use std::{io, thread};
 
 fn listener<R: Net<Listener = TcpListener, Stream = TcpStream>>(rt: &R) -> io::Result<TcpListener> {
     TcpListener::bind(rt, SocketAddr::from((Ipv4Addr::LOCALHOST, 0)))
-}
-
-/// How many events the logs have.
-fn lengths(alloc: Global, sealed: &[Sealed]) -> Result<Vec<usize>, Fail> {
-    let mut lengths = Vec::with_capacity(alloc, sealed.len())?;
-    for one in sealed {
-        lengths.push(one.log().len())?;
-    }
-    Ok(lengths)
 }
 
 /// What a server serves of a contest by so many sessions, and what its clients do meanwhile.
@@ -92,6 +84,11 @@ fn two_enter_and_leave(rt: HostRuntime) -> Result<(), Fail> {
     let Served { sealed, ended } = served;
     assert_eq!(rt; ended.as_slice(), [Ended::Bye, Ended::Bye].as_slice());
     assert_eq!(rt; lengths(alloc, &sealed)?.as_slice(), [5].as_slice());
+    for agent in 0..2 {
+        let visit = format!(in alloc; "{agent}enter {agent}leave ")?;
+        assert_eq!(rt; played_by(alloc, &sealed[0], agent)?, visit);
+    }
+    assert!(rt; log_of(alloc, &sealed[0])?.ends_with(" close "));
     assert!(rt; !pace.gave_up());
     Ok(())
 }
@@ -266,7 +263,8 @@ fn four_come_one_after_the_other(rt: HostRuntime) -> Result<(), Fail> {
     let Served { sealed, ended } = served;
     let causes = [Ended::InputEnded, Ended::Denied, Ended::Bye, Ended::Denied];
     assert_eq!(rt; ended.as_slice(), causes.as_slice());
-    assert_eq!(rt; lengths(alloc, &sealed)?.as_slice(), [3].as_slice());
+    assert_eq!(rt; sealed.len(), 1);
+    assert_eq!(rt; log_of(alloc, &sealed[0])?.as_str(), "0enter 0leave close ");
     assert!(rt; !pace.gave_up());
     Ok(())
 }
@@ -303,8 +301,26 @@ fn a_client_is_gone_at_once(rt: HostRuntime) -> Result<(), Fail> {
         Ended::ReadFault,
         Ended::WriteFault,
     ];
-    assert!(rt; ended.iter().all(|ended| causes.contains(ended)));
-    assert_eq!(rt; sealed.len(), 1);
+    assert_eq!(rt; (ended.len(), sealed.len()), (1, 1));
+    assert!(rt; causes.contains(&ended[0]));
+    // it was heard before it was gone, and left unless it was on its way until the close
+    let log = log_of(alloc, &sealed[0])?;
+    let arrival = if log.as_str().contains("0deliver") {
+        "0deliver "
+    } else {
+        ""
+    };
+    let leave = if ended[0] == Ended::Over {
+        ""
+    } else {
+        "0leave "
+    };
+    let events = format!(in alloc; "0enter 0depart {arrival}{leave}close ")?;
+    assert_eq!(rt; log, events);
+    assert_eq!(rt;
+        lengths(alloc, &sealed)?.as_slice(),
+        [events.split(' ').count() - 1].as_slice()
+    );
     Ok(())
 }
 

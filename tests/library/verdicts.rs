@@ -9,11 +9,12 @@ use std::test::Fail;
 type Game = (u16, &'static [u16], &'static [(u16, u16)], &'static str);
 
 /// Matches, with the outcome, the moves, and how many agents were lost.
-const ROWS: [(Game, Outcome, u32, u16); 9] = [
+const ROWS: [(Game, Outcome, u32, u16); 10] = [
     ((3, &[2], &[], "0e 0a1"), Outcome::Guess { node: 1 }, 0, 0),
     ((3, &[2], &[], "0e 0d0 0v 0a1"), Outcome::Solved, 1, 0),
     ((3, &[2], &[], "0e 0d0 0v 0a0"), Outcome::Wrong, 1, 0),
     ((3, &[2], &[], "0e"), Outcome::Silent, 0, 0),
+    ((3, &[2], &[], ""), Outcome::Silent, 0, 0),
     ((3, &[], &[(0, 1)], "0e 0d1 0v"), Outcome::Silent, 1, 1),
     (
         (3, &[], &[(0, 1)], "0e 0d0 0v 0d1 0v 0a1"),

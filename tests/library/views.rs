@@ -1,6 +1,7 @@
 //! Causal pasts, parts and twins of matches that have ended.
 
 use super::played::played;
+use bhs_model::{Reply, Text};
 use bhs_referee::{Outcome, judge};
 use bhs_view::{RestrictFault, TwinFault, cut_and_looks, cut_of, restrict, twin_of};
 use std::alloc::Global;
@@ -50,6 +51,53 @@ fn closed_sets(rt: HostRuntime) -> Result<(), Fail> {
     assert_eq!(rt; part(alloc, LOOK, &[0, 7])?, descends);
     let lacks_4 = Err(RestrictFault::NotClosed { place: 4 });
     assert_eq!(rt; part(alloc, SEARCH, &[0, 5, 6, 7])?, lacks_4);
+    Ok(())
+}
+
+/// What is answered to the events of a part of a row, one after the other, none to its close.
+fn answers(alloc: Global, row: &str, places: &[u32]) -> Result<Vec<Option<Reply>>, Fail> {
+    let sealed = played(alloc, 3, &[2], &[], row)?;
+    let part = match restrict(alloc, &sealed, places) {
+        Ok(part) => part,
+        Err(_) => return Err(Fail::from("a closed set is refused")),
+    };
+    let mut answers = Vec::new(alloc);
+    for kept in part.log() {
+        answers.push(match &kept.mark {
+            Some(mark) => Some(part.reply(mark)?),
+            None => None,
+        })?;
+    }
+    Ok(answers)
+}
+
+fn here(alloc: Global, came: Option<u16>, board: &str) -> Result<Option<Reply>, Fail> {
+    let board = Text::from(String::from_str(alloc, board)?);
+    Ok(Some(Reply::Here {
+        ports: 2,
+        came,
+        board,
+    }))
+}
+
+/// Agent 0 is answered by itself what it was answered beside agent 1, whose Write it sees.
+#[test]
+fn what_is_played_alone_is_answered_alike(rt: HostRuntime) -> Result<(), Fail> {
+    let alloc = rt.alloc();
+    let alone = vec![in alloc; here(alloc, None, "")?, here(alloc, None, "")?, None]?;
+    assert_eq!(rt; answers(alloc, LOOK, &[0, 5])?, alone);
+    let both = vec![in alloc;
+        here(alloc, None, "")?,
+        here(alloc, None, "")?,
+        Some(Reply::Gone),
+        here(alloc, Some(0), "")?,
+        Some(Reply::Written),
+        here(alloc, None, "")?,
+        Some(Reply::Gone),
+        here(alloc, Some(0), "b")?,
+        None,
+    ]?;
+    assert_eq!(rt; answers(alloc, SEARCH, &[0, 1, 2, 3, 4, 5, 6, 7])?, both);
     Ok(())
 }
 

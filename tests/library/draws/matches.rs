@@ -44,6 +44,26 @@ fn nobody_is_drawn_after_the_close(rt: HostRuntime) -> Result<(), Fail> {
     Ok(())
 }
 
+/// The first agent goes into the black hole, and stays in the pool.
+#[test]
+fn a_draw_tells_whom_it_delivers(rt: HostRuntime) -> Result<(), Fail> {
+    let (mut game, held) = triangle(rt.alloc(), &[])?;
+    assert_eq!(rt; draw(&mut game, &held, 7), Drawn::Nobody);
+    for agent in 0..2 {
+        game.apply(tell(agent, Command::Enter));
+    }
+    game.apply(depart(0, 1));
+    assert_eq!(rt; draw(&mut game, &held, 0), Drawn::Delivered { agent: 0 });
+    assert_eq!(rt; (game.log().len(), game.pool().len()), (4, 1));
+    game.apply(depart(1, 0));
+    assert_eq!(rt; draw(&mut game, &held, 4), Drawn::Delivered { agent: 0 });
+    assert_eq!(rt; (game.log().len(), game.pool().len()), (5, 2));
+    assert_eq!(rt; draw(&mut game, &held, 5), Drawn::Delivered { agent: 1 });
+    assert_eq!(rt; (game.log().len(), game.pool().len()), (6, 1));
+    assert_eq!(rt; (game.news(0).len(), game.news(1)), (0, [5].as_slice()));
+    Ok(())
+}
+
 /// Once the match and the held links are made, nothing here asks for memory.
 #[test]
 fn two_agents_play_until_their_quotas_are_spent(rt: HostRuntime) -> Result<(), Fail> {

@@ -1,0 +1,60 @@
+use bhs_match::Sealed;
+use bhs_model::{Command, Event};
+use std::alloc::Global;
+use std::test::Fail;
+
+/// How many events the logs have.
+pub(super) fn lengths(alloc: Global, sealed: &[Sealed]) -> Result<Vec<usize>, Fail> {
+    let mut lengths = Vec::with_capacity(alloc, sealed.len())?;
+    for one in sealed {
+        lengths.push(one.log().len())?;
+    }
+    Ok(lengths)
+}
+
+fn word_of(command: &Command) -> &'static str {
+    match command {
+        Command::Enter => "enter",
+        Command::Look => "look",
+        Command::Write { .. } => "write",
+        Command::Depart { .. } => "depart",
+        Command::Accuse { .. } => "accuse",
+        Command::Leave => "leave",
+        Command::Bad => "bad",
+    }
+}
+
+/// The agent of an event, and what it is: the command or the delivery; None of a close.
+fn named(event: &Event) -> Option<(u16, &'static str)> {
+    match event {
+        Event::Tell { agent, command } => Some((*agent, word_of(command))),
+        Event::Deliver { agent } => Some((*agent, "deliver")),
+        Event::Close => None,
+    }
+}
+
+/// The events of a match, each as the number of its agent and its name, with a space behind it.
+pub(super) fn log_of(alloc: Global, sealed: &Sealed) -> Result<String, Fail> {
+    let mut log = String::new(alloc);
+    for kept in sealed.log() {
+        let word = match named(&kept.event) {
+            Some((agent, name)) => format!(in alloc; "{agent}{name} ")?,
+            None => String::from_str(alloc, "close ")?,
+        };
+        log.push_str(word.as_str())?;
+    }
+    Ok(log)
+}
+
+/// The events of an agent.
+pub(super) fn played_by(alloc: Global, sealed: &Sealed, agent: u16) -> Result<String, Fail> {
+    let mut log = String::new(alloc);
+    for kept in sealed.log() {
+        if let Some((other, name)) = named(&kept.event) {
+            if other == agent {
+                log.push_str(format!(in alloc; "{agent}{name} ")?.as_str())?;
+            }
+        }
+    }
+    Ok(log)
+}

@@ -1,0 +1,70 @@
+"""What the words of a stream say of a replay: deliveries that they make, and such as wrong bodies make."""
+import random
+import unittest
+from typing import List, Sequence, Set
+
+import program_contests
+from program_contests import SIDES, Side, made_by, words_of
+from stand_in_model import PRESENT, Match, Place, Setup
+
+COMMANDS = {"0": {"do": "depart", "port": 0}, "1": {"do": "depart", "port": 1}, "a": {"do": "accuse", "port": 0},
+            "l": {"do": "leave"}}
+
+
+def match_of(side: Side) -> Match:
+    links = [(node, 0, (node + 1) % side.nodes, 1) for node in range(side.nodes)]
+    return Match(Setup(side.nodes, links, 0, [side.hole], len(side.agents), 20, 8))
+
+
+def steps_of(match: Match, left: List[str], chance: random.Random) -> None:
+    """Lets some of the agents that wait for nothing take their next step."""
+    for agent, steps in enumerate(left):
+        if match.agents[agent].standing == PRESENT and steps and chance.random() < 0.7:
+            match.tell(agent, COMMANDS[steps[0]])
+            left[agent] = steps[1:]
+
+
+def turn(match: Match, held: Set[Place], word: int) -> None:
+    if match.pool:
+        agent = match.pool[word % len(match.pool)]
+        if (match.agents[agent].node, match.agents[agent].port) not in held:
+            match.deliver(agent)
+
+
+def replay(side: Side, words: Sequence[int], held: Set[Place], seed: int, idle: int = 7) -> str:
+    """The replay of a match whose agents come after some turns, with these words."""
+    chance, match, left = random.Random(seed), match_of(side), list(side.agents)
+    for word in words[:idle]:
+        turn(match, held, word)
+    for agent in range(len(left)):
+        match.tell(agent, {"do": "enter"})
+    for word in words[idle:]:
+        steps_of(match, left, chance)
+        turn(match, held, word)
+    match.close()
+    return match.replay()
+
+
+class Words(unittest.TestCase):
+    def test_they_make_the_deliveries_whenever_agents_come(self) -> None:
+        for number, side in enumerate(SIDES):
+            for seed in range(3):
+                text = replay(side, words_of(number), {side.held}, seed, idle=seed * 100)
+                self.assertTrue(made_by(text, {side.held}, words_of(number)))
+                self.assertFalse(made_by(text, {side.held}, words_of(1 - number)))
+                self.assertFalse(made_by(text, {side.held}, [0] * program_contests.TURNS))
+
+    def test_wrong_bodies_make_others(self) -> None:
+        for number, side in enumerate(SIDES):
+            words = words_of(number)
+            for name, used, held in (("one word for all", [0] * len(words), {side.held}),
+                                     ("another stream", words_of(1 - number), {side.held}),
+                                     ("backwards", words[::-1], {side.held}),
+                                     ("no link is held", words, set()), ("no turns", [], {side.held}),
+                                     ("the other match's link is held", words, {SIDES[1 - number].held})):
+                with self.subTest(body=name, team=side.team):
+                    self.assertFalse(made_by(replay(side, used, held, 1), {side.held}, words))
+
+
+if __name__ == "__main__":
+    unittest.main()
