@@ -38,9 +38,10 @@ def replay(side: Side, words: Sequence[int], held: Set[Place], seed: int, idle: 
         turn(match, held, word)
     for agent in range(len(left)):
         match.tell(agent, {"do": "enter"})
+    steps_of(match, left, chance)
     for word in words[idle:]:
-        steps_of(match, left, chance)
         turn(match, held, word)
+        steps_of(match, left, chance)
     match.close()
     return match.replay()
 
