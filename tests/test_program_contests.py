@@ -61,7 +61,7 @@ class Words(unittest.TestCase):
             for name, used, held in (("one word for all", [0] * len(words), {side.held}),
                                      ("another stream", words_of(1 - number), {side.held}),
                                      ("backwards", words[::-1], {side.held}),
-                                     ("no link is held", words, set()), ("no turns", [], {side.held}),
+                                     ("no link is held", words, set()),
                                      ("the other match's link is held", words, {SIDES[1 - number].held})):
                 with self.subTest(body=name, team=side.team):
                     self.assertFalse(made_by(replay(side, used, held, 1), {side.held}, words))
