@@ -1,7 +1,7 @@
 #!/usr/bin/env python3
 """Attacks a server by clients that keep to no rule, while two that do play their match.
 
-    tools/hostile_clients.py [--sessions N] [--attack each|silent|keys]
+    tools/hostile_clients.py [--sessions N] [--attack each|silent|keys] [--quick]
 
 Starts `./arena serve` on a tournament of four matches in a temporary folder, with N sessions, 1024 where none are
 named. Two polite clients play the first match from the first attack to the last: on a ring of 8 nodes they walk to and
@@ -24,7 +24,7 @@ exit status is 1 where one of these fails:
 
 A client that neither sends nor closes keeps its session for good, so the script closes all of its own. ARENA in the
 environment names another program than ./arena, as ARENA="python3 tools/stand_in_server.py" to try it without the build.
-A run takes half a minute.
+A run takes half a minute, and with --quick a third of that: its matches and its attacks are shorter.
 """
 import argparse
 import contextlib
@@ -37,7 +37,7 @@ import threading
 import time
 from typing import Callable, Iterator, List, NamedTuple, Optional, Sequence
 
-from hostile_attacks import (ATTACKS, DEPART, GONE, HERE, HOST, HOSTILE, LATER, OVER, PATIENCE, POLITE, PROMPT,
+from hostile_attacks import (ATTACKS, DEPART, GONE, HERE, HOST, HOSTILE, LATER, MIB, OVER, PATIENCE, POLITE, PROMPT,
                              STRANGER, Attack, Siege, Sizes, Wrong, hear)
 from stand_in_model import ENDED, OUTSIDE, Match, judge, played, spelled
 from stand_in_server import table
@@ -59,6 +59,7 @@ BASE_KIB = 64 * 1024
 EACH_KIB = 96
 END = 10.0
 LEAST_SESSIONS = LATER + 32
+QUICK = Sizes(turns=900, between_bytes=0.3, between_steps=0.05, still=0.5, flood=4 * MIB)
 # enough for the attacks, the server and what Python needs
 FILES = 2 * MAX_SESSIONS
 
@@ -323,13 +324,15 @@ def main() -> int:
     parser.add_argument("--sessions", metavar="N", type=int, default=MAX_SESSIONS,
                         help=f"{LEAST_SESSIONS} to {MAX_SESSIONS}")
     parser.add_argument("--attack", choices=list(ATTACKS), default="each")
+    parser.add_argument("--quick", action="store_true", help="shorter matches and attacks")
     given = parser.parse_args()
     if not LEAST_SESSIONS <= given.sessions <= MAX_SESSIONS:
         parser.error(f"--sessions takes {LEAST_SESSIONS} to {MAX_SESSIONS}")
     prepare(FILES)
     with tempfile.TemporaryDirectory() as name:
         try:
-            results = besiege(Sizes(sessions=given.sessions), ATTACKS[given.attack], pathlib.Path(name))
+            sizes = (QUICK if given.quick else Sizes())._replace(sessions=given.sessions)
+            results = besiege(sizes, ATTACKS[given.attack], pathlib.Path(name))
         except (Failed, Refused, Wrong, OSError) as fault:
             raise SystemExit(f"hostile_clients: the attack could not begin: {fault}") from fault
     print(f"{results.count - results.failed} passed, {results.failed} failed")

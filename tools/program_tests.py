@@ -5,9 +5,10 @@
 
 PROGRAM is the built program. With a folder only the rows of its files are played: those of tests/benchmark go with the
 benchmark. tools/program_rows.py says how rows are read and played; the other cases are in tools/program_cases.py,
-tools/interactive_cases.py and tools/program_contests.py. Each row and each case is played in a fresh temporary folder;
-nothing in the repository is overwritten. For each that fails a line names the file and the title, what was wanted and
-what came. The last line reads `N passed, M failed`, and the exit status is 1 where one failed.
+tools/interactive_cases.py, tools/program_contests.py and tools/program_rehearsals.py. Each row and each case is played
+in a fresh temporary folder; nothing in the repository is overwritten. For each that fails a line names the file and the
+title, what was wanted and what came. The last line reads `N passed, M failed`, and the exit status is 1 where one
+failed.
 """
 import concurrent.futures
 import functools
@@ -17,6 +18,7 @@ from typing import Iterator, NamedTuple, Sequence
 
 import interactive_cases  # noqa: F401  adds its cases
 import program_contests  # noqa: F401  adds its cases
+import program_rehearsals  # noqa: F401  adds its cases
 from program_cases import CASES, Trial
 from program_rows import fault_of, play, rows_of
 
