@@ -94,8 +94,8 @@ int main(int count_of_words, char **words) {
 """
 
 
-# lists tests, and runs one that asks for memory before the call that it tests and in it, or another that asks between
-# a play and its end
+# lists tests, and runs one that asks for memory before the call that it tests and in it, with a mark before and behind
+# it, or another that asks between a play and its end
 TESTS = """
 #include <stdio.h>
 #include <stdlib.h>
@@ -113,7 +113,13 @@ int main(int count_of_words, char **words) {
 #ifdef ASKS_IN_THE_PLAY
     free(plays ? malloc(1) : 0);
 #endif
+#ifndef SETS_NO_MARK
+    void *volatile mark = plays ? 0 : malloc(1048573);
+#endif
     void *volatile called = malloc(1);
+#ifndef SETS_NO_MARK
+    mark = plays ? 0 : malloc(1048573);
+#endif
     if (!called && plays)
         return write(2, "after the play\\n", 15) ? 101 : 0;
 #ifdef GIVES_UP
@@ -123,6 +129,10 @@ int main(int count_of_words, char **words) {
 #ifdef ENDS_OTHERWISE
     if (!called)
         return write(2, "alloc\\n", 6) ? 1 : 0;
+#endif
+#ifdef ANSWERS_MEMORY_AGAIN
+    if (!called)
+        return write(2, "Memory\\n", 7) ? 101 : 0;
 #endif
     return 0;
 }
@@ -236,7 +246,8 @@ class TestsTest(InFolder):
 
     def test_calls_that_are_made_again(self):
         self.assertEqual(self.faults_of(), [])
-        self.assertEqual(self.said, "memory::again::one, memory of 2: 1 begins, 1 passed\n"
+        self.assertEqual(self.said, "memory::again::one, memory of 1 in its calls: 1 passed\n"
+                         "memory::again::one, memory of 1 beside them: 1 begins\n"
                          f"{self.PLAY}, memory of 2: 1 none in the play\n")
 
     def test_the_program_is_left_in_a_file(self):
@@ -244,10 +255,20 @@ class TestsTest(InFolder):
         self.assertEqual(self.kept.read_bytes(), (self.folder / "tests").read_bytes())
 
     def test_a_test_that_gives_up(self):
-        self.assertEqual(self.faults_of("-DGIVES_UP"), ["memory::again::one, memory 2: status -6, ``"])
+        self.assertEqual(self.faults_of("-DGIVES_UP"),
+                         ["memory::again::one, memory 2: in the call that is tested: status -6, ``"])
 
     def test_a_test_that_ends_otherwise(self):
-        self.assertEqual(self.faults_of("-DENDS_OTHERWISE"), ["memory::again::one, memory 2: status 1, `alloc`"])
+        self.assertEqual(self.faults_of("-DENDS_OTHERWISE"),
+                         ["memory::again::one, memory 2: in the call that is tested: status 1, `alloc`"])
+
+    def test_a_call_that_wants_memory_again(self):
+        self.assertEqual(self.faults_of("-DANSWERS_MEMORY_AGAIN"),
+                         ["memory::again::one, memory 2: in the call that is tested: status 101, `Memory`"])
+
+    def test_a_test_must_say_what_it_tests(self):
+        self.assertEqual(self.faults_of("-DSETS_NO_MARK"),
+                         ["memory::again::one: no request is one of a call that is tested"])
 
     def test_a_play_that_asks_for_memory(self):
         [fault] = self.faults_of("-DASKS_IN_THE_PLAY")

@@ -15,13 +15,15 @@ seconds, by itself. What the clients hear are fronts of what they hear else, and
 the server ends well; the table is that of the replay; and the replay has all that was answered.
 
 TESTS is the program that `tools/library_tests.py TESTS` leaves. Its tests of tests/library/memory are run with each
-request for memory refused: each must pass, or want memory before the call that it tests. One test makes a match, plays
-on it, and then asks for memory once, for itself: no request before that may be one of the play.
+request for memory refused. They mark where the calls that they test begin and end: where a request between two such
+marks is refused, the test must pass; where another one is, it may want memory itself. One test makes a match, plays on
+it, and then asks for memory once, for itself: no request before that may be one of the play.
 
 A line is printed for each command and kind, with the number of runs and what came of them, and then the number of all;
-the exit status is 1 where a run ended otherwise. With --quick there are at most 60 runs of each command and kind, and
-40 of a server and kind, evenly spread, the first and the last among them; all others are left out. Without it only
-those of a server are left out that are more than 2,000 of a kind. It needs gcc, which builds `tools/refusals_shim.c`.
+the exit status is 1 where a run ended otherwise. With --quick there are at most 60 runs of each command and kind, 40 of
+a server and kind, and 20 of what a test does beside the calls that it tests, evenly spread, the first and the last
+among them; all others are left out. Without it only those of a server are left out that are more than 2,000 of a kind.
+It needs gcc, which builds `tools/refusals_shim.c`.
 """
 import argparse
 import collections
@@ -47,15 +49,21 @@ from program_cases import CUP, REFUSED_WORDS, TRIANGLE
 SHIM = pathlib.Path(__file__).resolve().with_name("refusals_shim.c")
 KINDS = ["memory", "read", "write"]
 COUNTED = [*KINDS, "refused"]
+# how many marks a program may set
+MARKS = 32
 STATUSES = {"memory": NO_MEMORY, "read": FAILED_STREAM, "write": FAILED_STREAM}
 MODES = ["memory", "read", "short-read", "write", "short-write"]
 QUICK, QUICK_SERVED, MOST_SERVED = 60, 40, 2000
+# of a test, of requests that are not between its marks
+QUICK_BESIDE = 20
 WORKERS = 8
 # seconds, of a server that takes a third of one
 SOON = 60
 REFUSED_TESTS = "memory::"
 PLAYING = "memory::playing::playing_takes_no_memory"
 FAILED_TEST = 101
+# what a test says that wants memory itself
+WANTS = re.compile("(?i)(memory|alloc)")
 # what it says where its own request is refused, and how runs of it end, one request after the other
 OWN = "after the play"
 WANTED_OF_PLAYING = re.compile(r"(begins )*own (passed )*")
@@ -97,10 +105,12 @@ class Shim:
         """An environment in which calls are counted, and one is refused if it is named; at the end the numbers."""
         refuse = {"REFUSE": f"{mode} {place}"} if mode else {}
         with tempfile.NamedTemporaryFile() as file:
-            file.write(bytes(8 * len(COUNTED)))
+            file.write(bytes(8 * (len(COUNTED) + MARKS)))
             file.flush()
             yield {**os.environ, **self.variables, "COUNTS": file.name, **refuse}
-            numbers.update(zip(COUNTED, struct.unpack(f"{len(COUNTED)}Q", pathlib.Path(file.name).read_bytes())))
+            found = struct.unpack(f"{len(COUNTED) + MARKS}Q", pathlib.Path(file.name).read_bytes())
+        numbers.update(zip(COUNTED, found))
+        numbers.update({f"mark {place}": mark - 1 for place, mark in enumerate(found[len(COUNTED):]) if mark})
 
 
 # the program of the tests has its own
@@ -403,23 +413,37 @@ def run_test(program: str, name: str, folder: pathlib.Path, variables: Dict[str,
                                   stderr=subprocess.STDOUT))
 
 
-def outcome_of_test(trials: Trials, program: str, name: str, place: int) -> str:
-    """What came of a test with a request for memory refused."""
-    with LINKED.counting({}, "memory", place) as variables:
+def marked(numbers: Dict[str, int]) -> Set[int]:
+    """The requests of the calls that a test tests: those between the first mark and the second, and so on."""
+    marks = [numbers[f"mark {place}"] for place in range(MARKS) if f"mark {place}" in numbers]
+    if len(marks) % 2:
+        raise Otherwise(f"{len(marks)} marks are set")
+    return {place for begin, end in zip(marks[::2], marks[1::2]) for place in range(begin + 1, end + 1)}
+
+
+def outcome_of_test(trials: Trials, program: str, name: str, tested: Set[int], place: int) -> str:
+    """What came of a test with a request for memory refused: one of a call that it tests, or another."""
+    numbers: Dict[str, int] = {}
+    with LINKED.counting(numbers, "memory", place) as variables:
         found = run_test(program, name, trials.lab.folder, variables)
     text = found.printed.decode(errors="replace").strip()
+    told = f"status {found.status}, `{text[:200]}`"
+    if numbers["refused"] != 1:
+        raise Otherwise(f"the request was not made: {told}")
     if found.status == DONE:
         return "passed"
+    if place in tested:
+        raise Otherwise(f"in the call that is tested: {told}")
     if found.status == FAILED_TEST and name == PLAYING and OWN in text:
         return "own"
-    if found.status == FAILED_TEST and re.search("memory|alloc", text.lower()):
+    if found.status == FAILED_TEST and WANTS.search(text):
         return "begins"
-    raise Otherwise(f"status {found.status}, `{text[:200]}`")
+    raise Otherwise(told)
 
 
 def play_in_turn(trials: Trials, program: str, number: int) -> str:
     """What came of the test of a play with each request for memory refused, one after the other."""
-    outcomes = [outcome_of_test(trials, program, PLAYING, place) for place in range(1, number + 1)]
+    outcomes = [outcome_of_test(trials, program, PLAYING, set(), place) for place in range(1, number + 1)]
     if not WANTED_OF_PLAYING.fullmatch("".join(f"{it} " for it in outcomes)):
         raise Otherwise(f"playing asks for memory: {outcomes}")
     return "none in the play"
@@ -439,12 +463,23 @@ def refuse_tests(trials: Trials, tests: str) -> None:
         number, what = numbers["memory"], f"{name}, memory of {numbers['memory']}"
         if found.status != DONE or not number:
             trials.lab.faults.append(f"{what}, with nothing refused: status {found.status}")
-            continue
-        if name == PLAYING:
+        elif name == PLAYING:
             trials.alike(lambda place: play_in_turn(trials, program, place), [number], what, f"{name}, memory")
         else:
-            trials.alike(lambda place: outcome_of_test(trials, program, name, place), places(number, trials.most), what,
-                         f"{name}, memory")
+            refuse_calls(trials, program, name, numbers)
+
+
+def refuse_calls(trials: Trials, program: str, name: str, numbers: Dict[str, int]) -> None:
+    """Runs a test with each request of the calls that it tests refused, and with others."""
+    tested = marked(numbers)
+    if not tested:
+        trials.lab.faults.append(f"{name}: no request is one of a call that is tested")
+        return
+    beside = [place for place in range(1, numbers["memory"] + 1) if place not in tested]
+    some = [beside[index - 1] for index in places(len(beside), trials.most and QUICK_BESIDE)]
+    for kind, chosen in (("in its calls", sorted(tested)), ("beside them", some)):
+        trials.alike(lambda place: outcome_of_test(trials, program, name, tested, place), chosen,
+                     f"{name}, memory of {len(tested if kind == 'in its calls' else beside)} {kind}", f"{name}, memory")
 
 
 def main() -> int:

@@ -1,10 +1,12 @@
 /* Refuses one request for memory, or fails or shortens one read or one write, of the program that it is loaded into by
    LD_PRELOAD. REFUSE names what and which, as in "memory 5", "read 3", "short-read 3", "write 1" or "short-write 1".
-   COUNTS names a file of four numbers of 8 bytes: how many requests, reads and writes there have been, and how many of
-   them all were refused. The file is mapped, so that the numbers stand in it however the program ends.
+   COUNTS names a file of numbers of 8 bytes: how many requests, reads and writes there have been, how many of them all
+   were refused, and for each mark one more than there had been requests, 0 behind the last mark. The file is mapped, so
+   that the numbers stand in it however the program ends.
 
    With KEPT, the name of a file, it is linked into a program whose requests for memory are wrapped, and counts and
-   refuses these alone. The first process of the program then leaves the program in that file. */
+   refuses these alone. A request for MARK bytes is a mark: it is granted and not counted. The first process of the
+   program then leaves the program in that file. */
 #define _GNU_SOURCE
 #include <errno.h>
 #include <fcntl.h>
@@ -17,7 +19,7 @@
 #include <sys/uio.h>
 #include <unistd.h>
 
-enum { MEMORY, READS, WRITES, KINDS };
+enum { MEMORY, READS, WRITES, KINDS, MARKS = 32, MARK = 1048573 };
 /* the exit status where REFUSE or COUNTS cannot be understood: nothing would be tried */
 enum { NO_TRIAL = 125 };
 
@@ -33,8 +35,8 @@ void *__libc_calloc(size_t, size_t);
 void *__libc_realloc(void *, size_t);
 void *__libc_memalign(size_t, size_t);
 
-/* one for each kind, and one for those that were refused */
-static atomic_ulong own[KINDS + 1];
+/* one for each kind, one for those that were refused, and one for each mark */
+static atomic_ulong own[KINDS + 1 + MARKS];
 static atomic_ulong *counts;
 static int refused = KINDS;
 static int shortens;
@@ -81,9 +83,27 @@ static void *nothing(void) {
     return 0;
 }
 
-void *malloc(size_t size) { return is_refused(MEMORY) ? nothing() : __libc_malloc(size); }
+#ifdef KEPT
+/* Whether this request is a mark, which is noted in the next place. */
+static int is_mark(size_t size) {
+    static atomic_int marked;
+    if (size != MARK || !counts)
+        return 0;
+    int next = atomic_fetch_add(&marked, 1);
+    if (next >= MARKS)
+        _exit(NO_TRIAL);
+    counts[KINDS + 1 + next] = counts[MEMORY] + 1;
+    return 1;
+}
+#else
+static int is_mark(size_t size) { return 0 * size; }
+#endif
 
-void *realloc(void *old, size_t size) { return is_refused(MEMORY) ? nothing() : __libc_realloc(old, size); }
+void *malloc(size_t size) { return !is_mark(size) && is_refused(MEMORY) ? nothing() : __libc_malloc(size); }
+
+void *realloc(void *old, size_t size) {
+    return !is_mark(size) && is_refused(MEMORY) ? nothing() : __libc_realloc(old, size);
+}
 
 #ifdef KEPT
 /* The program may run under the loader, so that its first word names it, and not /proc/self/exe. */

@@ -1,7 +1,9 @@
 //! Requests for memory that are refused. Here each is granted; `tools/refusals.py` runs these tests again, each time
-//! with another request refused.
+//! with another request refused. Two marks stand round each call that is tested: where a request between them is
+//! refused, the test passes. Before and behind them it may want memory.
 
 mod again;
+mod lent;
 mod playing;
 mod wanting;
 
@@ -11,6 +13,20 @@ use bhs_files::read_network;
 use bhs_match::Match;
 use bhs_model::{Command, Text};
 use std::alloc::{AllocError, Global};
+use std::test::Fail;
+
+/// To the harness a request for so many bytes is none: it says that the call that is tested begins, or has ended.
+const MARK: usize = 1_048_573;
+
+fn mark(alloc: Global) -> Result<(), Fail> {
+    let mut mark = Vec::with_capacity(alloc, MARK)?;
+    mark.push(0u8)?;
+    if mark.len() == 1 {
+        Ok(())
+    } else {
+        Err(Fail::from("no mark"))
+    }
+}
 
 const TRIANGLE: &str = "version = 1
 nodes = 3
