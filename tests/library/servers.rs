@@ -303,24 +303,16 @@ fn a_client_is_gone_at_once(rt: HostRuntime) -> Result<(), Fail> {
     ];
     assert_eq!(rt; (ended.len(), sealed.len()), (1, 1));
     assert!(rt; causes.contains(&ended[0]));
-    // it was heard before it was gone, and left unless it was on its way until the close
+    // it was heard before it was gone, and left where its session ended first
     let log = log_of(alloc, &sealed[0])?;
-    let arrival = if log.as_str().contains("0deliver") {
-        "0deliver "
-    } else {
-        ""
-    };
-    let leave = if ended[0] == Ended::Over {
-        ""
-    } else {
-        "0leave "
-    };
+    let has = |event: &str| log.as_str().contains(event);
+    let arrival = if has("0deliver") { "0deliver " } else { "" };
+    let leave = if has("0leave") { "0leave " } else { "" };
+    assert!(rt; ended[0] != Ended::Over || !has("0leave"));
     let events = format!(in alloc; "0enter 0depart {arrival}{leave}close ")?;
     assert_eq!(rt; log, events);
-    assert_eq!(rt;
-        lengths(alloc, &sealed)?.as_slice(),
-        [events.split(' ').count() - 1].as_slice()
-    );
+    let count = events.as_str().split(' ').count() - 1;
+    assert_eq!(rt; lengths(alloc, &sealed)?.as_slice(), [count].as_slice());
     Ok(())
 }
 
