@@ -14,9 +14,10 @@ use Rattle.bhs_standings.specs.Tables.{table_of}
 abbrev pub number_at : (place : ℕ) → ℕ
 number_at place = min place (2 ^ 32 - 1)
 
--- what the cell of the match at this place is given: its number, its network and its setup
+-- what the cell of the match at this place is given: its number, its network, its setup and its held links
 abbrev pub given_of : (place : ℕ) → Ready → Given
-given_of place ready = record { game = number_at place; net = ready.game.net; setup = ready.game.setup }
+given_of place ready =
+    record { game = number_at place; net = ready.game.net; setup = ready.game.setup; held = ready.held }
 
 -- what the cells of matches are given of which the first stands at this place
 abbrev pub givens_of : (place : ℕ) → List Ready → List Given

@@ -80,7 +80,7 @@ IsDispute account NotClosed = IsOpen account
 -- what parts and passes are settled by
 abbrev pub account_of : Parts → List Passed → Account
 account_of parts passes = record {
-  given = record { game = parts.game; net = parts.net; setup = parts.setup };
+  given = record { game = parts.game; net = parts.net; setup = parts.setup; held = parts.held };
   play = parts.hall.play;
   left = parts.left.items;
   passes = passes;

@@ -38,7 +38,7 @@ impl Model for Cell {
 
     ghost Value = { Given };
 
-    ghost view = { λ cell. record { game = cell.game; net = cell.net; setup = cell.setup } };
+    ghost view = { λ cell. record { game = cell.game; net = cell.net; setup = cell.setup; held = cell.held } };
 }
 
 impl Cell {
@@ -48,7 +48,8 @@ impl Cell {
     /// network and the setup. All memory that the match and its passes need is taken here.
     pub fn new(alloc: Global, game: u32, play: Match, held: Held) -> Result<Cell, Memory>
         requires { play.log ≡ [] }
-        ensures { IfOk result (λ cell. cell ≡ record { game = game; net = play.net; setup = play.setup }) }
+        ensures { IfOk result (λ cell. cell
+            ≡ record { game = game; net = play.net; setup = play.setup; held = held }) }
     {
         let Frame {
             net,
@@ -130,8 +131,7 @@ impl Cell {
     pub fn turn<R: Wait>(&self, rt: &R, dealer: &mut Dealer) -> Drawn
         ensures { dealer.new ≡ moved_on dealer.old }
     {
-        let word = dealer.next();
-        let drawn = self.hall.lock(rt).draw(&self.held, word);
+        let drawn = self.hall.lock(rt).turn(&self.held, dealer);
         if let Drawn::Delivered { agent } = drawn {
             if let Some(bell) = self.news.get(usize::from(agent)) {
                 bell.notify_all();
@@ -150,14 +150,15 @@ impl Cell {
 
     /// The parts of a cell that no thread shares any more.
     pub fn into_parts(self) -> Parts
-        ensures { (result.game ≡ self.game) × (result.net ≡ self.net) × (result.setup ≡ self.setup) }
+        ensures { (result.game ≡ self.game) × (result.net ≡ self.net) × (result.setup ≡ self.setup)
+            × (result.held ≡ self.held) }
     {
         let Cell {
             game,
             hall,
             unclaimed,
             news: _,
-            held: _,
+            held,
             net,
             setup,
         } = self;
@@ -167,6 +168,7 @@ impl Cell {
             left: unclaimed.into_inner().into_left(),
             net,
             setup,
+            held,
         }
     }
 }

@@ -9,12 +9,13 @@ ghost use Rattle.bhs_model.specs.Draws.{draw};
 ghost use Rattle.bhs_match.specs.Matches.{state_of};
 ghost use Rattle.bhs_match.specs.Games.{IsPlayed};
 ghost use Rattle.bhs_match.specs.declared.answers.Answer.{Answer as MatchAnswer};
+ghost use Rattle.bhs_deal.specs.Dealer.{moved_on, next_word};
 ghost use Rattle.bhs_deal.specs.Links.{held_in};
 ghost use Rattle.bhs_deal.specs.Drawing.{drawn, IsPlayedIf};
 
 use crate::model::{Answer, Receipt, Tally};
 use crate::pass::Pass;
-use bhs_deal::{Drawn, Held, draw};
+use bhs_deal::{Dealer, Drawn, Held, draw};
 use bhs_match::{Match, Sealed};
 use bhs_model::{Command, Event, Reply, Setup, Why};
 use bhs_net::Memory;
@@ -137,13 +138,16 @@ impl Hall {
         })
     }
 
-    /// Plays at most one delivery: that of the agent that the word picks out of the pool. Takes no memory.
-    pub(crate) fn draw(&mut self, held: &Held, word: u32) -> Drawn
-        ensures drawn { result ≡ drawn (held_in held.now) (state_of self.old.play) word }
+    /// Takes a turn: plays at most one delivery, that of the agent that the dealer's next word picks out of the pool,
+    /// unless its link is held. Takes no memory.
+    pub fn turn(&mut self, held: &Held, dealer: &mut Dealer) -> Drawn
+        ensures drawn { result ≡ drawn (held_in held.now) (state_of self.old.play) (next_word dealer.old) }
         ensures played { IsPlayedIf self.old.play
-            (draw (held_in held.now) (state_of self.old.play) word) self.new.play }
+            (draw (held_in held.now) (state_of self.old.play) (next_word dealer.old)) self.new.play }
+        ensures dealer { dealer.new ≡ moved_on dealer.old }
         ensures game { self.new.game ≡ self.old.game }
     {
+        let word = dealer.next();
         let drawn = draw(&mut self.play, held, word);
         // The proof needs what the log says of itself.
         let _legal = self.play.log();

@@ -8,6 +8,7 @@ use crate::hall::Hall;
 use crate::networks::is_of_world;
 use crate::pass::Pass;
 use crate::settling::{first_difference, first_stray, missing};
+use bhs_deal::Held;
 use bhs_match::Sealed;
 use bhs_model::Setup;
 use bhs_net::Net;
@@ -21,6 +22,7 @@ pub struct Parts {
     pub left: Vec<Option<Pass>>,
     pub net: Net,
     pub setup: Setup,
+    pub held: Held,
 }
 
 /// Why a match does not settle.
@@ -74,6 +76,7 @@ impl Parts {
             left,
             net: _,
             setup: _,
+            held: _,
         } = self;
         match dispute {
             None => Ok(hall.into_sealed()),

@@ -54,7 +54,8 @@ fn send_reply<W: Output>(last: &mut LastLine, writer: &mut W, reply: Reply) -> R
 /// Adds the line of a reply, with its line feed. An `Err` may have added a part of it.
 #[inline(always)]
 pub fn push_reply(alloc: Global, reply: LentReply<'_>, text: &mut Vec<u8>) -> Result<(), Memory>
-    ensures { OnOk result (text.new.items ≡ text.old.items ++ text_of (reply_of reply.entry)) }
+    ensures sent { OnOk result (text.new.items ≡ text.old.items ++ text_of (reply_of reply.entry)) }
+    ensures front { (more : List ℕ) × (text.new.items ≡ text.old.items ++ more) }
 {
     text.reserve(room_of(reply))?;
     push_line(alloc, text, reply)?;
@@ -94,7 +95,8 @@ fn send_denial<W: Output>(writer: &mut W, denial: Denial) -> Result<(), WriteFau
 
 /// Adds the line that tells a client why it is not let in, with its line feed. An `Err` may have added a part of it.
 pub fn push_denial(denial: Denial, text: &mut Vec<u8>) -> Result<(), Memory>
-    ensures { OnOk result (text.new.items ≡ text.old.items ++ denial_text denial) }
+    ensures sent { OnOk result (text.new.items ≡ text.old.items ++ denial_text denial) }
+    ensures front { (more : List ℕ) × (text.new.items ≡ text.old.items ++ more) }
 {
     text.extend_from_slice(denial_of(denial).as_bytes())?;
     Ok(text.push(b'\n')?)

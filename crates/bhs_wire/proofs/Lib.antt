@@ -1,5 +1,6 @@
 pub mod FirstLines
 pub mod FirstFeeds
+pub mod FrontLemmas
 pub mod LineFeeds
 pub mod Reading
 pub mod Turns

@@ -1,9 +1,9 @@
-ghost use Rattle.std.specs.Prelude.{◌≡◌, ◌+◌, ◌≤◌, ◌∷◌, ◌++◌, length, map, false, option_map, option_and_then};
+ghost use Rattle.std.specs.Prelude.{◌≡◌, ◌+◌, ◌≤◌, List, ◌∷◌, ◌++◌, length, map, false, option_map, option_and_then};
 ghost use Rattle.std.specs.Prelude.{MatchOption, IsOk, IfOk, OnOk, OnErr};
 ghost use Rattle.std.specs.List.{list_any, position};
 ghost use Rattle.std.specs.Option.{ForSome};
 ghost use Rattle.std.specs.Cow.{cow_slice_items};
-ghost use Rattle.bhs_wire.specs.Lines.{seen, given, is_line_feed, kept, lines, rest, ended_by};
+ghost use Rattle.bhs_wire.specs.Lines.{Line, seen, given, is_line_feed, kept, lines, rest, ended_by};
 
 use crate::commands::{First, LineReader};
 use crate::kinds::is_blank;
@@ -62,8 +62,9 @@ pub(crate) fn push_first<'p>(
     end: &'p [u8],
 ) -> Result<(), Memory>
     requires { ForSome held.now (λ line. length line.items ≤ MAX_LINE) }
-    ensures { OnOk result (map seen found.new.items ≡ map seen found.old.items
+    ensures found { OnOk result (map seen found.new.items ≡ map seen found.old.items
         ++ ended_by (option_map (λ line. line.items) held.now) end.now) }
+    ensures front { (more : List Line) × (map seen found.new.items ≡ map seen found.old.items ++ more) }
 {
     match held {
         Some(front) => push_line(alloc, found, front, end)?,
@@ -79,6 +80,7 @@ pub(crate) fn push_lines<'p>(
     bytes: &'p [u8],
 ) -> Result<&'p [u8], Memory>
     ensures found { OnOk result (map seen found.new.items ≡ map seen found.old.items ++ lines bytes.now) }
+    ensures front { (more : List Line) × (map seen found.new.items ≡ map seen found.old.items ++ more) }
     ensures rest { IfOk result (λ after. after.now ≡ rest bytes.now) }
 {
     let mut after = bytes;
@@ -97,7 +99,9 @@ fn push_line<'p>(
     end: &'p [u8],
 ) -> Result<(), Memory>
     requires { length front.now ≤ MAX_LINE }
-    ensures { OnOk result (map seen found.new.items ≡ map seen found.old.items ++ given (front.now ++ end.now)) }
+    ensures found { OnOk result (map seen found.new.items
+        ≡ map seen found.old.items ++ given (front.now ++ end.now)) }
+    ensures front { (more : List Line) × (map seen found.new.items ≡ map seen found.old.items ++ more) }
 {
     if end.len() > MAX_LINE - front.len() {
         found.push_back(Raw::Over)?;

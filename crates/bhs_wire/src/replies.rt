@@ -1,4 +1,4 @@
-ghost use Rattle.std.specs.Prelude.{◌≡◌, ◌++◌, ◌∷◌, [], codes, OnOk};
+ghost use Rattle.std.specs.Prelude.{◌≡◌, ℕ, List, ◌++◌, ◌∷◌, [], codes, OnOk};
 ghost use Rattle.json.specs.Token.{key};
 ghost use Rattle.bhs_model.specs.declared.replies.Reply.TheVariants.{Here, Changed};
 ghost use Rattle.bhs_wire.specs.LentReply.{reply_of};
@@ -17,7 +17,8 @@ use std::mem::replace;
 /// Adds the line of a reply to a text, without its line feed. An `Err` may have added a part of it.
 #[inline]
 pub fn push_line(alloc: Global, text: &mut Vec<u8>, reply: LentReply<'_>) -> Result<(), Memory>
-    ensures { OnOk result (text.new.items ≡ text.old.items ++ line (reply_of reply.entry)) }
+    ensures line { OnOk result (text.new.items ≡ text.old.items ++ line (reply_of reply.entry)) }
+    ensures front { (more : List ℕ) × (text.new.items ≡ text.old.items ++ more) }
 {
     let mut out = Writer::new(replace(text, Vec::new(alloc)));
     let written = write_reply(&mut out, reply);

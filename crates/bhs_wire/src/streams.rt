@@ -32,7 +32,7 @@ impl Model for Lines {
 }
 
 impl Lines {
-    ghost use Rattle.bhs_wire.specs.Lines.{seen, lines, held_of, found_in, left_by};
+    ghost use Rattle.bhs_wire.specs.Lines.{Line, seen, lines, held_of, found_in, left_by};
 
     /// With nothing held yet. Takes no memory.
     pub fn new(alloc: Global) -> Lines
@@ -82,6 +82,7 @@ impl Lines {
     ) -> Result<(), Memory>
         ensures found { OnOk result (map seen found.new.items
             ≡ map seen found.old.items ++ found_in self.old piece.now) }
+        ensures front { (more : List Line) × (map seen found.new.items ≡ map seen found.old.items ++ more) }
         ensures left { OnOk result (self.new ≡ left_by self.old piece.now) }
         ensures err { OnErr result (self.new ≡ self.old) }
     {

@@ -18,7 +18,7 @@ returns-in_ok-push_reply-in-Some-clause-drawn c =
     c.draw.ensures.drawn c.draw.ensures.played c.in-Delivered.is
     (c.in-Some.ensures ∙ ap (λ (before : List Kept). read_if log (mark_at log (length before)))
     c.log-before.ensures.log)) in
-    (told.0, ap (λ (text : List ℕ). (Some c.in-Delivered.agent, text)) c.in_ok-push_reply-in-Some.ensures ∙ told.1)
+    (told.0, ap (λ (text : List ℕ). (Some c.in-Delivered.agent, text)) c.in_ok-push_reply-in-Some.ensures.sent ∙ told.1)
 
 pub returns-in-None-clause-drawn : goal.returns-in-None-clause-drawn
 returns-in-None-clause-drawn c =

@@ -16,7 +16,7 @@ returns c = record {
   headline = record {
     kept = refl;
     replies = refl;
-    given = record { game = 0; net = settled.net; setup = settled.setup };
+    given = record { game = 0; net = settled.net; setup = settled.setup; held = [] };
     passes = pass ∷ [];
     accord = record {
       world = record { same_net = refl; same_setup = refl };
@@ -26,7 +26,7 @@ returns c = record {
     };
     index = 0;
     handed_in = refl;
-    cells = record { game = 0; net = settled.net; setup = settled.setup } ∷ [];
+    cells = record { game = 0; net = settled.net; setup = settled.setup; held = [] } ∷ [];
     game = 0;
     cell = refl;
     of_cell = refl;
@@ -52,7 +52,7 @@ returns c = record {
   other = record {
     kept = refl;
     replies = refl;
-    given = record { game = 3; net = settled_elsewhere.net; setup = settled_elsewhere.setup };
+    given = record { game = 3; net = settled_elsewhere.net; setup = settled_elsewhere.setup; held = [] };
     passes = pass_beside ∷ pass_elsewhere ∷ [];
     accord = record {
       world = record { same_net = refl; same_setup = refl };
@@ -62,7 +62,7 @@ returns c = record {
     };
     index = 1;
     handed_in = refl;
-    cells = record { game = 3; net = settled_elsewhere.net; setup = settled_elsewhere.setup } ∷ [];
+    cells = record { game = 3; net = settled_elsewhere.net; setup = settled_elsewhere.setup; held = [] } ∷ [];
     game = 0;
     cell = refl;
     of_cell = refl;

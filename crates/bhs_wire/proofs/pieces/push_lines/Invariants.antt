@@ -1,13 +1,14 @@
-use Rattle.std.proofs.Common.{◌≡◌, ◌++◌, length, map}
-use Rattle.bhs_wire.specs.Lines.{seen, lines, rest}
+use Rattle.std.proofs.Common.{◌≡◌, List, ◌++◌, length, map}
+use Rattle.bhs_wire.specs.Lines.{Line, seen, lines, rest}
 use Rattle.bhs_wire.proofs.pieces.push_lines.Given as goal
 
--- the lines found so far and those of what is left are those of all
+-- the lines found so far and those of what is left are those of all, and those found before stay in front
 abbrev pub invariant-loop-line : goal.invariant-loop-line
 invariant-loop-line l =
     record {
       found : map seen l.found.items ++ lines l.after ≡ map seen l.fn.found.items ++ lines l.bytes;
       rest : rest l.after ≡ rest l.bytes;
+      front : (more : List Line) × (map seen l.found.items ≡ map seen l.fn.found.items ++ more);
     }
 
 abbrev pub decreases-loop-line : goal.decreases-loop-line

@@ -20,7 +20,7 @@ returns-clause-found c =
     let before = map seen c.args.found.now.items in
     let held = c.self.inside.held in
     c.in_ok-rest.ensures.found
-    ∙ (ap (λ found. found ++ lines c.in-Some.more.now) c.in_ok-push_first.ensures
+    ∙ (ap (λ found. found ++ lines c.in-Some.more.now) c.in_ok-push_first.ensures.found
     ∙ (append_assoc before (ended_by (bytes_of held) c.in-Some.end.now) (lines c.in-Some.more.now)
     ∙ ap (λ (more : List Line). before ++ more)
     (found_first held c.args.piece.now c.in-Some.end.now c.in-Some.more.now c.self.invariant c.in-Some.ensures.0
