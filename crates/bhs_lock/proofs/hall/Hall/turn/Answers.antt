@@ -5,5 +5,5 @@ use Rattle.bhs_lock.proofs.hall.Hall.turn.Goals as goal
 
 pub invariant_of-self : goal.invariant_of-self
 invariant_of-self c =
-    legal_drawn c.self.inside.play _ (held_in c.args.held.now) (state_of c.self.inside.play) c.next-word.result _
+    legal_drawn c.self.inside.play _ (held_in c.args.held.now) (state_of c.self.inside.play) _ _
     c.self.invariant c.draw-drawn.ensures.played (c.log-legal.ensures.kept, c.log-legal.ensures.replies)
