@@ -26,9 +26,9 @@ from typing import Any, Callable, Dict, Iterator, List, NamedTuple, Optional, Te
 from inputs import MAX_AGENTS, MAX_BOARD, MAX_QUOTA, median_run, torus_links
 
 TOP = pathlib.Path(__file__).resolve().parent.parent
-sys.path.insert(0, str(TOP / "tools"))
+sys.path.insert(0, str(TOP))
 
-from stand_in_model import spelled  # noqa: E402
+from lab.model import spelled  # noqa: E402
 
 PROGRAM = TOP / "crates" / "bhs_main" / "out" / "bhs_main"
 SIDE = 16

@@ -7,8 +7,8 @@ Starts `./arena serve` on examples/contest.toml, and then the agents of each tea
 would do. Waits for the server to end, and prints its table and which teams solved their networks. All of them must:
 else the exit status is 1. With --kill the agents of the team green are killed in the middle of their search, and the
 other teams must solve theirs. Files go to a temporary folder; --keep has the replays of the matches written to a
-folder, --pages also a page of each (tools/replay_page.py). ARENA in the environment names another program than
-./arena, as ARENA="python3 tools/stand_in_server.py" to try it without the build.
+folder, --pages also a page of each (python3 -m lab page). ARENA in the environment names another program than
+./arena, as ARENA="python3 -m lab" to try it without the build.
 """
 import argparse
 import itertools
@@ -120,11 +120,13 @@ def outcomes(table: str) -> Dict[str, str]:
 
 
 def write_pages(replays: str, folder: pathlib.Path) -> None:
-    """Writes a page of each match."""
+    """Writes a page of each match, by the program that served it, if that is one."""
+    command = arena()
+    program = ["--program", command[0]] if len(command) == 1 else []
     for number, team in enumerate(TEAMS):
         page = folder / f"{team}.html"
-        tool = [DEBIANS_PYTHON, str(TOP / "tools" / "replay_page.py"), f"{replays}{number}.jsonl"]
-        subprocess.run([*tool, "--out", str(page)], check=True)
+        tool = [DEBIANS_PYTHON, "-m", "lab", "page", f"{replays}{number}.jsonl", "--out", str(page.resolve()), *program]
+        subprocess.run(tool, cwd=TOP, check=True)
         print(f"{team}'s match: {page}")
 
 

@@ -1,4 +1,4 @@
-"""The stand-in with turns that wait, so that no test goes by the clock.
+"""The server of the lab with turns that wait, so that no test goes by the clock.
 
     python3 -m tests.patient_server serve T --port N --sessions S --turns K --pause MS --replay P
 
@@ -8,18 +8,15 @@ turn waits, so the matches are closed. The milliseconds of a pause are not kept.
 import sys
 import threading
 
-from tests import TOP
-
-sys.path.insert(0, str(TOP / "tools"))
-
-import stand_in_server  # noqa: E402
-from stand_in_model import Object  # noqa: E402
+from lab import server
+from lab.__main__ import main
+from lab.model import Object
 
 is_over = threading.Event()
 games = []
 
 
-class PatientGame(stand_in_server.Game):
+class PatientGame(server.Game):
     def __init__(self, *given: object) -> None:
         super().__init__(*given)
         games.append(self)
@@ -49,6 +46,6 @@ def wait_for_the_end() -> None:
 
 
 if __name__ == "__main__":
-    stand_in_server.Game = PatientGame
+    server.Game = PatientGame
     threading.Thread(target=wait_for_the_end, daemon=True).start()
-    stand_in_server.main()
+    sys.exit(main())

@@ -12,8 +12,8 @@ import compare
 import contest
 import inputs
 import rehearse
-from stand_in_model import Verdict
-from stand_in_server import table
+from lab.model import Verdict
+from lab.server import table
 
 
 class Inputs(unittest.TestCase):

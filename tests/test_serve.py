@@ -13,9 +13,8 @@ from unittest import mock
 import serve
 from serve import Bench, Figures, Load, load_of
 from servers import Failed, started
-from tests import TOP
 
-STAND_IN = f"{sys.executable} {TOP / 'tools' / 'stand_in_server.py'}"
+STAND_IN = f"{sys.executable} -m lab"
 
 
 class Plans(unittest.TestCase):

@@ -15,11 +15,11 @@ import time
 from typing import Callable, Dict, List, NamedTuple, Optional, Sequence
 
 TOP = pathlib.Path(__file__).resolve().parent.parent
-sys.path.insert(0, str(TOP / "bench"))
+sys.path[:0] = [str(TOP), str(TOP / "bench")]
 
 from inputs import MAX_AGENTS, MAX_BOARD, key  # noqa: E402
+from lab.model import spelled  # noqa: E402
 from servers import MAX_SESSIONS  # noqa: E402
-from stand_in_model import spelled  # noqa: E402
 
 MIB = 1024 * 1024
 HOST = "127.0.0.1"

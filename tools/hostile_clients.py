@@ -17,14 +17,14 @@ exit status is 1 where one of these fails:
 - It never holds more than 64 MiB and 96 KiB for each session: 64 KiB for the longest line, the rest for its stack and
   what else a session has. The 64 MiB are for the program, the matches and their logs, and for what is kept of answers
   to 4000 looks at a whiteboard of 4 KiB, twice 16 MiB at most.
-- It has written the replay of each match, which the stand-in model plays to the same replies.
+- It has written the replay of each match, which the Python model plays to the same replies.
 - Each polite client was answered what the replay says, within 2 seconds each time, and their team solved its network.
 - The agents of clients that vanished have left their match.
 - The table is that of the verdicts on the replays.
 
 A client that neither sends nor closes keeps its session for good, so the script closes all of its own. ARENA in the
-environment names another program than ./arena, as ARENA="python3 tools/stand_in_server.py" to try it without the build.
-A run takes half a minute, and with --quick a third of that: its matches and its attacks are shorter.
+environment names another program than ./arena, as ARENA="python3 -m lab" to try it without the build. A run takes half
+a minute, and with --quick a third of that: its matches and its attacks are shorter.
 """
 import argparse
 import contextlib
@@ -39,15 +39,15 @@ from typing import Callable, Iterator, List, NamedTuple, Optional, Sequence
 
 from hostile_attacks import (ATTACKS, DEPART, GONE, HERE, HOST, HOSTILE, LATER, MIB, OVER, PATIENCE, POLITE, PROMPT,
                              STRANGER, Attack, Siege, Sizes, Wrong, hear)
-from stand_in_model import ENDED, OUTSIDE, Match, judge, played, spelled
-from stand_in_server import table
 
 TOP = pathlib.Path(__file__).resolve().parent.parent
-for place in ("bench", "examples/agents"):
+for place in (".", "bench", "examples/agents"):
     sys.path.insert(0, str(TOP / place))
 
 from client import Agent, Lines, Refused  # noqa: E402
 from inputs import MAX_AGENTS, MAX_BOARD, MAX_QUOTA, key, peak_of_child, peak_so_far, ring, tournament  # noqa: E402
+from lab.model import ENDED, OUTSIDE, Match, judge, played, spelled  # noqa: E402
+from lab.server import table  # noqa: E402
 from servers import MAX_SESSIONS, Failed, free_port, prepare, started, words  # noqa: E402
 
 MATCHES = 4

@@ -6,16 +6,21 @@ next word of its match's stream, and the word picks out of the pool. So the log 
 whenever its clients may have come.
 """
 import contextlib
+import pathlib
 import socket
 import subprocess
+import sys
 import threading
 from typing import Iterator, List, NamedTuple, Optional, Sequence, Set, Tuple
 
 from chacha8_words import word
 from program_cases import case
 from program_rows import PATIENCE, Run, Stage, Wrong, expect
-from stand_in_model import AWAY, OVER, Match, Object, Place, begun, judge, objects_of, spelled
-from stand_in_server import table
+
+sys.path.insert(0, str(pathlib.Path(__file__).resolve().parent.parent))
+
+from lab.model import AWAY, OVER, Match, Object, Place, begun, judge, objects_of, spelled  # noqa: E402
+from lab.server import table  # noqa: E402
 
 SEED = bytes(range(32))
 TURNS, PAUSE = 400, 5

@@ -1,11 +1,11 @@
-"""Rehearsals that are drawn, of each number of agents, and played on the program: what it prints is what the stand-in
-for a rehearsal prints, also where it answers each line as it comes. No call wants memory."""
+"""Rehearsals that are drawn, of each number of agents, and played on the program: it prints what
+tools/drawn_rehearsals.py says, also where it answers each line as it comes. No call wants memory."""
 import functools
 from typing import Sequence
 
+from drawn_rehearsals import drawn
 from program_cases import CASES
 from program_rows import Stage, difference, expect
-from stand_in_rehearsal import drawn
 
 MOST_AGENTS = 64
 OF_A_CASE = 16
@@ -21,8 +21,8 @@ def are_played(numbers: Sequence[int], stage: Stage) -> None:
         ran = stage.run(["rehearse", "cup.toml"], script)
         difference(f"{agents} agents, told", b"", ran.told)
         expect(ran, "".join(rehearsal.printed).encode())
-        live = "".join(f"{text}\n" for text in rehearsal.printed).encode()
-        expect(stage.run(["rehearse", "cup.toml", "--interactive"], script), live)
+        interactive = "".join(f"{text}\n" for text in rehearsal.printed).encode()
+        expect(stage.run(["rehearse", "cup.toml", "--interactive"], script), interactive)
 
 
 for least in range(1, MOST_AGENTS + 1, OF_A_CASE):

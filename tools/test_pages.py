@@ -3,7 +3,6 @@
 Steps each page to its end, compares each step's line with the replay and the last with `arena judge`, looks through the
 eyes of agents, and finds no error in the console. Screenshots go to the folder that is given.
 """
-import os
 import pathlib
 import random
 import subprocess
@@ -16,12 +15,13 @@ from selenium import webdriver
 from selenium.webdriver.common.keys import Keys
 
 TOP = pathlib.Path(__file__).resolve().parent.parent
-sys.path[:0] = [str(TOP), str(TOP / "tools")]
+sys.path[:0] = [str(TOP), str(TOP / "bench")]
 
-import tests  # noqa: E402,F401  puts the other folders on the path
 import replays  # noqa: E402
-from stand_in_model import Match, Setup  # noqa: E402
-from tests import test_agents  # noqa: E402
+from lab.engines import asked, program_at  # noqa: E402
+from lab.model import Match, Setup  # noqa: E402
+from lab.networks import hypercube  # noqa: E402
+from lab.tests.playing import MAP, RING, fixture, played, ring_fixture  # noqa: E402
 
 WIDE, PHONE = (1200, 1000), (390, 844)
 SECONDS_TO_OPEN = 10
@@ -38,8 +38,7 @@ HOSTILE = [
 
 def cube_replay() -> str:
     """Five agents with a map on the hypercube."""
-    links = [(v, bit, v ^ 1 << bit, bit) for v in range(16) for bit in range(4) if v < v ^ 1 << bit]
-    return test_agents.play_map(Setup(16, links, 0, [11], 5, 1000, 4096), 3).replay()
+    return played(fixture(hypercube(4), 11, 5), MAP, 3).replay.decode()
 
 
 def dark_replay() -> str:
@@ -135,15 +134,13 @@ def page_of(browser: Browser, name: str, replay: str, *words: str) -> pathlib.Pa
     source = browser.folder / f"{name}.jsonl"
     source.write_text(replay, encoding="utf-8", newline="\n")
     page = browser.folder / f"{name}.html"
-    tool = [sys.executable, str(TOP / "tools" / "replay_page.py"), str(source), "--out", str(page), *words]
-    subprocess.run(tool, check=True)
+    tool = [sys.executable, "-m", "lab", "page", str(source), "--out", str(page), *words]
+    subprocess.run(tool, cwd=TOP, check=True)
     return page
 
 
 def judged(browser: Browser, name: str) -> str:
-    arena = os.environ.get("ARENA", str(TOP / "arena")).split()
-    words = [*arena, "judge", str(browser.folder / f"{name}.jsonl")]
-    return subprocess.run(words, check=True, stdout=subprocess.PIPE, text=True).stdout.strip()
+    return asked(program_at(None), "judge", str(browser.folder / f"{name}.jsonl")).strip()
 
 
 def steps(browser: Browser, name: str, replay: str) -> None:
@@ -240,8 +237,8 @@ def refused(browser: Browser) -> None:
     """A replay that is cut is refused with the line and the status of `arena judge`, and no page is written."""
     source = browser.folder / "cut.jsonl"
     source.write_text("".join(line + "\n" for line in dark_replay().split("\n")[:-2]), encoding="utf-8")
-    tool = [sys.executable, str(TOP / "tools" / "replay_page.py"), str(source)]
-    ran = subprocess.run(tool, stderr=subprocess.PIPE, text=True)
+    tool = [sys.executable, "-m", "lab", "page", str(source)]
+    ran = subprocess.run(tool, cwd=TOP, stderr=subprocess.PIPE, text=True)
     right = ran.returncode == 3 and ran.stderr == f"{source}: end\n" and not source.with_suffix(".html").exists()
     browser.check(right, f"cut: status {ran.returncode}, {ran.stderr}")
 
@@ -252,8 +249,7 @@ def main() -> int:
     with tempfile.TemporaryDirectory() as name:
         browser = Browser(pathlib.Path(name), pictures)
         try:
-            ring = test_agents.ring_setup(8, 5, random.Random(1))
-            matches(browser, "ring", test_agents.play_ring(ring, 5).replay())
+            matches(browser, "ring", played(ring_fixture(8, 5, random.Random(1)), RING, 5).replay.decode())
             matches(browser, "cube", cube_replay())
             matches(browser, "dark", dark_replay())
             matches(browser, "hostile", hostile_replay())

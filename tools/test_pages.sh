@@ -3,7 +3,8 @@
 # Screenshots go to the folder that is given, or to a temporary one.
 set -eu
 cd "$(dirname "$0")/.."
-packages="chromium chromium-driver python3-selenium python3-networkx python3-numpy python3-scipy fonts-dejavu-core"
+packages="chromium chromium-driver python3-selenium python3-networkx python3-numpy python3-scipy python3-greenlet
+fonts-dejavu-core"
 # shellcheck disable=SC2086
 if ! dpkg -s $packages > /dev/null 2>&1; then
     apt-get update -q

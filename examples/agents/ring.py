@@ -81,8 +81,7 @@ class Search:
 
     def run(self) -> None:
         """Searches until the agent has accused."""
-        if self.walker.board or not self.walker.swap(with_field("", RIGHT, "going")):
-            self.side = LEFT
+        self.begin()
         left = self.nodes - 1
         self.target = (left + 1) // 2 if self.side == RIGHT else left // 2
         while True:
@@ -92,6 +91,11 @@ class Search:
                 return self.walker.accuse(self.side)
             if not self.divide():
                 return
+
+    def begin(self) -> None:
+        """Chooses the right side, unless the other has chosen it before."""
+        if self.walker.board or not self.walker.swap(with_field("", RIGHT, "going")):
+            self.side = LEFT
 
     def left(self) -> int:
         """How many nodes are left, as far as the agent knows."""

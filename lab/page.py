@@ -1,15 +1,13 @@
-#!/usr/bin/env python3
 """Writes a page on which one can watch a match that has ended.
 
-    tools/replay_page.py REPLAY [--out PAGE] [--twin V]
+    python3 -m lab page REPLAY [--out PAGE] [--twin V] [--program PATH]
 
 The page is one HTML file that opens without a network: REPLAY with the ending `.html`, or PAGE. With --twin it shows
 beside the match its twin whose black hole is node V. The program `arena` judges the replay, explains it and makes the
-twin; a replay that it refuses is refused here with its line and its status. ARENA in the environment names another
-program than ./arena.
+twin; a replay that it refuses is refused here with its line and its status.
 
-It needs Debian's package python3-networkx with python3-numpy and python3-scipy, which that package recommends: they lay
-out the network. Debian's Python is /usr/bin/python3.
+Networks are laid out by Debian's package python3-networkx with python3-numpy and python3-scipy, which that package
+recommends.
 
 A page keeps of an event its kind, its agent and its port, and each text once; replies are worked out on the page by the
 rules of docs/MODEL.md, as `arena` has found them to be those of the replay.
@@ -17,17 +15,16 @@ rules of docs/MODEL.md, as `arena` has found them to be those of the replay.
 import argparse
 import html
 import json
-import os
 import pathlib
 import re
-import shlex
 import subprocess
-import sys
 import tempfile
-from typing import Any, Dict, Iterable, List, Tuple
+from typing import Any, Dict, Iterable, List, Optional, Tuple
 
-TOP = pathlib.Path(__file__).resolve().parent.parent
-PARTS = TOP / "tools" / "replay_page"
+from lab.engines import Refused, add_program, asked, program_at
+from lab.missing import needed
+
+PARTS = pathlib.Path(__file__).resolve().parent / "page_parts"
 SCRIPTS = ("match.js", "met.js", "texts.js", "drawing.js", "page.js")
 SCALE = 1000
 SEED = 4
@@ -37,24 +34,14 @@ LETTERS = {
 }
 
 
-class Refused(Exception):
-    """The program `arena` refused; its line and its status."""
-
-    def __init__(self, line: str, status: int) -> None:
-        super().__init__(line)
-        self.status = status
-
-
-def arena(*words: str) -> Iterable[str]:
-    """The lines that `arena` prints for these words."""
-    command = [*shlex.split(os.environ.get("ARENA", str(TOP / "arena"))), *words]
+def lines_of(program: str, *words: str) -> Iterable[str]:
+    """The lines that the program prints for these words, one by one."""
     with tempfile.TemporaryFile() as errors:
-        with subprocess.Popen(command, stdout=subprocess.PIPE, stderr=errors) as ran:
+        with subprocess.Popen([program, *words], stdout=subprocess.PIPE, stderr=errors) as ran:
             yield from (line.decode() for line in ran.stdout)
         if ran.returncode != 0:
             errors.seek(0)
-            line = errors.read().decode(errors="replace").strip()
-            raise Refused(line or f"arena ended with status {ran.returncode}", ran.returncode)
+            raise Refused(errors.read().decode(errors="replace").strip(), ran.returncode)
 
 
 class Texts:
@@ -110,15 +97,12 @@ def places(lines: Iterable[str]) -> Iterable[int]:
 
 def layout(head: Dict[str, Any]) -> List[List[int]]:
     """Where each node is drawn, in thousandths of the picture."""
-    try:
-        import networkx
-        graph = networkx.Graph()
-        graph.add_nodes_from(range(head["nodes"]))
-        graph.add_edges_from((v, w) for v, _, w, _ in head["links"])
-        spots = networkx.kamada_kawai_layout(graph, pos=networkx.spring_layout(graph, seed=SEED))
-    except ImportError as fault:
-        raise SystemExit(f"replay_page: {fault}: it needs Debian's python3-networkx, python3-numpy and python3-scipy, "
-                         "and Debian's Python, /usr/bin/python3") from None
+    networkx = needed("networkx")
+    needed("numpy"), needed("scipy")
+    graph = networkx.Graph()
+    graph.add_nodes_from(range(head["nodes"]))
+    graph.add_edges_from((v, w) for v, _, w, _ in head["links"])
+    spots = networkx.kamada_kawai_layout(graph, pos=networkx.spring_layout(graph, seed=SEED))
     return fitted([spots[node] for node in range(head["nodes"])])
 
 
@@ -153,31 +137,31 @@ def code_in(match: Dict[str, Any], code: Any) -> Any:
     return agent, match["texts"][int(expect)], match["texts"][int(put)]
 
 
-def with_twin(match: Dict[str, Any], replay: str, node: int) -> Dict[str, Any]:
+def with_twin(program: str, match: Dict[str, Any], replay: str, node: int) -> Dict[str, Any]:
     """The twin whose black hole is this node, as the page keeps it."""
     with tempfile.NamedTemporaryFile("w", encoding="utf-8", newline="\n", suffix=".jsonl") as file:
-        file.writelines(arena("twin", replay, str(node)))
+        file.writelines(lines_of(program, "twin", replay, str(node)))
         file.flush()
         twin = read(open(file.name, encoding="utf-8", newline="\n"))
-        twin["verdict"] = "".join(arena("judge", file.name)).strip()
+        twin["verdict"] = asked(program, "judge", file.name).strip()
     twin["struck"] = struck(match, twin)
     twin["node"] = node
     return twin
 
 
-def data_of(replay: str, twin: Any) -> Dict[str, Any]:
+def data_of(program: str, replay: str, twin: Optional[int]) -> Dict[str, Any]:
     """All that the page shows."""
-    verdict = "".join(arena("judge", replay)).strip()
+    verdict = asked(program, "judge", replay).strip()
     with open(replay, encoding="utf-8", newline="\n") as lines:
         match = read(lines)
     met = {code[1:].partition(":")[0] for code in match["events"].split(",")} - {""}
-    pasts = {agent: runs(places(arena("explain", replay, agent))) for agent in sorted(met, key=int)}
+    pasts = {agent: runs(places(lines_of(program, "explain", replay, agent))) for agent in sorted(met, key=int)}
     data = {
         "name": pathlib.Path(replay).name, "verdict": verdict, "spots": layout(match["head"]), "pasts": pasts,
         "match": match, "twin": None,
     }
     if twin is not None:
-        data["twin"] = with_twin(match, replay, twin)
+        data["twin"] = with_twin(program, match, replay, twin)
     return data
 
 
@@ -196,20 +180,19 @@ def part(name: str) -> str:
     return (PARTS / name).read_text(encoding="utf-8")
 
 
-def main() -> int:
-    parser = argparse.ArgumentParser(description=__doc__, formatter_class=argparse.RawDescriptionHelpFormatter)
-    parser.add_argument("replay")
-    parser.add_argument("--out", metavar="PAGE")
-    parser.add_argument("--twin", metavar="V", type=int)
-    words = parser.parse_args()
-    try:
-        page = page_of(data_of(words.replay, words.twin))
-    except Refused as fault:
-        print(fault, file=sys.stderr)
-        return fault.status
-    pathlib.Path(words.out or pathlib.Path(words.replay).with_suffix(".html")).write_text(page, encoding="utf-8")
+def write_page(program: str, replay: pathlib.Path, page: pathlib.Path, twin: Optional[int] = None) -> None:
+    """Writes the page of a replay."""
+    page.write_text(page_of(data_of(program, str(replay), twin)), encoding="utf-8")
+
+
+def add_words(parser: argparse.ArgumentParser) -> None:
+    """The words of the command `page`."""
+    parser.add_argument("replay", metavar="REPLAY", type=pathlib.Path, help="a replay, as the arena writes it")
+    parser.add_argument("--out", metavar="PAGE", type=pathlib.Path, help="write the page there")
+    parser.add_argument("--twin", metavar="V", type=int, help="show the twin whose black hole is node V beside it")
+    add_program(parser)
+
+
+def run(words: argparse.Namespace) -> int:
+    write_page(program_at(words.program), words.replay, words.out or words.replay.with_suffix(".html"), words.twin)
     return 0
-
-
-if __name__ == "__main__":
-    sys.exit(main())

@@ -1,7 +1,6 @@
-#!/usr/bin/env python3
-"""A stand-in for `arena serve`, for authors of agents who do not want to build the program. It needs Python 3.11.
+"""A stand-in for `arena serve`, for authors of agents who do not want to build the program.
 
-    tools/stand_in_server.py serve T --port N --sessions S --turns K --pause MS --replay P
+    python3 -m lab serve T --port N --sessions S --turns K --pause MS --replay P
 
 takes the words of `arena serve` and does what it does: it listens on 127.0.0.1, prints `listening N`, serves S
 sessions on the matches of tournament T, lets an agent on a link arrive by chance K times with MS milliseconds between,
@@ -12,25 +11,23 @@ import argparse
 import pathlib
 import random
 import socket
-import sys
 import threading
 import time
-import tomllib
 from typing import Any, Dict, List, Tuple
 
-from stand_in_model import BYE, GONE, NOTED, OVER, Match, Object, Setup, Verdict, command_of, judge, spelled
+from lab.fixtures import Fixture, read_tournament
+from lab.model import GONE, LAST, MAX_LINE, OVER, Match, Object, Verdict, command_of, denial, judge, spelled, text_of
 
-MAX_LINE = 65_536
 RANKS = ["solved", "guess", "unfinished", "silent", "wrong"]
 
 
 class Game:
     """One match under its lock, with its held links and the arrivals that were not told yet."""
 
-    def __init__(self, row: Dict[str, Any], setup: Setup, seed: str) -> None:
-        self.team = row["team"]
-        self.match = Match(setup)
-        self.held = {(node, port) for node, port in row.get("held", [])}
+    def __init__(self, fixture: Fixture, seed: str) -> None:
+        self.team = fixture.team
+        self.match = Match(fixture.setup)
+        self.held = set(fixture.held)
         self.chance = random.Random(seed)
         self.changed = threading.Condition()
         self.arrivals: Dict[int, Object] = {}
@@ -64,14 +61,6 @@ class Game:
         with self.changed:
             self.match.close()
             self.changed.notify_all()
-
-
-def text_of(line: bytes) -> str:
-    """A line as a text, or an empty one where it is not UTF-8."""
-    try:
-        return line.decode("utf-8")
-    except UnicodeDecodeError:
-        return ""
 
 
 class Session:
@@ -114,21 +103,18 @@ class Session:
         if line is None:
             return None
         command = command_of(line)
-        if command["do"] != "enter":
-            self.say({"no": "enter"})
-            return None
-        seat = self.keys.get(command["key"])
-        if seat is None or command["key"] in self.taken:
-            self.say({"no": "taken" if seat else "key"})
+        denied = denial(command, self.keys, self.taken)
+        if denied:
+            self.say(denied)
             return None
         self.taken.add(command["key"])
-        return seat
+        return self.keys[command["key"]]
 
     def play(self, game: Game, agent: int, lines: Any) -> None:
         reply = game.tell(agent, {"do": "enter"})
         try:
             self.say(reply)
-            while reply not in (BYE, NOTED, OVER):
+            while reply not in LAST:
                 line = next(lines, None)
                 if line is None:
                     return
@@ -143,16 +129,12 @@ class Session:
 
 def games_of(path: str) -> Tuple[List[Game], Dict[str, Tuple[Game, int]]]:
     """The matches of a tournament file and the seats of its keys. The files must be right: ask `arena check`."""
-    tournament = tomllib.loads(pathlib.Path(path).read_text())
+    tournament = read_tournament(path)
     games, keys = [], {}
-    for number, row in enumerate(tournament["match"]):
-        network = tomllib.loads(pathlib.Path(row["network"]).read_text())
-        holes = row["holes"] if "holes" in row else [row["hole"]] if row["hole"] != "none" else []
-        setup = Setup(network["nodes"], [tuple(link) for link in network["links"]], row["home"], holes,
-                      len(row["keys"]), row["quota"], row["board"], [tuple(place) for place in row.get("dark", [])])
-        game = Game(row, setup, f"{tournament['seed']} {number}")
+    for number, fixture in enumerate(tournament.fixtures):
+        game = Game(fixture, f"{tournament.seed} {number}")
         games.append(game)
-        keys.update({key: (game, agent) for agent, key in enumerate(row["keys"])})
+        keys.update({key: (game, agent) for agent, key in enumerate(fixture.keys)})
     return games, keys
 
 
@@ -164,35 +146,34 @@ def table(rows: List[Tuple[str, Verdict]]) -> str:
     return "".join(f"{a:>3} {b:<16} {c:<10} {d:>6} {e:>4}\n" for a, b, c, d, e in lines)
 
 
-def serve(words: argparse.Namespace) -> None:
+def run(words: argparse.Namespace) -> int:
     games, keys = games_of(words.tournament)
     taken: set = set()
     with socket.create_server(("127.0.0.1", words.port), backlog=words.sessions) as listener:
         print(f"listening {words.port}", flush=True)
-        threads = [threading.Thread(target=game.deal, args=(words.turns, words.pause / 1000)) for game in games]
+        # daemons, so that a server that is interrupted ends
+        threads = [threading.Thread(target=game.deal, args=(words.turns, words.pause / 1000), daemon=True)
+                   for game in games]
         for thread in threads:
             thread.start()
         for _ in range(words.sessions):
             connection, _ = listener.accept()
             connection.setsockopt(socket.IPPROTO_TCP, socket.TCP_NODELAY, 1)
-            threads.append(threading.Thread(target=Session(connection, keys, taken).serve))
+            threads.append(threading.Thread(target=Session(connection, keys, taken).serve, daemon=True))
             threads[-1].start()
         for thread in threads:
             thread.join()
     for number, game in enumerate(games):
         pathlib.Path(f"{words.replay}{number}.jsonl").write_text(game.match.replay(), encoding="utf-8")
     print(table([(game.team, judge(game.match)) for game in games]), end="")
+    return 0
 
 
-def main() -> None:
-    parser = argparse.ArgumentParser(description=__doc__, formatter_class=argparse.RawDescriptionHelpFormatter)
-    words = parser.add_subparsers(required=True).add_parser("serve")
-    words.add_argument("tournament")
-    for option in ("port", "sessions", "turns", "pause"):
-        words.add_argument(f"--{option}", type=int, required=True)
-    words.add_argument("--replay", required=True)
-    serve(parser.parse_args())
-
-
-if __name__ == "__main__":
-    sys.exit(main())
+def add_words(parser: argparse.ArgumentParser) -> None:
+    """The words of the command `serve`."""
+    parser.add_argument("tournament", metavar="T", help="the tournament's file")
+    for option, about in (("port", "listen on this port of 127.0.0.1"), ("sessions", "serve this many connections"),
+                          ("turns", "close each match after this many turns"),
+                          ("pause", "wait this many milliseconds before each turn")):
+        parser.add_argument(f"--{option}", type=int, required=True, help=about)
+    parser.add_argument("--replay", metavar="P", required=True, help="write the replay of each match M to PM.jsonl")

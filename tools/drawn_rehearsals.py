@@ -1,10 +1,15 @@
-"""Rehearsals in Python, after docs/FORMATS.md and apart from the proved code: connections, keys and queues over the
-stand-in model, and scripts that are drawn from a seed. Nothing is proved of it."""
+"""Rehearsals in Python, after docs/FORMATS.md and apart from the proved code: connections, keys and queues of several
+matches over the model of the lab, which take bytes as they come, and scripts that are drawn from a seed. Nothing is
+proved of it."""
 import collections
+import pathlib
 import random
+import sys
 from typing import Counter, Deque, Dict, List, NamedTuple, Optional, Sequence, Tuple
 
-from stand_in_model import AWAY, BAD, BYE, NOTED, OVER, PRESENT, Match, Object, Place, Setup, command_of, spelled
+sys.path.insert(0, str(pathlib.Path(__file__).resolve().parent.parent))
+
+from lab.model import AWAY, BAD, BYE, NOTED, OVER, Match, Object, Place, Setup, command_of, spelled  # noqa: E402
 
 CONNECTIONS = 256
 MAX_LINE = 65_536

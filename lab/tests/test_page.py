@@ -1,8 +1,7 @@
-"""What tools/replay_page.py puts into a page. How the page looks and steps is for tools/test_pages.sh."""
+"""What a page of a match holds. How the page looks and steps is for tools/test_pages.sh."""
 import contextlib
 import io
 import json
-import os
 import pathlib
 import re
 import sys
@@ -10,17 +9,19 @@ import tempfile
 import unittest
 from unittest import mock
 
-import replay_page
-from stand_in_model import Match, Setup
+from lab import page
+from lab.__main__ import main
+from lab.model import Match, Setup
 
 TRIANGLE = [(0, 0, 1, 0), (1, 1, 2, 0), (2, 1, 0, 1)]
 HOSTILE = "</script><b>\u202e{{title}}"
 
 # an arena that answers as it is told by the folder that it stands in
-ARENA = """import pathlib, sys
+ARENA = f"""#!{sys.executable}
+import pathlib, sys
 answers = pathlib.Path(__file__).parent / sys.argv[1]
 if not answers.exists():
-    print(f"{sys.argv[2]}: end", file=sys.stderr)
+    print(sys.argv[2] + ": end", file=sys.stderr)
     sys.exit(3)
 sys.stdout.buffer.write(answers.read_bytes())
 """
@@ -41,14 +42,14 @@ class Pages(unittest.TestCase):
         folder = tempfile.TemporaryDirectory()
         self.addCleanup(folder.cleanup)
         self.folder = pathlib.Path(folder.name)
-        (self.folder / "arena.py").write_text(ARENA)
+        self.program = self.folder / "arena"
+        self.program.write_text(ARENA)
+        self.program.chmod(0o755)
         self.replay = self.folder / "match.jsonl"
         self.replay.write_text(ended().replay(), encoding="utf-8")
-        environment = {"ARENA": f"{sys.executable} {self.folder / 'arena.py'}"}
-        for patch in (mock.patch.dict(os.environ, environment),
-                      mock.patch.object(replay_page, "layout", lambda head: [[0, 0]] * head["nodes"])):
-            patch.start()
-            self.addCleanup(patch.stop)
+        patch = mock.patch.object(page, "layout", lambda head: [[0, 0]] * head["nodes"])
+        patch.start()
+        self.addCleanup(patch.stop)
 
     def answers(self, **answers: str) -> None:
         for word, text in answers.items():
@@ -56,15 +57,14 @@ class Pages(unittest.TestCase):
 
     def written(self, *words: str) -> int:
         errors = io.StringIO()
-        given = mock.patch.object(sys, "argv", ["replay_page", str(self.replay), *words])
-        with given, contextlib.redirect_stderr(errors):
-            status = replay_page.main()
+        with contextlib.redirect_stderr(errors):
+            status = main(["page", str(self.replay), "--program", str(self.program), *words])
         self.errors = errors.getvalue()
         return status
 
     def data(self) -> dict:
-        page = (self.folder / "match.html").read_text(encoding="utf-8")
-        return json.loads(re.search(r'<script type="application/json" id="data">(.*?)</script>', page, re.S)[1])
+        text = (self.folder / "match.html").read_text(encoding="utf-8")
+        return json.loads(re.search(r'<script type="application/json" id="data">(.*?)</script>', text, re.S)[1])
 
     def test_a_page_holds_the_events_the_pasts_and_the_verdict(self) -> None:
         self.answers(judge="silent moves 1 lost 1\n", explain="0 {}\n1 {}\n3 {}\n")
@@ -78,11 +78,11 @@ class Pages(unittest.TestCase):
     def test_no_text_ends_its_element(self) -> None:
         self.answers(judge="silent moves 1 lost 1\n", explain="")
         self.written()
-        page = (self.folder / "match.html").read_text(encoding="utf-8")
-        self.assertEqual(page.count("</script>"), 2)
-        self.assertNotIn("\u202e", page)
-        self.assertNotIn("http:", page.replace("http://www.w3.org/2000/svg", ""))
-        self.assertNotIn("https:", page)
+        text = (self.folder / "match.html").read_text(encoding="utf-8")
+        self.assertEqual(text.count("</script>"), 2)
+        self.assertNotIn("\u202e", text)
+        self.assertNotIn("http:", text.replace("http://www.w3.org/2000/svg", ""))
+        self.assertNotIn("https:", text)
 
     def test_a_refused_replay_is_refused_with_its_line(self) -> None:
         self.assertEqual(self.written(), 3)
@@ -99,7 +99,7 @@ class Pages(unittest.TestCase):
 
     def test_a_replay_of_version_1(self) -> None:
         lines = ['{"agents":1,"board":8,"hole":null,"home":0,"links":[],"nodes":3,"quota":10,"replay":1}', '{"end":0}']
-        head = replay_page.read(lines)["head"]
+        head = page.read(lines)["head"]
         self.assertEqual((head["holes"], head["dark"], head["replay"]), ([], [], 2))
 
 

@@ -4,7 +4,7 @@ Nothing is proved of it, and no result of a contest rests on it. Commands are th
 those that they are sent, and a match's log is a list of the objects that stand in a replay.
 """
 import json
-from typing import Any, Dict, List, NamedTuple, Optional, Set, Tuple
+from typing import Any, Container, Dict, List, NamedTuple, Optional, Set, Tuple
 
 Object = Dict[str, Any]
 Place = Tuple[int, int]
@@ -15,30 +15,94 @@ GONE: Object = {"ok": "gone"}
 BYE: Object = {"ok": "bye"}
 NOTED: Object = {"ok": "noted"}
 OUTSIDE, PRESENT, AWAY, ENDED = "outside", "present", "away", "ended"
+# what each command names
+SHAPES: Dict[str, Dict[str, type]] = {
+    "enter": {"key": str}, "look": {}, "write": {"expect": str, "put": str}, "depart": {"port": int},
+    "accuse": {"port": int}, "leave": {},
+}
+# what a client is told last
+LAST = (BYE, NOTED, OVER)
+# a line of more bytes is read as a bad command, and so is one with objects and lists as deep as this
+MAX_LINE = 65_536
+TOO_DEEP = 128
+# a number of more digits is read as a fraction is
+LONG = 20
+
+
+ENCODER = json.JSONEncoder(sort_keys=True, separators=(",", ":"), ensure_ascii=False)
 
 
 def spelled(value: Any) -> str:
     """JSON as the arena spells it: keys in order, no spaces, characters past ASCII as they are."""
-    return json.dumps(value, sort_keys=True, separators=(",", ":"), ensure_ascii=False)
+    return ENCODER.encode(value)
+
+
+def text_of(line: bytes) -> str:
+    """A line as a text, or an empty one, which is no command, where it is too long or is not UTF-8."""
+    try:
+        return line.decode("utf-8") if len(line) <= MAX_LINE else ""
+    except UnicodeDecodeError:
+        return ""
+
+
+def depth(value: Any) -> int:
+    """How deep the objects and lists of a value stand in each other."""
+    if isinstance(value, (dict, list)):
+        return 1 + max(map(depth, value.values() if isinstance(value, dict) else value), default=0)
+    return 0
+
+
+def finite(digits: str) -> float:
+    value = float(digits)
+    if value in (float("inf"), float("-inf")):
+        raise ValueError("too large a number")
+    return value
+
+
+def refused_constant(name: str) -> None:
+    raise ValueError(f"{name} is no JSON")
+
+
+def whole(digits: str) -> Any:
+    return int(digits) if len(digits) < LONG and digits != "-0" else finite(digits)
+
+
+DECODER = json.JSONDecoder(parse_int=whole, parse_float=finite, parse_constant=refused_constant)
+
+
+def value_of(line: str) -> Any:
+    """The JSON value of a line, by the arena's rules: -0 is no whole number, NaN and Infinity are nothing, and half a
+    surrogate pair is no text."""
+    value = DECODER.decode(line)
+    if "\\" in line:
+        spelled(value).encode()
+    if line.count("[") + line.count("{") >= TOO_DEEP and depth(value) >= TOO_DEEP:
+        raise ValueError("too deep")
+    return value
 
 
 def command_of(line: str) -> Object:
     """The command that a client's line is."""
     try:
-        given = json.loads(line)
+        given = value_of(line)
     except (ValueError, RecursionError):
         return BAD
     do = given.get("do") if isinstance(given, dict) else None
-    shapes: Dict[Any, Dict[str, type]] = {
-        "enter": {"key": str}, "look": {}, "write": {"expect": str, "put": str}, "depart": {"port": int},
-        "accuse": {"port": int}, "leave": {},
-    }
-    shape = shapes.get(do) if isinstance(do, str) else None
+    shape = SHAPES.get(do) if isinstance(do, str) else None
     if shape is None or any(type(given.get(name)) is not kind for name, kind in shape.items()):
         return BAD
     if "port" in shape and not 0 <= given["port"] <= 65_535:
         return BAD
     return {"do": do, **{name: given[name] for name in shape}}
+
+
+def denial(command: Object, keys: Container[str], taken: Container[str]) -> Optional[Object]:
+    """Why a connection's first command does not let it in, or None."""
+    if command["do"] != "enter":
+        return {"no": "enter"}
+    if command["key"] not in keys:
+        return {"no": "key"}
+    return {"no": "taken"} if command["key"] in taken else None
 
 
 class Setup(NamedTuple):
@@ -83,6 +147,13 @@ class Match:
         self.log: List[Object] = []
         self.accused: List[Place] = []
         self.reached: Set[int] = set()
+
+    def set_alone(self, number: int, agent: AgentState, board: str) -> None:
+        """Sets the match to one agent, with this text on the whiteboard at its node, as if nothing had happened yet."""
+        self.agents[number] = agent
+        self.boards[agent.node] = board
+        self.pool = [number] if agent.standing == AWAY else []
+        self.log, self.accused, self.reached, self.closed = [], [], set(), False
 
     def _here(self, agent: AgentState) -> Object:
         board = self.boards[agent.node]

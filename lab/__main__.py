@@ -1,0 +1,87 @@
+"""The lab's command line: `python3 -m lab --help`."""
+import argparse
+import importlib
+import os
+import signal
+import sys
+from typing import List, NamedTuple, Optional
+
+from lab.engines import Differs, NoProgram, Refused
+from lab.missing import Missing
+from lab.networks import NoNetwork
+from lab.pasts import NoFunction
+from lab.schedulers import Impossible
+from lab.schedules import NoSchedule
+from lab.agent_files import NoAgent
+
+FAULTS = (Differs, Impossible, Missing, NoAgent, NoFunction, NoNetwork, NoProgram, NoSchedule)
+
+
+class Command(NamedTuple):
+    """A command: the module that has its words and runs it, and what it does in a line."""
+
+    module: str
+    about: str
+
+
+COMMANDS = {
+    "run": Command("lab.run", "play a team under schedules of a scheduler"),
+    "hunt": Command("lab.hunt", "look for a schedule after which the team fails, or moves most"),
+    "explore": Command("lab.explore", "try every schedule of a small network"),
+    "replay": Command("lab.replay", "play a schedule again, and compare every byte"),
+    "mutants": Command("lab.mutation", "try whether the lab finds out wrong versions of the sample agents"),
+    "endure": Command("lab.endurance", "play the sample agents under many drawn schedules"),
+    "speed": Command("lab.speed", "measure how many steps a second the lab plays"),
+    "compare": Command("lab.compare", "compare the proved program with the Python model, byte for byte"),
+    "serve": Command("lab.server", "a stand-in for `arena serve`, to try agents without building the program"),
+    "page": Command("lab.page", "write a page on which one watches a match that has ended"),
+}
+
+ABOUT = """Plays agents under a schedule that you choose, records it, and plays it again byte for byte.
+
+Agents are asynchronous: a protocol is right only if it works however links delay them. The arena's own contests show
+the schedule that the clock happens to make; the lab shows the others. `python3 -m lab COMMAND --help` says more of each
+command, and lab/README.md is a tutorial."""
+STATUS = """exit status: 0 if all went well, 1 if a team fails or engines differ, 2 if the command line is refused, 130
+if it was stopped too early to say"""
+
+
+def parser() -> argparse.ArgumentParser:
+    made = argparse.ArgumentParser("python3 -m lab", description=ABOUT, epilog=STATUS,
+                                   formatter_class=argparse.RawDescriptionHelpFormatter)
+    commands = made.add_subparsers(required=True, metavar="COMMAND", dest="command")
+    for name, command in COMMANDS.items():
+        module = importlib.import_module(command.module)
+        words = commands.add_parser(name, help=command.about, description=module.__doc__, epilog=STATUS,
+                                    formatter_class=argparse.RawDescriptionHelpFormatter)
+        module.add_words(words)
+        words.set_defaults(run=module.run)
+    return made
+
+
+def main(given: Optional[List[str]] = None) -> int:
+    words = parser().parse_args(given)
+    # whoever ends the lab ends what it started
+    signal.signal(signal.SIGTERM, lambda *_: sys.exit(143))
+    try:
+        return words.run(words)
+    except KeyboardInterrupt:
+        print("lab: interrupted", file=sys.stderr)
+        return 130
+    except Refused as fault:
+        print(fault, file=sys.stderr)
+        return fault.status
+    except FAULTS as fault:
+        print(f"lab: {fault}", file=sys.stderr)
+        return 1 if isinstance(fault, (Differs, Impossible)) else 2
+    except BrokenPipeError:
+        # who reads has heard enough
+        os.dup2(os.open(os.devnull, os.O_WRONLY), sys.stdout.fileno())
+        return 2
+    except OSError as fault:
+        print(f"lab: {fault}", file=sys.stderr)
+        return 2
+
+
+if __name__ == "__main__":
+    sys.exit(main())

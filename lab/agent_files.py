@@ -1,0 +1,87 @@
+"""Agents in Python that run inside the lab, as words of the command line name them.
+
+    FILE.py[:FUNCTION] [WORD ..]
+
+The function is `search` unless another is named. It takes an agent, its key, and the words, which are whole numbers;
+`{nodes}` and `{links}` stand for the network's numbers. If it has a parameter `sleep`, it gets a function to wait by.
+"""
+import functools
+import hashlib
+import importlib
+import importlib.util
+import inspect
+import pathlib
+import sys
+from types import ModuleType
+from typing import Any, Callable, Dict, List, Sequence
+
+from lab.model import Setup
+
+TOP = pathlib.Path(__file__).resolve().parent.parent
+# where the client is that sample agents share, for agents that have no copy beside them
+AGENTS = TOP / "examples" / "agents"
+
+Sleep = Callable[[float], None]
+# plays one agent: by what sends and receives lines, the agent's key, and what it waits by
+Script = Callable[[Any, str, Sleep], None]
+
+
+class NoAgent(Exception):
+    """Words that name no agent; says what does."""
+
+
+@functools.lru_cache(maxsize=None)
+def loaded(path: pathlib.Path) -> ModuleType:
+    """The module in a file, which may import what stands beside it, and the client of the sample agents."""
+    if not path.is_file():
+        raise NoAgent(f"{path}: there is no such file")
+    for folder in (str(AGENTS), str(path.parent.resolve())):
+        if folder not in sys.path:
+            sys.path.insert(0, folder)
+    spec = importlib.util.spec_from_file_location(f"lab_agent_{path.stem}", path)
+    module = importlib.util.module_from_spec(spec)
+    sys.modules[spec.name] = module
+    spec.loader.exec_module(module)
+    return module
+
+
+def member(word: str, usual: str) -> Any:
+    """What a word `FILE.py:NAME` names, or `FILE.py` with the usual name."""
+    path, _, name = word.partition(":")
+    module = loaded(pathlib.Path(path))
+    found = getattr(module, name or usual, None)
+    if not callable(found):
+        raise NoAgent(f"{path}: it has no function {name or usual}")
+    return found
+
+
+def numbers_of(words: Sequence[str], setup: Setup) -> List[int]:
+    """The whole numbers that the words say, of this match."""
+    facts = {"nodes": setup.nodes, "links": len(setup.links)}
+    try:
+        return [int(word.format(**facts)) for word in words]
+    except (KeyError, ValueError, IndexError):
+        raise NoAgent(f"{' '.join(words)}: the words behind an agent's file are whole numbers, {{nodes}} or "
+                      "{links}") from None
+
+
+def script_of(words: str, setup: Setup) -> Script:
+    """The agent that these words name, as it plays this match."""
+    file, *rest = words.split()
+    search = member(file, "search")
+    numbers = numbers_of(rest, setup)
+    sleeps = "sleep" in inspect.signature(search).parameters
+    client = importlib.import_module("client")
+
+    def play(lines: Any, key: str, sleep: Sleep) -> None:
+        try:
+            search(client.Agent(lines), key, *numbers, **({"sleep": sleep} if sleeps else {}))
+        except client.MatchOver:
+            pass
+    return play
+
+
+def digests(words: Sequence[str]) -> Dict[str, str]:
+    """The SHA-256 of each file that the words name, so that a schedule says for which agents it was made."""
+    files = [pathlib.Path(word.partition(":")[0]) for line in words for word in line.split()]
+    return {str(file): hashlib.sha256(file.read_bytes()).hexdigest() for file in files if file.is_file()}

@@ -1,0 +1,71 @@
+"""Finds: a schedule worth keeping, played by the proved program and written with all that shows it."""
+import contextlib
+import pathlib
+from typing import List, Optional
+
+from lab.engines import Engine, Program, judged
+from lab.fixtures import write_tournament
+from lab.missing import Missing
+from lab.model import Verdict
+from lab.page import write_page
+from lab.play import Played, play
+from lab.rehearsal import Rehearsal
+from lab.schedulers import recorded
+from lab.schedules import Schedule, text_of
+from lab.teams import Together
+
+# where a find is written if nothing else is said
+FOLDER = pathlib.Path("out/find")
+SCHEDULE, SCRIPT, REPLAY, PAGE = "schedule.txt", "script.txt", "match0.jsonl", "match0.html"
+
+
+def engine_of(schedule: Schedule, program: Optional[str]) -> Engine:
+    """The program as an engine, or the Python model where none is given."""
+    if program:
+        return Program(schedule.fixture, program)
+    return Rehearsal(schedule.fixture)
+
+
+def played_again(schedule: Schedule, program: Optional[str], seconds: float = 5) -> Played:
+    """The schedule, played."""
+    team = Together(schedule.agents, schedule.fixture, seconds)
+    return play(engine_of(schedule, program), team, recorded(schedule.choices), schedule.fixture)
+
+
+def verdict_text(verdict: Verdict) -> str:
+    return f"{verdict.outcome} moves {verdict.moves} lost {verdict.lost}"
+
+
+def write_find(folder: pathlib.Path, schedule: Schedule, played: Played, program: Optional[str]) -> List[str]:
+    """Writes a match that was played: its schedule, the tournament and the script for `arena rehearse`, its replay, and
+    a page of it. Gives what is to be said of it."""
+    folder.mkdir(parents=True, exist_ok=True)
+    (folder / SCHEDULE).write_text(text_of(schedule), encoding="utf-8")
+    write_tournament(schedule.fixture, folder)
+    (folder / SCRIPT).write_bytes(b"".join(line + b"\n" for line in played.script))
+    (folder / REPLAY).write_bytes(played.replay)
+    said = [f"{folder}: {len(schedule.choices)} choices; again by `python3 -m lab replay {folder}`"]
+    if program is None:
+        return [*said, "the Python model played it, which proves nothing: the program was not asked"]
+    said.append(f"the program's verdict: {verdict_text(judged(program, folder / REPLAY))}")
+    return said + written_page(folder, program)
+
+
+def keep(folder: pathlib.Path, schedule: Schedule, program: Optional[str]) -> Played:
+    """Plays a schedule that was found, writes it, and says so."""
+    played = played_again(schedule, program)
+    for fault in played.faults:
+        print(fault)
+    print("\n".join(write_find(folder, schedule, played, program)))
+    return played
+
+
+def written_page(folder: pathlib.Path, program: str) -> List[str]:
+    """Writes the page, if what lays it out is installed."""
+    try:
+        write_page(program, folder / REPLAY, folder / PAGE)
+    except Missing as fault:
+        with contextlib.suppress(FileNotFoundError):
+            (folder / PAGE).unlink()
+        return [f"no page was written: {fault}"]
+    return [f"watch it: {folder / PAGE}"]

@@ -1,0 +1,75 @@
+"""Fixtures: the matches of a tournament, before they are played."""
+import json
+import pathlib
+import tomllib
+from typing import Any, Dict, List, NamedTuple, Sequence
+
+from lab import networks
+from lab.model import Object, Place, Setup, command_of, text_of
+
+SEED = "0" * 64
+
+
+class Fixture(NamedTuple):
+    """A match to be played: whose it is, its setup, the key of each agent, and the links over which nobody arrives,
+    each as (node, port) of the departure."""
+
+    team: str
+    setup: Setup
+    keys: List[str]
+    held: List[Place] = []
+
+
+def fixture_of(setup: Setup) -> Fixture:
+    """A fixture with keys of its own."""
+    return Fixture("lab", setup, [f"k{agent}" for agent in range(setup.agents)])
+
+
+def enters_as_another(fixture: Fixture, number: int, line: bytes) -> bool:
+    """Whether an agent's line enters with the key of another agent."""
+    key = command_of(text_of(line)).get("key")
+    return key in fixture.keys and key != fixture.keys[number]
+
+
+class Tournament(NamedTuple):
+    """A tournament's file: its seed and its fixtures."""
+
+    seed: str
+    fixtures: List[Fixture]
+
+
+def read_tournament(path: str) -> Tournament:
+    """The tournament of a file, which must be right: ask `arena check`."""
+    found = tomllib.loads(pathlib.Path(path).read_text(encoding="utf-8"))
+    return Tournament(found["seed"], [fixture_in(row) for row in found["match"]])
+
+
+def fixture_in(row: Dict[str, Any]) -> Fixture:
+    """The fixture of a match's table."""
+    network = networks.in_file(row["network"])
+    holes = row["holes"] if "holes" in row else [row["hole"]] if row["hole"] != "none" else []
+    dark = [tuple(place) for place in row.get("dark", [])]
+    setup = Setup(network.nodes, network.links, row["home"], holes, len(row["keys"]), row["quota"], row["board"], dark)
+    return Fixture(row["team"], setup, row["keys"], [tuple(place) for place in row.get("held", [])])
+
+
+def write_tournament(fixture: Fixture, folder: pathlib.Path) -> pathlib.Path:
+    """Writes a tournament of this one match, tournament.toml with network.toml beside it. The program is to be run in
+    that folder."""
+    setup = fixture.setup
+    network = networks.Network(setup.nodes, setup.links)
+    (folder / "network.toml").write_text(networks.text_of(network), encoding="utf-8")
+    rows: Object = {
+        "team": fixture.team, "network": "network.toml", "home": setup.home, "holes": setup.holes,
+        "dark": pairs(setup.dark), "quota": setup.quota, "board": setup.board, "keys": fixture.keys,
+        "held": pairs(fixture.held),
+    }
+    # what JSON spells of these values is TOML too
+    table = "".join(f"{key} = {json.dumps(value)}\n" for key, value in rows.items())
+    path = folder / "tournament.toml"
+    path.write_text(f'version = 2\nseed = "{SEED}"\n\n[[match]]\n{table}', encoding="utf-8")
+    return path
+
+
+def pairs(places: Sequence[Place]) -> List[List[int]]:
+    return [list(place) for place in places]

@@ -1,0 +1,129 @@
+"""Networks by name, by a seed, or out of a file.
+
+    ring:N          a ring of N nodes: port 0 leads to the next node, port 1 to the one before
+    hypercube:D     2^D nodes: port I leads to the node whose number differs in bit I
+    complete:N      N nodes, each joined to all others: port P of node V leads to node V + P + 1, round and round
+    torus:RxC       R rows and C columns: ports 0 to 3 lead east, west, south and north
+    random:SEED     3 to 24 nodes with 2 to 6 ports each, drawn by the seed; ports are numbered by chance
+    FILE            a network file, as `arena check` reads it
+"""
+import pathlib
+import random
+import tomllib
+from typing import Dict, List, NamedTuple, Tuple
+
+Link = Tuple[int, int, int, int]
+
+NAMES = "ring:N, hypercube:D, complete:N, torus:RxC, random:SEED"
+LARGEST = 24
+LARGEST_DEGREE = 6
+
+
+class Network(NamedTuple):
+    """A network: how many nodes, and its links as (node, port, node, port)."""
+
+    nodes: int
+    links: List[Link]
+
+    def degrees(self) -> List[int]:
+        """How many ports each node has."""
+        found = [0] * self.nodes
+        for v, _, w, _ in self.links:
+            found[v] += 1
+            found[w] += 1
+        return found
+
+
+class NoNetwork(Exception):
+    """A name that names no network; says what does."""
+
+
+def ring(nodes: int) -> Network:
+    return Network(nodes, [(v, 0, (v + 1) % nodes, 1) for v in range(nodes)])
+
+
+def flipped_ring(nodes: int, chance: random.Random) -> Network:
+    """A ring at whose nodes, the home base aside, the two ports may stand the other way round."""
+    flips = [0] + [chance.randrange(2) for _ in range(1, nodes)]
+    return Network(nodes, [(v, flips[v], (v + 1) % nodes, 1 - flips[(v + 1) % nodes]) for v in range(nodes)])
+
+
+def hypercube(dimension: int) -> Network:
+    nodes = 2 ** dimension
+    pairs = [(v, bit) for v in range(nodes) for bit in range(dimension)]
+    return Network(nodes, [(v, bit, v ^ 1 << bit, bit) for v, bit in pairs if v < v ^ 1 << bit])
+
+
+def complete(nodes: int) -> Network:
+    pairs = [(v, w) for v in range(nodes) for w in range(v + 1, nodes)]
+    return Network(nodes, [(v, w - v - 1, w, v - w + nodes - 1) for v, w in pairs])
+
+
+def torus(rows: int, columns: int) -> Network:
+    links = []
+    for node in range(rows * columns):
+        row, column = divmod(node, columns)
+        links.append((node, 0, row * columns + (column + 1) % columns, 1))
+        links.append((node, 2, (row + 1) % rows * columns + column, 3))
+    return Network(rows * columns, links)
+
+
+def drawn(chance: random.Random, largest: int = LARGEST) -> Network:
+    """A network made of a ring by adding ears, which makes every biconnected one, and then some links by chance."""
+    nodes = chance.randint(3, largest)
+    size = chance.randint(3, nodes)
+    pairs = [(v, (v + 1) % size) for v in range(size)]
+    degree = [2] * size + [0] * (nodes - size)
+    while size < nodes:
+        one, two = chance.sample([v for v in range(size) if degree[v] < LARGEST_DEGREE], 2)
+        new = chance.randint(1, nodes - size)
+        path = [one, *range(size, size + new), two]
+        pairs += list(zip(path, path[1:]))
+        for v in path[:-1] + path[1:]:
+            degree[v] += 1
+        size += new
+    for _ in range(chance.choice((0, nodes // 2, 3 * nodes))):
+        one, two = chance.sample(range(nodes), 2)
+        if max(degree[one], degree[two]) < LARGEST_DEGREE and not {(one, two), (two, one)} & set(pairs):
+            pairs.append((one, two))
+            degree[one] += 1
+            degree[two] += 1
+    return Network(nodes, numbered(nodes, pairs, chance))
+
+
+def numbered(nodes: int, pairs: List[Tuple[int, int]], chance: random.Random) -> List[Link]:
+    """The links between these pairs, each node's ports being numbered by chance."""
+    ports: Dict[int, List[int]] = {v: list(range(sum(v in pair for pair in pairs))) for v in range(nodes)}
+    for labels in ports.values():
+        chance.shuffle(labels)
+    return [(v, ports[v].pop(), w, ports[w].pop()) for v, w in pairs]
+
+
+def in_file(path: str) -> Network:
+    """The network of a file, which must be right: ask `arena check`."""
+    found = tomllib.loads(pathlib.Path(path).read_text(encoding="utf-8"))
+    return Network(found["nodes"], [tuple(link) for link in found["links"]])
+
+
+def named(name: str) -> Network:
+    """The network that a word of the command line names."""
+    kind, colon, size = name.partition(":")
+    if not colon:
+        if not pathlib.Path(name).is_file():
+            raise NoNetwork(f"{name}: there is no such file; a network is {NAMES} or a file")
+        return in_file(name)
+    try:
+        sizes = [int(word) for word in size.split("x")]
+        made = {"ring": ring, "hypercube": hypercube, "complete": complete, "torus": torus,
+                "random": lambda seed: drawn(random.Random(seed))}
+        network = made[kind](*sizes)
+    except (KeyError, TypeError, ValueError):
+        raise NoNetwork(f"{name}: a network is {NAMES} or a file") from None
+    if kind == "torus" and min(sizes) < 3 or not 3 <= network.nodes <= 256:
+        raise NoNetwork(f"{name}: a network has 3 to 256 nodes, and a torus 3 rows and columns or more")
+    return network
+
+
+def text_of(network: Network) -> str:
+    """The network's file."""
+    return f"version = 1\nnodes = {network.nodes}\nlinks = {[list(link) for link in network.links]}\n"

@@ -1,0 +1,117 @@
+"""Players that run inside the lab: agents in Python. Each is a greenlet, and one runs at a time.
+
+A player runs until it waits for the answer to its line, for its arrival, or to be woken. `state` says which, and `line`
+is the line that it sent, or None if its input has ended.
+"""
+import signal
+from collections import deque
+from typing import Any, Deque, List, Mapping, Optional, Sequence
+
+from lab.missing import needed
+from lab.model import LAST, spelled
+from lab.agent_files import Script
+
+# an answer is due; an arrival is due; it sleeps; nothing more comes
+WAITS, TRAVELS, SLEEPS, DONE = "waits", "travels", "sleeps", "done"
+# what a client is told last
+DENIALS = {spelled({"no": why}) for why in ("enter", "key", "taken")}
+LAST_LINES = DENIALS | {spelled(reply) for reply in LAST}
+
+
+class TooSlow(Exception):
+    """An agent's program computes, and neither sends nor waits."""
+
+
+class Player:
+    """One agent's program. It has `send` and `receive`, by which the client asks, and `sleep`."""
+
+    def __init__(self, team: "Team", number: int, key: str, script: Script) -> None:
+        self.number = number
+        self.state = WAITS
+        self.line: Optional[bytes] = None
+        self.fault: Optional[str] = None
+        self._team = team
+        self._heard: Deque[str] = deque()
+        self._is_over = False
+        self._thread = needed("greenlet").greenlet(lambda: self._run(script, key))
+
+    def hear(self, line: str) -> None:
+        """Tells the agent a line, and lets it go on."""
+        self.line = None
+        self._heard.append(line)
+        self._is_over = self._is_over or line in LAST_LINES
+        self.go_on()
+
+    def go_on(self) -> None:
+        """Lets the program begin, wake, or read what it heard."""
+        self._team.turns += 1
+        self._thread.switch()
+
+    def stop(self, fault: Optional[str] = None) -> None:
+        """Ends the program."""
+        self.fault = self.fault or fault
+        self.state = DONE
+        self._thread.throw()
+
+    def send(self, line: str) -> None:
+        self.line = line.encode(errors="replace")
+
+    def receive(self) -> str:
+        if not self._heard:
+            self._wait(WAITS if self.line is not None else TRAVELS)
+        return self._heard.popleft()
+
+    def sleep(self, _seconds: float) -> None:
+        self._wait(SLEEPS)
+
+    def _wait(self, state: str) -> None:
+        self.state = state
+        self._thread.parent.switch()
+
+    def _run(self, script: Script, key: str) -> None:
+        try:
+            script(self, key, self.sleep)
+        except TooSlow as fault:
+            self.fault = str(fault)
+        except (Exception, SystemExit) as fault:
+            self.fault = f"raises {type(fault).__name__}: {fault}"
+        # its connection is closed, as that of a program that ends
+        self.line, self.state = None, DONE if self._is_over else WAITS
+
+
+class Team:
+    """The players of a match. One that computes for so many seconds is ended."""
+
+    def __init__(self, keys: Sequence[str], scripts: Mapping[int, Script], seconds: float = 5) -> None:
+        """The scripts are by the number of their agent."""
+        self.turns = 0
+        self.players = [Player(self, number, keys[number], script) for number, script in scripts.items()]
+        self._seconds = seconds
+        self._seen = 0
+        self._before: Any = None
+
+    def start(self) -> None:
+        """Begins all programs, in order."""
+        self._before = signal.signal(signal.SIGALRM, self._look)
+        signal.setitimer(signal.ITIMER_REAL, self._seconds, self._seconds)
+        for player in self.players:
+            player.go_on()
+
+    def stop(self) -> None:
+        """Ends all programs."""
+        signal.setitimer(signal.ITIMER_REAL, 0)
+        if self._before is not None:
+            signal.signal(signal.SIGALRM, self._before)
+        for player in self.players:
+            player.stop()
+
+    def _look(self, *_: Any) -> None:
+        """Ends a program that has been running since the last look."""
+        if self.turns == self._seen and needed("greenlet").getcurrent().parent is not None:
+            raise TooSlow(f"has computed for {self._seconds:g} s, and neither sends nor waits")
+        self._seen = self.turns
+
+
+def faults_of(players: Sequence[Any]) -> List[str]:
+    """A line for each player that has a fault, which names its agent."""
+    return [f"agent {player.number}: {player.fault}" for player in players if player.fault]

@@ -1,0 +1,142 @@
+"""Schedulers choose what happens next.
+
+A scheduler is a function of the choices and of how the match stands; it gives one of the choices. A maker is a function
+of a whole number that gives a scheduler. The command line names makers: `fair`, or `FILE.py:NAME` for one of your own.
+
+    def laggard(seed):
+        def choose(choices, state):
+            return choices[-1]
+        return choose
+"""
+import itertools
+import random
+from typing import Callable, Dict, List, NamedTuple, Optional, Protocol, Sequence, Tuple
+
+from lab.model import Match, Object, Place
+
+ANSWER, ARRIVE, WAKE = "answer", "arrive", "wake"
+
+
+class Choice(NamedTuple):
+    """What may happen next: an agent's line, or the end of its input, is taken and answered; an agent on a link
+    arrives, or is destroyed; an agent that sleeps wakes."""
+
+    do: str
+    agent: int
+
+
+class State(Protocol):
+    """How a match stands: where its agents are, what its whiteboards say, and what agents wait to be answered."""
+
+    @property
+    def match(self) -> Match: ...
+
+    def said(self, agent: int) -> Optional[Object]:
+        """The command of an agent that waits for an answer, as docs/FORMATS.md has it, or None."""
+
+
+Scheduler = Callable[[Sequence[Choice], State], Choice]
+Maker = Callable[[int], Scheduler]
+PACES = (0.02, 0.3, 1, 1, 5)
+WAKINGS = (0.01, 0.1)
+
+
+def fair(seed: int) -> Scheduler:
+    """All that may happen next is as likely."""
+    chance = random.Random(seed)
+    return lambda choices, state: chance.choice(choices)
+
+
+def slow_agents(seed: int) -> Scheduler:
+    """Some agents are slow to be answered, and some to arrive, for the whole match; sleepers wake seldom."""
+    chance = random.Random(seed)
+    waking = chance.choice(WAKINGS)
+    paces: Dict[Tuple[str, int], float] = {}
+
+    def weight(choice: Choice) -> float:
+        if choice.do == WAKE:
+            return waking
+        return paces.setdefault(choice, chance.choice(PACES))
+
+    def choose(choices: Sequence[Choice], state: State) -> Choice:
+        return chance.choices(choices, [weight(choice) for choice in choices])[0]
+    return choose
+
+
+def slow_links(seed: int) -> Scheduler:
+    """Some links are slow, each in its two directions, for the whole match."""
+    chance = random.Random(seed)
+    paces: Dict[Place, float] = {}
+
+    def weight(choice: Choice, state: State) -> float:
+        if choice.do != ARRIVE:
+            return 1
+        agent = state.match.agents[choice.agent]
+        return paces.setdefault((agent.node, agent.port), chance.choice(PACES))
+
+    def choose(choices: Sequence[Choice], state: State) -> Choice:
+        return chance.choices(choices, [weight(choice, state) for choice in choices])[0]
+    return choose
+
+
+def last_departed(seed: int) -> Scheduler:
+    """Agents go as far as they can, and of those on links the one arrives that departed last. A seed chooses among
+    agents that are to be answered."""
+    chance = random.Random(seed)
+
+    def choose(choices: Sequence[Choice], state: State) -> Choice:
+        others = [choice for choice in choices if choice.do != ARRIVE]
+        if others:
+            return chance.choice(others)
+        return max(choices, key=lambda choice: state.match.pool.index(choice.agent))
+    return choose
+
+
+def starved(agent: int) -> Scheduler:
+    """Nothing happens to this agent as long as anything else can happen; the others go on by chance."""
+    chance = random.Random(agent)
+
+    def choose(choices: Sequence[Choice], state: State) -> Choice:
+        others = [choice for choice in choices if choice.agent != agent]
+        return chance.choice(others or choices)
+    return choose
+
+
+def in_runs(runs: Sequence[Tuple[int, int]]) -> Scheduler:
+    """A scheduler of (which of the choices, how often in a row); where only one thing can happen, nothing is used up,
+    and behind the last run it is always the first."""
+    numbers = itertools.chain.from_iterable(itertools.repeat(which, times) for which, times in runs)
+
+    def choose(choices: Sequence[Choice], state: State) -> Choice:
+        return choices[0 if len(choices) == 1 else next(numbers, 0) % len(choices)]
+    return choose
+
+
+class Impossible(Exception):
+    """What a recorded schedule says cannot happen there."""
+
+
+class Ended(Exception):
+    """A recorded schedule has no more choices."""
+
+
+def recorded(schedule: Sequence[Choice]) -> Scheduler:
+    """The choices of a schedule, in order."""
+    left = enumerate(schedule, 1)
+
+    def choose(choices: Sequence[Choice], state: State) -> Choice:
+        number, choice = next(left, (0, None))
+        if choice is None:
+            raise Ended
+        if choice not in choices:
+            possible: List[str] = [f"{it.do} {it.agent}" for it in choices]
+            raise Impossible(f"choice {number} is `{choice.do} {choice.agent}`, and what may happen there is: "
+                             f"{', '.join(possible)}")
+        return choice
+    return choose
+
+
+NAMED: Dict[str, Maker] = {
+    "fair": fair, "slow-agents": slow_agents, "slow-links": slow_links, "last-departed": last_departed,
+    "starved": starved,
+}

@@ -1,0 +1,76 @@
+"""Measures how many steps a second the lab plays.
+
+    python3 -m lab speed [--rounds N] [--program PATH]
+
+A step is one choice of a scheduler: an agent is answered, arrives or wakes. Two agents search a ring of 64 nodes under
+slow-agents. A line for each engine and each kind of player has the median of the rounds. A last line says how many
+states a second `explore` visits on a ring of 7 nodes. Other work on the machine slows it down.
+"""
+import argparse
+import statistics
+import sys
+import time
+from typing import Callable, Dict, List, Optional
+
+from lab import explore, schedulers
+from lab.engines import TOP, add_program, program_at
+from lab.finds import engine_of
+from lab.fixtures import Fixture, fixture_of
+from lab.model import Setup
+from lab.networks import ring
+from lab.play import play
+from lab.progress import bar
+from lab.schedules import schedule_of
+from lab.teams import INSIDE, OUTSIDE, AgentWords, Together
+
+AGENT = TOP / "examples" / "agents" / "ring.py"
+NODES, HOLE, SMALL = 64, 20, 7
+ROUNDS = 5
+TEAMS = {
+    "agents inside the lab": AgentWords(INSIDE, f"{AGENT} {{nodes}}"),
+    "programs over loopback": AgentWords(OUTSIDE, f"{sys.executable} {AGENT} {{host}} {{port}} {{key}} {NODES}"),
+}
+
+
+def on_ring(nodes: int, hole: int) -> Fixture:
+    return fixture_of(Setup(nodes, ring(nodes).links, 0, [hole], 2, 1000, 64))
+
+
+def steps(agent: AgentWords, program: Optional[str], seed: int) -> int:
+    """Plays one match, and gives how many steps it had."""
+    fixture = on_ring(NODES, HOLE)
+    engine = engine_of(schedule_of(fixture, [agent] * 2, "speed", []), program)
+    return len(play(engine, Together([agent] * 2, fixture, 5), schedulers.slow_agents(seed), fixture).choices)
+
+
+def states() -> int:
+    """Explores a ring, and gives how many states it has."""
+    words = argparse.Namespace(limit=5, states=explore.MOST_STATES)
+    with bar(None, "state") as shown:
+        found = explore.explored(on_ring(SMALL, SMALL // 2), [TEAMS["agents inside the lab"]] * 2, words, shown)
+    return found.explorer.states()
+
+
+def rate(count: Callable[[int], int], rounds: int) -> int:
+    """How many a second, the median of the rounds."""
+    found: List[float] = []
+    for seed in range(rounds):
+        started = time.perf_counter()
+        found.append(count(seed) / (time.perf_counter() - started))
+    return round(statistics.median(found))
+
+
+def add_words(parser: argparse.ArgumentParser) -> None:
+    """The words of the command `speed`."""
+    parser.add_argument("--rounds", metavar="N", type=int, default=ROUNDS, help=f"how often to measure each ({ROUNDS})")
+    add_program(parser)
+
+
+def run(words: argparse.Namespace) -> int:
+    engines: Dict[str, Optional[str]] = {"the Python model": None, "the proved program": program_at(words.program)}
+    for engine, program in engines.items():
+        for team, agent in TEAMS.items():
+            found = rate(lambda seed: steps(agent, program, seed), words.rounds)
+            print(f"{engine}, {team}: {found} steps a second", flush=True)
+    print(f"explore: {rate(lambda seed: states(), words.rounds)} states a second")
+    return 0

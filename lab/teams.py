@@ -1,0 +1,128 @@
+"""The team and the match that the words of a command name."""
+import argparse
+import re
+from typing import List, NamedTuple, Optional, Sequence
+
+from lab import networks
+from lab.agent_files import NoAgent, script_of
+from lab.fixtures import Fixture, fixture_of, read_tournament
+from lab.model import Place, Setup
+from lab.play import Team
+from lab.players import Team as Inside
+from lab.programs import Team as Outside
+
+INSIDE, OUTSIDE = "agent", "command"
+QUOTA, BOARD = 1000, 4096
+NETWORK = "ring:8"
+
+
+class AgentWords(NamedTuple):
+    """How one agent is played: inside the lab or by a program of its own, and the words that name it."""
+
+    kind: str
+    words: str
+
+
+class Together:
+    """A team of players inside the lab and outside."""
+
+    def __init__(self, agents: Sequence[AgentWords], fixture: Fixture, seconds: float) -> None:
+        inside = {number: script_of(agent.words, fixture.setup) for number, agent in enumerate(agents)
+                  if agent.kind == INSIDE}
+        outside = {number: agent.words for number, agent in enumerate(agents) if agent.kind == OUTSIDE}
+        self._teams: List[Team] = [Inside(fixture.keys, inside, seconds)] if inside else []
+        self._teams += [Outside(fixture.keys, outside, seconds)] if outside else []
+        players = [player for team in self._teams for player in team.players]
+        self.players = sorted(players, key=lambda player: player.number)
+
+    def start(self) -> None:
+        for team in self._teams:
+            team.start()
+
+    def stop(self) -> None:
+        for team in self._teams:
+            team.stop()
+
+
+def place(word: str) -> Place:
+    """A node and a port, as `3,1`."""
+    found = re.fullmatch(r"(\d+),(\d+)", word)
+    if not found:
+        raise argparse.ArgumentTypeError(f"{word} is no node and port, as 3,1 is")
+    return int(found[1]), int(found[2])
+
+
+class Kinds(argparse.Action):
+    """Keeps --agent and --command in one list, in their order."""
+
+    def __call__(self, parser, words, value, option=None) -> None:  # type: ignore[no-untyped-def]
+        words.team = [*(words.team or []), AgentWords(option.strip("-"), value)]
+
+
+def add_words(parser: argparse.ArgumentParser) -> None:
+    """The words that name a match and its team."""
+    match = parser.add_argument_group("the match", networks.__doc__)
+    match.add_argument("--tournament", metavar="T", help="take the match of a tournament's file")
+    match.add_argument("--match", metavar="M", type=int, default=0, help="which match of the tournament (0)")
+    match.add_argument("--network", metavar="NAME", default=NETWORK, help=f"the network ({NETWORK})")
+    match.add_argument("--home", metavar="V", type=int, default=0, help="the home base (0)")
+    match.add_argument("--hole", metavar="V", type=int, action="append", help="a black hole, and more by more of "
+                       "these; where nothing that destroys is named, each seed has a black hole of its own")
+    match.add_argument("--dark", metavar="V,P", type=place, action="append", default=[], help="a dark link, by the "
+                       "node and the port of one of its ends, and more by more of these")
+    match.add_argument("--quota", metavar="N", type=int, default=QUOTA, help=f"commands that an agent has ({QUOTA})")
+    match.add_argument("--board", metavar="N", type=int, default=BOARD, help=f"bytes of a whiteboard ({BOARD})")
+    team = parser.add_argument_group("the team", "One of these for each agent, in the order of keys, or one for all.")
+    team.add_argument("--agent", metavar="WORDS", action=Kinds, dest="team", help="an agent in Python inside the lab: "
+                      "FILE.py[:FUNCTION] and whole numbers, {nodes} or {links}")
+    team.add_argument("--command", metavar="WORDS", action=Kinds, dest="team", help="a program of its own, with "
+                      "{host}, {port} and {key} for where it connects and by which key it enters")
+    team.add_argument("--agents", metavar="N", type=int, help="how many agents there are (2, or as many as are named)")
+    team.add_argument("--limit", metavar="SECONDS", type=float, default=5, help="how long an agent may take to send "
+                      "or to wait (5)")
+
+
+def team_of(words: argparse.Namespace) -> List[AgentWords]:
+    """The agents that the words name; those of a tournament are as many as its keys."""
+    named = words.team
+    if not named:
+        raise NoAgent("name a team by --agent or --command: see --help")
+    if words.tournament:
+        wanted = len(read_fixture(words).keys)
+    else:
+        wanted = words.agents or max(2, len(named))
+    if len(named) == 1:
+        named = named * wanted
+    if len(named) != wanted:
+        raise NoAgent(f"{len(named)} agents are named, and the match has {wanted}")
+    return named
+
+
+def origin_of(words: argparse.Namespace, how: str) -> str:
+    """How a schedule was found, and in which match of a tournament, as its head says it."""
+    return f"{how}, match {words.match} of {words.tournament}" if words.tournament else how
+
+
+def read_fixture(words: argparse.Namespace) -> Fixture:
+    """The match of the tournament's file."""
+    fixtures = read_tournament(words.tournament).fixtures
+    if not 0 <= words.match < len(fixtures):
+        raise networks.NoNetwork(f"{words.tournament}: it has no match {words.match}")
+    return fixtures[words.match]
+
+
+def fixture_for(words: argparse.Namespace, seed: int, home: Optional[int] = None) -> Fixture:
+    """The match that the words name. Where they name nothing that destroys, the seed chooses the black hole."""
+    if words.tournament:
+        return read_fixture(words)
+    network = networks.named(words.network)
+    home = words.home if home is None else home
+    if not 0 <= home < network.nodes:
+        raise networks.NoNetwork(f"{words.network}: it has no node {home}")
+    others = [v for v in range(network.nodes) if v != home]
+    holes = words.hole or ([] if words.dark else [others[seed % len(others)]])
+    if not set(holes) <= set(others):
+        raise networks.NoNetwork(f"{words.network}: black holes are nodes other than the home base")
+    agents = len(team_of(words))
+    return fixture_of(Setup(network.nodes, network.links, home, sorted(holes), agents, words.quota, words.board,
+                            words.dark))

@@ -1,0 +1,71 @@
+"""The commands of lab/README.md say what stands below them."""
+import contextlib
+import io
+import os
+import pathlib
+import re
+import shlex
+import sys
+import tempfile
+import textwrap
+import unittest
+from typing import Iterator, List, Tuple
+
+from lab.__main__ import main
+from lab.engines import TOP
+from lab.tests.playing import program
+
+README = TOP / "lab" / "README.md"
+LAB = "$ python3 -m lab "
+
+
+def examples() -> Iterator[Tuple[str, List[str]]]:
+    """Each command of the page, and the lines below it."""
+    command, said = "", []
+    for line in README.read_text(encoding="utf-8").replace("\\\n", "").splitlines():
+        text = line.strip()
+        if command and (not line.startswith("    ") or text.startswith("$")):
+            yield command, said
+            command, said = "", []
+        if line.startswith("    ") and text.startswith(LAB):
+            command, said = text[len(LAB):], []
+        elif command:
+            said.append(text)
+
+
+class Readme(unittest.TestCase):
+    def setUp(self) -> None:
+        before = os.getcwd()
+        self.addCleanup(os.chdir, before)
+        os.chdir(TOP)
+
+    def test_each_command_says_what_stands_below_it(self) -> None:
+        found = list(examples())
+        self.assertGreater(len(found), 7)
+        with tempfile.TemporaryDirectory() as folder:
+            for command, wanted in found:
+                with self.subTest(command):
+                    said = self.said(command, pathlib.Path(folder))
+                    for line in wanted:
+                        parts = [re.escape(part) for part in line.replace("out/", f"{folder}/").split("..")]
+                        self.assertRegex(said, re.compile("^" + ".*".join(parts) + "$", re.M))
+
+    def test_the_adversary_is_the_one_of_the_examples(self) -> None:
+        head = "    def writers_wait"
+        block = README.read_text(encoding="utf-8").partition(head)[2].partition("\n\nIt is a function")[0]
+        code = textwrap.dedent(head + block).strip()
+        self.assertIn(code, (TOP / "examples" / "adversaries.py").read_text(encoding="utf-8"))
+
+    def said(self, command: str, folder: pathlib.Path) -> str:
+        words = [word.replace("out/", f"{folder}/").replace("python3 ", f"{sys.executable} ")
+                 for word in shlex.split(command)]
+        if words[0] == "hunt":
+            words += ["--database", str(folder / "database")]
+        said = io.StringIO()
+        with contextlib.redirect_stdout(said):
+            main([*words, "--program", program()])
+        return said.getvalue()
+
+
+if __name__ == "__main__":
+    unittest.main()

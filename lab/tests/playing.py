@@ -1,0 +1,44 @@
+"""What the tests that play share: the program, and matches of the sample agents."""
+import os
+import random
+from typing import Any
+
+from lab import schedulers
+from lab.engines import TOP, program_at
+from lab.fixtures import Fixture, fixture_of
+from lab.model import Setup
+from lab.networks import Network, drawn, flipped_ring, ring
+from lab.play import Played, play
+from lab.rehearsal import Rehearsal
+from lab.teams import INSIDE, AgentWords, Together
+
+AGENTS = TOP / "examples" / "agents"
+RING = AgentWords(INSIDE, f"{AGENTS / 'ring.py'} {{nodes}}")
+MAP = AgentWords(INSIDE, f"{AGENTS / 'map.py'} {{nodes}} {{links}}")
+
+
+def program() -> str:
+    """The built program: ARENA_PROGRAM names it, as tools/lab_tests.py does."""
+    return program_at(os.environ.get("ARENA_PROGRAM"))
+
+
+def fixture(network: Network, hole: int, agents: int = 2, board: int = 4096, home: int = 0) -> Fixture:
+    return fixture_of(Setup(network.nodes, network.links, home, [hole], agents, 1000, board))
+
+
+def ring_fixture(nodes: int, hole: int, chance: random.Random) -> Fixture:
+    """A ring whose labels agree around it, or are mixed."""
+    return fixture(ring(nodes) if chance.random() < 0.5 else flipped_ring(nodes, chance), hole, board=32)
+
+
+def network_fixture(chance: random.Random) -> Fixture:
+    """A network by chance, with more agents than its greatest degree."""
+    network = drawn(chance)
+    home, hole = chance.sample(range(network.nodes), 2)
+    return fixture(network, hole, max(network.degrees()) + 1, home=home)
+
+
+def played(given: Fixture, agent: AgentWords, seed: int, maker: schedulers.Maker = schedulers.slow_agents,
+           engine: Any = Rehearsal) -> Played:
+    """A match of agents that are alike."""
+    return play(engine(given), Together([agent] * given.setup.agents, given, 5), maker(seed), given)

@@ -1,0 +1,50 @@
+#!/usr/bin/env python3
+"""Runs the tests of the lab that play: on the built program, by Debian's Python with Debian's packages.
+
+    tools/lab_tests.py PROGRAM
+
+Installs packages that are missing by apt-get. The tests are those of lab/tests/play_*.py. The last line reads `N
+passed, M failed`, and the exit status is 1 where one failed.
+"""
+import os
+import pathlib
+import subprocess
+import sys
+
+TOP = pathlib.Path(__file__).resolve().parent.parent
+DEBIANS_PYTHON = "/usr/bin/python3"
+PACKAGES = ["python3-greenlet", "python3-hypothesis", "python3-tqdm"]
+# runs the tests, and says how many passed
+TESTS = """
+import sys, unittest
+found = unittest.defaultTestLoader.discover("lab/tests", "play_*.py", ".")
+ran = unittest.TextTestRunner(stream=sys.stdout).run(found)
+failed = len(ran.failures) + len(ran.errors) + len(ran.unexpectedSuccesses)
+print(f"{ran.testsRun - min(failed, ran.testsRun)} passed, {failed} failed", flush=True)
+sys.exit(1 if failed or not ran.testsRun else 0)
+"""
+
+
+def install() -> None:
+    """Installs the packages, if one is missing."""
+    quiet = {"stdout": subprocess.DEVNULL, "stderr": subprocess.DEVNULL}
+    if subprocess.run(["dpkg", "-s", *PACKAGES], **quiet).returncode == 0:
+        return
+    words = ["apt-get", "install", "-q", "-y", "--no-install-recommends", *PACKAGES]
+    quietly = {**os.environ, "DEBIAN_FRONTEND": "noninteractive"}
+    if subprocess.run(words, env=quietly).returncode != 0:
+        subprocess.run(["apt-get", "update", "-q"], check=True)
+        subprocess.run(words, env=quietly, check=True)
+
+
+def main() -> int:
+    if len(sys.argv) != 2 or sys.argv[1] in ("-h", "--help"):
+        sys.exit(__doc__.strip())
+    program = str(pathlib.Path(sys.argv[1]).resolve())
+    install()
+    variables = {**os.environ, "ARENA_PROGRAM": program}
+    return subprocess.run([DEBIANS_PYTHON, "-c", TESTS], cwd=TOP, env=variables).returncode
+
+
+if __name__ == "__main__":
+    sys.exit(main())
