@@ -25,14 +25,15 @@ from typing import Dict, List
 TOP = pathlib.Path(__file__).resolve().parent.parent
 AGENTS = TOP / "examples" / "agents"
 TOURNAMENT = "examples/contest.toml"
-TURNS = 3000
+TURNS = 10_000
 PAUSE = 2
+# milliseconds: what the matches wait for their agents
+GATHER = 10_000
 PATIENCE = 20
 # whose agents are killed, if any are, after how many seconds, and in turns of how many milliseconds: by then they have
 # entered, and they need longer to search
 VICTIM = "green"
 LIFE = 1.5
-SLOW_TURNS = 1000
 SLOW_PAUSE = 12
 # pages are laid out by a package of Debian, which another Python does not see
 DEBIANS_PYTHON = "/usr/bin/python3"
@@ -76,7 +77,7 @@ def build(folder: pathlib.Path) -> None:
 def start_server(port: int, replays: str, turns: int, pause: int) -> subprocess.Popen:
     sessions = sum(len(agents) for agents in TEAMS.values())
     words = ["serve", TOURNAMENT, "--port", port, "--sessions", sessions, "--turns", turns, "--pause", pause]
-    command = [*arena(), *map(str, words), "--replay", replays]
+    command = [*arena(), *map(str, words), "--gather", str(GATHER), "--early", "--replay", replays]
     server = subprocess.Popen(command, cwd=TOP, stdout=subprocess.PIPE, text=True)
     line = server.stdout.readline()
     if line != f"listening {port}\n":
@@ -88,8 +89,7 @@ def play(folder: pathlib.Path, replays: str, kills: bool) -> str:
     """Plays the contest, and answers the server's table. The agents of one team may be killed meanwhile."""
     build(folder)
     port = free_port()
-    turns, pause = (SLOW_TURNS, SLOW_PAUSE) if kills else (TURNS, PAUSE)
-    server = start_server(port, replays, turns, pause)
+    server = start_server(port, replays, TURNS, SLOW_PAUSE if kills else PAUSE)
     agents = {
         team: [subprocess.Popen(command_of(agent, f"{team}-{number}", port, folder), stderr=subprocess.DEVNULL,
                                 stdout=subprocess.DEVNULL) for number, agent in enumerate(programs)]

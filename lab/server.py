@@ -1,11 +1,13 @@
 """A stand-in for `arena serve`, for authors of agents who do not want to build the program.
 
     python3 -m lab serve T --port N --sessions S --turns K --pause MS --replay P
+        [--grace MS] [--gather MS] [--early]
 
-takes the words of `arena serve` and does what it does: it listens on 127.0.0.1, prints `listening N`, serves S
+takes the words of `arena serve` and does what it does: it listens on 127.0.0.1, prints `listening N`, serves up to S
 sessions on the matches of tournament T, lets an agent on a link arrive by chance K times with MS milliseconds between,
-closes the matches, writes their replays to P0.jsonl, P1.jsonl and so on, and prints a table. It is not the arena:
-nothing of it is proved, it judges no contest, and its deliveries are other ones for the same seed.
+closes the matches, ends as the arena does, writes the replays to P0.jsonl, P1.jsonl and so on, and prints a table. It
+is not the arena: nothing of it is proved, it judges no contest, it writes no parts, and its deliveries are other ones
+for the same seed.
 """
 import argparse
 import pathlib
@@ -16,7 +18,8 @@ import time
 from typing import Any, Dict, List, Tuple
 
 from lab.fixtures import Fixture, read_tournament
-from lab.model import GONE, LAST, MAX_LINE, OVER, Match, Object, Verdict, command_of, denial, judge, spelled, text_of
+from lab.model import (ENDED, GONE, LAST, MAX_LINE, OUTSIDE, OVER, Match, Object, Verdict, command_of, denial, judge,
+                       spelled, text_of)
 
 RANKS = ["solved", "guess", "unfinished", "silent", "wrong"]
 
@@ -35,7 +38,9 @@ class Game:
     def tell(self, agent: int, command: Object) -> Object:
         """The reply to a command; one that departs is answered twice, and waits for the second by `arrival`."""
         with self.changed:
-            return self.match.tell(agent, command)
+            reply = self.match.tell(agent, command)
+            self.changed.notify_all()
+            return reply
 
     def arrival(self, agent: int) -> Object:
         with self.changed:
@@ -54,8 +59,21 @@ class Game:
                 self.arrivals[number] = reply
                 self.changed.notify_all()
 
-    def deal(self, turns: int, pause: float) -> None:
+    def is_gathered(self) -> bool:
+        """Whether all agents have entered."""
+        return all(agent.standing != OUTSIDE for agent in self.match.agents)
+
+    def is_decided(self) -> bool:
+        """Whether each agent has ended or is lost."""
+        with self.changed:
+            return all(agent.standing == ENDED or agent.lost for agent in self.match.agents)
+
+    def deal(self, turns: int, pause: float, gather: float, early: bool) -> None:
+        with self.changed:
+            self.changed.wait_for(self.is_gathered, timeout=gather)
         for _ in range(turns):
+            if early and self.is_decided():
+                break
             time.sleep(pause)
             self.turn()
         with self.changed:
@@ -146,23 +164,33 @@ def table(rows: List[Tuple[str, Verdict]]) -> str:
     return "".join(f"{a:>3} {b:<16} {c:<10} {d:>6} {e:>4}\n" for a, b, c, d, e in lines)
 
 
+def host(listener: socket.socket, sessions: int, keys: Dict[str, Tuple[Game, int]]) -> None:
+    """Serves so many sessions to their ends."""
+    taken: set = set()
+    threads = []
+    for _ in range(sessions):
+        connection, _ = listener.accept()
+        connection.setsockopt(socket.IPPROTO_TCP, socket.TCP_NODELAY, 1)
+        threads.append(threading.Thread(target=Session(connection, keys, taken).serve, daemon=True))
+        threads[-1].start()
+    for thread in threads:
+        thread.join()
+
+
 def run(words: argparse.Namespace) -> int:
     games, keys = games_of(words.tournament)
-    taken: set = set()
     with socket.create_server(("127.0.0.1", words.port), backlog=words.sessions) as listener:
         print(f"listening {words.port}", flush=True)
         # daemons, so that a server that is interrupted ends
-        threads = [threading.Thread(target=game.deal, args=(words.turns, words.pause / 1000), daemon=True)
-                   for game in games]
+        times = (words.turns, words.pause / 1000, words.gather / 1000, words.early)
+        threads = [threading.Thread(target=game.deal, args=times, daemon=True) for game in games]
         for thread in threads:
             thread.start()
-        for _ in range(words.sessions):
-            connection, _ = listener.accept()
-            connection.setsockopt(socket.IPPROTO_TCP, socket.TCP_NODELAY, 1)
-            threads.append(threading.Thread(target=Session(connection, keys, taken).serve, daemon=True))
-            threads[-1].start()
+        sessions = threading.Thread(target=host, args=(listener, words.sessions, keys), daemon=True)
+        sessions.start()
         for thread in threads:
             thread.join()
+        sessions.join(words.grace / 1000)
     for number, game in enumerate(games):
         pathlib.Path(f"{words.replay}{number}.jsonl").write_text(game.match.replay(), encoding="utf-8")
     print(table([(game.team, judge(game.match)) for game in games]), end="")
@@ -177,3 +205,8 @@ def add_words(parser: argparse.ArgumentParser) -> None:
                           ("pause", "wait this many milliseconds before each turn")):
         parser.add_argument(f"--{option}", type=int, required=True, help=about)
     parser.add_argument("--replay", metavar="P", required=True, help="write the replay of each match M to PM.jsonl")
+    parser.add_argument("--grace", type=int, default=10_000, metavar="MS",
+                        help="end the sessions at the latest this many milliseconds after the last close")
+    parser.add_argument("--gather", type=int, default=0, metavar="MS",
+                        help="wait this many milliseconds at most until all agents of a match have entered")
+    parser.add_argument("--early", action="store_true", help="close a match once each agent has ended or is lost")

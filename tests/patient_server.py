@@ -29,12 +29,12 @@ class PatientGame(server.Game):
     def has_work(self) -> bool:
         return any(not self.match.agents[agent].lost for agent in self.match.pool)
 
-    def deal(self, turns: int, pause: float) -> None:
+    def deal(self, turns: int, pause: float, gather: float, early: bool) -> None:
         for _ in range(turns):
             with self.changed:
                 self.changed.wait_for(lambda: is_over.is_set() or self.has_work())
                 self.turn()
-        super().deal(0, pause)
+        super().deal(0, pause, gather, early)
 
 
 def wait_for_the_end() -> None:

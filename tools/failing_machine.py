@@ -42,6 +42,8 @@ COMMANDS = [
     Command("check", ["check", "examples/first.toml"], "", "examples/first.toml"),
     Command("rehearse", ["rehearse", "examples/first.toml", "--replay", "kept"], "examples/first.script",
             "examples/first.toml"),
+    Command("interactive", ["rehearse", "examples/first.toml", "--interactive", "--replay", "kept"],
+            "examples/first.script", "examples/first.toml"),
     Command("built-in", ["rehearse"], "examples/triangle.script", None),
     Command("judge", ["judge", "examples/first0.jsonl"], "", "examples/first0.jsonl"),
     Command("table", ["table", "red=examples/first0.jsonl", "blue=examples/guess0.jsonl"], "",

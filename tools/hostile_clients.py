@@ -13,7 +13,8 @@ exit status is 1 where one of these fails:
 
 - Each attack is answered as docs/FORMATS.md says, and each answer comes within 2 seconds. Connections beyond the N
   sessions are answered nothing. When answers are not read, the server soon takes no more lines.
-- Once the matches have ended and all clients have gone, the server ends by itself within 10 seconds, with status 0.
+- Once the matches have ended and all clients have gone, the server ends by itself within 15 seconds, with status 0; the
+  sessions that never began do not hold it up.
 - It never holds more than 64 MiB and 96 KiB for each session: 64 KiB for the longest line, the rest for its stack and
   what else a session has. The 64 MiB are for the program, the matches and their logs, and for what is kept of answers
   to 4000 looks at a whiteboard of 4 KiB, twice 16 MiB at most.
@@ -22,9 +23,8 @@ exit status is 1 where one of these fails:
 - The agents of clients that vanished have left their match.
 - The table is that of the verdicts on the replays.
 
-A client that neither sends nor closes keeps its session for good, so the script closes all of its own. ARENA in the
-environment names another program than ./arena, as ARENA="python3 -m lab" to try it without the build. A run takes half
-a minute, and with --quick a third of that: its matches and its attacks are shorter.
+ARENA in the environment names another program than ./arena, as ARENA="python3 -m lab" to try it without the build. A
+run takes half a minute, and with --quick a third of that: its matches and its attacks are shorter.
 """
 import argparse
 import contextlib
@@ -57,7 +57,7 @@ HOLES = [[4], [1]]
 REACH = 3
 BASE_KIB = 64 * 1024
 EACH_KIB = 96
-END = 10.0
+END = 15.0
 LEAST_SESSIONS = LATER + 32
 QUICK = Sizes(turns=900, between_bytes=0.3, between_steps=0.05, still=0.5, flood=4 * MIB)
 # enough for the attacks, the server and what Python needs

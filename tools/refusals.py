@@ -57,6 +57,8 @@ QUICK, QUICK_SERVED, MOST_SERVED = 60, 40, 2000
 # of a test, of requests that are not between its marks
 QUICK_BESIDE = 20
 WORKERS = 8
+# what is told where a part could not be written on, which keeps nothing else back
+CUT_PART = re.compile(r"serve: the part of match 0 ends after \d+ events: (memory|write)\n")
 # seconds, of a server that takes a third of one
 SOON = 60
 REFUSED_TESTS = "memory::"
@@ -260,7 +262,7 @@ def wanted_fault(lab: Lab, command: Command, plain: Run, whole: Attempt) -> Opti
         return f"status {plain.status}, `{plain.told.strip()[:200]}`"
     if plain.printed != wanted:
         return f"another text was printed: `{plain.printed[-200:]!r}`"
-    if command.name == "rehearse" and whole.replays.get("kept0.jsonl") != (examples / "first0.jsonl").read_bytes():
+    if command.name in ("rehearse", "interactive") and whole.replays.get("kept0.jsonl") != (examples / "first0.jsonl").read_bytes():
         return "its replay is not examples/first0.jsonl"
     return None
 
@@ -365,13 +367,13 @@ def served_outcome(mode: str, contest: Contest, lab: Lab) -> str:
         raise Otherwise(f"it took {contest.seconds:.0f} seconds: {told}")
     cut = cut_sessions(contest.heard)
     table = check_replay(contest, lab, told)
-    if run.status == DONE and not run.told:
+    if run.status == DONE and (not run.told or CUT_PART.fullmatch(run.told)):
         if table is None or run.printed != b"listening N\n" + table:
             raise Otherwise(f"the table is not that of the replay: {told}")
         if cut > 1 or (cut and mode.startswith("short")):
             raise Otherwise(f"{cut} clients heard too little: {told}")
         missed = "" if contest.numbers["refused"] else " (call not made)"
-        return ("a session cut" if cut else "as ever") + missed
+        return ("a part cut" if run.told else "a session cut" if cut else "as ever") + missed
     if mode.startswith("short"):
         raise Otherwise(f"a short call made a difference: {told}")
     return served_fault(mode, contest, table, told)
@@ -380,8 +382,9 @@ def served_outcome(mode: str, contest: Contest, lab: Lab) -> str:
 def served_fault(mode: str, contest: Contest, table: Optional[bytes], told: str) -> str:
     """What came of a contest whose server tells a fault."""
     where = fault_of(mode, contest.run)
-    may_name = {"read": {"cup.toml", "tri.toml"}, "write": {"output", "kept0.jsonl"},
-                "memory": {"arena", "serve", "output", "cup.toml", "tri.toml", "kept", "kept0.jsonl"}}[mode]
+    may_name = {"read": {"cup.toml", "tri.toml"}, "write": {"output", "kept0.jsonl", "kept0.jsonl.part"},
+                "memory": {"arena", "serve", "output", "cup.toml", "tri.toml", "kept", "kept0.jsonl",
+                           "kept0.jsonl.part"}}[mode]
     if where not in may_name:
         raise Otherwise(f"it names another place: {told}")
     lines = contest.run.printed.splitlines(keepends=True)

@@ -367,3 +367,41 @@ fn sixty_four_threads_play_sixty_four_matches(rt: HostRuntime) -> Result<(), Fai
     }
     Ok(())
 }
+
+#[test]
+fn a_match_is_gathered_and_decided(rt: HostRuntime) -> Result<(), Fail> {
+    let alloc = rt.alloc();
+    let cell = cell(alloc, 0, 2, 10)?;
+    let mut first = claimed(&rt, &cell, 0);
+    let mut second = claimed(&rt, &cell, 1);
+    tell(&rt, &cell, &mut second, Command::Enter);
+    assert!(rt; !cell.is_gathered(&rt));
+    tell(&rt, &cell, &mut first, Command::Enter);
+    assert!(rt; cell.is_gathered(&rt) && !cell.is_decided(&rt));
+    tell(&rt, &cell, &mut first, Command::Leave);
+    tell(&rt, &cell, &mut second, Command::Depart { port: 1 });
+    assert!(rt; !cell.is_decided(&rt));
+    cell.turn(&rt, &mut Dealer::new([0; 32], 0));
+    assert!(rt; cell.is_decided(&rt) && cell.is_gathered(&rt));
+    Ok(())
+}
+
+#[test]
+fn what_a_match_has_kept_is_copied_in_parts(rt: HostRuntime) -> Result<(), Fail> {
+    let alloc = rt.alloc();
+    let cell = cell(alloc, 0, 1, 10)?;
+    let mut pass = claimed(&rt, &cell, 0);
+    tell(&rt, &cell, &mut pass, Command::Enter);
+    tell(&rt, &cell, &mut pass, write(alloc, "", "a"));
+    tell(&rt, &cell, &mut pass, Command::Look);
+    let copied = cell.copies(&rt, alloc, 1, 5)?;
+    let kinds = [copied.first(), copied.get(1), copied.get(2)].map(|one| one
+        .and_then(|one| one.reply.as_ref())
+        .map_or("none", kind));
+    assert_eq!(rt; kinds.as_slice(), ["written", "here", "none"].as_slice());
+    assert_eq!(rt; cell.copies(&rt, alloc, 0, 2)?.len(), 2);
+    assert!(rt;
+        cell.copies(&rt, alloc, 3, 2)?.is_empty() && cell.copies(&rt, alloc, 9, 2)?.is_empty()
+    );
+    Ok(())
+}

@@ -2,7 +2,7 @@
 
 use super::streams::{Narrow, Pieces};
 use bhs_match::Sealed;
-use bhs_replay::{ReplayFault, WritingFault, read_replay, write_replay};
+use bhs_replay::{ReplayFault, WritingFault, read_part, read_replay, write_replay};
 use std::alloc::Global;
 use std::test::Fail;
 
@@ -234,6 +234,20 @@ fn what_is_no_replay_has_its_fault(rt: HostRuntime) -> Result<(), Fail> {
             fault,
             "{turns} turns"
         );
+    }
+    Ok(())
+}
+
+#[test]
+fn parts_that_are_cut_at_every_byte_are_read(rt: HostRuntime) -> Result<(), Fail> {
+    let alloc = rt.alloc();
+    for end in 0..=ACCUSED.len() {
+        let text = &ACCUSED.as_bytes()[..end];
+        let lines = text.iter().filter(|byte| **byte == b'\n').count();
+        match read_part(alloc, &mut Pieces::new(text, 1, false), TURNS) {
+            Ok(sealed) => assert!(rt; lines > 0 && sealed.log().len() == lines.min(3)),
+            Err(fault) => assert!(rt; lines == 0 && fault == ReplayFault::Head),
+        }
     }
     Ok(())
 }

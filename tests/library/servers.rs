@@ -6,7 +6,7 @@ mod gates;
 mod logs;
 
 use bhs_lock::{Gate, Open};
-use bhs_server::{Contest, Served, run_server};
+use bhs_server::{Blind, Contest, Limits, Served, run_server};
 use bhs_session::Ended;
 use clients::{
     ACCUSE, BYE, COME, Client, DEPART, DEPART_TO_THE_HOLE, GONE, HERE, LEAVE, LOOK, NOTED, OVER,
@@ -20,11 +20,21 @@ use std::net::{Ipv4Addr, Net, SocketAddr, TcpListener, TcpStream};
 use std::sync::Wait;
 use std::test::Fail;
 use std::thread::Threads;
-use std::time::Clock;
+use std::time::{Clock, Duration};
 use std::{io, thread};
 
 fn listener<R: Net<Listener = TcpListener, Stream = TcpStream>>(rt: &R) -> io::Result<TcpListener> {
     TcpListener::bind(rt, SocketAddr::from((Ipv4Addr::LOCALHOST, 0)))
+}
+
+/// For so many sessions, which may last two seconds once all matches are closed.
+fn limits(sessions: u32) -> Limits {
+    Limits {
+        sessions,
+        grace: Duration::from_millis(2000),
+        gather: 0,
+        early: false,
+    }
 }
 
 /// What a server serves of a contest by so many sessions, and what its clients do meanwhile.
@@ -46,7 +56,16 @@ where
     let client = Client::new(rt, alloc, listener.local_addr()?);
     let (served, told) = thread::join(
         rt,
-        || run_server(rt, alloc, &listener, contest, sessions, pace, gate),
+        || run_server(
+            rt,
+            alloc,
+            &listener,
+            contest,
+            limits(sessions),
+            pace,
+            gate,
+            &Blind,
+        ),
         || clients(&client),
     );
     Ok((served?, told))
@@ -316,6 +335,41 @@ fn a_client_is_gone_at_once(rt: HostRuntime) -> Result<(), Fail> {
     Ok(())
 }
 
+/// Clients that hold on to their connections: one that says nothing, and one that has entered.
+fn hold_on<R: Net<Listener = TcpListener, Stream = TcpStream> + Clock>(
+    client: &Client<'_, R>,
+    pace: &Patience<'_, R>,
+) -> io::Result<(TcpStream, TcpStream)> {
+    let silent = client.says("")?;
+    let entered = client.enters("k0-0", "")?;
+    client.waits_for(&entered, HERE.len())?;
+    pace.reach();
+    Ok((silent, entered))
+}
+
+#[test]
+fn sessions_are_cut_off_after_the_grace_period(rt: HostRuntime) -> Result<(), Fail> {
+    let alloc = rt.alloc();
+    let pace = Patience::new(&rt, 0, 1);
+    let contest = contest(alloc, 1, 2)?;
+    let (served, held) = served_beside(
+        &rt,
+        alloc,
+        contest,
+        3,
+        &pace,
+        &Open,
+        |client| hold_on(client, &pace),
+    )?;
+    assert!(rt; held.is_ok());
+    let Served { sealed, ended } = served;
+    let causes = [Ended::InputEnded, Ended::InputEnded, Ended::ReadFault];
+    assert_eq!(rt; ended.as_slice(), causes.as_slice());
+    assert_eq!(rt; lengths(alloc, &sealed)?.as_slice(), [2].as_slice());
+    assert!(rt; !pace.gave_up());
+    Ok(())
+}
+
 #[test]
 fn an_accept_that_fails_is_a_session(rt: HostRuntime) -> Result<(), Fail> {
     let alloc = rt.alloc();
@@ -323,7 +377,16 @@ fn an_accept_that_fails_is_a_session(rt: HostRuntime) -> Result<(), Fail> {
     listener.set_nonblocking(true)?;
     let pace = Patience::new(&rt, 0, 0);
     let ready = contest(alloc, 2, 1)?;
-    let Served { sealed, ended } = run_server(&rt, alloc, &listener, ready, 2, &pace, &Open)?;
+    let Served { sealed, ended } = run_server(
+        &rt,
+        alloc,
+        &listener,
+        ready,
+        limits(2),
+        &pace,
+        &Open,
+        &Blind,
+    )?;
     assert_eq!(rt; ended.as_slice(), [Ended::ReadFault; 2].as_slice());
     assert_eq!(rt; lengths(alloc, &sealed)?.as_slice(), [1, 1].as_slice());
     Ok(())

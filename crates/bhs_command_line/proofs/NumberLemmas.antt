@@ -8,7 +8,8 @@ use Rattle.std.proofs.lemmas.Bool.Decides.{nat_tests}
 use Rattle.std.specs.Str.{all_ascii_digits}
 use Rattle.std.specs.Str.Parse.{ParsesUnsigned, digits_value}
 use Rattle.std.proofs.lemmas.Str.Parse.{numerals_by_value, parse_digits, tells_all_ascii_digits}
-use Rattle.bhs_command_line.specs.CommandLine.{hosting_in, hosting_of, is_dashed, number_within}
+use Rattle.bhs_command_line.specs.CommandLine.{hosting_of, is_dashed, number_within}
+use Rattle.bhs_command_line.specs.CommandLine.{default_address, default_gather, default_grace, plain_hosting_in}
 use Rattle.bhs_command_line.specs.declared.orders.Hosting.{Hosting}
 
 same_test : (word : List ℕ) → all_ascii_digits word ≡ list_all is_ascii_digit word
@@ -54,18 +55,22 @@ record AreGiven (port sessions turns pause : Option ℕ) : Type 0 where
   third : is_some turns ≡ true
   fourth : is_some pause ≡ true
 
-all_given : (port sessions turns pause : Option ℕ) (prefix : List ℕ) (hosting : Hosting)
-    → hosting_of port sessions turns pause prefix ≡ Some hosting → AreGiven port sessions turns pause
-all_given (Some p) (Some s) (Some t) (Some u) prefix hosting e =
+all_given : (port sessions turns pause grace gather : Option ℕ) (is_early is_told : Bool)
+    (address prefix : List ℕ) (hosting : Hosting)
+    → hosting_of port sessions turns pause grace gather is_early is_told address prefix ≡ Some hosting
+    → AreGiven port sessions turns pause
+all_given (Some p) (Some s) (Some t) (Some u) (Some g) (Some h) is_early is_told address prefix hosting e =
     record { first = refl; second = refl; third = refl; fourth = refl }
-all_given _ _ _ _ prefix hosting e = absurd (true≢false (sym (ap is_some e)))
+all_given _ _ _ _ _ _ is_early is_told address prefix hosting e = absurd (true≢false (sym (ap is_some e)))
 
 -- so it is with the words of a hosting
 pub hosting_plain : (port sessions turns pause prefix : List ℕ) (hosting : Hosting)
-    → hosting_in port sessions turns pause prefix ≡ Some hosting → ArePlain port sessions turns pause
+    → plain_hosting_in port sessions turns pause prefix ≡ Some hosting → ArePlain port sessions turns pause
 hosting_plain port sessions turns pause prefix hosting e =
     let given = all_given (number_within 1 65535 port) (number_within 1 1024 sessions)
-    (number_within 0 4294967295 turns) (number_within 0 4294967295 pause) prefix hosting e in
+    (number_within 0 4294967295 turns) (number_within 0 4294967295 pause)
+    (number_within 0 4294967295 default_grace) (number_within 0 4294967295 default_gather) false false
+    default_address prefix hosting e in
     record {
       first = number_plain 1 65535 port given.first;
       second = number_plain 1 1024 sessions given.second;

@@ -13,15 +13,15 @@ use Rattle.clap.proofs.OnLiterals.{clap_on_literals}
 use Rattle.bhs_command_line.specs.CommandLine.{AsksHelp, AskAfter, Says, arena, command_in, faults, is_dashed}
 use Rattle.bhs_command_line.specs.CommandLine.{number_in, entries_in, order_by}
 use Rattle.bhs_command_line.specs.declared.orders.Order.{Order}
-use Rattle.bhs_command_line.specs.declared.orders.Order.TheVariants.{Check, Explain, Judge, Rehearse, Serve, Table}
-use Rattle.bhs_command_line.specs.declared.orders.Order.TheVariants.{RehearseInteractively, Twin}
+use Rattle.bhs_command_line.specs.declared.orders.Order.TheVariants.{Check, Explain, Judge, Recover, Rehearse, Serve}
+use Rattle.bhs_command_line.specs.declared.orders.Order.TheVariants.{RehearseInteractively, Table, Twin}
 use Rattle.bhs_command_line.specs.declared.orders.Entry.{Entry}
 use Rattle.bhs_command_line.specs.declared.orders.Hosting.{Hosting}
 use Rattle.bhs_command_line.proofs.NumberLemmas.{hosting_plain}
 use Rattle.bhs_command_line.proofs.ReadLemmas.{Enters, leaf_of, line, line_fault, order_read, passed, passed_whole}
 use Rattle.bhs_command_line.proofs.ReadLemmas.{read_plain, reads_more, reads_none}
 use Rattle.bhs_command_line.proofs.ServeLemmas.{serve_found}
-use Rattle.bhs_command_line.specs.CommandLine.{check, explain, judge, rehearse, table, twin}
+use Rattle.bhs_command_line.specs.CommandLine.{check, explain, judge, recover, rehearse, table, twin}
 
 -- ---- lists of kinds
 
@@ -60,7 +60,9 @@ help_fault words (inr (inr (inr (inr (inl asks))))) = asked_after (codes "table"
 help_fault words (inr (inr (inr (inr (inr (inl asks)))))) = asked_after (codes "explain" ∷ []) words asks (refl, refl)
 help_fault words (inr (inr (inr (inr (inr (inr (inl asks))))))) =
     asked_after (codes "twin" ∷ []) words asks (refl, refl)
-help_fault words (inr (inr (inr (inr (inr (inr (inr asks))))))) =
+help_fault words (inr (inr (inr (inr (inr (inr (inr (inl asks)))))))) =
+    asked_after (codes "recover" ∷ []) words asks (refl, refl)
+help_fault words (inr (inr (inr (inr (inr (inr (inr (inr asks)))))))) =
     asked_after (codes "serve" ∷ []) words asks (refl, refl)
 
 pub no_word_fault : (words : List Text) → words ≡ [] → faults words ≡ DisplayHelpOnMissingArgumentOrSubcommand ∷ []
@@ -182,6 +184,20 @@ judge_named replay e =
     order_read judge_enters (replay ∷ []) _ _
     (reads_more (read_plain (leaf_of judge) _ 1 idle replay e refl) (reads_none (leaf_of judge) _)) refl refl
 
+recover_enters : Enters (codes "recover") (leaf_of recover)
+unfolding clap_on_literals
+recover_enters = record {
+  takes = λ rest none. ap₂ line_fault (passed_whole (codes "recover") rest) (passed (codes "recover") rest)
+      ∙ ap (λ (kinds : Kinds). or_else kinds []) none;
+  finds = λ rest. ap (λ (w : Walk). entered line w.stopped) (passed (codes "recover") rest);
+}
+
+recover_named : (part : Text) → is_dashed part ≡ false → Gives (codes "recover" ∷ part ∷ []) (Recover part)
+unfolding clap_on_literals
+recover_named part e =
+    order_read recover_enters (part ∷ []) _ _
+    (reads_more (read_plain (leaf_of recover) _ 1 idle part e refl) (reads_none (leaf_of recover) _)) refl refl
+
 table_enters : Enters (codes "table") (leaf_of table)
 unfolding clap_on_literals
 table_enters = record {
@@ -253,6 +269,7 @@ says_gives words (RehearseInteractively (Some name) (Some prefix)) (plain, also,
     here words _ _ is (interaction_both name prefix plain also)
 says_gives words (Check name) (plain, is) = here words _ _ is (check_named name plain)
 says_gives words (Judge replay) (plain, is) = here words _ _ is (judge_named replay plain)
+says_gives words (Recover part) (plain, is) = here words _ _ is (recover_named part plain)
 says_gives words (Table entries) (word, plain, says, is) =
     let found = table_found word plain in
     here words _ _ is (found.0, found.1 ∙ ap (λ (o : Option (List Entry)). option_map Table o) says)

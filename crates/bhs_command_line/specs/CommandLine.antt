@@ -18,7 +18,7 @@ use Rattle.clap.specs.declared.error.kind.ErrorKind.TheVariants.{DisplayHelp, Di
 use Rattle.bhs_teams.specs.Teams.{is_team}
 use Rattle.bhs_command_line.specs.declared.orders.Order.{Order}
 use Rattle.bhs_command_line.specs.declared.orders.Order.TheVariants.{Rehearse, Check, Judge, Table, Explain, Twin}
-use Rattle.bhs_command_line.specs.declared.orders.Order.TheVariants.{Serve, RehearseInteractively}
+use Rattle.bhs_command_line.specs.declared.orders.Order.TheVariants.{Recover, Serve, RehearseInteractively}
 use Rattle.bhs_command_line.specs.declared.orders.Entry.{Entry}
 use Rattle.bhs_command_line.specs.declared.orders.Hosting.{Hosting}
 use Rattle.bhs_command_line.specs.declared.Parsed.{Parsed}
@@ -40,6 +40,10 @@ may_have id = record (new_rule id) { value_names = 1 }
 
 abbrev pub must_have : (id : Text) → Rule
 must_have id = record (new_rule id) { required = true; value_names = 1 }
+
+-- a word that a command may take, and which it has where it takes none
+abbrev pub has_default : (id word : Text) → Rule
+has_default id word = record (may_have id) { defaults = word ∷ [] }
 
 -- an option that takes no word
 abbrev pub flag : (id : Text) → Rule
@@ -82,18 +86,39 @@ explain = command (codes "explain") (must_have (codes "replay") ∷ must_have (c
 abbrev pub twin : Shape
 twin = command (codes "twin") (must_have (codes "replay") ∷ must_have (codes "node") ∷ [])
 
+abbrev pub recover : Shape
+recover = command (codes "recover") (must_have (codes "part") ∷ [])
+
+-- how many milliseconds sessions may last, once all matches are closed, where no word says it
+abbrev pub default_grace : Text
+default_grace = codes "10000"
+
+-- how many milliseconds matches wait for their agents
+abbrev pub default_gather : Text
+default_gather = codes "0"
+
+-- on which address the server listens
+abbrev pub default_address : Text
+default_address = codes "127.0.0.1"
+
 abbrev pub serve : Shape
 serve = command (codes "serve") (must_have (codes "tournament")
     ∷ behind (codes "port") (must_have (codes "port"))
     ∷ behind (codes "sessions") (must_have (codes "sessions"))
     ∷ behind (codes "turns") (must_have (codes "turns"))
     ∷ behind (codes "pause") (must_have (codes "pause"))
-    ∷ behind (codes "replay") (must_have (codes "prefix")) ∷ [])
+    ∷ behind (codes "replay") (must_have (codes "prefix"))
+    ∷ behind (codes "grace") (has_default (codes "grace") default_grace)
+    ∷ behind (codes "gather") (has_default (codes "gather") default_gather)
+    ∷ behind (codes "early") (flag (codes "early"))
+    ∷ behind (codes "address") (has_default (codes "address") default_address)
+    ∷ behind (codes "log") (flag (codes "log")) ∷ [])
 
 abbrev pub arena : App
 arena =
     with_subcommand (with_subcommand (with_subcommand (with_subcommand (with_subcommand (with_subcommand
-    (with_subcommand (program (codes "arena")) rehearse) check) judge) table) explain) twin) serve
+    (with_subcommand (with_subcommand (program (codes "arena")) rehearse) check) judge) table) explain) twin) recover)
+    serve
 
 -- ---- what clap makes of the words that stand after the program's name
 
@@ -135,16 +160,35 @@ entries_in (word ∷ words) =
     option_and_then (λ entry. option_map (λ entries. entry ∷ entries) (entries_in words)) (entry_in word)
 
 -- a hosting by these numbers, if all are there
-abbrev pub hosting_of : (port sessions turns pause : Option ℕ) → (prefix : Text) → Option Hosting
-hosting_of (Some port) (Some sessions) (Some turns) (Some pause) prefix =
-    Some (record { port = port; sessions = sessions; turns = turns; pause = pause; prefix = prefix })
-hosting_of _ _ _ _ prefix = None
+abbrev pub hosting_of : (port sessions turns pause grace gather : Option ℕ) → (is_early is_told : Bool)
+    → (address prefix : Text) → Option Hosting
+hosting_of (Some port) (Some sessions) (Some turns) (Some pause) (Some grace) (Some gather) is_early is_told address
+    prefix = Some (record {
+      port = port;
+      sessions = sessions;
+      turns = turns;
+      pause = pause;
+      grace = grace;
+      gather = gather;
+      early = is_early;
+      log = is_told;
+      address = address;
+      prefix = prefix;
+    })
+hosting_of _ _ _ _ _ _ is_early is_told address prefix = None
 
 -- the hosting that the words of the options say
-abbrev pub hosting_in : (port sessions turns pause prefix : Text) → Option Hosting
-hosting_in port sessions turns pause prefix = hosting_of
+abbrev pub hosting_in : (port sessions turns pause grace gather : Text) → (is_early is_told : Bool)
+    → (address prefix : Text) → Option Hosting
+hosting_in port sessions turns pause grace gather is_early is_told address prefix = hosting_of
     (number_within 1 65535 port) (number_within 1 1024 sessions)
-    (number_within 0 4294967295 turns) (number_within 0 4294967295 pause) prefix
+    (number_within 0 4294967295 turns) (number_within 0 4294967295 pause)
+    (number_within 0 4294967295 grace) (number_within 0 4294967295 gather) is_early is_told address prefix
+
+-- the same where the optional words are not given
+abbrev pub plain_hosting_in : (port sessions turns pause prefix : Text) → Option Hosting
+plain_hosting_in port sessions turns pause prefix =
+    hosting_in port sessions turns pause default_grace default_gather false false default_address prefix
 
 -- ---- orders
 
@@ -159,14 +203,16 @@ texts_in id rows = unwrap_or (all_of id rows) []
 abbrev pub number_by : (least most : ℕ) → (id : Text) → List Row → Option ℕ
 number_by least most id rows = number_within least most (text_in id rows)
 
--- the hosting that the words of `serve` say
-abbrev pub hosting_by : List Row → Option Hosting
-hosting_by rows = hosting_in (text_in (codes "port") rows) (text_in (codes "sessions") rows)
-    (text_in (codes "turns") rows) (text_in (codes "pause") rows) (text_in (codes "prefix") rows)
-
 -- whether an option that takes no word is given
 abbrev pub is_given : (id : Text) → List Row → Bool
 is_given id rows = bytes_eq (text_in id rows) (codes "true")
+
+-- the hosting that the words of `serve` say
+abbrev pub hosting_by : List Row → Option Hosting
+hosting_by rows = hosting_in (text_in (codes "port") rows) (text_in (codes "sessions") rows)
+    (text_in (codes "turns") rows) (text_in (codes "pause") rows) (text_in (codes "grace") rows)
+    (text_in (codes "gather") rows) (is_given (codes "early") rows) (is_given (codes "log") rows)
+    (text_in (codes "address") rows) (text_in (codes "prefix") rows)
 
 -- the rehearsal of a tournament, by whether its script is played as it comes
 abbrev pub rehearsal_of : (is_interactive : Bool) → (tournament prefix : Option Text) → Order
@@ -186,9 +232,10 @@ order_by (name, rows) =
     then option_map (Explain (text_in (codes "replay") rows)) (number_in (text_in (codes "agent") rows))
     else (if bytes_eq name (codes "twin")
     then option_map (Twin (text_in (codes "replay") rows)) (number_in (text_in (codes "node") rows))
+    else (if bytes_eq name (codes "recover") then Some (Recover (text_in (codes "part") rows))
     else (if bytes_eq name (codes "serve")
     then option_map (Serve (text_in (codes "tournament") rows)) (hosting_by rows)
-    else None))))))
+    else None)))))))
 
 -- the order that the words give, and None where they give none
 abbrev pub order_in : List Text → Option Order
@@ -233,10 +280,11 @@ Says words (Explain replay agent) =
 Says words (Twin replay node) =
     (word : Text) × IsName replay × IsName word × (number_in word ≡ Some node)
     × (words ≡ codes "twin" ∷ replay ∷ word ∷ [])
+Says words (Recover part) = IsName part × (words ≡ codes "recover" ∷ part ∷ [])
 Says words (Serve tournament hosting) =
     (port : Text) × (sessions : Text) × (turns : Text) × (pause : Text)
     × IsName tournament × IsName hosting.prefix
-    × (hosting_in port sessions turns pause hosting.prefix ≡ Some hosting)
+    × (plain_hosting_in port sessions turns pause hosting.prefix ≡ Some hosting)
     × (words ≡ codes "serve" ∷ tournament ∷ codes "--port" ∷ port ∷ codes "--sessions" ∷ sessions
     ∷ codes "--turns" ∷ turns ∷ codes "--pause" ∷ pause ∷ codes "--replay" ∷ hosting.prefix ∷ [])
 
@@ -278,7 +326,8 @@ AsksHelp words = AskAfter [] words
     ⊎ (AskAfter (codes "table" ∷ []) words
     ⊎ (AskAfter (codes "explain" ∷ []) words
     ⊎ (AskAfter (codes "twin" ∷ []) words
-    ⊎ AskAfter (codes "serve" ∷ []) words))))))
+    ⊎ (AskAfter (codes "recover" ∷ []) words
+    ⊎ AskAfter (codes "serve" ∷ []) words)))))))
 
 abbrev pub is_shown : Parsed → Bool
 is_shown (Shown text) = true

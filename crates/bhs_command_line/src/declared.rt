@@ -24,6 +24,7 @@ pub(crate) fn command_line<'a>(alloc: Global) -> Result<Command<'a>, AllocError>
     let line = with_command(line, table_command(alloc));
     let line = with_command(line, explain_command(alloc));
     let line = with_command(line, twin_command(alloc));
+    let line = with_command(line, recover_command(alloc));
     with_command(line, serve_command(alloc))
 }
 
@@ -66,7 +67,10 @@ fn rehearse_command<'a>(alloc: Global) -> Result<Command<'a>, AllocError>
         command.arg(optional_tournament(alloc)),
         replay_option(alloc),
     );
-    with(command, interactive_option(alloc))
+    with(
+        command,
+        flag_option(alloc, "interactive", help::INTERACTIVE),
+    )
 }
 
 fn check_command<'a>(alloc: Global) -> Result<Command<'a>, AllocError>
@@ -145,6 +149,24 @@ fn twin_command<'a>(alloc: Global) -> Result<Command<'a>, AllocError>
     with(command, node)
 }
 
+fn recover_command<'a>(alloc: Global) -> Result<Command<'a>, AllocError>
+    ensures { IfOk result (λ command. IsTold command specs.recover) }
+{
+    let command = command(
+        alloc,
+        "recover",
+        help::RECOVER,
+        help::RECOVER_AT_LENGTH,
+        help::RECOVER_EXAMPLE,
+    );
+    command.arg(must_have(
+        alloc,
+        "part",
+        "PART",
+        "The part's file, as a path from the working directory",
+    ))
+}
+
 fn serve_command<'a>(alloc: Global) -> Result<Command<'a>, AllocError>
     ensures { IfOk result (λ command. IsTold command specs.serve) }
 {
@@ -172,10 +194,24 @@ fn serve_command<'a>(alloc: Global) -> Result<Command<'a>, AllocError>
         command,
         must_have_option(alloc, "pause", "pause", "PAUSE", help::PAUSE),
     );
-    with(
+    let command = with(
         command,
         must_have_option(alloc, "replay", "prefix", "PREFIX", help::SERVED_REPLAYS),
-    )
+    );
+    let command = with(
+        command,
+        default_option(alloc, "grace", "MS", help::GRACE, "10000"),
+    );
+    let command = with(
+        command,
+        default_option(alloc, "gather", "MS", help::GATHER, "0"),
+    );
+    let command = with(command, flag_option(alloc, "early", help::EARLY));
+    let command = with(
+        command,
+        default_option(alloc, "address", "ADDRESS", help::ADDRESS, "127.0.0.1"),
+    );
+    with(command, flag_option(alloc, "log", help::LOG))
 }
 
 // A command that takes no words yet, with the texts of its help.
@@ -233,6 +269,22 @@ fn must_have_option<'a>(
     must_have(alloc, id, name, help).long(option)
 }
 
+// An option that has this word where it is not given.
+fn default_option<'a>(
+    alloc: Global,
+    option: &'a str,
+    name: &'a str,
+    help: &'a str,
+    word: &'a str,
+) -> Arg<'a>
+    ensures rule { rule_of result ≡ specs.behind option.now (specs.has_default option.now word.now) }
+    ensures local { result.global ≡ false }
+{
+    may_have(alloc, option, name, help)
+        .default_value(word)
+        .long(option)
+}
+
 fn optional_tournament<'a>(alloc: Global) -> Arg<'a>
     ensures rule { rule_of result ≡ specs.may_have (codes "tournament") }
     ensures local { result.global ≡ false }
@@ -258,14 +310,15 @@ fn replay_option<'a>(alloc: Global) -> Arg<'a>
     .long("replay")
 }
 
-fn interactive_option<'a>(alloc: Global) -> Arg<'a>
-    ensures rule { rule_of result ≡ specs.behind (codes "interactive") (specs.flag (codes "interactive")) }
+// An option that takes no word.
+fn flag_option<'a>(alloc: Global, option: &'a str, help: &'a str) -> Arg<'a>
+    ensures rule { rule_of result ≡ specs.behind option.now (specs.flag option.now) }
     ensures local { result.global ≡ false }
 {
-    Arg::new(alloc, "interactive")
+    Arg::new(alloc, option)
         .action(ArgAction::SetTrue)
-        .long("interactive")
-        .help(help::INTERACTIVE)
+        .long(option)
+        .help(help)
 }
 
 fn entry_words<'a>(alloc: Global) -> Arg<'a>

@@ -5,7 +5,7 @@ ghost use Rattle.bhs_command_line.specs.CommandLine.{order_by, hosting_by, numbe
 ghost use Rattle.bhs_command_line.specs.CommandLine.{is_given, rehearsal_of, text_in, texts_in};
 ghost use Rattle.clap.specs.Words.{first_of, found_of, rows_of, subcommand_rows_of};
 
-use crate::numbers::{AGENT, NODE, Number, PAUSE, PORT, SESSIONS, TURNS};
+use crate::numbers::{AGENT, GATHER, GRACE, NODE, Number, PAUSE, PORT, SESSIONS, TURNS};
 use crate::orders::{Entries, Hosting, Order};
 use crate::words::{entries_in, number_within, text};
 use bhs_text::Text;
@@ -63,6 +63,9 @@ fn order_named(
             })),
             None => Ok(None),
         },
+        "recover" => Ok(Some(Order::Recover {
+            part: text_given(alloc, words, "part")?,
+        })),
         "serve" => match hosting_given(alloc, words)? {
             Some(hosting) => Ok(Some(Order::Serve {
                 tournament: text_given(alloc, words, "tournament")?,
@@ -108,11 +111,22 @@ fn hosting_given(alloc: Global, words: &ArgMatches<'_>) -> Result<Option<Hosting
     let Some(pause) = number_given(words, &PAUSE) else {
         return Ok(None);
     };
+    let Some(grace) = number_given(words, &GRACE) else {
+        return Ok(None);
+    };
+    let Some(gather) = number_given(words, &GATHER) else {
+        return Ok(None);
+    };
     Ok(Some(Hosting {
         port,
         sessions,
         turns,
         pause,
+        grace,
+        gather,
+        early: is_given(words, "early"),
+        log: is_given(words, "log"),
+        address: text_given(alloc, words, "address")?,
         prefix: text_given(alloc, words, "prefix")?,
     }))
 }

@@ -266,40 +266,92 @@ Exit status:
   5  Memory ran out
   6  Reading or writing failed";
 
+pub(crate) const RECOVER: &str = "Prints the replay of a match whose server was killed";
+
+pub(crate) const RECOVER_AT_LENGTH: &str = "\
+While `arena serve` runs, it writes what happens in match M to the file
+PREFIXM.jsonl.part: all but about the last second. At the end the whole replay
+stands in PREFIXM.jsonl, and the part is removed. So where a part stands, its
+server was killed, or the disk was full.
+
+This command reads a part, and prints the replay of its match as if the match
+had been closed where the part ends. A last line that is torn counts for
+nothing. The other commands read what it prints. Faults are told as by `arena
+judge`.";
+
+pub(crate) const RECOVER_EXAMPLE: &str = "\
+Example:
+
+  arena recover cup0.jsonl.part > cup0.jsonl
+  arena judge cup0.jsonl
+
+Exit status:
+
+  0  The replay was printed
+  2  The command line was refused
+  3  The file is no part of a replay: head, line or end
+  4  The part is not of a match: event or differs
+  5  Memory ran out
+  6  Reading or writing failed";
+
 pub(crate) const SERVE: &str = "Serves a tournament to agents that connect over TCP";
 
 pub(crate) const SERVE_AT_LENGTH: &str = "\
 Serves the matches of a tournament to agents that connect over TCP. At the end
 each match is judged, and the table of the teams is printed.
 
-The server listens on port PORT of 127.0.0.1, prints `listening PORT`, and
-accepts SESSIONS connections. Each is one session of one agent: its first line
-is the agent's enter with its key, and each later line is one of the agent's
-commands. `arena rehearse --help` says what the lines are. Each is answered by a
-line, and an arrival is told by a line too. While the agent is on a link its
-lines wait.
+A first contest, on one machine: write cup.toml (docs/FORMATS.md says how), see
+that `arena check cup.toml` takes it, and give each team the keys of its agents.
+Then start
 
-All matches begin at once, when the server listens. In each match a turn comes
-every PAUSE milliseconds: one of the agents on a link arrives, and the seed of
-the tournament draws which. After TURNS turns the match is closed. So a contest
-lasts about TURNS times PAUSE milliseconds. TURNS should be several times the
-moves that a search needs. On one machine a PAUSE of 0 to 20 will do. With 0 the
-turns come as fast as they can, also while nobody has connected yet, so TURNS
-must be large.
+  arena serve cup.toml --port 4000 --sessions 100 --turns 100000 --pause 5 \\
+    --gather 60000 --early --log --replay cup
+
+and have the teams start their agents within a minute. Each agent connects to
+port 4000. Turns begin when all agents of a match have entered. A match ends
+when each of its agents has ended or is lost, and at the latest after 100,000
+turns of 5 milliseconds. The table is printed 10 seconds after that, or when 100
+sessions have ended. No agent can hold this up. For agents on other machines
+say on which address to listen, as --address 192.0.2.7; lines are not encrypted.
+
+The server listens on port PORT, prints `listening PORT`, and accepts up to
+SESSIONS connections. Each is one session of one agent: its first line is the
+agent's enter with its key, and each later line is one of the agent's commands.
+`arena rehearse --help` says what the lines are. Each is answered by a line, and
+an arrival is told by a line too. While the agent is on a link its lines wait.
+
+Without --gather all matches begin at once, when the server listens. In each
+match a turn comes every PAUSE milliseconds: one of the agents on a link
+arrives, and the seed of the tournament draws which. After TURNS turns the match
+is closed. TURNS should be several times the moves that a search needs. On one
+machine a PAUSE of 0 to 20 will do. With 0 the turns come as fast as they can.
 
 After the close a session is answered `over`: at its next line, or at once where
-its agent is on a link. A client that neither sends a line nor closes its
-connection keeps its session, and the server waits for it. It also waits where
-fewer connections come than SESSIONS.
+its agent is on a link. Once all matches are closed, the server waits until
+SESSIONS sessions have ended, but no longer than the grace period of --grace.
+Then it accepts no more connections and cuts off the sessions that are left. So
+SESSIONS may be far above the number of agents: a connection that plays nobody
+counts as one, too.
 
-When all sessions have ended, the replay of each match M is written to the file
-PREFIXM.jsonl. A file that stands there is replaced. Then each match is judged,
-and the table is printed as `arena table` prints it.
+While a contest goes on, what happens in match M is written to the file
+PREFIXM.jsonl.part, about once a second; `arena recover` reads it, if the server
+is killed. At the end the replay is written to PREFIXM.jsonl, and the part is
+removed. Files that stand under these names at the beginning are renamed: .old
+is put behind their names. Then each match is judged, and the table is printed
+as `arena table` prints it.
+
+Memory: until the end the server keeps each command as it came, twice, and each
+answer with the whiteboard that it shows. A line has up to 64 KiB. So a match of
+A agents with quota Q and whiteboards of B bytes takes up to A Q (B + 128 KiB),
+and up to 5 A Q B where no agent says longer texts than fit a whiteboard. Each
+session takes up to 96 KiB.
 
 What is wrong with a file is told on standard error, as `FILE: FAULT`, and what
 is wrong with the server as `serve: FAULT`:
 
-  listen       It cannot listen on the port, as where another program does
+  listen       ADDRESS is no address, or it cannot listen there on the port, as
+               where another program does
+  write        A part or a replay could not be written
   unsettled M  The log of match M is not what its agents were answered
   memory       Memory ran out";
 
@@ -328,13 +380,25 @@ Exit status:
   5  Memory ran out
   6  Listening, reading or writing failed";
 
-pub(crate) const PORT: &str = "The port of 127.0.0.1 to listen on, 1 to 65535";
+pub(crate) const PORT: &str = "The port to listen on, 1 to 65535";
 
-pub(crate) const SESSIONS: &str = "How many sessions are served, 1 to 1024";
+pub(crate) const SESSIONS: &str = "How many sessions are served at most, 1 to 1024";
 
 pub(crate) const TURNS: &str = "After how many turns each match is closed";
 
 pub(crate) const PAUSE: &str = "How many milliseconds pass before each turn";
+
+pub(crate) const GRACE: &str =
+    "How many milliseconds sessions may last once all matches are closed";
+
+pub(crate) const GATHER: &str = "\
+How many milliseconds a match waits for its agents to enter before its turns begin";
+
+pub(crate) const EARLY: &str = "Closes a match as soon as each of its agents has ended or is lost";
+
+pub(crate) const ADDRESS: &str = "The address to listen on, of IPv4 or IPv6";
+
+pub(crate) const LOG: &str = "Tells on standard error what happens";
 
 pub(crate) const SERVED_REPLAYS: &str =
     "Writes the replay of each match M to the file PREFIXM.jsonl";

@@ -54,3 +54,17 @@ pub(crate) const PAUSE: Number = Number {
     least: 0,
     most: 4_294_967_295,
 };
+
+pub(crate) const GRACE: Number = Number {
+    id: "grace",
+    name: "--grace <MS>",
+    least: 0,
+    most: 4_294_967_295,
+};
+
+pub(crate) const GATHER: Number = Number {
+    id: "gather",
+    name: "--gather <MS>",
+    least: 0,
+    most: 4_294_967_295,
+};

@@ -41,6 +41,10 @@ pub enum Order {
         replay: Text,
         node: u16,
     },
+    /// Prints the replay of the match of a part, which is the file of this name.
+    Recover {
+        part: Text,
+    },
     /// Serves the tournament of this file to agents that connect.
     Serve {
         tournament: Text,
@@ -62,6 +66,16 @@ pub struct Hosting {
     pub turns: u32,
     /// How many milliseconds pass before each turn.
     pub pause: u32,
+    /// How many milliseconds sessions may last once all matches are closed.
+    pub grace: u32,
+    /// How many milliseconds a match waits for its agents to enter before its turns begin.
+    pub gather: u32,
+    /// Whether a match is closed as soon as each of its agents has ended or is lost.
+    pub early: bool,
+    /// Whether it is told on standard error what happens.
+    pub log: bool,
+    /// The address to listen on.
+    pub address: Text,
     /// With what the names of the replays begin.
     pub prefix: Text,
 }

@@ -11,3 +11,5 @@ pub mod Cells
 pub mod Settling
 pub mod Saying
 pub mod Disputes
+pub mod Copies
+pub mod Deciding

@@ -1,10 +1,13 @@
-ghost use Rattle.std.specs.Prelude.{◌≡◌, [], IfOk, IfSome, OnErr, replicate};
+ghost use Rattle.std.specs.Prelude.{◌≡◌, [], IfOk, IfSome, IsTrue, OnErr, replicate};
 ghost use Rattle.bhs_deal.specs.Dealer.{moved_on};
 ghost use Rattle.bhs_lock.specs.Recording.{IsSubmitted};
 ghost use Rattle.bhs_lock.specs.Tallies.{nothing};
 ghost use Rattle.bhs_lock.specs.Unclaimed.{IsFresh};
 ghost use Rattle.bhs_lock.specs.Cells.{IsNews};
+ghost use Rattle.bhs_lock.specs.Copies.{AreCopies};
+ghost use Rattle.bhs_lock.specs.Deciding.{WereDone, WereGathered};
 
+use crate::copies::{Copied, copies};
 use crate::gates::Gate;
 use crate::hall::{Hall, unheard};
 use crate::model::{Answer, Tally};
@@ -138,6 +141,36 @@ impl Cell {
             }
         }
         drawn
+    }
+
+    /// Whether all agents have entered.
+    pub fn is_gathered<R: Wait>(&self, rt: &R) -> bool
+        ensures { IsTrue result → WereGathered }
+    {
+        let hall = self.hall.lock(rt);
+        hall.state().is_gathered()
+    }
+
+    /// Whether each agent has ended or is lost: then nothing that may still happen changes the verdict.
+    pub fn is_decided<R: Wait>(&self, rt: &R) -> bool
+        ensures { IsTrue result → WereDone }
+    {
+        let hall = self.hall.lock(rt);
+        hall.state().is_decided()
+    }
+
+    /// Copies of at most so many kept events, from this place of the log on. The lock is held for no more than these.
+    pub fn copies<R: Wait>(
+        &self,
+        rt: &R,
+        alloc: Global,
+        from: usize,
+        most: usize,
+    ) -> Result<Vec<Copied>, Memory>
+        ensures { IfOk result (λ found. AreCopies from most found.items) }
+    {
+        let hall = self.hall.lock(rt);
+        copies(alloc, hall.state(), from, most)
     }
 
     /// Ends the match, and wakes all who wait for news. Takes no memory.

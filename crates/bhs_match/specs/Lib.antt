@@ -2,3 +2,4 @@ pub mod Matches
 pub mod Keeping
 pub mod Laws
 pub mod Games
+pub mod Decided

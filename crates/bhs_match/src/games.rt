@@ -1,5 +1,5 @@
 ghost use Rattle.std.specs.Prelude.{◌≡◌, ◌<◌, ◌≤◌, List, [], length, Some, None, Ok, Err, IfSome, IfOk, IfErr, OnOk};
-ghost use Rattle.std.specs.Prelude.{if◌then◌else◌, ◌⊎◌, map, option_and_then, replicate, vec_capacity};
+ghost use Rattle.std.specs.Prelude.{if◌then◌else◌, ◌⊎◌, ◌↔◌, IsTrue, map, option_and_then, replicate, vec_capacity};
 ghost use Rattle.std.specs.List.{All};
 ghost use Rattle.bhs_net.specs.Network.{nodes_of};
 ghost use Rattle.bhs_model.specs.declared.limits.TheConstants.{MAX_AGENTS, MAX_QUOTA};
@@ -18,6 +18,8 @@ ghost use Rattle.bhs_world.specs.Tables.{keeps_next, log_after, is_of_board_if};
 ghost use Rattle.bhs_match.specs.Matches.{world_in, state_of, most_kept, arrivals, bounds, shown_at};
 ghost use Rattle.bhs_match.specs.Keeping.{node_seen};
 ghost use Rattle.bhs_match.specs.Laws.{IsLogOf};
+ghost use Rattle.bhs_match.specs.Decided.{AreAllDone, HaveAllEntered, has_entered, has_entered_at};
+ghost use Rattle.bhs_match.specs.Decided.{is_done, is_done_at};
 
 use crate::answers::Answer;
 use crate::news::{News, no_news, note, places};
@@ -25,7 +27,7 @@ use crate::pools::{Bound, link, link_by, settle};
 use crate::reading;
 use crate::seals::Sealed;
 use crate::sites::{Site, site_of};
-use bhs_agent::Standing;
+use bhs_agent::{Agent, Standing};
 use bhs_model::{Command, Event, Kept, Mark, Reply, Setup, read, text_at};
 use bhs_net::{Memory, Net};
 use bhs_world::{SetupFault, World};
@@ -178,6 +180,46 @@ impl Match {
         link(&self.world, agent).is_some()
     }
 
+    /// Whether the agent has ended or is lost.
+    pub fn is_done(&self, agent: u16) -> bool
+        requires { agent < self.now.setup.agents }
+        ensures { result ≡ is_done self.now agent }
+    {
+        is_done_at(self.world.agent(agent))
+    }
+
+    /// Whether each agent has ended or is lost: then nothing that may still happen changes the verdict.
+    pub fn is_decided(&self) -> bool
+        ensures { IsTrue result ↔ AreAllDone self.now }
+    {
+        for agent in 0..self.setup().agents {
+            if !self.is_done(agent) {
+                return false;
+            }
+        }
+        true
+    }
+
+    /// Whether the agent has entered.
+    fn has_entered(&self, agent: u16) -> bool
+        requires { agent < self.now.setup.agents }
+        ensures { result ≡ has_entered self.now agent }
+    {
+        has_entered_at(self.world.agent(agent))
+    }
+
+    /// Whether each agent has entered.
+    pub fn is_gathered(&self) -> bool
+        ensures { IsTrue result ↔ HaveAllEntered self.now }
+    {
+        for agent in 0..self.setup().agents {
+            if !self.has_entered(agent) {
+                return false;
+            }
+        }
+        true
+    }
+
     /// The text that the mark's whiteboard shows; the empty one for a mark without a whiteboard. The mark is one of
     /// this log.
     pub fn text(&self, mark: &Mark) -> &str
@@ -270,6 +312,26 @@ fn node_seen(world: &World, agent: u16) -> Option<u16>
         Standing::Outside => Some(world.setup().home),
         Standing::Present { node, .. } => Some(node),
         _ => None,
+    }
+}
+
+/// Whether an agent has ended or is lost.
+fn is_done_at(agent: &Agent) -> bool
+    ensures { result ≡ is_done_at agent.now.position agent.now.lost }
+{
+    match agent.standing() {
+        Standing::Ended => true,
+        _ => agent.lost(),
+    }
+}
+
+/// Whether an agent has entered.
+fn has_entered_at(agent: &Agent) -> bool
+    ensures { result ≡ has_entered_at agent.now.position }
+{
+    match agent.standing() {
+        Standing::Outside => false,
+        _ => true,
     }
 }
 

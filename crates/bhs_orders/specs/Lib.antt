@@ -4,6 +4,7 @@ pub mod Summary
 pub mod Playing
 pub mod Rehearsal
 pub mod RehearsedTournaments
+pub mod Parts
 pub mod Reports
 pub mod Showing
 pub mod Filing

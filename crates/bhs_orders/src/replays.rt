@@ -15,6 +15,7 @@ ghost use Rattle.bhs_orders.specs.Showing.{Took};
 ghost use Rattle.bhs_orders.specs.declared.statuses.TheConstants.{DONE};
 
 use crate::faults::{Fault, report};
+use crate::parts::remove_part;
 use crate::statuses::DONE;
 use bhs_lineup::Ready;
 use bhs_match::Sealed;
@@ -24,6 +25,7 @@ use bhs_replay::{read_replay, write_replay};
 use bhs_stream::Output;
 use std::alloc::Global;
 use std::fs;
+use std::fs::OpenFile;
 use std::io::Write;
 use std::rt::Files;
 
@@ -72,8 +74,8 @@ pub(crate) fn write_replays<F: Files, E: Write>(
 }
 
 /// Writes the replay of each match to a file, whose name is the prefix with the match's number, counted from 0, and
-/// `.jsonl`. One that cannot be written is reported, and keeps no other from being written. The answer is the exit
-/// status of the first of these, and `DONE` where there is none.
+/// `.jsonl`, and then removes its part. One that cannot be written is reported, and keeps no other from being written.
+/// The answer is the exit status of the first of these, and `DONE` where there is none.
 pub fn write_sealed<F: Files, E: Write>(
     alloc: Global,
     files: &F,
@@ -86,6 +88,9 @@ pub fn write_sealed<F: Files, E: Write>(
     let mut status = DONE;
     for (number, one) in sealed.iter().enumerate() {
         let code = write_numbered(alloc, files, prefix, number, one, errors);
+        if code == DONE {
+            remove_part(alloc, files, prefix, number);
+        }
         status = first_status(status, code);
     }
     status
@@ -137,12 +142,52 @@ fn write_numbered<F: Files, E: Write>(
     }
 }
 
-fn file_name(alloc: Global, prefix: &str, number: usize) -> Result<String, Memory> {
+/// The name of the file of a match's replay.
+pub(crate) fn file_name(alloc: Global, prefix: &str, number: usize) -> Result<String, Memory> {
     format!(in alloc; "{prefix}{number}.jsonl")
 }
 
-// Writes a replay to a new file of this name.
+// Writes a replay to a file of this name, which has the whole text or what it had before.
 fn write_file<F: Files>(alloc: Global, files: &F, name: &str, sealed: &Sealed) -> Result<(), Fault>
+    ensures { OnOk result (Took (known_takes F.File.contents) (replay_of sealed.now)) }
+{
+    let Ok(new) = format!(in alloc; "{name}.new") else {
+        return Err(Fault::Memory);
+    };
+    match write_new(alloc, files, new.as_str(), sealed) {
+        Ok(()) => put_in_place(files, new.as_str(), name),
+        Err(fault) => {
+            let _ = fs::remove_file(files, new.as_str());
+            Err(fault)
+        }
+    }
+}
+
+// Gives a file that was written its name, once its text is on the disk, and sees that the name is there too.
+fn put_in_place<F: Files>(files: &F, new: &str, name: &str) -> Result<(), Fault> {
+    let Ok(file) = fs::open(files, new) else {
+        return Err(Fault::Write);
+    };
+    if file.sync_all().is_err() || fs::rename(files, new, name).is_err() {
+        return Err(Fault::Write);
+    }
+    if let Ok(folder) = fs::open(files, folder_of(name)) {
+        let _ = folder.sync_all();
+    }
+    Ok(())
+}
+
+// The folder in which a name stands.
+fn folder_of(name: &str) -> &str {
+    match name.rsplit_once('/') {
+        Some(("", _)) => "/",
+        Some((folder, _)) => folder,
+        None => ".",
+    }
+}
+
+// Writes a replay to a new file of this name.
+fn write_new<F: Files>(alloc: Global, files: &F, name: &str, sealed: &Sealed) -> Result<(), Fault>
     ensures { OnOk result (Took (known_takes F.File.contents) (replay_of sealed.now)) }
 {
     let mut file = match fs::create(files, name) {

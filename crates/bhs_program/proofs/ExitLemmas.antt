@@ -113,6 +113,7 @@ module _ {P I O : Type 0} (files : P → List ℕ → Taken → P → Type 0) (g
     | inl report ↦ of_many takes flushes output output' code _ report
     | inr none ↦ inr (inr (Twin none.fault, none.coded))
   ]
+  of_deed (order.Recover name) recovered = of_many takes flushes output output' code _ recovered.1
   of_deed (order.Serve name hosting) served = of_served hosting.port served.1
 
   of_order : (order : Order) → Obeys files gives takes flushes order input input' output output' code → IsStatus code

@@ -1,2 +1,3 @@
 pub mod ExitLemmas
 pub mod ContestLemmas
+pub mod RecordingLemmas

@@ -8,6 +8,7 @@ use Rattle.bhs_command_line.specs.declared.orders.Order.TheVariants as order
 use Rattle.bhs_orders.specs.Fault.{IsOfFault}
 use Rattle.bhs_orders.specs.RehearsedTournaments.{RehearsesEither, Rests}
 use Rattle.bhs_orders.specs.InteractiveTournaments.{InteractsEither}
+use Rattle.bhs_orders.specs.Parts.{IsRecovered}
 use Rattle.bhs_orders.specs.Reports.{IsJudgement, IsTable, IsPast, IsTwinReplay, HasNoTwin}
 use Rattle.bhs_orders.specs.Showing.{Prints, PrintsByLine, Reports}
 use Rattle.bhs_orders.specs.Summary.{IsSummary}
@@ -42,6 +43,8 @@ module _ {P I O : Type 0} (files : P → List ℕ → Taken → P → Type 0) (g
       (input' ≡ input) × TellsByLine (IsPast agent) output output' code
   Does (order.Twin replay node) input input' output output' code =
       (input' ≡ input) × (TellsByLine (IsTwinReplay node) output output' code ⊎ HasNoTwin node output output' code)
+  Does (order.Recover part) input input' output output' code =
+      (input' ≡ input) × TellsByLine IsRecovered output output' code
   Does (order.Serve name hosting) input input' output output' code =
       (input' ≡ input) × Serves files takes flushes hosting.port output output' code
 

@@ -7,6 +7,8 @@ ghost use Rattle.bhs_server.specs.Settling.{AreSealed};
 ghost use Rattle.bhs_host.specs.Hosting.{givens_of};
 ghost use Rattle.bhs_program.specs.Contests.{Ends, Hosts, IsUnserved, of_server};
 
+use crate::keeping::Keep;
+use crate::recording::Recorder;
 use bhs_command_line::Hosting;
 use bhs_host::{Hosted, Steady, contest_of, standings};
 use bhs_lineup::Lineup;
@@ -14,15 +16,15 @@ use bhs_lock::Open;
 use bhs_match::Sealed;
 use bhs_model::Text;
 use bhs_orders::{Fault, first_status, report, show_made, write_sealed};
-use bhs_server::{ServerFault, run_server};
+use bhs_server::{Limits, ServerFault, run_server};
 use bhs_stream::Output;
 use std::alloc::Global;
-use std::io::Write;
+use std::io::{Eprint, Write};
 use std::net::TcpListener;
 use std::rt::Files;
 use std::sync::Wait;
 use std::thread::Threads;
-use std::time::Clock;
+use std::time::{Clock, Duration};
 
 /// The matches of a contest that has ended, and their teams.
 #[derive(Drop)]
@@ -31,10 +33,11 @@ struct Finished {
     sealed: Vec<Sealed>,
 }
 
-/// Serves a contest to the agents that connect to a listener, until all its matches and sessions have ended. Then the
-/// replays of its matches are written, and their table goes to `writer`, also where a replay could not be written. The
-/// answer is the exit status: that of the first that failed.
-pub fn host<R: Files + Threads + Wait + Clock + Sync, W: Output, E: Write>(
+/// Serves a contest to the agents that connect to a listener, until all its matches and sessions have ended; no session
+/// lasts longer than the grace period after the last match was closed. Then the replays of its matches are written, and
+/// their table goes to `writer`, also where a replay could not be written. The answer is the exit status: that of the
+/// first that failed. Meanwhile the parts of the replays are written on, which `begin_parts` has begun.
+pub fn host<R: Files + Threads + Wait + Clock + Eprint + Keep + Sync, W: Output, E: Write>(
     alloc: Global,
     rt: &R,
     listener: &TcpListener,
@@ -60,7 +63,7 @@ pub fn host<R: Files + Threads + Wait + Clock + Sync, W: Output, E: Write>(
 }
 
 // The matches of the contest once they have ended, each as its sessions were answered.
-fn served<R: Threads + Wait + Clock + Sync>(
+fn served<R: Files + Threads + Wait + Clock + Eprint + Keep + Sync>(
     alloc: Global,
     rt: &R,
     listener: &TcpListener,
@@ -73,8 +76,18 @@ fn served<R: Threads + Wait + Clock + Sync>(
     ensures fault { IfErr result (IsUnserved lineup.ready.items) }
 {
     let Hosted { teams, contest } = contest_of(alloc, lineup)?;
+    let prefix = hosting.prefix.as_str();
+    let recorder = Recorder::new(rt, alloc, prefix, hosting.log, contest.cells.len())?;
     let pace = Steady::new(rt, hosting.turns, hosting.pause);
-    match run_server(rt, alloc, listener, contest, hosting.sessions, &pace, &Open) {
+    let limits = Limits {
+        sessions: hosting.sessions,
+        grace: Duration::from_millis(u64::from(hosting.grace)),
+        gather: hosting.gather,
+        early: hosting.early,
+    };
+    match run_server(
+        rt, alloc, listener, contest, limits, &pace, &Open, &recorder,
+    ) {
         Ok(served) => Ok(Finished {
             teams,
             sealed: served.sealed,

@@ -3,12 +3,15 @@
 #![tactic(auto)]
 
 mod hosting;
+mod keeping;
 mod machines;
 mod orders;
+mod recording;
 mod serving;
 mod words;
 
 pub use hosting::host;
+pub use keeping::Keep;
 pub use machines::Machine;
 pub use orders::run;
 pub use words::words_of;

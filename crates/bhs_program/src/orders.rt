@@ -6,7 +6,7 @@ use crate::machines::Machine;
 use crate::serving::serve_named;
 use bhs_command_line::{Order, Parsed, order_of};
 use bhs_orders::{
-    Fault, REFUSED_WORDS, check, print_past, print_table, print_twin, print_verdict,
+    Fault, REFUSED_WORDS, check, print_past, print_recovered, print_table, print_twin, print_verdict,
     rehearse_interactively_named, rehearse_named, report, show_text,
 };
 use bhs_stream::{Input, Output, send};
@@ -69,6 +69,7 @@ fn obey<
         Order::Twin { replay, node } => {
             print_twin(alloc, rt, replay.as_str(), node, writer, errors)
         }
+        Order::Recover { part } => { print_recovered(alloc, rt, part.as_str(), writer, errors) }
         Order::Serve {
             tournament,
             hosting,

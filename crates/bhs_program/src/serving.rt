@@ -8,14 +8,15 @@ use crate::hosting::host;
 use crate::machines::Machine;
 use bhs_command_line::Hosting;
 use bhs_net::Memory;
-use bhs_orders::{DONE, Fault, lineup_of, report, show_made};
+use bhs_orders::{DONE, Fault, begin_parts, lineup_of, report, show_made};
 use bhs_stream::Output;
 use std::alloc::Global;
 use std::io::{ErrorKind, Write};
-use std::net::{Ipv4Addr, Net, SocketAddr, TcpListener, TcpStream};
+use std::net::{IpAddr, Net, SocketAddr, TcpListener, TcpStream};
 
-/// Reads a tournament and its networks, listens on a port of this machine, says so, and hosts the contest. The answer
-/// is the exit status.
+/// Reads a tournament and its networks, listens on a port of this machine, begins the parts of the replays, says that
+/// it listens, and hosts the contest. The answer is the exit status. A port that is in use leaves all files alone, so
+/// that a second server does not touch those of the first.
 pub(crate) fn serve_named<
     R: Machine + Net<Listener = TcpListener, Stream = TcpStream>,
     W: Output,
@@ -27,10 +28,14 @@ pub(crate) fn serve_named<
         Ok(lineup) => lineup,
         Err(status) => return status,
     };
-    let listener = match listener_on(rt, hosting.port) {
+    let listener = match listener_on(rt, hosting.address.as_str(), hosting.port) {
         Ok(listener) => listener,
         Err(fault) => return report("serve", fault, errors),
     };
+    let prefix = hosting.prefix.as_str();
+    if let Err(status) = begin_parts(alloc, rt, prefix, &lineup.ready, errors) {
+        return status;
+    }
     let status = show_made(listening(alloc, hosting.port), writer, errors);
     if status != DONE {
         return status;
@@ -38,12 +43,16 @@ pub(crate) fn serve_named<
     host(alloc, rt, &listener, lineup, hosting, writer, errors)
 }
 
-// Listens on a port of this machine.
+// Listens on a port of an address of this machine.
 fn listener_on<R: Net<Listener = TcpListener, Stream = TcpStream>>(
     rt: &R,
+    address: &str,
     port: u16,
 ) -> Result<TcpListener, Fault> {
-    match TcpListener::bind(rt, SocketAddr::from((Ipv4Addr::LOCALHOST, port))) {
+    let Ok(address) = address.parse::<IpAddr>() else {
+        return Err(Fault::Listen);
+    };
+    match TcpListener::bind(rt, SocketAddr::from((address, port))) {
         Ok(listener) => Ok(listener),
         Err(error) if error.kind() == ErrorKind::OutOfMemory => Err(Fault::Memory),
         Err(_) => Err(Fault::Listen),

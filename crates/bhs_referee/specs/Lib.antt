@@ -1,3 +1,4 @@
 pub mod Findings
 pub mod Verdicts
 pub mod Walks
+pub mod Rest

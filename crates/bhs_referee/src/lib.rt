@@ -2,10 +2,12 @@
 #![tactic(auto)]
 
 mod judging;
+mod laws;
 pub mod links;
 mod looks;
 mod verdicts;
 mod walks;
 
 pub use judging::judge;
+pub use laws::verdicts_stand;
 pub use verdicts::{Outcome, Verdict};

@@ -28,3 +28,5 @@ pub mod WholeTexts
 pub mod ReadBack
 pub mod OneReading
 pub mod Rows
+pub mod PartLemmas
+pub mod FrontLemmas

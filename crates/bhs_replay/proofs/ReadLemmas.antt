@@ -11,7 +11,8 @@ use Rattle.bhs_replay.specs.declared.faults.ReplayFault.{ReplayFault}
 use Rattle.bhs_replay.specs.declared.faults.ReplayFault.TheVariants as fault
 use Rattle.bhs_replay.specs.declared.reader.Playing.{Playing}
 use Rattle.bhs_replay.specs.declared.reader.Reader.{Reader}
-use Rattle.bhs_replay.specs.Stages.{Ends, Wrong, with_rest, Comes, ended}
+use Rattle.bhs_replay.specs.Parts.{IsClosedAt, ReadsPart}
+use Rattle.bhs_replay.specs.Stages.{Opens, Ends, Wrong, with_rest, Comes, ended}
 use Rattle.bhs_replay.specs.Reading.{stage_of, IsSound, fault_at_end, ReadsWhole, EndsShort, MeetsFault, StopsBy}
 use Rattle.bhs_replay.specs.Readers.{stage_by, stage_in, IsOver, Stands, IsReadBy, finished_by, finished}
 use Rattle.bhs_replay.proofs.StageLemmas.{IsOfText, IsProper, leads_proper, comes_proper}
@@ -212,3 +213,30 @@ module _ {I : Type 0} (gives : I → Chunk → I → Type 0) (start next : I) (t
       → IfErr r (λ found. StopsBy gives start turns found next)
   ends_short (Ok play) is = tt
   ends_short (Err found) is = stops_at_end found (short_fault found (sym is)).1 (short found (sym is))
+
+  -- no line has ended where the text ends
+  headless : stage_in reader ≡ Opens → EndsShort gives start turns fault.Head next
+  headless none = record {
+    text = read.text;
+    stage = stage_in reader;
+    closes = read.closes;
+    comes = comes_here read.text reader read.stands;
+    short = ap fault_at_end none;
+  }
+
+  pub ends_headless : (r : Result Play ReplayFault)
+      → IfErr r (λ found. (found ≡ fault.Head) × (stage_in reader ≡ Opens))
+      → IfErr r (λ found. StopsBy gives start turns found next)
+  ends_headless (Ok play) is = tt
+  ends_headless (Err found) is = stops_at_end found (inl is.0)
+      (subst (λ f. EndsShort gives start turns f next) (sym is.0) (headless is.1))
+
+  -- where the text ends, the match is closed
+  pub ends_part : (r : Result Play ReplayFault) → IfOk r (IsClosedAt (stage_in reader))
+      → IfOk r (λ play. ReadsPart gives start turns play next)
+  ends_part (Ok play) closed = record {
+    text = read.text;
+    closes = read.closes;
+    part = record { stage = stage_in reader; leads = read.stands.leads; closed = closed };
+  }
+  ends_part (Err found) closed = tt

@@ -12,3 +12,4 @@ pub mod Writing
 pub mod Reading
 pub mod Readers
 pub mod Played
+pub mod Parts

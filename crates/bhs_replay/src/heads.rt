@@ -23,7 +23,7 @@ pub enum Version {
 }
 
 /// The head of a match on this network, set up so, without its line feed.
-pub(crate) fn head_line(
+pub fn head_line(
     alloc: Global,
     version: Version,
     net: &Net,

@@ -9,6 +9,7 @@ ghost use Rattle.bhs_model.specs.Runs.{run};
 ghost use Rattle.bhs_model.specs.Setups.{world_of};
 ghost use Rattle.bhs_replay.specs.Head.{CanSay, head_line};
 ghost use Rattle.bhs_replay.specs.Opening.{IsHead};
+ghost use Rattle.bhs_replay.specs.Parts.{FrontsAreParts};
 ghost use Rattle.bhs_replay.specs.Played.{AreSpelled};
 ghost use Rattle.bhs_replay.specs.EventLine.{event_line};
 ghost use Rattle.bhs_replay.specs.Replay.{replay};
@@ -51,4 +52,9 @@ pub fn every_replay_is_read()
 /// A text comes to one stage, so none is read as two matches, or as a match and as a fault.
 pub fn one_reading()
     ensures { (text : List ℕ) (one other : Stage) → Comes text one → Comes text other → one ≡ other }
+{}
+
+/// Each front of a replay, cut anywhere, is read as a part: nothing is wrong with its whole lines.
+pub fn fronts_are_parts()
+    ensures { FrontsAreParts }
 {}

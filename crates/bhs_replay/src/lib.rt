@@ -15,8 +15,10 @@ mod steps;
 mod writing;
 
 pub use faults::{ReplayFault, WritingFault};
-pub use heads::Version;
-pub use laws::{every_replay_is_read, one_reading, one_spelling, only_replays_are_read};
-pub use lines::event_line;
-pub use read::read_replay;
+pub use heads::{Version, head_line};
+pub use laws::{
+    every_replay_is_read, fronts_are_parts, one_reading, one_spelling, only_replays_are_read,
+};
+pub use lines::{event_line, line_of};
+pub use read::{read_part, read_replay};
 pub use writing::write_replay;

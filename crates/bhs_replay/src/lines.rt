@@ -35,8 +35,8 @@ pub(crate) fn line_in(alloc: Global, sealed: &Sealed, one: &Kept) -> Result<Stri
     readable_line(alloc, &one.event, &reply)
 }
 
-// The line of an event and its reply, without its line feed.
-pub(crate) fn line_of(alloc: Global, event: &Event, reply: &Option<Reply>) -> Result<String, Memory>
+/// The line of an event and its reply, without its line feed.
+pub fn line_of(alloc: Global, event: &Event, reply: &Option<Reply>) -> Result<String, Memory>
     ensures { IfOk result (λ text. string_bytes text ≡ event_line event.now reply.now) }
 {
     readable_line(alloc, event, reply)

@@ -3,6 +3,7 @@
 ghost use Rattle.std.specs.Prelude.{[], IfOk, IfErr, OnOk};
 ghost use Rattle.bhs_replay.specs.Reading.{ReadsWhole, StopsBy};
 ghost use Rattle.bhs_replay.specs.Readers.{Stands, IsReadBy};
+ghost use Rattle.bhs_replay.specs.Parts.{ReadsPart};
 
 use crate::faults::ReplayFault;
 use crate::reader::Reader;
@@ -26,6 +27,18 @@ pub fn read_replay<R: Input>(
     let mut replay = Reader::new(alloc);
     read_all(reader, &mut replay, turns)?;
     replay.finish()
+}
+
+/// Reads a part of a replay, as a server that was killed left it, by at most `turns` reads: the match of its whole
+/// lines, closed where they stop. A last line without its line feed counts for nothing. Its faults are those of
+/// `read_replay`, but for an end line that did not come.
+pub fn read_part<R: Input>(alloc: Global, reader: &mut R, turns: u32) -> Result<Sealed, ReplayFault>
+    ensures ok { IfOk result (λ sealed. ReadsPart R.gives reader.old turns sealed reader.new) }
+    ensures err { IfErr result (λ fault. StopsBy R.gives reader.old turns fault reader.new) }
+{
+    let mut replay = Reader::new(alloc);
+    read_all(reader, &mut replay, turns)?;
+    replay.close()
 }
 
 // Reads the text to its end.

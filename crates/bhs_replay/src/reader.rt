@@ -1,14 +1,17 @@
 //! A replay that is read piece by piece.
 
-ghost use Rattle.std.specs.Prelude.{◌≡◌, ◌⊎◌, ℕ, List, ◌++◌, [], false, Some, IfErr, OnOk};
-ghost use Rattle.bhs_replay.specs.declared.faults.ReplayFault.TheVariants.{Memory};
-ghost use Rattle.bhs_replay.specs.Stages.{Wrong, Comes, Follows};
+ghost use Rattle.std.specs.Prelude.{◌≡◌, ◌⊎◌, ℕ, List, ◌++◌, [], false, Some, IfOk, IfErr, OnOk};
+ghost use Rattle.bhs_model.specs.Marks.{events_of};
+ghost use Rattle.bhs_replay.specs.declared.faults.ReplayFault.TheVariants.{Memory, Head};
+ghost use Rattle.bhs_replay.specs.Stages.{Opens, Wrong, Comes, Follows};
+ghost use Rattle.bhs_replay.specs.Parts.{IsClosedAt, closed_events};
 ghost use Rattle.bhs_replay.specs.Readers.{Stands, stage_by, stage_in, stage_at, finished_by, finished, Holds, IsPast};
 
 use crate::faults::ReplayFault;
 use crate::opening::opened;
 use crate::steps::play_line;
 use bhs_match::{Match, Sealed};
+use bhs_model::Event;
 use bhs_wire::split_line;
 use std::alloc::Global;
 
@@ -81,6 +84,18 @@ impl Reader {
         Ok(())
     }
 
+    // The text ends here: the match of its whole lines, closed here if it was open. An unfinished line counts for nothing.
+    pub fn close(self) -> Result<Sealed, ReplayFault>
+        ensures ok { IfOk result (IsClosedAt (stage_in self)) }
+        ensures err { IfErr result (λ fault. (fault ≡ Head) × (stage_in self ≡ Opens)) }
+    {
+        let Reader { playing, .. } = self;
+        match playing {
+            Some(Playing { game, .. }) => Ok(closed_here(game)),
+            None => Err(ReplayFault::Head),
+        }
+    }
+
     // The text has ended: the match, or what is wrong.
     pub fn finish(self) -> Result<Sealed, ReplayFault>
         ensures { result ≡ finished self }
@@ -104,6 +119,18 @@ fn whole(playing: Playing) -> Result<Sealed, ReplayFault>
     match game.sealed() {
         Ok(sealed) => Ok(sealed),
         Err(_) => Err(ReplayFault::End),
+    }
+}
+
+// A match for reading alone, closed here if it was open.
+fn closed_here(mut game: Match) -> Sealed
+    ensures { (result.net ≡ game.net) × (result.setup ≡ game.setup) × (events_of result.log
+        ≡ closed_events game.net game.setup (events_of game.log)) }
+{
+    game.apply(Event::Close);
+    match game.sealed() {
+        Ok(sealed) => sealed,
+        Err(_) => unreachable!(),
     }
 }
 

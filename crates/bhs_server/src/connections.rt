@@ -7,6 +7,7 @@ use std::cell::{Cell, RefCell};
 use std::io;
 use std::io::{BufReader, Read, Write};
 use std::net::TcpStream;
+use std::sync::Arc;
 
 /// How many bytes are held back at most.
 const ROOM: usize = 64 * 1024;
@@ -23,14 +24,14 @@ pub trait Held {
 /// A connection over TCP. Its session is on one thread.
 #[derive(Drop)]
 pub(crate) struct Connection {
-    stream: TcpStream,
+    stream: Arc<TcpStream, Global>,
     held: RefCell<Vec<u8>>,
     has_failed: Cell<bool>,
 }
 
 impl Connection {
     /// A connection with nothing held back.
-    pub(crate) fn new(alloc: Global, stream: TcpStream) -> Result<Connection, Memory> {
+    pub(crate) fn new(alloc: Global, stream: Arc<TcpStream, Global>) -> Result<Connection, Memory> {
         Ok(Connection {
             stream,
             held: RefCell::new(Vec::with_capacity(alloc, ROOM)?),
@@ -52,7 +53,7 @@ impl Held for Connection {
         if held.is_empty() {
             return Ok(());
         }
-        let sent = (&mut &self.stream).write_all(&held);
+        let sent = (&mut &*self.stream).write_all(&held);
         held.clear();
         if sent.is_err() {
             self.has_failed.set(true);
@@ -70,7 +71,7 @@ impl Write for &Connection {
             }
         }
         self.send_held()?;
-        (&mut &self.stream).write(bytes)
+        (&mut &*self.stream).write(bytes)
     }
 
     fn flush(&mut self) -> io::Result<()> {
@@ -88,7 +89,7 @@ pub(crate) struct Incoming<'c> {
 impl<'c> Incoming<'c> {
     /// With nothing taken yet.
     pub(crate) fn new(alloc: Global, connection: &'c Connection) -> Result<Incoming<'c>, Memory> {
-        match BufReader::with_capacity(alloc, TAKEN, &connection.stream) {
+        match BufReader::with_capacity(alloc, TAKEN, &*connection.stream) {
             Ok(reader) => Ok(Incoming { connection, reader }),
             Err(_) => Err(Memory),
         }

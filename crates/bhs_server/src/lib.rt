@@ -3,18 +3,21 @@
 
 mod connections;
 mod dealing;
+mod ending;
 mod laws;
 mod pacing;
 mod ports;
 mod serving;
 mod settling;
 mod visits;
+mod watching;
 
 pub use connections::Held;
 pub use dealing::deal;
 pub use laws::{equal_pasts_are_sent_equal_bytes, sent_as_met, worked_session};
 pub use pacing::{Pace, Step};
 pub use ports::{CellPort, Played};
-pub use serving::{Contest, Served, run_server};
+pub use serving::{Contest, Limits, Served, run_server};
 pub use settling::ServerFault;
 pub use visits::{TURNS, Visit, attend};
+pub use watching::{Blind, Watch};

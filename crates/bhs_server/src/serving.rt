@@ -2,10 +2,12 @@ ghost use Rattle.std.specs.Prelude.{◌≡◌, IfOk, IfErr, vec_len};
 ghost use Rattle.bhs_server.specs.Settling.{AreSealed, IsUnsettled};
 
 use crate::connections::{Connection, Held, Incoming};
-use crate::dealing::deal;
+use crate::dealing::{deal, gather};
+use crate::ending::Ending;
 use crate::pacing::Pace;
 use crate::settling::{ServerFault, by_match, settle_all};
 use crate::visits::{Visit, attend};
+use crate::watching::Watch;
 use bhs_deal::Dealer;
 use bhs_lineup::Keys;
 use bhs_lock::{Cell, Gate};
@@ -13,10 +15,14 @@ use bhs_match::Sealed;
 use bhs_net::Memory;
 use bhs_session::Ended;
 use std::alloc::Global;
-use std::net::{TcpListener, TcpStream};
-use std::sync::Wait;
+use std::net::{SocketAddr, TcpListener, TcpStream};
+use std::sync::{Arc, Wait};
 use std::thread;
 use std::thread::{JoinHandle, Threads};
+use std::time::{Clock, Duration};
+
+/// How many milliseconds the server pauses after an accept that failed.
+const PAUSE: u64 = 50;
 
 /// A contest that can be served.
 #[derive(Drop)]
@@ -29,32 +35,53 @@ pub struct Contest {
     pub keys: Keys,
 }
 
+/// How long a contest is served, and to how many.
+#[derive(Clone, Copy, Debug)]
+pub struct Limits {
+    /// How many sessions are served at most.
+    pub sessions: u32,
+    /// How long sessions may last once all matches are closed.
+    pub grace: Duration,
+    /// How many milliseconds a match waits for its agents to enter before its turns begin.
+    pub gather: u32,
+    /// Whether a match is closed as soon as each of its agents has ended or is lost.
+    pub early: bool,
+}
+
 /// A contest that has ended.
 #[derive(Debug, Drop)]
 pub struct Served {
     /// The matches, by number.
     pub sealed: Vec<Sealed>,
-    /// How the sessions ended, in the order in which they were accepted.
+    /// How the sessions ended, in the order in which they were accepted; those that never began stand last.
     pub ended: Vec<Ended>,
 }
 
-/// Serves a contest. It accepts so many connections, and serves each on a thread of its own; each match has a thread
-/// that takes its turns at this pace and then closes it. Once all threads have ended, each match is settled with the
-/// passes of its sessions.
+/// Serves a contest within limits. It accepts connections, and serves each on a thread of its own; each match has a
+/// thread that takes its turns at this pace and then closes it. Once all matches are closed, it waits until all sessions
+/// have ended, but no longer than the grace period; then it accepts no more connections, and cuts off the sessions that
+/// still run. Once all threads have ended, each match is settled with the passes of its sessions.
 ///
-/// An accept that fails is a session that ended with `ReadFault`. A session whose thread cannot be started ended with
-/// `Memory`; a match whose thread cannot be started is closed.
-pub fn run_server<R: Threads + Wait + Sync, P: Pace + Sync, G: Gate + Sync>(
+/// When an accept fails, it pauses and accepts again. A session that never began counts as one that ended with
+/// `ReadFault`. A session whose thread cannot be started ended with `Memory`; a match whose thread cannot be started is
+/// closed. If the thread that ends the contest or the one that watches it cannot be started, memory has run out.
+pub fn run_server<
+    R: Threads + Wait + Clock + Sync,
+    P: Pace + Sync,
+    G: Gate + Sync,
+    W: Watch + Sync,
+>(
     rt: &R,
     alloc: Global,
     listener: &TcpListener,
     contest: Contest,
-    sessions: u32,
+    limits: Limits,
     pace: &P,
     gate: &G,
+    watch: &W,
 ) -> Result<Served, ServerFault>
     ensures sealed { IfOk result (λ served. AreSealed contest.cells.items served.sealed.items) }
-    ensures ended { IfOk result (λ served. vec_len served.ended ≡ sessions) }
+    ensures ended { IfOk result (λ served. vec_len served.ended ≡ limits.sessions) }
     ensures unsettled { IfErr result (IsUnsettled contest.cells.items) }
 {
     let Contest {
@@ -63,7 +90,7 @@ pub fn run_server<R: Threads + Wait + Sync, P: Pace + Sync, G: Gate + Sync>(
         keys,
     } = contest;
     let Ok(visits) = all_visits(
-        rt, alloc, listener, &cells, dealers, &keys, sessions, pace, gate,
+        rt, alloc, listener, &cells, dealers, &keys, limits, pace, gate, watch,
     ) else {
         return Err(ServerFault::Memory);
     };
@@ -77,20 +104,29 @@ pub fn run_server<R: Threads + Wait + Sync, P: Pace + Sync, G: Gate + Sync>(
     })
 }
 
-/// Plays all matches to their ends, and serves so many sessions.
-fn all_visits<R: Threads + Wait + Sync, P: Pace + Sync, G: Gate + Sync>(
+/// Plays all matches to their ends, and serves sessions within limits.
+fn all_visits<R: Threads + Wait + Clock + Sync, P: Pace + Sync, G: Gate + Sync, W: Watch + Sync>(
     rt: &R,
     alloc: Global,
     listener: &TcpListener,
     cells: &[Cell],
     dealers: Vec<Dealer>,
     keys: &Keys,
-    sessions: u32,
+    limits: Limits,
     pace: &P,
     gate: &G,
+    watch: &W,
 ) -> Result<Vec<Visit>, Memory>
-    ensures { IfOk result (λ visits. vec_len visits ≡ sessions) }
+    ensures { IfOk result (λ visits. vec_len visits ≡ limits.sessions) }
 {
+    let Limits {
+        sessions,
+        grace,
+        gather: most,
+        early,
+    } = limits;
+    let ending = Ending::new(alloc, cells.len(), sessions)?;
+    let ending = &ending;
     let handles = thread::scope(
         thread::scope_env(),
         rt,
@@ -98,27 +134,77 @@ fn all_visits<R: Threads + Wait + Sync, P: Pace + Sync, G: Gate + Sync>(
             ensures { IfOk result (λ handles. vec_len handles ≡ sessions) }
         {
             let mut handles = Vec::with_capacity(alloc, sessions as usize)?;
+            if scope
+                .spawn(move || ending.end(rt, listener, grace))
+                .is_err()
+            {
+                return Err(Memory);
+            }
+            if scope.spawn(move || ending.watch(rt, watch, cells)).is_err() {
+                ending.give_up(rt);
+                return Err(Memory);
+            }
             for (game, (cell, mut dealer)) in cells.iter().zip(dealers).enumerate() {
                 let game = u32::try_from(game).unwrap_or(u32::MAX);
                 if scope
-                    .spawn(move || deal(rt, pace, game, cell, &mut dealer))
+                    .spawn(move || {
+                        gather(rt, cell, most);
+                        let turns = deal(rt, pace, early, game, cell, &mut dealer);
+                        watch.closed(game, turns);
+                        ending.match_closed(rt);
+                    })
                     .is_err()
                 {
                     cell.close(rt);
+                    ending.match_closed(rt);
                 }
             }
-            for _ in 0..sessions {
-                handles.push(match listener.accept() {
-                    Ok((stream, _)) => scope
-                        .spawn(move || welcome(rt, alloc, stream, cells, keys, gate))
-                        .map_err(|_| Ended::Memory),
-                    Err(_) => Err(Ended::ReadFault),
-                })?;
+            for session in 0..sessions {
+                let Some((stream, peer)) = accepted(rt, listener, ending) else {
+                    handles.push(Err(Ended::ReadFault))?;
+                    continue;
+                };
+                let started = scope.spawn(move || {
+                    watch.came(session, peer);
+                    let visit = welcome(rt, alloc, stream, cells, keys, gate, ending);
+                    watch.ended(session, visit.ended, seat(&visit));
+                    visit
+                });
+                if started.is_err() {
+                    ending.session_ended(rt);
+                }
+                handles.push(started.map_err(|_| Ended::Memory))?;
             }
             Ok(handles)
         },
     )?;
     joined(rt, alloc, handles)
+}
+
+/// The match and the agent that a session played, if it was let in.
+fn seat(visit: &Visit) -> Option<(u32, u16)> {
+    let played = visit.played.as_ref()?;
+    Some((played.game, played.pass.agent()))
+}
+
+/// The next connection, or None once the contest is over.
+fn accepted<R: Wait + Clock>(
+    rt: &R,
+    listener: &TcpListener,
+    ending: &Ending,
+) -> Option<(TcpStream, SocketAddr)> {
+    for _ in rt.forever() {
+        if ending.is_over(rt) {
+            return None;
+        }
+        if let Ok(accepted) = listener.accept() {
+            return Some(accepted);
+        }
+        if !ending.is_over(rt) {
+            thread::sleep(rt, Duration::from_millis(PAUSE));
+        }
+    }
+    unreachable!()
 }
 
 /// What came of the sessions, once their threads have ended.
@@ -142,7 +228,7 @@ fn joined<R: Threads>(
     Ok(visits)
 }
 
-/// Serves the client of a connection.
+/// Serves the client of a connection, whose session has then ended.
 fn welcome<R: Wait, G: Gate>(
     rt: &R,
     alloc: Global,
@@ -150,9 +236,15 @@ fn welcome<R: Wait, G: Gate>(
     cells: &[Cell],
     keys: &Keys,
     gate: &G,
+    ending: &Ending,
 ) -> Visit {
     let _ = stream.set_nodelay(true);
-    match visited(rt, alloc, stream, cells, keys, gate) {
+    let visit = match Arc::new(alloc, stream) {
+        Ok(socket) => cut_off_in_time(rt, alloc, socket, cells, keys, gate, ending),
+        Err(_) => Err(Memory),
+    };
+    ending.session_ended(rt);
+    match visit {
         Ok(visit) => visit,
         Err(Memory) => Visit {
             ended: Ended::Memory,
@@ -161,11 +253,27 @@ fn welcome<R: Wait, G: Gate>(
     }
 }
 
+/// What came of the session of a client. Its socket is kept meanwhile, so that the session can be cut off.
+fn cut_off_in_time<R: Wait, G: Gate>(
+    rt: &R,
+    alloc: Global,
+    socket: Arc<TcpStream, Global>,
+    cells: &[Cell],
+    keys: &Keys,
+    gate: &G,
+    ending: &Ending,
+) -> Result<Visit, Memory> {
+    let number = ending.keep(rt, &socket)?;
+    let visit = visited(rt, alloc, socket, cells, keys, gate);
+    ending.let_go(rt, number);
+    visit
+}
+
 /// What came of the session of a client, all that was held back being sent.
 fn visited<R: Wait, G: Gate>(
     rt: &R,
     alloc: Global,
-    stream: TcpStream,
+    stream: Arc<TcpStream, Global>,
     cells: &[Cell],
     keys: &Keys,
     gate: &G,

@@ -8,4 +8,5 @@ returns c =
     let table = c.with_command-line-4.ensures _ _ judge c.table_command.ensures in
     let explain = c.with_command-line-5.ensures _ _ table c.explain_command.ensures in
     let twin = c.with_command-line-6.ensures _ _ explain c.twin_command.ensures in
-    c.with_command.ensures _ _ twin c.serve_command.ensures
+    let recover = c.with_command-line-7.ensures _ _ twin c.recover_command.ensures in
+    c.with_command.ensures _ _ recover c.serve_command.ensures

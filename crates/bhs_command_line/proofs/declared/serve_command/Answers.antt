@@ -13,4 +13,12 @@ returns c =
     c.must_have_option-3.ensures.local in
     let pause = c.with-command-4.ensures _ _ _ turns c.must_have_option-4.ensures.rule
     c.must_have_option-4.ensures.local in
-    c.with.ensures _ _ _ pause c.must_have_option-5.ensures.rule c.must_have_option-5.ensures.local
+    let prefix = c.with-command-5.ensures _ _ _ pause c.must_have_option-5.ensures.rule
+    c.must_have_option-5.ensures.local in
+    let grace = c.with-command-6.ensures _ _ _ prefix c.default_option.ensures.rule c.default_option.ensures.local in
+    let gather = c.with-command-7.ensures _ _ _ grace c.default_option-2.ensures.rule
+    c.default_option-2.ensures.local in
+    let early = c.with-command-8.ensures _ _ _ gather c.flag_option.ensures.rule c.flag_option.ensures.local in
+    let address = c.with-command-9.ensures _ _ _ early c.default_option-3.ensures.rule
+    c.default_option-3.ensures.local in
+    c.with.ensures _ _ _ address c.flag_option-2.ensures.rule c.flag_option-2.ensures.local

@@ -29,5 +29,8 @@ returns-in-Explain g c = rw c.in-Explain.is (does (refl, c.print_past.ensures))
 pub returns-in-Twin : goal.returns-in-Twin
 returns-in-Twin g c = rw c.in-Twin.is (does (refl, c.print_twin.ensures))
 
+pub returns-in-Recover : goal.returns-in-Recover
+returns-in-Recover g c = rw c.in-Recover.is (does (refl, c.print_recovered.ensures))
+
 pub returns-in-Serve : goal.returns-in-Serve
 returns-in-Serve g c = rw c.in-Serve.is (does (refl, c.serve_named.ensures))

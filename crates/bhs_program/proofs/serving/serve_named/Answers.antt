@@ -10,6 +10,9 @@ returns-in-Err g c = let (fault, is) = c.in-Err.ensures.fault in refuses_contest
 pub returns-in-Err-listener_on : goal.returns-in-Err-listener_on
 returns-in-Err-listener_on g c = refuses_contest c.in-Err-listener_on.fault c.report.ensures refl
 
+pub returns-in-Err-begin_parts : goal.returns-in-Err-begin_parts
+returns-in-Err-begin_parts g c = let (fault, is) = c.in-Err-begin_parts.ensures in refuses_contest fault is refl
+
 pub returns-then-status-ne-DONE : goal.returns-then-status-ne-DONE
 returns-then-status-ne-DONE g c =
     unheard g.W.Output.takes g.W.Output.flushes c.args.hosting.now.port _ _ c.show_made-status.result

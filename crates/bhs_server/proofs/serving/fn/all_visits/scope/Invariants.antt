@@ -4,5 +4,5 @@ use Rattle.bhs_server.proofs.serving.fn.all_visits.scope.Given as goal
 abbrev pub invariant-loop-game : goal.invariant-loop-game
 invariant-loop-game g l = l.handles.items ≡ []
 
-abbrev pub invariant-loop : goal.invariant-loop
-invariant-loop g l = length l.handles.items ≡ l.counter
+abbrev pub invariant-loop-session : goal.invariant-loop-session
+invariant-loop-session g l = length l.handles.items ≡ l.session

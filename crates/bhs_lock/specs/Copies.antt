@@ -1,0 +1,23 @@
+-- What is copied out of a log.
+use Rattle.std.specs.Prelude.{ℕ, ◌≡◌, Option, List, map, take, drop}
+use Rattle.bhs_model.specs.declared.marks.Kept.{Kept}
+use Rattle.bhs_model.specs.Marks.{read_if}
+use Rattle.bhs_match.specs.Matches.{Play}
+use Rattle.bhs_lock.specs.declared.copies.Copied.{Copied}
+use Rattle.bhs_lock.specs.declared.model.Tally.{Tally}
+use Rattle.bhs_lock.specs.Tallies.{IsLegalHistory}
+
+-- a kept event with the reply to it
+abbrev pub copy_of : List Kept → Kept → Copied
+copy_of log one = record { event = one.event; reply = read_if log one.mark }
+
+-- at most so many kept events of a log, from this place on
+abbrev pub copies : List Kept → (from most : ℕ) → List Copied
+copies log from most = map (copy_of log) (take most (drop from log))
+
+-- they are copied out of some legal history
+pub record AreCopies (from most : ℕ) (found : List Copied) : Type 0 where
+  pub play : Play
+  pub tallies : List Tally
+  pub legal : IsLegalHistory play tallies
+  pub are : found ≡ copies play.log from most

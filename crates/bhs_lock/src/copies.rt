@@ -1,0 +1,60 @@
+ghost use Rattle.std.specs.Prelude.{◌≡◌, IfOk, take, drop, map};
+ghost use Rattle.bhs_lock.specs.Copies.{copy_of, copies};
+
+use bhs_match::Match;
+use bhs_model::{Event, Kept, Reply};
+use bhs_net::Memory;
+use std::alloc::Global;
+
+/// A kept event of a match, and the reply to it, copied out of the log.
+#[derive(Debug, Drop)]
+pub struct Copied {
+    pub event: Event,
+    pub reply: Option<Reply>,
+}
+
+/// Copies of at most so many kept events of a match, from this place of its log on.
+pub(crate) fn copies(
+    alloc: Global,
+    play: &Match,
+    from: usize,
+    most: usize,
+) -> Result<Vec<Copied>, Memory>
+    ensures { IfOk result (λ found. found.items ≡ copies play.now.log from most) }
+{
+    copies_of(alloc, play, few(play.log(), from, most))
+}
+
+/// At most so many of these, from this place on.
+fn few(log: &[Kept], from: usize, most: usize) -> &[Kept]
+    ensures { result.now ≡ take most (drop from log.now) }
+{
+    if from >= log.len() {
+        return &[];
+    }
+    let later = &log[from..];
+    &later[..most.min(later.len())]
+}
+
+fn copies_of(alloc: Global, play: &Match, few: &[Kept]) -> Result<Vec<Copied>, Memory>
+    ensures { IfOk result (λ found. found.items ≡ map (copy_of play.now.log) few.now) }
+{
+    let mut found = Vec::with_capacity(alloc, few.len())?;
+    for one in few {
+        found.push(copy_of(play, one)?)?;
+    }
+    Ok(found)
+}
+
+fn copy_of(play: &Match, one: &Kept) -> Result<Copied, Memory>
+    ensures { IfOk result (λ found. found ≡ copy_of play.now.log one.now) }
+{
+    let reply = match &one.mark {
+        Some(mark) => Some(play.reply(mark)?),
+        None => None,
+    };
+    Ok(Copied {
+        event: one.event.try_clone()?,
+        reply,
+    })
+}

@@ -1,0 +1,140 @@
+//! Parts: what stands in files of the replays of matches that go on, so that a server that is killed loses no results.
+
+ghost use Rattle.std.specs.Prelude.{◌≡◌, IfOk, IfErr};
+ghost use Rattle.bhs_replay.specs.Parts.{IsOfPart};
+ghost use Rattle.bhs_orders.specs.Fault.{IsOfFault};
+ghost use Rattle.bhs_orders.specs.Parts.{IsRecovered};
+ghost use Rattle.bhs_orders.specs.Showing.{PrintsByLine, Reports};
+
+use crate::faults::{Fault, report};
+use crate::line_by_line::passed_on;
+use crate::replays::{file_name, write_match};
+use bhs_lineup::Ready;
+use bhs_match::Sealed;
+use bhs_model::MAX_TURNS;
+use bhs_net::Memory;
+use bhs_replay::{Version, head_line, read_part};
+use bhs_stream::Output;
+use std::alloc::Global;
+use std::fs;
+use std::fs::OpenFile;
+use std::io::{ErrorKind, Write};
+use std::rt::Files;
+
+/// The name of the file that has the part of a match's replay: that of the replay's file with `.part`.
+pub fn part_name(alloc: Global, prefix: &str, number: usize) -> Result<String, Memory> {
+    format!(in alloc; "{prefix}{number}.jsonl.part")
+}
+
+/// Begins the part of each match's replay with the head of the replay. Files that stand under the names of the replays
+/// and parts, as of an earlier contest, get `.old` behind their names first, so that none is taken for a new one. The
+/// first fault goes to `errors` and ends it: the answer is then its exit status.
+pub fn begin_parts<F: Files, E: Write>(
+    alloc: Global,
+    files: &F,
+    prefix: &str,
+    ready: &[Ready],
+    errors: &mut E,
+) -> Result<(), u8>
+    ensures { IfErr result IsOfFault }
+{
+    for (number, one) in ready.iter().enumerate() {
+        begin_named(alloc, files, prefix, number, one, errors)?;
+    }
+    Ok(())
+}
+
+// Begins the part of the replay of the match of this number, or reports why it cannot be begun.
+fn begin_named<F: Files, E: Write>(
+    alloc: Global,
+    files: &F,
+    prefix: &str,
+    number: usize,
+    ready: &Ready,
+    errors: &mut E,
+) -> Result<(), u8>
+    ensures { IfErr result IsOfFault }
+{
+    let Ok(name) = part_name(alloc, prefix, number) else {
+        return Err(report(prefix, Fault::Memory, errors));
+    };
+    match begin(alloc, files, prefix, number, ready) {
+        Ok(()) => Ok(()),
+        Err(fault) => Err(report(name.as_str(), fault, errors)),
+    }
+}
+
+fn begin<F: Files>(
+    alloc: Global,
+    files: &F,
+    prefix: &str,
+    number: usize,
+    ready: &Ready,
+) -> Result<(), Fault> {
+    put_aside(alloc, files, file_name(alloc, prefix, number)?.as_str())?;
+    let name = part_name(alloc, prefix, number)?;
+    put_aside(alloc, files, name.as_str())?;
+    let mut line = head_line(alloc, Version::Two, ready.game.net(), ready.game.setup())?;
+    line.push('\n')?;
+    let Ok(mut file) = fs::create(files, name.as_str()) else {
+        return Err(Fault::Write);
+    };
+    if file.write_all(line.as_bytes()).is_err() || file.sync_all().is_err() {
+        return Err(Fault::Write);
+    }
+    Ok(())
+}
+
+// Renames a file, if it is there.
+fn put_aside<F: Files>(alloc: Global, files: &F, name: &str) -> Result<(), Fault> {
+    let old = format!(in alloc; "{name}.old")?;
+    match fs::rename(files, name, old.as_str()) {
+        Ok(()) => Ok(()),
+        Err(error) if error.kind() == ErrorKind::NotFound => Ok(()),
+        Err(_) => Err(Fault::Write),
+    }
+}
+
+/// Removes the part of a match's replay, if it is there.
+pub(crate) fn remove_part<F: Files>(alloc: Global, files: &F, prefix: &str, number: usize) {
+    if let Ok(name) = part_name(alloc, prefix, number) {
+        let _ = fs::remove_file(files, name.as_str());
+    }
+}
+
+/// Reads a part, and prints the replay of the match of its whole lines, which is closed where they stop. Any fault goes
+/// to `errors`. The answer is the exit status.
+pub fn print_recovered<F: Files, W: Output, E: Write>(
+    alloc: Global,
+    files: &F,
+    name: &str,
+    writer: &mut W,
+    errors: &mut E,
+) -> u8
+    ensures { Reports (PrintsByLine W.takes W.flushes) IsRecovered writer.old writer.new result }
+{
+    match match_of_part(alloc, files, name) {
+        Ok(sealed) => print_replay(alloc, &sealed, writer, errors),
+        Err(fault) => report(name, fault, errors),
+    }
+}
+
+fn match_of_part<F: Files>(alloc: Global, files: &F, name: &str) -> Result<Sealed, Fault>
+    ensures { IfOk result IsOfPart }
+{
+    let mut file = fs::open(files, name)?;
+    Ok(read_part(alloc, &mut file, MAX_TURNS)?)
+}
+
+// Prints the replay of a match that was read of a part.
+fn print_replay<W: Output, E: Write>(
+    alloc: Global,
+    sealed: &Sealed,
+    writer: &mut W,
+    errors: &mut E,
+) -> u8
+    requires { IsOfPart sealed.now }
+    ensures { Reports (PrintsByLine W.takes W.flushes) IsRecovered writer.old writer.new result }
+{
+    passed_on(write_match(alloc, sealed, writer), writer, errors)
+}

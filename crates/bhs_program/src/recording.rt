@@ -1,0 +1,255 @@
+//! What is kept and told of a contest while it goes on: the parts of its replays in files, and lines for the operator.
+
+ghost use Rattle.std.specs.Prelude.{◌≡◌, IfOk, string_bytes};
+ghost use Rattle.bhs_program.specs.Recording.{full_line, lines_of};
+
+use crate::keeping::Keep;
+use bhs_lock::{Cell, Copied};
+use bhs_net::Memory;
+use bhs_orders::{Fault, part_name};
+use bhs_replay::line_of;
+use bhs_server::Watch;
+use bhs_session::Ended;
+use std::alloc::Global;
+use std::io::Eprint;
+use std::net::SocketAddr;
+use std::sync::{Mutex, Wait};
+
+/// How many events are copied under the lock of a match at once.
+const FEW: usize = 64;
+
+/// How often events of a match are copied at one look.
+const TIMES: usize = 65_536;
+
+/// After how many looks, of which there are two a second, it is told how far the matches are.
+const LOOKS: u32 = 120;
+
+/// Keeps the parts of the replays, and tells the operator what happens.
+#[derive(Drop)]
+pub(crate) struct Recorder<'a, R> {
+    rt: &'a R,
+    alloc: Global,
+    prefix: &'a str,
+    /// Whether it is told what happens. What cannot be written is told anyway.
+    is_telling: bool,
+    /// The parts, by the numbers of their matches. Only the thread that looks at the matches takes this lock, so nobody
+    /// waits for the disk.
+    parts: Mutex<Vec<Part>>,
+    /// Whoever tells something holds this lock, so that lines are whole.
+    going: Mutex<Going>,
+}
+
+/// How many sessions go on, and how many looks there were since that was told.
+#[derive(Clone, Copy)]
+struct Going {
+    sessions: u32,
+    looks: u32,
+}
+
+/// How far the part of a match is.
+#[derive(Clone, Copy)]
+struct Part {
+    /// How many events it has.
+    events: usize,
+    /// How many of these are on the disk.
+    synced: usize,
+    /// Whether it could not be written on. Then it is left as it is.
+    has_failed: bool,
+}
+
+impl<'a, R> Recorder<'a, R> {
+    /// For so many matches, whose parts have no event yet.
+    pub(crate) fn new(
+        rt: &'a R,
+        alloc: Global,
+        prefix: &'a str,
+        is_telling: bool,
+        matches: usize,
+    ) -> Result<Recorder<'a, R>, Memory> {
+        let part = Part {
+            events: 0,
+            synced: 0,
+            has_failed: false,
+        };
+        Ok(Recorder {
+            rt,
+            alloc,
+            prefix,
+            is_telling,
+            parts: Mutex::new(Vec::from_elem(alloc, part, matches)?),
+            going: Mutex::new(Going {
+                sessions: 0,
+                looks: 0,
+            }),
+        })
+    }
+}
+
+impl<R: Keep + Wait + Eprint> Watch for Recorder<'_, R> {
+    fn came(&self, session: u32, peer: SocketAddr) {
+        let mut going = self.going.lock(self.rt);
+        going.sessions = going.sessions.saturating_add(1);
+        if self.is_telling {
+            let _ = eprintln!(self.rt; "serve: session {session} from {peer}");
+        }
+    }
+
+    fn ended(&self, session: u32, ended: Ended, played: Option<(u32, u16)>) {
+        let mut going = self.going.lock(self.rt);
+        going.sessions = going.sessions.saturating_sub(1);
+        if !self.is_telling {
+            return;
+        }
+        let how = told(ended);
+        let _ = match played {
+            Some((game, agent)) => {
+                eprintln!(self.rt;
+                    "serve: session {session} played match {game} agent {agent}: {how}"
+                )
+            }
+            None => eprintln!(self.rt; "serve: session {session} played nobody: {how}"),
+        };
+    }
+
+    fn closed(&self, game: u32, turns: u32) {
+        if self.is_telling {
+            let _going = self.going.lock(self.rt);
+            let _ = eprintln!(self.rt; "serve: match {game} closed after {turns} turns");
+        }
+    }
+
+    fn look(&self, cells: &[Cell]) {
+        let mut guard = self.parts.lock(self.rt);
+        let parts = &mut *guard;
+        for (game, cell) in cells.iter().enumerate() {
+            if let Some(part) = parts.get_mut(game) {
+                *part = written_on(self.rt, self.alloc, self.prefix, game, cell, *part);
+            }
+        }
+        for game in 0..cells.len() {
+            if let Some(part) = parts.get_mut(game) {
+                *part = synced(self.rt, self.alloc, self.prefix, game, *part);
+            }
+        }
+        let mut going = self.going.lock(self.rt);
+        going.looks = going.looks.saturating_add(1);
+        if self.is_telling && going.looks >= LOOKS {
+            going.looks = 0;
+            tell_progress(self.rt, going.sessions, parts);
+        }
+    }
+}
+
+/// How a session ended, in words.
+fn told(ended: Ended) -> &'static str {
+    match ended {
+        Ended::Bye => "its agent left",
+        Ended::Noted => "its agent accused",
+        Ended::Over => "its match was over",
+        Ended::Denied => "it was denied",
+        Ended::InputEnded => "its input ended",
+        Ended::ReadFault => "a read failed",
+        Ended::WriteFault => "a write failed",
+        Ended::Memory => "memory ran out",
+        Ended::Turns => "it read too often",
+    }
+}
+
+// Tells how many sessions go on, and how many events each part has.
+fn tell_progress<R: Eprint>(rt: &R, sessions: u32, parts: &[Part]) {
+    let _ = eprintln!(rt; "serve: {sessions} sessions go on");
+    for (game, part) in parts.iter().enumerate() {
+        let events = part.events;
+        let _ = eprintln!(rt; "serve: match {game} has {events} events");
+    }
+}
+
+// The part of a match once what the match has newly kept is written to its file.
+fn written_on<R: Keep + Wait + Eprint>(
+    rt: &R,
+    alloc: Global,
+    prefix: &str,
+    game: usize,
+    cell: &Cell,
+    part: Part,
+) -> Part {
+    if part.has_failed {
+        return part;
+    }
+    match appended(rt, alloc, prefix, game, cell, part.events) {
+        Ok(events) => Part { events, ..part },
+        Err(fault) => failed(rt, game, part, fault),
+    }
+}
+
+// The part of a match once its file is on the disk.
+fn synced<R: Keep + Eprint>(rt: &R, alloc: Global, prefix: &str, game: usize, part: Part) -> Part {
+    if part.has_failed || part.synced == part.events {
+        return part;
+    }
+    match sync(rt, alloc, prefix, game) {
+        Ok(()) => Part {
+            synced: part.events,
+            ..part
+        },
+        Err(fault) => failed(rt, game, part, fault),
+    }
+}
+
+// A part that could not be written on, which is told.
+fn failed<R: Eprint>(rt: &R, game: usize, part: Part, fault: Fault) -> Part {
+    let events = part.events;
+    let _ = eprintln!(rt; "serve: the part of match {game} ends after {events} events: {fault}");
+    Part {
+        has_failed: true,
+        ..part
+    }
+}
+
+// Appends what a match has newly kept to its part, and answers how many of its events are there.
+fn appended<R: Keep + Wait>(
+    rt: &R,
+    alloc: Global,
+    prefix: &str,
+    game: usize,
+    cell: &Cell,
+    events: usize,
+) -> Result<usize, Fault> {
+    let name = part_name(alloc, prefix, game)?;
+    let mut events = events;
+    for _ in 0..TIMES {
+        let found = cell.copies(rt, alloc, events, FEW)?;
+        if found.is_empty() {
+            break;
+        }
+        let lines = lines_of(alloc, &found)?;
+        rt.append(name.as_str(), lines.as_bytes())?;
+        events = events.saturating_add(found.len());
+    }
+    Ok(events)
+}
+
+fn sync<R: Keep>(rt: &R, alloc: Global, prefix: &str, game: usize) -> Result<(), Fault> {
+    let name = part_name(alloc, prefix, game)?;
+    rt.sync(name.as_str())
+}
+
+// The lines of events, as they stand in a replay.
+fn lines_of(alloc: Global, found: &[Copied]) -> Result<String, Memory>
+    ensures { IfOk result (λ text. string_bytes text ≡ lines_of found.now) }
+{
+    let mut text = String::new(alloc);
+    for one in found {
+        let line = full_line(alloc, one)?;
+        text.push_str(line.as_str())?;
+    }
+    Ok(text)
+}
+
+fn full_line(alloc: Global, one: &Copied) -> Result<String, Memory>
+    ensures { IfOk result (λ text. string_bytes text ≡ full_line one.now) }
+{
+    let mut line = line_of(alloc, &one.event, &one.reply)?;
+    line.push('\n')?;
+    Ok(line)
+}

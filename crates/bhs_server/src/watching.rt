@@ -1,0 +1,32 @@
+use bhs_lock::Cell;
+use bhs_session::Ended;
+use std::net::SocketAddr;
+
+/// Is told what happens in a contest. The threads to which it happens call it.
+pub trait Watch {
+    /// A session began.
+    fn came(&self, session: u32, peer: SocketAddr);
+
+    /// A session ended; `played` is the match and the agent that it played, if it was let in.
+    fn ended(&self, session: u32, ended: Ended, played: Option<(u32, u16)>);
+
+    /// A match was closed after so many turns.
+    fn closed(&self, game: u32, turns: u32);
+
+    /// Looks at the matches. One thread calls it: about twice a second while a match is open, and once after that.
+    fn look(&self, cells: &[Cell]);
+}
+
+/// Watches nothing.
+#[derive(Clone, Copy, Debug)]
+pub struct Blind;
+
+impl Watch for Blind {
+    fn came(&self, _session: u32, _peer: SocketAddr) {}
+
+    fn ended(&self, _session: u32, _ended: Ended, _played: Option<(u32, u16)>) {}
+
+    fn closed(&self, _game: u32, _turns: u32) {}
+
+    fn look(&self, _cells: &[Cell]) {}
+}

@@ -1,0 +1,34 @@
+"""The kills that are drawn, and what is counted in a replay."""
+import unittest
+
+import killed_servers
+from killed_servers import LONG, LONG_TURNS, SHORT, SHORT_TURNS, kills, told_events
+from tests import TOP
+
+
+class Kills(unittest.TestCase):
+    def test_a_seed_gives_the_same_kills(self) -> None:
+        self.assertEqual(kills(10, 3), kills(10, 3))
+        self.assertNotEqual(kills(10, 3), kills(10, 4))
+
+    def test_contests_are_short_and_long_in_turn(self) -> None:
+        drawn = kills(6, 1)
+        self.assertEqual([kill.turns for kill in drawn], [SHORT_TURNS, LONG_TURNS] * 3)
+        for kill in drawn:
+            self.assertLessEqual(kill.after, SHORT if kill.turns == SHORT_TURNS else LONG)
+
+
+class Replays(unittest.TestCase):
+    def test_commands_are_counted_and_nothing_else(self) -> None:
+        replay = (TOP / "examples" / "first0.jsonl").read_text()
+        lines = replay.splitlines()[1:]
+        commands = [line for line in lines if '"agent"' in line and '"do":"deliver"' not in line]
+        self.assertTrue(0 < len(commands) < len(lines) - 2)
+        self.assertEqual(told_events(replay), len(commands))
+
+    def test_no_program_leaves_nothing(self) -> None:
+        self.assertIsNotNone(killed_servers.fault_of("/bin/false", kills(1, 1)[0]))
+
+
+if __name__ == "__main__":
+    unittest.main()
