@@ -11,7 +11,7 @@ use Rattle.bhs_lock.specs.Tallies.{IsLegalHistory}
 abbrev pub copy_of : List Kept → Kept → Copied
 copy_of log one = record { event = one.event; reply = read_if log one.mark }
 
--- at most so many kept events of a log, from this place on
+-- copies of the kept events of a log from this place on, `most` of them at the most
 abbrev pub copies : List Kept → (from most : ℕ) → List Copied
 copies log from most = map (copy_of log) (take most (drop from log))
 

@@ -159,7 +159,8 @@ impl Cell {
         hall.state().is_decided()
     }
 
-    /// Copies of at most so many kept events, from this place of the log on. The lock is held for no more than these.
+    /// Copies of the kept events from this place of the log on, `most` of them at the most. The lock is held only while
+    /// they are copied.
     pub fn copies<R: Wait>(
         &self,
         rt: &R,

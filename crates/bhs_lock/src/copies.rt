@@ -13,7 +13,7 @@ pub struct Copied {
     pub reply: Option<Reply>,
 }
 
-/// Copies of at most so many kept events of a match, from this place of its log on.
+/// Copies of the kept events of a match from this place of its log on, `most` of them at the most.
 pub(crate) fn copies(
     alloc: Global,
     play: &Match,
@@ -25,7 +25,7 @@ pub(crate) fn copies(
     copies_of(alloc, play, few(play.log(), from, most))
 }
 
-/// At most so many of these, from this place on.
+/// The events from this place on, `most` of them at the most.
 fn few(log: &[Kept], from: usize, most: usize) -> &[Kept]
     ensures { result.now ≡ take most (drop from log.now) }
 {

@@ -8,7 +8,7 @@ use Rattle.bhs_script.specs.Script.{Gives, Meaning, Refused, Skipped, instructio
 use Rattle.bhs_script.specs.Transcript.{all_printed, transcript}
 use Rattle.bhs_orders.specs.Interactive.{Progress, answer, judged, onward}
 
--- what lines are answered, one after the other, in a rehearsal of so many matches
+-- what lines are answered, one after the other, in a rehearsal of this number of matches
 abbrev pub answers_to : (games : ℕ) → Stage → List (List ℕ) → List ℕ
 answers_to games stage [] = []
 answers_to games stage (line ∷ lines) =

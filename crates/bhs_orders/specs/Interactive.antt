@@ -17,7 +17,7 @@ use Rattle.bhs_orders.specs.declared.faults.Fault.TheVariants.{Turns, Listen, Un
 
 -- ---- one line
 
--- what a line means, in a rehearsal of so many matches: one that is too long is refused
+-- what a line means, in a rehearsal of this number of matches: one that is too long is refused
 abbrev pub judged : (games : ℕ) → (line : List ℕ) → Meaning
 judged games line = if nat_lt MAX_TEXT (length line) then Refused else meaning games line
 
@@ -118,7 +118,7 @@ module _ {O : Type 0} (takes : O → List ℕ → Taken → O → Type 0) (games
 -- the calls of the input and of the output, how many reads may be made, and how the rehearsal begins
 module _ {I O : Type 0} (gives : I → Chunk → I → Type 0) (takes : O → List ℕ → Taken → O → Type 0)
     (flushes : O → Bool → O → Type 0) (turns : ℕ) (stage : Stage) (input : I) (output : O) where
-  -- so many reads were made, whether the last brought the end, and where the rehearsal is
+  -- how many reads were made, whether the last brought the end, and where the rehearsal is
   pub data Interacts : (reads : ℕ) → (is_over : Bool) → Progress → I → O → Type 0 where
     begins : Interacts 0 false (at_start stage) input output
     -- Of what was read all lines are answered and this is passed on. Then a read brings more

@@ -58,7 +58,7 @@ pub fn rehearse_interactively<R: Input, W: Output>(
     ensures played { IfOk result (λ ready. InteractsToEnd R.gives W.takes W.flushes turns (opening lineup) reader.old
         writer.old reader.new writer.new (map game_of ready.items)) }
     ensures stopped { IfErr result (InteractionStops R.gives W.takes W.flushes turns (opening lineup) reader.old
-    writer.old
+        writer.old
         reader.new writer.new) }
 {
     let games = lineup.ready.len();
@@ -88,7 +88,7 @@ fn interact<R: Input, W: Output>(
     ensures played { OnOk result (InteractsToEnd R.gives W.takes W.flushes turns player.old.rehearsal.stage reader.old
         writer.old reader.new writer.new player.new.rehearsal.stage.games) }
     ensures stopped { IfErr result (InteractionStops R.gives W.takes W.flushes turns player.old.rehearsal.stage
-    reader.old
+        reader.old
         writer.old reader.new writer.new) }
 {
     let mut buffer = [0u8; BUFFER];

@@ -6,7 +6,8 @@ use Rattle.std.proofs.Math.ListN.{drop_of_length-le}
 use Rattle.bhs_lock.specs.declared.copies.Copied.{Copied}
 use Rattle.bhs_program.specs.Recording.{full_line, lines_of}
 
-module _ (all : List Copied) (place : ℕ) (text whole : List ℕ) (so_far : text ++ lines_of (drop place all) ≡ whole) where
+module _ (all : List Copied) (place : ℕ) (text whole : List ℕ)
+    (so_far : text ++ lines_of (drop place all) ≡ whole) where
   pub goes_on : (one : Copied) (line new : List ℕ) → place < length all → one ≡ get_or all place one
       → line ≡ full_line one → new ≡ text ++ line → new ++ lines_of (drop (place + 1) all) ≡ whole
   goes_on one line new lt is same grown =

@@ -6,8 +6,8 @@ use crate::machines::Machine;
 use crate::serving::serve_named;
 use bhs_command_line::{Order, Parsed, order_of};
 use bhs_orders::{
-    Fault, REFUSED_WORDS, check, print_past, print_recovered, print_table, print_twin, print_verdict,
-    rehearse_interactively_named, rehearse_named, report, show_text,
+    Fault, REFUSED_WORDS, check, print_past, print_recovered, print_table, print_twin,
+    print_verdict, rehearse_interactively_named, rehearse_named, report, show_text,
 };
 use bhs_stream::{Input, Output, send};
 use std::alloc::Global;

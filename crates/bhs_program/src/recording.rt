@@ -21,7 +21,7 @@ const FEW: usize = 64;
 /// How often events of a match are copied at one look.
 const TIMES: usize = 65_536;
 
-/// After how many looks, of which there are two a second, it is told how far the matches are.
+/// How many looks lie between two reports of how far the matches are. There are two looks a second.
 const LOOKS: u32 = 120;
 
 /// Keeps the parts of the replays, and tells the operator what happens.
@@ -58,7 +58,7 @@ struct Part {
 }
 
 impl<'a, R> Recorder<'a, R> {
-    /// For so many matches, whose parts have no event yet.
+    /// Of this number of matches, whose parts have no event yet.
     pub(crate) fn new(
         rt: &'a R,
         alloc: Global,

@@ -62,8 +62,11 @@ delivered_follows : (world : World) (nodes : ℕ) (log : List Kept) (walk : Walk
     (position : Position) → nodes ≤ MAX_NODES → IfSome (node_reached world position) (λ node. node < nodes)
     → Follows walk found
     → Follows (walk_delivered walk mark (node_reached world position))
-    (record { accused = found.accused; reached = reached_by world (read_if log mark) position found.reached;
-    moves = found.moves })
+    (record {
+      accused = found.accused;
+      reached = reached_by world (read_if log mark) position found.reached;
+      moves = found.moves;
+    })
 delivered_follows world nodes log walk found None position many range follows = follows
 delivered_follows world nodes log walk found (Some mark) Before many range follows = follows
 delivered_follows world nodes log walk found (Some mark) (At node came) many range follows = follows
@@ -119,8 +122,11 @@ by_follows world nodes log walk state lost found (Tell agent command) mark few m
     told_follows world log walk state found agent command mark _ follows (omega arith) (cond-true _ _ _ is_kept) read
 by_follows world nodes log walk state lost found (Deliver agent) mark few many range follows is_kept read =
     subst (λ (answer : Option Reply). Follows (walk_delivered walk mark (node_reached world (state.position agent)))
-    (record { accused = found.accused; reached = reached_by world answer (state.position agent) found.reached;
-    moves = found.moves }))
+    (record {
+      accused = found.accused;
+      reached = reached_by world answer (state.position agent) found.reached;
+      moves = found.moves;
+    }))
     read (delivered_follows world nodes log walk found mark (state.position agent) many range follows)
 by_follows world nodes log walk state lost found Close mark few many range follows is_kept read = follows
 

@@ -1,5 +1,6 @@
 -- Once each agent has ended or is lost, the verdict stands.
-use Rattle.std.proofs.Common.{ℕ, ◌≡◌, ◌<◌, ◌⊎◌, inl, inr, Bool, true, false, not, ◌&&◌, ◌||◌, Option, Some, None, List, []}
+use Rattle.std.proofs.Common.{ℕ, ◌≡◌, ◌<◌, ◌⊎◌, inl, inr, Bool, true, false, not, ◌&&◌, ◌||◌}
+use Rattle.std.proofs.Common.{Option, Some, None, List, []}
 use Rattle.std.proofs.Common.{◌∷◌, ◌++◌, ◌==◌, nat_lt, if◌then◌else◌, refl, sym, ap, ap₂, ◌∙◌, subst, count_by}
 use Rattle.std.specs.List.{list_any, range_with_len}
 use Rattle.std.proofs.lemmas.Bool.{and_parts, not-true, not-false, false≢true, true≢false, cond_both, cond-true, lt-ltb}
@@ -15,7 +16,8 @@ use Rattle.bhs_model.specs.Worlds.{World, doomed}
 use Rattle.bhs_model.specs.Views.{View, Glance, Standing, Outside, Present, Away, Ended, standing, used, ports, Told}
 use Rattle.bhs_model.specs.Replying.{accepts, hears, answer, rep}
 use Rattle.bhs_model.specs.Standings.{standing_at}
-use Rattle.bhs_model.specs.Runs.{Position, Before, At, Bound, After, State, initial, changed, position_after, heard, arrives}
+use Rattle.bhs_model.specs.Runs.{Position, Before, At, Bound, After, State, initial, changed, position_after}
+use Rattle.bhs_model.specs.Runs.{heard, arrives}
 use Rattle.bhs_model.specs.Runs.{is_doomed, is_let_through, told, delivered, next, run, run_from, reply, glance}
 use Rattle.bhs_model.specs.Kept.{destroys, lost_after, lost_from, lost, nobody}
 use Rattle.bhs_model.proofs.StepLemmas.{by_cases, next_heard, next_unheard, next_no_arrival, next_arrived, changed_same}
@@ -24,7 +26,8 @@ use Rattle.bhs_model.proofs.KeptLemmas.{changed_to_itself}
 use Rattle.bhs_model.proofs.AddLemmas.{run-append, lost-append}
 use Rattle.bhs_model.proofs.LegalLemmas.{IsLegal, AllLegal, legal_told, either, all_run}
 use Rattle.bhs_referee.specs.declared.verdicts.Verdict.{Verdict}
-use Rattle.bhs_referee.specs.Findings.{Findings, nothing_found, accused_by, moves_by, reached_by, found_after, found_from}
+use Rattle.bhs_referee.specs.Findings.{Findings, nothing_found, accused_by, moves_by, reached_by}
+use Rattle.bhs_referee.specs.Findings.{found_after, found_from}
 use Rattle.bhs_referee.specs.declared.verdicts.Outcome.TheVariants.{Solved, Unfinished, Silent, Wrong}
 use Rattle.bhs_referee.specs.Verdicts.{is_present, is_unfinished, guess_or_solved, accuses, is_right, is_silent}
 use Rattle.bhs_referee.specs.Verdicts.{is_over_dark, first_unreached}

@@ -31,8 +31,8 @@ IsDone world events agent = (standing (past world events agent) ≡ Ended) ⊎ (
 abbrev pub AreDone : World → List Event → Type 0
 AreDone world events = (agent : ℕ) → agent < world.agents → IsDone world events agent
 
--- Once each agent has ended or is lost, the verdict stands: whatever else happens, a close among it or not, the match is
--- judged as if it had ended there.
+-- Once each agent has ended or is lost, the verdict stands: whatever else happens, a close among it or not, the match
+-- is judged as if it had ended there.
 abbrev pub VerdictsStand : Type 0
 VerdictsStand = (world : World) (events more : List Event) → AreDone world events →
     verdict_after world (events ++ more) ≡ verdict_after world events

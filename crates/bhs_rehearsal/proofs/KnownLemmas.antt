@@ -123,21 +123,24 @@ module _ (setup : Setup) (past : View) (connection : Connection) (input : Fed) (
       Took setup closed was_away past connection.queue done agent →
       MetBy setup ((state_of game).past agent) closed (is_away game agent)
       (after (record connection { seat = Some seat }) done) input (sent ++ text)
-  met_more game false left text t = inl ((record {
-    met = going.met ++ t.met;
-    taken = going.taken ++ t.lines;
-    split = split_joined t.lines t.over t.split
-        ∙ ap (λ (over : List Line). (going.taken ++ t.lines) ++ over) (t.left refl);
-    said = said_joined t.met t.lines t.said;
-    due = due_joined t.met t.due;
-    lived = t.lived refl ∙ view_joined t.met;
-    heard = ap (λ (more : List ℕ). sent ++ more) (t.heard refl) ∙ bytes_joined t.met;
-    still = going.still;
-    ends = going.ends;
-    end_waits = sym (t.end_left refl) ∙ going.end_waits;
-    last = t.last_left refl going.last;
-    lives = t.lives refl;
-  }), t.open_left refl open_yet)
+  met_more game false left text t = inl (
+    (record {
+      met = going.met ++ t.met;
+      taken = going.taken ++ t.lines;
+      split = split_joined t.lines t.over t.split
+          ∙ ap (λ (over : List Line). (going.taken ++ t.lines) ++ over) (t.left refl);
+      said = said_joined t.met t.lines t.said;
+      due = due_joined t.met t.due;
+      lived = t.lived refl ∙ view_joined t.met;
+      heard = ap (λ (more : List ℕ). sent ++ more) (t.heard refl) ∙ bytes_joined t.met;
+      still = going.still;
+      ends = going.ends;
+      end_waits = sym (t.end_left refl) ∙ going.end_waits;
+      last = t.last_left refl going.last;
+      lives = t.lives refl;
+    }),
+    t.open_left refl open_yet,
+  )
   met_more game true left text t = inr (record {
     met = going.met ++ t.met;
     taken = going.taken ++ t.lines;
@@ -438,20 +441,23 @@ module _ (stage : Stage) (conn : ℕ) (connection : Connection) where
     -- who is let in has met nothing
     begins : (seat : ℕ × ℕ) → Untouched (game_at stage seat.0) seat.1 → IsReady stage connection input sent None
         → IsReady stage connection input sent (Some seat)
-    begins seat untouched ready = λ within. (record {
-      met = [];
-      taken = [];
-      split = ready.split;
-      said = refl;
-      due = tt;
-      lived = untouched.past;
-      heard = ready.heard;
-      still = ready.still;
-      ends = ready.ends;
-      end_waits = ready.end_waits;
-      last = ready.last;
-      lives = λ ended. let is = ap standing untouched.past in cc;
-    }, inr untouched.at)
+    begins seat untouched ready = λ within. (
+      record {
+        met = [];
+        taken = [];
+        split = ready.split;
+        said = refl;
+        due = tt;
+        lived = untouched.past;
+        heard = ready.heard;
+        still = ready.still;
+        ends = ready.ends;
+        end_waits = ready.end_waits;
+        last = ready.last;
+        lives = λ ended. let is = ap standing untouched.past in cc;
+      },
+      inr untouched.at,
+    )
 
     own_enter : (how : Entry) → connection.seat ≡ None →
         ((seat : ℕ × ℕ) → (enters_turn stage connection how).connection.seat ≡ Some seat

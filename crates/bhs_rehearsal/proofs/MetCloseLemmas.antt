@@ -129,36 +129,39 @@ met_closed game agent connection input sent waits was_open is met =
       by_waits away true is stands (inl (g, open_yet)) =
           let on_link : standing (view_of g.met) ≡ Away = ap standing (sym g.lived) ∙ stands (sym is) in
           inr (record {
-        met = g.met;
-        taken = g.taken;
-        over = lines_of connection.queue;
-        split = g.split;
-        said = g.said;
-        due = g.due;
-        lived = inl g.lived;
-        heard = ap₂ (λ (own last : List ℕ). own ++ last) g.heard
-            (sym (over_away (standing (view_of g.met)) (lines_of connection.queue) on_link));
-        mute = λ still. absurd (cc);
-        by_end = λ none takes. absurd (let both = sym takes ∙ ap takes_commands on_link in cc);
-        quiet = inl refl;
-        ended = refl;
-        done_by = λ still unended. absurd (cc);
-      })
+            met = g.met;
+            taken = g.taken;
+            over = lines_of connection.queue;
+            split = g.split;
+            said = g.said;
+            due = g.due;
+            lived = inl g.lived;
+            heard = ap₂ (λ (own last : List ℕ). own ++ last) g.heard
+                (sym (over_away (standing (view_of g.met)) (lines_of connection.queue) on_link));
+            mute = λ still. absurd (cc);
+            by_end = λ none takes. absurd (let both = sym takes ∙ ap takes_commands on_link in cc);
+            quiet = inl refl;
+            ended = refl;
+            done_by = λ still unended. absurd (cc);
+          })
       by_waits away true is stands (inr d) = absurd (elim d.quiet [ inl closed ↦ cc | inr here ↦ cc ])
-      by_waits away false is stands (inl (g, open_yet)) = inl (record {
-        met = g.met;
-        taken = g.taken;
-        split = g.split;
-        said = g.said;
-        due = g.due;
-        lived = g.lived;
-        heard = append-nil sent ∙ g.heard;
-        still = g.still;
-        ends = g.ends;
-        end_waits = g.end_waits;
-        last = g.last;
-        lives = g.lives;
-      }, inr (sym is))
+      by_waits away false is stands (inl (g, open_yet)) = inl (
+        record {
+          met = g.met;
+          taken = g.taken;
+          split = g.split;
+          said = g.said;
+          due = g.due;
+          lived = g.lived;
+          heard = append-nil sent ∙ g.heard;
+          still = g.still;
+          ends = g.ends;
+          end_waits = g.end_waits;
+          last = g.last;
+          lives = g.lives;
+        },
+        inr (sym is),
+      )
       by_waits away false is stands (inr d) = inr (record {
         met = d.met;
         taken = d.taken;

@@ -201,17 +201,19 @@ module _ (stage : Stage) (game agent conn : ℕ) (input : Fed) (sent : List ℕ)
         (state_of one).closed (is_away one agent) old input
         (sent ++ text_of (here old_game.setup.board a.sight))) (sym found)
         (λ inside.
-        let setup_is = setup-played old_game (Deliver agent) in
-        (subst (λ (setup : Setup). Going setup ((state_of new_game).past agent) old input
-        (sent ++ text_of (here old_game.setup.board a.sight))) (sym setup_is)
-        (elim (known (subst (λ (setup : Setup). agent < setup.agents) setup_is inside)) [
-          | inl (going, open_yet) ↦ going_arrives old_game.setup ((state_of old_game).past agent)
-          ((state_of new_game).past agent)
-              old input sent a.sight (away_stands (world_in old_game) ((state_of old_game).past agent)
-              ((state_of old_game).position agent) (fits_here old_game agent) bound.0) a.new_is going
-          | inr done ↦ absurd (elim done.quiet
-              [ inl closed ↦ (let open_match = bound.1 in cc) | inr here ↦ (let away = bound.0 in cc) ])
-        ]), inr (arrived_here old_game agent comes))))
+        let setup_is = setup-played old_game (Deliver agent) in (
+          subst (λ (setup : Setup). Going setup ((state_of new_game).past agent) old input
+              (sent ++ text_of (here old_game.setup.board a.sight))) (sym setup_is)
+              (elim (known (subst (λ (setup : Setup). agent < setup.agents) setup_is inside)) [
+                | inl (going, open_yet) ↦ going_arrives old_game.setup ((state_of old_game).past agent)
+                    ((state_of new_game).past agent)
+                    old input sent a.sight (away_stands (world_in old_game) ((state_of old_game).past agent)
+                    ((state_of old_game).position agent) (fits_here old_game agent) bound.0) a.new_is going
+                | inr done ↦ absurd (elim done.quiet
+                    [ inl closed ↦ (let open_match = bound.1 in cc) | inr here ↦ (let away = bound.0 in cc) ])
+              ]),
+          inr (arrived_here old_game agent comes),
+        )))
 
     draw_moves : IsSettled (moves drawn_in holder).stage →
         Knows (moves drawn_in holder).stage conn input

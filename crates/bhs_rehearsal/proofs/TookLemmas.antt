@@ -241,37 +241,37 @@ module _ (setup : Setup) (game : Game) (agent : ℕ) (line : Line) (items : List
       (record { game = next_game; is_done = true; left = []; text = text_of (answer_to setup.board old a.meeting) })
       agent
   took-last a is_last_one =
-    let text = text_of (answer_to setup.board old a.meeting) in
-    let stopped : takes_commands (standing (past_after old a.meeting)) ≡ false =
-    ap (λ (view : View). takes_commands (standing view)) (sym a.new_is) ∙ a.ends_it is_last_one in
-    let here_now : standing (past_after old a.meeting) ≢ Away =
-    subst (λ (view : View). standing view ≢ Away) a.new_is
-    (here_stands (world_in next_game) new ((state_of next_game).position agent) (fits_here next_game agent)
-    (not_back (is_away next_game agent) (a.stays is_last_one))) in
-    record {
-    met = a.meeting ∷ [];
-    lines = line ∷ [];
-    over = lines_of items;
-    split = refl;
-    left = λ goes_on. absurd (cc);
-    end_left = λ goes_on. absurd (cc);
-    last_left = λ goes_on. absurd (cc);
-    open_left = λ goes_on. absurd (cc);
-    said = ap (λ (said : List Command). said ++ []) a.command_is;
-    due = (a.due, tt);
-    lived = λ goes_on. absurd (cc);
-    died = λ done. inl a.new_is;
-    heard = λ goes_on. absurd (cc);
-    last = λ done. sym (append-nil (text ++ []) ∙ append-nil text);
-    mute = λ done still. over_ended (standing (past_after old a.meeting)) (lines_of items) stopped here_now;
-    by_end = λ done none takes. absurd (let both = sym stopped ∙ takes in cc);
-    quiet = λ done. inr (not_back (is_away next_game agent) (a.stays is_last_one));
-    lives = λ goes_on. absurd (cc);
-    done_by = λ done still unended. ap (λ (view : View). takes_commands (standing view)) (sym a.new_is)
-        ∙ a.ends_it is_last_one;
-    closed_is = closed-told game agent command ∙ at;
-    is_in = played_in setup agent game (Tell agent command) is;
-  }
+      let text = text_of (answer_to setup.board old a.meeting) in
+      let stopped : takes_commands (standing (past_after old a.meeting)) ≡ false =
+      ap (λ (view : View). takes_commands (standing view)) (sym a.new_is) ∙ a.ends_it is_last_one in
+      let here_now : standing (past_after old a.meeting) ≢ Away =
+      subst (λ (view : View). standing view ≢ Away) a.new_is
+      (here_stands (world_in next_game) new ((state_of next_game).position agent) (fits_here next_game agent)
+      (not_back (is_away next_game agent) (a.stays is_last_one))) in
+      record {
+        met = a.meeting ∷ [];
+        lines = line ∷ [];
+        over = lines_of items;
+        split = refl;
+        left = λ goes_on. absurd (cc);
+        end_left = λ goes_on. absurd (cc);
+        last_left = λ goes_on. absurd (cc);
+        open_left = λ goes_on. absurd (cc);
+        said = ap (λ (said : List Command). said ++ []) a.command_is;
+        due = (a.due, tt);
+        lived = λ goes_on. absurd (cc);
+        died = λ done. inl a.new_is;
+        heard = λ goes_on. absurd (cc);
+        last = λ done. sym (append-nil (text ++ []) ∙ append-nil text);
+        mute = λ done still. over_ended (standing (past_after old a.meeting)) (lines_of items) stopped here_now;
+        by_end = λ done none takes. absurd (let both = sym stopped ∙ takes in cc);
+        quiet = λ done. inr (not_back (is_away next_game agent) (a.stays is_last_one));
+        lives = λ goes_on. absurd (cc);
+        done_by = λ done still unended. ap (λ (view : View). takes_commands (standing view)) (sym a.new_is)
+            ∙ a.ends_it is_last_one;
+        closed_is = closed-told game agent command ∙ at;
+        is_in = played_in setup agent game (Tell agent command) is;
+      }
 
   took-more : (a : Answered setup old new command (reply_to game (Tell agent command)) (not (is_away next_game agent)))
       → (others : Taken) →

@@ -84,7 +84,8 @@ impl Reader {
         Ok(())
     }
 
-    // The text ends here: the match of its whole lines, closed here if it was open. An unfinished line counts for nothing.
+    // The text ends here: the match of its whole lines, closed here if it was open. An unfinished line counts for
+    // nothing.
     pub fn close(self) -> Result<Sealed, ReplayFault>
         ensures ok { IfOk result (IsClosedAt (stage_in self)) }
         ensures err { IfErr result (λ fault. (fault ≡ Head) × (stage_in self ≡ Opens)) }

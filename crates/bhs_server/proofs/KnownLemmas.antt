@@ -240,8 +240,8 @@ by_refusal written taken line now pass reply (Some why) takes a is same =
     (takes, (why, is)) (ap (option_map replies.No) is) (refl, refl, refl, refl))
 
 -- the answer to a line
-pub line_answered : (written : List ℕ) (taken : List Line) (line : Line) (now : Phase) (pass pass' : Passed) (reply : Reply)
-    → TakesLines now → Answered written taken now pass → IsToldBy pass (command_of line) reply pass' →
+pub line_answered : (written : List ℕ) (taken : List Line) (line : Line) (now : Phase) (pass pass' : Passed)
+    (reply : Reply) → TakesLines now → Answered written taken now pass → IsToldBy pass (command_of line) reply pass' →
     Talks written (taken ++ line ∷ []) (Owes (text_of reply) (answered_by true reply)) pass'
 line_answered written taken line now pass pass' reply takes a told = by_place told.place told.submitted
   where

@@ -131,12 +131,12 @@ ended_here stands ended away = absurd (cc)
 
 -- what an ending that is whole leaves
 pub record IsAllWritten (ended : Ending) (stands : Standing) (left : List Command) (last unwritten : List ℕ) : Type 0
-    where
-  pub none_left : left ≡ []
-  pub no_last : last ≡ []
-  pub all_written : unwritten ≡ []
-  pub here : stands ≢ Away
-  pub done : (is_between ended ≡ true) ⊎ (stands ≡ Ended)
+  where
+    pub none_left : left ≡ []
+    pub no_last : last ≡ []
+    pub all_written : unwritten ≡ []
+    pub here : stands ≢ Away
+    pub done : (is_between ended ≡ true) ⊎ (stands ≡ Ended)
 
 between : (ended : Ending) (phase : Phase) (stands : Standing) (left : List Command) (last unwritten : List ℕ)
     → is_between ended ≡ true → TakesLines phase × (left ≡ []) × (last ≡ []) → unwritten ≡ [] → Sits phase stands

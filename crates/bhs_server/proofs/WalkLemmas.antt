@@ -255,17 +255,17 @@ pub walk : (quota limit : ℕ) (view : View) (phase : Phase) (receipts : List Re
     → Walked quota limit view phase receipts all steps parting more
 walk quota limit view phase receipts [] steps parting more arrivals least sits tallied turn are heard arrived order
     leaves = record {
-  met = [];
-  rest = steps;
-  due = tt;
-  said = tt;
-  same = refl;
-  are_steps = are;
-  ends = refl;
-  heard = heard;
-  arrived = arrived;
-  sits = sits;
-}
+      met = [];
+      rest = steps;
+      due = tt;
+      said = tt;
+      same = refl;
+      are_steps = are;
+      ends = refl;
+      heard = heard;
+      arrived = arrived;
+      sits = sits;
+    }
 walk quota limit view phase receipts (Refused command ∷ all) steps parting more arrivals least sits tallied turn are
     heard arrived order leaves =
     let takes = takes_there phase (standing view) turn.0.0 sits in

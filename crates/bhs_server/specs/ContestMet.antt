@@ -89,8 +89,8 @@ is_whole endings.ReadFault = true
 is_whole endings.Turns = true
 is_whole ended = false
 
--- The line behind what was met, by how the session ended: that the match is over, if it ended by that. If a write failed
--- or memory ran out, that line or none; else none.
+-- The line behind what was met, by how the session ended: that the match is over, if it ended by that. If a write
+-- failed or memory ran out, that line or none; else none.
 abbrev pub IsLastOf : Ended → (last : List ℕ) → Type 0
 IsLastOf endings.Over last = last ≡ text_of Over
 IsLastOf endings.WriteFault last = MayBeOver last

@@ -45,8 +45,9 @@ Ends endings.WriteFault phase parting left last = Unit {0}
 Ends endings.Memory phase parting left last = Unit {0}
 
 -- Of a session that took these commands, wrote this and ended so, by this pass: what it wrote is the text of what it
--- said and was answered, which is made of the receipts and arrivals of the pass, and behind it at most that the match is
--- over; or a front of that, where a write failed or memory ran out. A Leave that an ending told has its receipt last.
+-- said and was answered, which is made of the receipts and arrivals of the pass, and behind it at most that the match
+-- is over; or a front of that, where a write failed or memory ran out. A Leave that an ending told has its receipt
+-- last.
 pub record IsWrittenBy (pass : Passed) (commands : List Command) (written : List ℕ) (ended : Ended) : Type 0 where
   pub all : List Exchange
   pub in_turn : AreInTurn pass.quota Fresh [] [] all

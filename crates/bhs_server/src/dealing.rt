@@ -11,7 +11,7 @@ use std::time::{Clock, Duration};
 /// How many milliseconds pass between two looks at whether all agents have entered.
 const EVERY: u32 = 5;
 
-/// Waits until all agents of a match have entered, but for no more than so many milliseconds.
+/// Waits until all agents of a match have entered, or `most` milliseconds have passed.
 pub(crate) fn gather<R: Wait + Clock>(rt: &R, cell: &Cell, most: u32) {
     for _ in 0..most / EVERY {
         if cell.is_gathered(rt) {

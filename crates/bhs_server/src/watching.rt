@@ -10,7 +10,7 @@ pub trait Watch {
     /// A session ended; `played` is the match and the agent that it played, if it was let in.
     fn ended(&self, session: u32, ended: Ended, played: Option<(u32, u16)>);
 
-    /// A match was closed after so many turns.
+    /// A match was closed after this number of turns.
     fn closed(&self, game: u32, turns: u32);
 
     /// Looks at the matches. One thread calls it: about twice a second while a match is open, and once after that.

@@ -47,7 +47,8 @@ same_start view other met more sizes same =
     sym (without_last-from view met) ∙ ap₂ without_last count same ∙ without_last-from other more
 
 -- a past does not come to itself by a step
-pub no_circle : (view longer : View) (met : List Meeting) → size longer ≡ suc (size view) → view ≡ view_from longer met → ⊥
+pub no_circle : (view longer : View) (met : List Meeting)
+    → size longer ≡ suc (size view) → view ≡ view_from longer met → ⊥
 no_circle view longer met is same =
     let one = size-from longer met in
     let whole : size view ≡ size (view_from longer met) = ap size same in

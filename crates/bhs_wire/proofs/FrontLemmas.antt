@@ -16,6 +16,7 @@ no_more old = ([], sym (append-nil old))
 
 pub more_on : (old next new : List Line) → (more : List Line) × (next ≡ old ++ more)
     → (more : List Line) × (new ≡ next ++ more) → (more : List Line) × (new ≡ old ++ more)
-more_on old next new first then_more =
-    (first.0 ++ then_more.0,
-    then_more.1 ∙ (ap (λ lines. lines ++ then_more.0) first.1 ∙ append_assoc old first.0 then_more.0))
+more_on old next new first then_more = (
+  first.0 ++ then_more.0,
+  then_more.1 ∙ (ap (λ lines. lines ++ then_more.0) first.1 ∙ append_assoc old first.0 then_more.0),
+)

@@ -93,5 +93,9 @@ pub returns-clause-stopped : goal.returns-clause-stopped
 returns-clause-stopped g c =
     let (interacts, part, games, bound) = c.loop.invariant in
     let all : c.loop.counter ≡ c.args.turns = search rules in
-    record { progress = progress_of c.loop.player []; interacts = rw all at interacts; is_part = part_of
-    c.loop.player.line.items part }
+    record {
+      progress = progress_of c.loop.player [];
+      interacts = rw all at interacts;
+      is_part = part_of
+          c.loop.player.line.items part;
+    }

@@ -16,7 +16,7 @@ loop-agent-preserved c = elim c.if-is_lost.branch [
   | else-is_lost w ↦ record {
     few = omega (arith, w.lost-is, c.loop-agent.invariant.few);
     count = w.lost-is ∙ uncounted (lost (world_in c.args.sealed.now) (events_of c.args.sealed.now.log))
-    c.loop-agent.agent
+        c.loop-agent.agent
         c.loop-agent.lost (sym c.is_lost.ensures ∙ w.if-is_lost.false) c.loop-agent.invariant.count;
   }
 ]

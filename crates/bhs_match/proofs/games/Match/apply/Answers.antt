@@ -48,7 +48,7 @@ invariant_of-self-2 c =
           (omega (arith, c.self.inside.log.ok)) c.push_reserved.ensures.items c.settle.ensures.items c.note.ensures,
       (
         sites_after _ _ _ _ _ _ _ _ _ _ _ at_hand c.self.invariant.1.0 c.step-mark-2.ensures.same.0
-        c.site_of-site.ensures.site
+            c.site_of-site.ensures.site
             c.site_of-site.ensures.range c.push_reserved.ensures.items c.push_reserved-2.ensures.items,
         has_room_after _ _ _ _ _ _ _ _ c.step-mark-2.ensures.same.1 c.push_reserved.ensures.capacity
             c.push_reserved-2.ensures.capacity c.settle.ensures.capacity c.self.invariant.1.1,
