@@ -1,7 +1,7 @@
 -- The calls of a rehearsal are the script of their instructions.
 use Rattle.std.proofs.Common.{◌≡◌, ◌∙◌, ℕ, Some, List, [], ◌∷◌, ◌++◌, refl, sym, ap, ap₂, subst}
 use Rattle.bhs_rehearsal.specs.Games.{state_of}
-use Rattle.bhs_rehearsal.specs.Stages.{Stage, Instruction, step, stands_after, said, connection_at, game_at}
+use Rattle.bhs_rehearsal.specs.Stages.{Stage, Instruction, step, stands_after, sends, connection_at, game_at}
 use Rattle.bhs_rehearsal.specs.Clients.{bytes_to}
 use Rattle.bhs_rehearsal.specs.Rehearsing.{Rehearsing, Grows, games_of}
 use Rattle.bhs_rehearsal.specs.Headline.{Rehearsed, Plays}
@@ -14,7 +14,7 @@ use Rattle.bhs_rehearsal.proofs.SameLemmas.{bytes_lemma}
 pub record IsScripted (start : Stage) (script : List Instruction) (sent : List (List (ℕ × List ℕ)))
     (now : Stage) : Type 0 where
   pub stands : now ≡ stands_after start script
-  pub sends : sent ≡ said start script
+  pub sends : sent ≡ sends start script
 
 scripted : (start : Rehearsing) (script : List Instruction) (sent : List (List (ℕ × List ℕ))) (now : Rehearsing)
     → WasCalled start script sent now → IsScripted start.stage script sent now.stage

@@ -7,7 +7,7 @@ use Rattle.bhs_wire.specs.Lines.{Line, found_in, left_by}
 use Rattle.bhs_wire.proofs.StreamLaws.{found_in-append, left_by-append}
 use Rattle.bhs_rehearsal.specs.Connections.{Item, Says, Connection}
 use Rattle.bhs_rehearsal.specs.Stages.{Stage, connection_at, with_connection, Instruction, Feeds, moves, Stepped}
-use Rattle.bhs_rehearsal.specs.Stages.{sent_to, stepped, nothing, feeds, step, stands_after, said}
+use Rattle.bhs_rehearsal.specs.Stages.{sent_to, stepped, nothing, feeds, step, stands_after, sends}
 use Rattle.bhs_rehearsal.specs.Laws.{DoAlike, joined, fed, TwoPiecesDoAlike, CutsDoAlike}
 use Rattle.bhs_rehearsal.specs.Clients.{bytes_among, bytes_to}
 use Rattle.bhs_rehearsal.proofs.TurnLemmas.{Turn, placed, turn_of, moves-placed, grown, sent_behind, turn_of-grown}
@@ -42,12 +42,12 @@ pub stands_after-append : (stage : Stage) (script more : List Instruction)
 stands_after-append stage [] more = refl
 stands_after-append stage (instruction ∷ script) more = stands_after-append (step stage instruction).stage script more
 
-pub said-append : (stage : Stage) (script more : List Instruction) → said stage (script ++ more) ≡ said stage script
-    ++ said (stands_after stage script) more
-said-append stage [] more = refl
-said-append stage (instruction ∷ script) more =
+pub sends-append : (stage : Stage) (script more : List Instruction) → sends stage (script ++ more) ≡ sends stage script
+    ++ sends (stands_after stage script) more
+sends-append stage [] more = refl
+sends-append stage (instruction ∷ script) more =
     ap (λ (rest : List (List (ℕ × List ℕ))). (step stage instruction).outs ∷ rest)
-    (said-append (step stage instruction).stage script more)
+    (sends-append (step stage instruction).stage script more)
 
 pub bytes_to-append : (conn : ℕ) (one two : List (List (ℕ × List ℕ))) → bytes_to conn (one ++ two) ≡ bytes_to conn one
     ++ bytes_to conn two
@@ -57,11 +57,11 @@ bytes_to-append conn (outs ∷ one) two =
     ∙ sym (append_assoc (bytes_among conn outs) (bytes_to conn one) (bytes_to conn two))
 
 sent_in_both : (conn : ℕ) (stage : Stage) (script more : List Instruction) →
-    bytes_to conn (said stage (script ++ more)) ≡ bytes_to conn (said stage script)
-    ++ bytes_to conn (said (stands_after stage script) more)
+    bytes_to conn (sends stage (script ++ more)) ≡ bytes_to conn (sends stage script)
+    ++ bytes_to conn (sends (stands_after stage script) more)
 sent_in_both conn stage script more =
-    ap (bytes_to conn) (said-append stage script more) ∙ bytes_to-append conn (said stage script)
-    (said (stands_after stage script) more)
+    ap (bytes_to conn) (sends-append stage script more) ∙ bytes_to-append conn (sends stage script)
+    (sends (stands_after stage script) more)
 
 alike_itself : (stage : Stage) (script : List Instruction) → DoAlike stage script script
 alike_itself stage script = record { stands = refl; sends = λ conn. refl }
@@ -83,7 +83,7 @@ alike_before stage one two later alike = record {
       ∙ sym (stands_after-append stage two later);
   sends = λ conn.
       sent_in_both conn stage one later
-      ∙ ap₂ (λ (sent : List ℕ) (between : Stage). sent ++ bytes_to conn (said between later))
+      ∙ ap₂ (λ (sent : List ℕ) (between : Stage). sent ++ bytes_to conn (sends between later))
       (alike.sends conn) alike.stands
       ∙ sym (sent_in_both conn stage two later);
 }
@@ -94,7 +94,7 @@ alike_behind stage earlier one two alike = record {
   stands = stands_after-append stage earlier one ∙ alike.stands ∙ sym (stands_after-append stage earlier two);
   sends = λ conn.
       sent_in_both conn stage earlier one
-      ∙ ap (λ (sent : List ℕ). bytes_to conn (said stage earlier) ++ sent) (alike.sends conn)
+      ∙ ap (λ (sent : List ℕ). bytes_to conn (sends stage earlier) ++ sent) (alike.sends conn)
       ∙ sym (sent_in_both conn stage earlier two);
 }
 

@@ -19,7 +19,7 @@ use Rattle.bhs_rehearsal.specs.Stages.{Stage, game_at, connection_at, with_game,
 use Rattle.bhs_rehearsal.specs.Stages.{Waits, Sits, IsDenied, Goes, entry, enters, moves_in, moves, Instruction}
 use Rattle.bhs_rehearsal.specs.Stages.{Feeds, EndsInput, Draws, Closes, Stepped, stepped, nothing}
 use Rattle.bhs_rehearsal.specs.Stages.{tells_arrival, delivers, waits_in, shut_in, told_over, closes, step, begun}
-use Rattle.bhs_rehearsal.specs.Stages.{stands_after, said}
+use Rattle.bhs_rehearsal.specs.Stages.{stands_after, sends}
 use Rattle.bhs_rehearsal.specs.Laws.{awaits_arrival, IsSettled}
 use Rattle.bhs_rehearsal.specs.Clients.{bytes_among, bytes_to}
 use Rattle.bhs_rehearsal.proofs.CuttingLemmas.{by_bool}
@@ -121,16 +121,16 @@ step_known stage conn input sent (Closes game) knows =
 
 script_known : (stage : Stage) (conn : ℕ) (input : Fed) (sent : List ℕ) (script : List Instruction)
     → Knows stage conn input sent →
-    Knows (stands_after stage script) conn (fed_to conn input script) (sent ++ bytes_to conn (said stage script))
+    Knows (stands_after stage script) conn (fed_to conn input script) (sent ++ bytes_to conn (sends stage script))
 script_known stage conn input sent [] knows = nothing_more stage conn input sent knows
 script_known stage conn input sent (instruction ∷ script) knows =
     let next_stage = (step stage instruction).stage in
     let outs = (step stage instruction).outs in
     let fed = fed_by conn input instruction in
     same_bytes (stands_after next_stage script) conn (fed_to conn fed script) (fed_to conn fed script)
-    ((sent ++ bytes_among conn outs) ++ bytes_to conn (said next_stage script))
-    (sent ++ (bytes_among conn outs ++ bytes_to conn (said next_stage script)))
-    refl (append_assoc sent (bytes_among conn outs) (bytes_to conn (said next_stage script)))
+    ((sent ++ bytes_among conn outs) ++ bytes_to conn (sends next_stage script))
+    (sent ++ (bytes_among conn outs ++ bytes_to conn (sends next_stage script)))
+    refl (append_assoc sent (bytes_among conn outs) (bytes_to conn (sends next_stage script)))
     (script_known next_stage conn fed (sent ++ bytes_among conn outs) script
     (step_known stage conn input sent instruction knows))
 

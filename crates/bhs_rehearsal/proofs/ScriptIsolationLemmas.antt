@@ -13,7 +13,7 @@ use Rattle.bhs_rehearsal.specs.Games.{Game, state_of, played, reply_to, drawn}
 use Rattle.bhs_rehearsal.specs.Connections.{Ends, Connection, unfed}
 use Rattle.bhs_rehearsal.specs.Stages.{Stage, game_at, connection_at, with_game, with_connection, has_seat, Moved}
 use Rattle.bhs_rehearsal.specs.Stages.{moves, Instruction, Feeds, EndsInput, Draws, Closes, Stepped, sent_to, stepped}
-use Rattle.bhs_rehearsal.specs.Stages.{nothing, tells_arrival, delivers, shut_in, told_over, step, said}
+use Rattle.bhs_rehearsal.specs.Stages.{nothing, tells_arrival, delivers, shut_in, told_over, step, sends}
 use Rattle.bhs_rehearsal.specs.Laws.{plays_in, SameBut, HeardAlike, is_of_match, without, MatchesAreHeardApart}
 use Rattle.bhs_rehearsal.specs.Laws.{OtherMatchesAreNotHeard}
 use Rattle.bhs_rehearsal.specs.Clients.{bytes_among, bytes_to}
@@ -271,7 +271,7 @@ without_alike game one two (instruction ∷ script) alike =
     record {
       stands = later.stands;
       sends = λ conn elsewhere.
-          ap (λ (sent : List ℕ). sent ++ bytes_to conn (said after script))
+          ap (λ (sent : List ℕ). sent ++ bytes_to conn (sends after script))
           (of_match_unheard game one instruction here conn
           (elsewhere_before game one instruction conn (elsewhere_at_first game after script conn elsewhere)))
           ∙ later.sends conn elsewhere;

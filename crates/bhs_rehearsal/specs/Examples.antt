@@ -5,7 +5,7 @@ use Rattle.bhs_model.specs.declared.commands.Command.TheVariants.{Enter, Depart,
 use Rattle.bhs_model.specs.declared.events.Event.TheVariants.{Tell, Deliver}
 use Rattle.bhs_rehearsal.specs.Games.{Game}
 use Rattle.bhs_rehearsal.specs.Stages.{Stage, game_at, Instruction, Feeds, EndsInput, Draws, Closes, begun}
-use Rattle.bhs_rehearsal.specs.Stages.{stands_after, said}
+use Rattle.bhs_rehearsal.specs.Stages.{stands_after, sends}
 use Rattle.bhs_rehearsal.specs.Laws.{IsSlowFor}
 use Rattle.bhs_rehearsal.specs.Clients.{bytes_to}
 
@@ -125,12 +125,12 @@ no_taken = codes "{\"no\":\"taken\"}"
 -- ---- one match
 
 abbrev pub AKeyLetsIn : Type 0
-AKeyLetsIn = said (stage_of triangle) (says 0 enter_ka ∷ []) ≡ sent 0 here_at_home ∷ []
+AKeyLetsIn = sends (stage_of triangle) (says 0 enter_ka ∷ []) ≡ sent 0 here_at_home ∷ []
 
 -- an enter that comes in two pieces is answered with the second
 abbrev pub ALineMayComeInPieces : Type 0
 ALineMayComeInPieces =
-    said (stage_of triangle) (Feeds 0 (codes "{\"do\":\"enter\",") ∷ Feeds 0 (line (codes "\"key\":\"ka\"}")) ∷ [])
+    sends (stage_of triangle) (Feeds 0 (codes "{\"do\":\"enter\",") ∷ Feeds 0 (line (codes "\"key\":\"ka\"}")) ∷ [])
     ≡ silence ∷ sent 0 here_at_home ∷ []
 
 -- to node 1, and from there into the black hole: a line is said there, and a draw changes nothing
@@ -142,12 +142,12 @@ to_the_hole =
 -- over is sent once, and the line is not answered
 abbrev pub TheBlackHoleIsSilent : Type 0
 TheBlackHoleIsSilent =
-    said (stage_of triangle) to_the_hole
+    sends (stage_of triangle) to_the_hole
     ≡ sent 0 here_at_home ∷ sent 0 gone ∷ sent 0 here_by_0
     ∷ sent 0 gone ∷ silence ∷ silence ∷ silence ∷ sent 0 over ∷ silence ∷ []
 
 abbrev pub HeldLinksSendTheSame : Type 0
-HeldLinksSendTheSame = said (stage_of slow) to_the_hole ≡ said (stage_of triangle) to_the_hole
+HeldLinksSendTheSame = sends (stage_of slow) to_the_hole ≡ sends (stage_of triangle) to_the_hole
 
 -- `slow` is such a match as no client can tell from the triangle
 abbrev pub TheSlowTriangleIsSlow : Type 0
@@ -156,13 +156,13 @@ TheSlowTriangleIsSlow = IsSlowFor triangle slow
 -- a line that comes while the agent is away is answered behind the arrival
 abbrev pub LinesWaitForTheArrival : Type 0
 LinesWaitForTheArrival =
-    said (stage_of triangle) (says 0 enter_ka ∷ Feeds 0 (line depart_by_0 ++ line look) ∷ Draws 0 0 ∷ [])
+    sends (stage_of triangle) (says 0 enter_ka ∷ Feeds 0 (line depart_by_0 ++ line look) ∷ Draws 0 0 ∷ [])
     ≡ sent 0 here_at_home ∷ sent 0 gone ∷ ((0, line here_by_0 ++ line here_by_0) ∷ []) ∷ []
 
 -- the first write wins
 abbrev pub TheSecondWriterSeesTheFirst : Type 0
 TheSecondWriterSeesTheFirst =
-    said (stage_of triangle) (says 0 enter_ka ∷ says 1 enter_kb ∷ says 0 write_a ∷ says 1 write_b ∷ [])
+    sends (stage_of triangle) (says 0 enter_ka ∷ says 1 enter_kb ∷ says 0 write_a ∷ says 1 write_b ∷ [])
     ≡ sent 0 here_at_home ∷ sent 1 here_at_home ∷ sent 0 written ∷ sent 1 changed_to_a ∷ []
 
 -- the same with a quota of 3
@@ -172,7 +172,7 @@ short = record triangle { setup = record triangle.setup { quota = 3 } }
 -- a departure by a port that is not there is one of the three, and leaving needs none
 abbrev pub TheQuotaIsSpent : Type 0
 TheQuotaIsSpent =
-    said (stage_of short) (
+    sends (stage_of short) (
     says 0 enter_ka ∷ says 0 depart_by_2 ∷ says 0 look ∷ says 0 look ∷ says 0 look ∷ says 0 leave ∷ says 0 look
     ∷ [])
     ≡ sent 0 here_at_home ∷ sent 0 no_port ∷ sent 0 here_at_home ∷ sent 0 here_at_home ∷ sent 0
@@ -184,26 +184,26 @@ TheQuotaIsSpent =
 -- nobody knows the key, and what follows is not looked at
 abbrev pub AStrangeKeyIsDenied : Type 0
 AStrangeKeyIsDenied =
-    said (stage_of triangle) (says 0 enter_zz ∷ says 0 enter_ka ∷ EndsInput 0 ∷ [])
+    sends (stage_of triangle) (says 0 enter_zz ∷ says 0 enter_ka ∷ EndsInput 0 ∷ [])
     ≡ sent 0 no_key ∷ silence ∷ silence ∷ []
 
 -- a key lets in once
 abbrev pub AUsedKeyIsDenied : Type 0
 AUsedKeyIsDenied =
-    said (stage_of triangle) (says 0 enter_ka ∷ says 1 enter_ka ∷ says 1 enter_kb ∷ [])
+    sends (stage_of triangle) (says 0 enter_ka ∷ says 1 enter_ka ∷ says 1 enter_kb ∷ [])
     ≡ sent 0 here_at_home ∷ sent 1 no_taken ∷ silence ∷ []
 
 -- the first line must be an enter
 abbrev pub AFirstLookIsDenied : Type 0
 AFirstLookIsDenied =
-    said (stage_of triangle) (says 0 look ∷ says 0 enter_ka ∷ []) ≡ sent 0 no_enter ∷ silence ∷ []
+    sends (stage_of triangle) (says 0 look ∷ says 0 enter_ka ∷ []) ≡ sent 0 no_enter ∷ silence ∷ []
 
 -- ---- ends
 
 -- who is at a node when the match ends is told so when it says something
 abbrev pub ThePresentAreToldLater : Type 0
 ThePresentAreToldLater =
-    said (stage_of triangle) (says 0 enter_ka ∷ Closes 0 ∷ says 0 look ∷ says 0 look ∷ [])
+    sends (stage_of triangle) (says 0 enter_ka ∷ Closes 0 ∷ says 0 look ∷ says 0 look ∷ [])
     ≡ sent 0 here_at_home ∷ silence ∷ sent 0 over ∷ silence ∷ []
 
 -- a client goes while its agent is away
@@ -213,7 +213,7 @@ gone_on_the_way = says 0 enter_ka ∷ says 0 depart_by_0 ∷ EndsInput 0 ∷ Dra
 -- the arrival is sent, and then the agent leaves
 abbrev pub AnEndWaitsForTheArrival : Type 0
 AnEndWaitsForTheArrival =
-    said (stage_of triangle) gone_on_the_way ≡ sent 0 here_at_home ∷ sent 0 gone ∷ silence ∷ sent 0 here_by_0 ∷ []
+    sends (stage_of triangle) gone_on_the_way ≡ sent 0 here_at_home ∷ sent 0 gone ∷ silence ∷ sent 0 here_by_0 ∷ []
 
 abbrev pub TheAgentOfAnEndLeaves : Type 0
 TheAgentOfAnEndLeaves =
@@ -236,7 +236,7 @@ in_both =
     ∷ says 0 depart_by_0 ∷ Draws 1 0 ∷ Draws 0 0 ∷ Closes 1 ∷ []
 
 abbrev pub TheOtherMatchIsNotHeard : Type 0
-TheOtherMatchIsNotHeard = bytes_to 0 (said side_by_side in_both) ≡ bytes_to 0 (said side_by_side in_one)
+TheOtherMatchIsNotHeard = bytes_to 0 (sends side_by_side in_both) ≡ bytes_to 0 (sends side_by_side in_one)
 
 -- ---- what is not there
 
@@ -246,5 +246,5 @@ for_nobody = Draws 1 0 ∷ Closes 1 ∷ says 2 enter_ka ∷ EndsInput 2 ∷ []
 
 abbrev pub WhatIsNotThereDoesNothing : Type 0
 WhatIsNotThereDoesNothing =
-    (said (stage_of triangle) for_nobody ≡ silence ∷ silence ∷ silence ∷ silence ∷ [])
+    (sends (stage_of triangle) for_nobody ≡ silence ∷ silence ∷ silence ∷ silence ∷ [])
     × (stands_after (stage_of triangle) for_nobody ≡ stage_of triangle)

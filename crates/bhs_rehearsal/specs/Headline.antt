@@ -3,7 +3,7 @@ use Rattle.std.specs.Prelude.{ℕ, ◌≡◌, ◌<◌, false, Some, List, []}
 use Rattle.bhs_model.specs.Views.{View}
 use Rattle.bhs_lineup.specs.KeyTable.{Seat}
 use Rattle.bhs_rehearsal.specs.Games.{Game, state_of}
-use Rattle.bhs_rehearsal.specs.Stages.{Stage, game_at, connection_at, Instruction, begun, stands_after, said}
+use Rattle.bhs_rehearsal.specs.Stages.{Stage, game_at, connection_at, Instruction, begun, stands_after, sends}
 use Rattle.bhs_rehearsal.specs.Clients.{nothing_fed, fed_to, commands_fed, bytes_to}
 
 -- ---- a rehearsal that was played
@@ -28,7 +28,7 @@ BeginsEmpty one = (game : ℕ) → (game_at (beginning one) game).log ≡ []
 
 -- all bytes that a connection was sent
 abbrev pub sent_in : Rehearsed → (conn : ℕ) → List ℕ
-sent_in one conn = bytes_to conn (said (beginning one) one.script)
+sent_in one conn = bytes_to conn (sends (beginning one) one.script)
 
 -- the match of a seat after the script, and the past of its agent
 abbrev pub match_of : Rehearsed → (seat : ℕ × ℕ) → Game

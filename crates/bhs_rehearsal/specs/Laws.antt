@@ -12,14 +12,14 @@ use Rattle.bhs_rehearsal.specs.Connections.{Connection}
 use Rattle.bhs_rehearsal.specs.Rehearsing.{first_stage, first_game}
 use Rattle.bhs_rehearsal.specs.Clients.{bytes_among, bytes_to}
 use Rattle.bhs_rehearsal.specs.Stages.{Stage, game_at, connection_at, moves, Instruction, Feeds, EndsInput, Draws}
-use Rattle.bhs_rehearsal.specs.Stages.{Closes, Stepped, nothing, sent_to, step, begun, stands_after, said}
+use Rattle.bhs_rehearsal.specs.Stages.{Closes, Stepped, nothing, sent_to, step, begun, stands_after, sends}
 
 -- ---- cutting
 
 -- two scripts lead to the same stage and send each connection the same bytes
 pub record DoAlike (stage : Stage) (one two : List Instruction) : Type 0 where
   pub stands : stands_after stage one ≡ stands_after stage two
-  pub sends : (conn : ℕ) → bytes_to conn (said stage one) ≡ bytes_to conn (said stage two)
+  pub sends : (conn : ℕ) → bytes_to conn (sends stage one) ≡ bytes_to conn (sends stage two)
 
 -- pieces of bytes, joined
 abbrev pub joined : List (List ℕ) → List ℕ
@@ -150,7 +150,7 @@ pub record HeardAlike (game : ℕ) (one : Stage) (script : List Instruction) (tw
     (other_script : List Instruction) : Type 0 where
   pub stands : SameBut game (stands_after one script) (stands_after two other_script)
   pub sends : (conn : ℕ) → plays_in game (connection_at (stands_after one script) conn) ≡ false →
-      bytes_to conn (said one script) ≡ bytes_to conn (said two other_script)
+      bytes_to conn (sends one script) ≡ bytes_to conn (sends two other_script)
 
 -- whoever plays elsewhere is sent the same, whatever the match is
 abbrev pub MatchesAreHeardApart : Type 0
@@ -222,7 +222,7 @@ pub record IsSlowStageFor (game : ℕ) (one two : Stage) : Type 0 where
 abbrev pub HoleSoundsSlow : Type 0
 HoleSoundsSlow =
     (game : ℕ) (one two : Stage) (script : List Instruction) → IsSlowStageFor game one two →
-    (said one script ≡ said two script) × IsSlowStageFor game (stands_after one script) (stands_after two script)
+    (sends one script ≡ sends two script) × IsSlowStageFor game (stands_after one script) (stands_after two script)
 
 -- ---- two lineups
 
@@ -241,5 +241,5 @@ pub record IsSlowLineupFor (game : ℕ) (one two : Lineup) : Type 0 where
 abbrev pub SlowLineupsSoundAlike : Type 0
 SlowLineupsSoundAlike =
     (game : ℕ) (one two : Lineup) (conns : ℕ) (script : List Instruction) → IsSlowLineupFor game one two →
-    (said (first_stage one conns) script ≡ said (first_stage two conns) script)
+    (sends (first_stage one conns) script ≡ sends (first_stage two conns) script)
     × IsSlowStageFor game (stands_after (first_stage one conns) script) (stands_after (first_stage two conns) script)

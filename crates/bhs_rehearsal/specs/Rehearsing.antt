@@ -11,7 +11,7 @@ use Rattle.bhs_lineup.specs.declared.lineups.Lineup.{Lineup}
 use Rattle.bhs_rehearsal.specs.Games.{Game}
 use Rattle.bhs_rehearsal.specs.Connections.{Item, Says, Ends, Connection}
 use Rattle.bhs_rehearsal.specs.Stages.{Stage, Instruction, Feeds, EndsInput, Draws, Closes, game_at, begun, step}
-use Rattle.bhs_rehearsal.specs.Stages.{stands_after, said}
+use Rattle.bhs_rehearsal.specs.Stages.{stands_after, sends}
 use Rattle.bhs_rehearsal.specs.declared.items.Item.{Item as ItemOfCode}
 use Rattle.bhs_rehearsal.specs.declared.items.Item.TheVariants as items
 use Rattle.bhs_rehearsal.specs.declared.outs.Out.{Out}
@@ -122,14 +122,14 @@ Follows sent old instruction (Err Conn) new = Refuses old instruction Conn new
 Follows sent old instruction (Err NoGame) new = Refuses old instruction NoGame new
 Follows sent old instruction (Err Memory) new = new.has_failed ≡ true
 
--- ---- a rehearsal stands for the script of its calls
+-- ---- scripts grow by instructions
 
 -- One more instruction leads from the stage of the script to the next, and sends what it sends there.
 pub record Grows (start : Stage) (script : List Instruction) (instruction : Instruction) : Type 0 where
   pub stands : stands_after start (script ++ instruction ∷ []) ≡ (step (stands_after start script) instruction).stage
-  pub sends : said start (script ++ instruction ∷ [])
-      ≡ said start script ++ (step (stands_after start script) instruction).outs ∷ []
+  pub sends : sends start (script ++ instruction ∷ [])
+      ≡ sends start script ++ (step (stands_after start script) instruction).outs ∷ []
 
-abbrev pub StandsForTheScript : Type 0
-StandsForTheScript = (start : Stage) (script : List Instruction) (instruction : Instruction) →
+abbrev pub ScriptsGrow : Type 0
+ScriptsGrow = (start : Stage) (script : List Instruction) (instruction : Instruction) →
     Grows start script instruction

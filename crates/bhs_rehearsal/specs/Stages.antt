@@ -242,7 +242,7 @@ stands_after stage [] = stage
 stands_after stage (instruction ∷ script) = stands_after (step stage instruction).stage script
 
 -- what a script sends: of each instruction the texts, each with the number of its connection
-abbrev pub said : Stage → List Instruction → List (List (ℕ × List ℕ))
-said stage [] = []
-said stage (instruction ∷ script) =
-    (step stage instruction).outs ∷ said (step stage instruction).stage script
+abbrev pub sends : Stage → List Instruction → List (List (ℕ × List ℕ))
+sends stage [] = []
+sends stage (instruction ∷ script) =
+    (step stage instruction).outs ∷ sends (step stage instruction).stage script

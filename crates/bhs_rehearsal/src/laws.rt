@@ -1,6 +1,6 @@
 //! The laws of rehearsals. Each holds for every script; the functions do nothing.
 
-ghost use Rattle.bhs_rehearsal.specs.Rehearsing.{StandsForTheScript};
+ghost use Rattle.bhs_rehearsal.specs.Rehearsing.{ScriptsGrow};
 ghost use Rattle.bhs_rehearsal.specs.OneMachine.{ArrivalsAreNews, ClosesEndTheWait, HeardFirst};
 ghost use Rattle.bhs_rehearsal.specs.OneMachine.{ItemsAreTakenByTheMachine};
 ghost use Rattle.bhs_rehearsal.specs.Laws.{AllItemsAreTaken, ClientsKeepToThemselves, CutsDoAlike, HoleSoundsSlow};
@@ -16,10 +16,9 @@ ghost use Rattle.bhs_rehearsal.specs.Examples.{ThePresentAreToldLater, TheQuotaI
 ghost use Rattle.bhs_rehearsal.specs.Examples.{TheSecondWriterSeesTheFirst, TheSlowTriangleIsSlow};
 ghost use Rattle.bhs_rehearsal.specs.Examples.{WhatIsNotThereDoesNothing};
 
-/// A rehearsal whose calls were the instructions of a script stands for that script: its stage is the one that the
-/// script leads to, and its calls have sent what the script sends. One call more is one instruction more.
-pub fn stands_for_the_script()
-    ensures { StandsForTheScript }
+/// One more instruction at the end of a script leads from the script's stage to the next, and sends what it sends there.
+pub fn scripts_grow()
+    ensures { ScriptsGrow }
 {}
 
 /// What scripts send on a triangle, worked out by hand.

@@ -21,7 +21,7 @@ pub use headline::{
 };
 pub use laws::{
     acts_as_a_session, clients_keep_to_themselves, cuts_do_alike, hole_sounds_slow,
-    matches_are_apart, matches_keep_to_themselves, stages_settle, stands_for_the_script,
+    matches_are_apart, matches_keep_to_themselves, scripts_grow, stages_settle,
     two_pieces_do_alike, worked_scripts,
 };
 pub use outs::Out;

@@ -1,7 +1,7 @@
 -- What a rehearsal prints.
 use Rattle.std.specs.Prelude.{ℕ, Bool, true, List, [], ◌∷◌, ◌++◌, decimal, if◌then◌else◌}
 use Rattle.bhs_wire.specs.Lines.{is_line_feed}
-use Rattle.bhs_rehearsal.specs.Stages.{Stage, Instruction, said}
+use Rattle.bhs_rehearsal.specs.Stages.{Stage, Instruction, sends}
 
 -- a text with a beginning before each of its lines
 abbrev pub begun_with : (beginning : List ℕ) → (is_start : Bool) → List ℕ → List ℕ
@@ -29,4 +29,4 @@ transcript_of (outs ∷ others) = all_printed outs ++ transcript_of others
 
 -- what a script prints
 abbrev pub transcript : Stage → List Instruction → List ℕ
-transcript stage script = transcript_of (said stage script)
+transcript stage script = transcript_of (sends stage script)

@@ -1,5 +1,5 @@
 use Rattle.bhs_rehearsal.proofs.ScriptLemmas.{grows}
-use Rattle.bhs_rehearsal.proofs.laws.stands_for_the_script.Goals as goal
+use Rattle.bhs_rehearsal.proofs.laws.scripts_grow.Goals as goal
 
 pub returns : goal.returns
 returns c = grows
