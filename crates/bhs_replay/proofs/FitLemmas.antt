@@ -1,10 +1,12 @@
 -- The numbers of a head have 16 bits.
 use Rattle.std.proofs.Common.{zero, suc, ◌≡◌, ◌≢◌, ℕ, ◌<◌, ◌≤◌, ◌==◌, Bool, true, false, if◌then◌else◌, List, [], ◌∷◌}
-use Rattle.std.proofs.Common.{refl, sym, subst, ◌∙◌, arith}
+use Rattle.std.proofs.Common.{refl, sym, subst, ap, ◌∙◌, inl, inr, arith}
 use Rattle.std.specs.Prelude.{map}
 use Rattle.std.specs.List.{list_any}
-use Rattle.std.proofs.lemmas.Bool.{or_left, or_right, eqb-true, eq-eqb, false≢true}
-use Rattle.bhs_net.specs.Network.{Network, nodes_of, degree_of, far_of, IsNetwork, IsPortLabelled}
+use Rattle.std.proofs.lemmas.Bool.{or_left, or_right, eqb-true, eq-eqb, false≢true, cases_lt}
+use Rattle.std.proofs.lemmas.List.{get_or_past}
+use Rattle.bhs_net.specs.Links.{End}
+use Rattle.bhs_net.specs.Network.{Network, nodes_of, row_of, degree_of, far_of, IsNetwork, IsPortLabelled}
 use Rattle.bhs_model.specs.declared.setups.Setup.{Setup}
 use Rattle.bhs_model.specs.Worlds.{is_hole, names, is_dark}
 use Rattle.bhs_model.specs.Setups.{links_where}
@@ -145,3 +147,19 @@ module _ (net : Network) (network : IsNetwork net) where
         dark = ends_small setup.dark within.dark;
         links = all_links (links_where net (λ node port. true)) has_port;
       }
+
+  pub ports_small : (node : ℕ) → IsSmall (degree_of net node)
+  ports_small node =
+      let few = degree_small net node network.labelled in
+      let many = network.labelled.many in
+      omega arith
+
+  -- no end stands behind the last port of a node
+  none_past : (node port : ℕ) → degree_of net node ≤ port → far_of net node port ≡ (0, 0)
+  none_past node port past = get_or_past (row_of net node) port (0, 0) past
+
+  pub label_small : (node port : ℕ) → IsSmall (far_of net node port).1
+  label_small node port = elim (cases_lt port (degree_of net node)) [
+    | inl has ↦ (end_small (far_of net node port) (network.labelled.within node port has)).1
+    | inr past ↦ let zero_label = ap (λ (end : End). end.1) (none_past node port past) in omega arith
+  ]

@@ -24,8 +24,14 @@ pub mod ReadLemmas
 pub mod PlayLemmas
 pub mod SoundTexts
 pub mod Flat
+pub mod Spelled
 pub mod WholeTexts
 pub mod ReadBack
+pub mod LineUtf8
+pub mod FittingPasts
+pub mod FittingReplies
+pub mod EveryReplay
+pub mod ShortMatch
 pub mod OneReading
 pub mod Rows
 pub mod PartLemmas

@@ -4,12 +4,13 @@ use Rattle.std.proofs.Common.{Option, Result, Ok, Err, IfOk, IsOk, OnOk, refl, s
 use Rattle.std.specs.Prelude.{map, ⊤}
 use Rattle.std.proofs.lemmas.Bool.{and_parts, eq-eqb, cases_lt}
 use Rattle.std.proofs.lemmas.List.{length-map, get_or_default}
-use Rattle.bhs_net.specs.Network.{IsNetwork}
+use Rattle.bhs_net.specs.Network.{Network, IsNetwork}
 use Rattle.bhs_model.specs.declared.commands.Command.{Command}
 use Rattle.bhs_model.specs.declared.events.Event.{Event}
 use Rattle.bhs_model.specs.declared.events.Event.TheVariants.{Tell, Deliver, Close}
 use Rattle.bhs_model.specs.declared.marks.Kept.{Kept}
 use Rattle.bhs_model.specs.declared.replies.Reply.{Reply}
+use Rattle.bhs_model.specs.declared.setups.Setup.{Setup}
 use Rattle.bhs_model.specs.Setups.{IsNormal}
 use Rattle.bhs_model.specs.Worlds.{World}
 use Rattle.bhs_model.specs.Runs.{State, initial, next, reply, heard}
@@ -20,10 +21,11 @@ use Rattle.bhs_model.proofs.KeptLemmas.{first_kept}
 use Rattle.bhs_world.specs.Faults.{IsWithinLimits}
 use Rattle.bhs_match.specs.Matches.{Play, world_in, state_of, most_kept}
 use Rattle.bhs_match.proofs.ApplyLemmas.{most_is_small}
+use Rattle.bhs_replay.specs.declared.heads.Version.{Version}
 use Rattle.bhs_replay.specs.declared.heads.Version.TheVariants.{Two}
-use Rattle.bhs_replay.specs.Head.{head_line}
+use Rattle.bhs_replay.specs.Head.{CanSay, head_line}
 use Rattle.bhs_replay.specs.Opening.{IsHead}
-use Rattle.bhs_replay.specs.Played.{AreSpelled}
+use Rattle.bhs_replay.proofs.Spelled.{AreSpelled}
 use Rattle.bhs_replay.specs.Replay.{replay_of}
 use Rattle.bhs_replay.specs.Spelling.{may_stand, ReadsBack}
 use Rattle.bhs_replay.specs.Stages.{Ends, Comes}
@@ -42,7 +44,7 @@ tell_stands world state agent command is =
     let second = and_parts (not state.closed) _ first.1 in
     rw (first.0, not_true state.closed second.0, second.1, eq-eqb agent agent refl) refl
 
-stands : (world : World) (state : State) (gone : ℕ → Bool) (event : Event) → keeps world state gone event ≡ true
+pub stands : (world : World) (state : State) (gone : ℕ → Bool) (event : Event) → keeps world state gone event ≡ true
     → may_stand event (reply world state event) ≡ true
 stands world state gone (Tell agent command) is = tell_stands world state agent command is
 stands world state gone (Deliver agent) is = refl
@@ -103,18 +105,19 @@ on_ok (Err error) fact holds = tt
 
 -- ---- the match
 
+pub is_head : (version : Version) (net : Network) (setup : Setup) → CanSay version setup → IsNetwork net
+    → IsWithinLimits net setup → IsNormal net setup → IsHead (head_line version net setup) net setup
+is_head version net setup can_say network within in_order = record {
+  version = version;
+  can_say = can_say;
+  spelled = refl;
+  made = links_make net network;
+  fits = normal_fits net setup network.labelled within in_order;
+  normal = in_order;
+}
+
 module _ (play : Play) (network : IsNetwork play.net) (within : IsWithinLimits play.net play.setup)
     (in_order : IsNormal play.net play.setup) where
-  is_head : IsHead (head_line Two play.net play.setup) play.net play.setup
-  is_head = record {
-    version = Two;
-    can_say = tt;
-    spelled = refl;
-    made = links_make play.net network;
-    fits = normal_fits play.net play.setup network.labelled within in_order;
-    normal = in_order;
-  }
-
   pub read_as : (state_of play).closed ≡ true → kept (world_in play) (events_of play.log) ≡ events_of play.log
       → map (λ one. read_if play.log one.mark) play.log ≡ replies (world_in play) (events_of play.log)
       → length play.log ≤ most_kept play.setup.agents play.setup.quota
@@ -126,5 +129,6 @@ module _ (play : Play) (network : IsNetwork play.net) (within : IsWithinLimits p
       (λ k other less. all k other less less)) stand in
       let few = most_is_small play.net play.setup within in
       let long = length-map play.log (λ (one : Kept). one.event) in
-      complete Two play.net play.setup events is_head kept_all closed
+      complete Two play.net play.setup events
+      (is_head Two play.net play.setup tt network within in_order) kept_all closed
       (subst (AreSpelled events) answered read) (omega arith)

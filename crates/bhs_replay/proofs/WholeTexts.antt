@@ -31,7 +31,7 @@ use Rattle.bhs_replay.specs.EventLine.{event_line}
 use Rattle.bhs_replay.specs.Spelling.{spelled, EventFits, ReplyFits}
 use Rattle.bhs_replay.specs.Replay.{end_line, event_lines, body_lines, with_feeds, replay}
 use Rattle.bhs_replay.specs.Opening.{IsHead}
-use Rattle.bhs_replay.specs.Played.{AreSpelled}
+use Rattle.bhs_replay.proofs.Spelled.{AreSpelled}
 use Rattle.bhs_replay.specs.Stages.{ended_after, ended, Opens, Goes, Ends, after_line, opens, goes, Leads, begins}
 use Rattle.bhs_replay.specs.Stages.{follows, with_rest, Comes}
 use Rattle.bhs_replay.proofs.EventData.{answer_data, event_data}

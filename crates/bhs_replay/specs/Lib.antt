@@ -12,4 +12,5 @@ pub mod Writing
 pub mod Reading
 pub mod Readers
 pub mod Played
+pub mod Example
 pub mod Parts

@@ -1,12 +1,38 @@
--- What it takes for the lines of events to be read back.
-use Rattle.std.specs.Prelude.{◌≡◌, ⊤, List, ◌∷◌, Option, Some}
+-- A match that was played to its end.
+use Rattle.std.specs.Prelude.{◌≡◌, ⊤, true, List}
+use Rattle.std.specs.List.{All}
+use Rattle.std.specs.Str.{IsUtf8}
+use Rattle.bhs_net.specs.Network.{Network, IsNetwork}
+use Rattle.bhs_model.specs.declared.commands.Command.{Command}
+use Rattle.bhs_model.specs.declared.commands.Command.TheVariants.{Write}
 use Rattle.bhs_model.specs.declared.events.Event.{Event}
-use Rattle.bhs_model.specs.declared.replies.Reply.{Reply}
-use Rattle.bhs_replay.specs.EventLine.{event_line}
-use Rattle.bhs_replay.specs.Spelling.{spelled}
+use Rattle.bhs_model.specs.declared.events.Event.TheVariants.{Tell}
+use Rattle.bhs_model.specs.declared.setups.Setup.{Setup}
+use Rattle.bhs_model.specs.Kept.{kept}
+use Rattle.bhs_model.specs.Runs.{run}
+use Rattle.bhs_model.specs.Setups.{world_of, IsNormal}
+use Rattle.bhs_world.specs.Faults.{IsWithinLimits}
+use Rattle.bhs_replay.specs.Spelling.{EventFits}
 
--- each of these lines spells its event and its reply: their numbers have 16 bits, and the line is text
-abbrev pub AreSpelled : List Event → List (Option Reply) → Type 0
-AreSpelled (event ∷ events) (reply ∷ others) = (spelled (event_line event reply) ≡ Some (event, reply))
-    × AreSpelled events others
-AreSpelled events others = ⊤
+-- the texts of a Write are UTF-8
+abbrev pub CommandIsText : Command → Type 0
+CommandIsText (Write expect put) = IsUtf8 expect × IsUtf8 put
+CommandIsText command = ⊤
+
+abbrev pub EventIsText : Event → Type 0
+EventIsText (Tell agent command) = CommandIsText command
+EventIsText event = ⊤
+
+-- an event that the code's type Event can hold: its numbers have 16 bits, and its texts are UTF-8
+abbrev pub IsTyped : Event → Type 0
+IsTyped event = EventFits event × EventIsText event
+
+-- A match that has ended. It was played on a network, and its setup is within the limits and in normal form. The code
+-- can hold each of its events, the match keeps each of them, and they close it.
+pub record HasEnded (net : Network) (setup : Setup) (events : List Event) : Type 0 where
+  pub network : IsNetwork net
+  pub within : IsWithinLimits net setup
+  pub in_order : IsNormal net setup
+  pub typed : All IsTyped events
+  pub all_kept : kept (world_of net setup) events ≡ events
+  pub closed : (run (world_of net setup) events).closed ≡ true

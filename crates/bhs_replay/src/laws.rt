@@ -1,17 +1,13 @@
 //! Laws of the definitions alone.
 
-ghost use Rattle.std.specs.Prelude.{◌≡◌, ◌<◌, ◌^◌, true, ℕ, List, length, Option, Some};
+ghost use Rattle.std.specs.Prelude.{◌≡◌, true, ℕ, List, Option, Some};
 ghost use Rattle.std.specs.Str.{IsUtf8};
 ghost use Rattle.bhs_net.specs.Network.{Network};
-ghost use Rattle.bhs_model.specs.Kept.{kept};
-ghost use Rattle.bhs_model.specs.InOrder.{replies};
-ghost use Rattle.bhs_model.specs.Runs.{run};
-ghost use Rattle.bhs_model.specs.Setups.{world_of};
-ghost use Rattle.bhs_replay.specs.Head.{CanSay, head_line};
-ghost use Rattle.bhs_replay.specs.Opening.{IsHead};
+ghost use Rattle.bhs_replay.specs.Head.{CanSay};
 ghost use Rattle.bhs_replay.specs.Parts.{FrontsAreParts};
-ghost use Rattle.bhs_replay.specs.Played.{AreSpelled};
+ghost use Rattle.bhs_replay.specs.Played.{HasEnded};
 ghost use Rattle.bhs_replay.specs.EventLine.{event_line};
+ghost use Rattle.bhs_replay.specs.Example.{triangle, short_setup, short_match};
 ghost use Rattle.bhs_replay.specs.Replay.{replay};
 ghost use Rattle.bhs_replay.specs.Stages.{Stage, Ends, Comes};
 ghost use Rattle.bhs_replay.specs.Spelling.{spelled, may_stand, EventFits, ReplyFits};
@@ -40,13 +36,16 @@ pub fn only_replays_are_read()
         → (version : Version) × CanSay version setup × (text ≡ replay version net setup events) }
 {}
 
-/// The replay of a match, in a version that can say how it was set up, is read as that match.
+/// The replay of each match that has ended is read as that match, in each version that can say how it was set up.
 pub fn every_replay_is_read()
     ensures { (version : Version) (net : Network) (setup : Setup) (events : List Event)
-        → IsHead (head_line version net setup) net setup
-        → kept (world_of net setup) events ≡ events → (run (world_of net setup) events).closed ≡ true
-        → AreSpelled events (replies (world_of net setup) events) → length events < 2 ^ 64
+        → CanSay version setup → HasEnded net setup events
         → Comes (replay version net setup events) (Ends net setup events) }
+{}
+
+/// A short match on a triangle has ended: a match can meet what `every_replay_is_read` asks of it.
+pub fn a_match_has_ended()
+    ensures { HasEnded triangle short_setup short_match }
 {}
 
 /// A text comes to one stage, so none is read as two matches, or as a match and as a fault.

@@ -1,6 +1,7 @@
 //! Replays: a match that has ended as a text that anyone can read again.
 #![tactic(auto)]
 
+mod events;
 mod faults;
 mod head_parts;
 mod heads;
@@ -14,10 +15,12 @@ mod reading;
 mod steps;
 mod writing;
 
+pub use events::each_event_is_typed;
 pub use faults::{ReplayFault, WritingFault};
 pub use heads::{Version, head_line};
 pub use laws::{
-    every_replay_is_read, fronts_are_parts, one_reading, one_spelling, only_replays_are_read,
+    a_match_has_ended, every_replay_is_read, fronts_are_parts, one_reading, one_spelling,
+    only_replays_are_read,
 };
 pub use lines::{event_line, line_of};
 pub use read::{read_part, read_replay};
