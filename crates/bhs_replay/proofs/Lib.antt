@@ -26,11 +26,11 @@ pub mod SoundTexts
 pub mod Flat
 pub mod Spelled
 pub mod WholeTexts
-pub mod ReadBack
 pub mod LineUtf8
 pub mod FittingPasts
 pub mod FittingReplies
 pub mod EveryReplay
+pub mod ReadBack
 pub mod ShortMatch
 pub mod OneReading
 pub mod Rows

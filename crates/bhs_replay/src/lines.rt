@@ -4,8 +4,9 @@ ghost use Rattle.json.specs.Token.{key};
 ghost use Rattle.bhs_model.specs.Marks.{read_if};
 ghost use Rattle.bhs_replay.specs.EventLine.{event_line};
 ghost use Rattle.bhs_replay.specs.EventTokens.{happening_tokens, command_tokens, answer_tokens};
-ghost use Rattle.bhs_replay.specs.Spelling.{CommandFits, EventFits, ReplyFits, ReadsBack};
+ghost use Rattle.bhs_replay.specs.Played.{IsTyped};
 
+use crate::events::each_event_is_typed;
 use bhs_match::Sealed;
 use bhs_model::{Command, Event, Kept, Reply};
 use bhs_net::Memory;
@@ -26,26 +27,19 @@ pub fn event_line(alloc: Global, sealed: &Sealed, place: u32) -> Result<String, 
 pub(crate) fn line_in(alloc: Global, sealed: &Sealed, one: &Kept) -> Result<String, Memory>
     ensures line { IfOk result (λ text. string_bytes text
         ≡ event_line one.now.event (read_if sealed.now.log one.now.mark)) }
-    ensures reads { IfOk result (λ text. ReadsBack one.now.event (read_if sealed.now.log one.now.mark)) }
+    ensures typed { IsTyped one.now.event }
 {
+    each_event_is_typed(&one.event);
     let reply = match &one.mark {
         Some(mark) => Some(sealed.reply(mark)?),
         None => None,
     };
-    readable_line(alloc, &one.event, &reply)
+    line_of(alloc, &one.event, &reply)
 }
 
 /// The line of an event and its reply, without its line feed.
 pub fn line_of(alloc: Global, event: &Event, reply: &Option<Reply>) -> Result<String, Memory>
     ensures { IfOk result (λ text. string_bytes text ≡ event_line event.now reply.now) }
-{
-    readable_line(alloc, event, reply)
-}
-
-// The same line: its numbers have 16 bits, so it is read back as that event and that reply.
-fn readable_line(alloc: Global, event: &Event, reply: &Option<Reply>) -> Result<String, Memory>
-    ensures line { IfOk result (λ text. string_bytes text ≡ event_line event.now reply.now) }
-    ensures reads { IfOk result (λ text. ReadsBack event.now reply.now) }
 {
     let mut out = Writer::new(Vec::new(alloc));
     out.begin_object()?;
@@ -59,7 +53,6 @@ fn readable_line(alloc: Global, event: &Event, reply: &Option<Reply>) -> Result<
 fn write_event(out: &mut Writer, event: &Event) -> Result<(), Memory>
     ensures ok { OnOk result (out.new.tokens ≡ out.old.tokens ++ happening_tokens event.now) }
     ensures before { out.new.before ≡ out.old.before }
-    ensures fits { OnOk result (EventFits event.now) }
 {
     match event {
         Event::Tell { agent, command } => {
@@ -77,7 +70,6 @@ fn write_event(out: &mut Writer, event: &Event) -> Result<(), Memory>
 fn write_command(out: &mut Writer, command: &Command) -> Result<(), Memory>
     ensures ok { OnOk result (out.new.tokens ≡ out.old.tokens ++ command_tokens command.now) }
     ensures before { out.new.before ≡ out.old.before }
-    ensures fits { OnOk result (CommandFits command.now) }
 {
     match command {
         Command::Enter => write_text(out, "do", "enter"),
@@ -103,7 +95,6 @@ fn write_command(out: &mut Writer, command: &Command) -> Result<(), Memory>
 fn write_answer(out: &mut Writer, reply: &Option<Reply>) -> Result<(), Memory>
     ensures ok { OnOk result (out.new.tokens ≡ out.old.tokens ++ answer_tokens reply.now) }
     ensures before { out.new.before ≡ out.old.before }
-    ensures fits { ReplyFits reply.now }
 {
     match reply {
         Some(reply) => write_reply(out, LentReply::of_reply(reply)),

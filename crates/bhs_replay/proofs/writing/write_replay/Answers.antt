@@ -12,7 +12,7 @@ use Rattle.bhs_replay.specs.declared.heads.Version.TheVariants.{Two}
 use Rattle.bhs_replay.specs.Head.{head_line}
 use Rattle.bhs_replay.specs.Replay.{end_line, replay_of}
 use Rattle.bhs_replay.proofs.ReplayTexts.{kept_line, left_of, replay-along, left-next, drop-next, left-last}
-use Rattle.bhs_replay.proofs.ReadBack.{AreReadUpTo, none_read, one_more, all_read, was_made, on_ok, read_as}
+use Rattle.bhs_replay.proofs.ReadBack.{AreTypedUpTo, none_typed, one_more, all_typed, was_made, on_ok, read_as}
 use Rattle.bhs_replay.proofs.WritingLemmas.{fault_is, breaks_at, first_line, ends_whole, ends_broken}
 use Rattle.bhs_replay.proofs.writing.write_replay.Goals as goal
 
@@ -64,7 +64,7 @@ loop-one-init g c =
           (left_of play.log play.log)
           (begun g.W.Output.takes c.args.writer.now play c.log-log.ensures.replies)
           (c.in_ok-send_line.ensures.ok (head_line Two play.net play.setup) made)),
-      none_read c.log-log.result.now,
+      none_typed c.log-log.result.now,
     )
 
 pub returns-in_err-send_line-2-clause-err : goal.returns-in_err-send_line-2-clause-err
@@ -90,14 +90,12 @@ loop-one-preserved g c =
     let one : Kept = c.one-item.result in
     let made = rw (← same) at c.line_in.ensures.line in
     let here = at_event g.W.Output.takes c.args.writer.now _ (replay_of play) log c.loop-one.one-index one
-    c.loop-one-test.true c.one-item.is c.loop-one.invariant.0 in
-    let reads =
-    was_made c.line_in.result _ c.in_ok-send_line-2.ensures.made (rw (← same) at c.line_in.ensures.reads)
-    in (
+    c.loop-one-test.true c.one-item.is c.loop-one.invariant.0 in (
       sent_more g.W.Output.takes _ _ _ (replay_of play) (kept_line log one ++ 10 ∷ [])
           (left_of log (drop (c.loop-one.one-index + 1) log)) here
           (c.in_ok-send_line-2.ensures.ok (kept_line log one) made),
-      one_more log c.loop-one.one-index one c.loop-one-test.true c.one-item.is c.loop-one.invariant.1 reads,
+      one_more log c.loop-one.one-index one c.loop-one-test.true c.one-item.is c.loop-one.invariant.1
+          c.line_in.ensures.typed,
     )
 
 pub returns-clause-ok : goal.returns-clause-ok
@@ -122,9 +120,9 @@ returns-clause-read g c =
     let log : List Kept = c.log-log.result.now in
     let network : IsNetwork play.net = subst IsNetwork c.net.ensures
     (was_made c.head_line.result _ c.in_ok-send_line.ensures.made c.head_line.ensures.network) in
-    let all : AreReadUpTo play.log (length play.log) =
-    rw c.log-log.ensures.log at (all_read log c.loop-one.one-index c.loop-one-test.false c.loop-one.invariant.1)
+    let all : AreTypedUpTo play.log (length play.log) =
+    rw c.log-log.ensures.log at (all_typed log c.loop-one.one-index c.loop-one-test.false c.loop-one.invariant.1)
     in
     on_ok c.send_line-2.result _
     (read_as play network c.setup.ensures.within c.setup.ensures.normal c.log-log.ensures.closed c.log-log.ensures.kept
-    c.log-log.ensures.replies c.log-log.ensures.bound all)
+    all)
