@@ -1,20 +1,27 @@
 #!/usr/bin/env python3
 """Plays a contest on this machine: the server, four teams of the sample agents, and the table.
 
-    python3 examples/contest.py [--keep FOLDER] [--pages FOLDER] [--kill]
+    python3 examples/contest.py [--proved] [--keep FOLDER] [--pages FOLDER] [--kill]
 
-Starts `./arena serve` on examples/contest.toml, and then the agents of each team as programs of their own, as teams
-would do. Waits for the server to end, and prints its table and which teams solved their networks. All of them must:
-else the exit status is 1. With --kill the agents of the team green are killed in the middle of their search, and the
-other teams must solve theirs. Files go to a temporary folder; --keep has the replays of the matches written to a
-folder, --pages also a page of each (python3 -m lab page). ARENA in the environment names another program than
-./arena, as ARENA="python3 -m lab" to try it without the build.
+Starts the server on examples/contest.toml, and then the agents of each team as programs of their own, as teams would
+do. Waits for the server to end, and prints its table and which teams solved their networks. All of them must: else the
+exit status is 1.
+
+The server is the proved program if it is built. Else it is one without a proof, which is compiled first, in a minute or
+two, and says at each start that it is not proved. With --proved the program is proved and built first, in many minutes;
+a contest whose results count asks for that.
+
+With --kill the agents of the team green are killed in the middle of their search, and the other teams must solve
+theirs. Files go to a temporary folder; --keep has the replays of the matches written to a folder, --pages also a page
+of each (python3 -m lab page). ARENA in the environment names another server, as ARENA="python3 -m lab" for one in
+Python, which needs neither a build nor the toolchain.
 """
 import argparse
 import itertools
 import os
 import pathlib
 import shlex
+import shutil
 import socket
 import subprocess
 import sys
@@ -23,7 +30,12 @@ import time
 from typing import Dict, List
 
 TOP = pathlib.Path(__file__).resolve().parent.parent
+sys.path.insert(0, str(TOP))
+
+from lab import built  # noqa: E402
+
 AGENTS = TOP / "examples" / "agents"
+RELEASED_RING = TOP / "bin" / "ring"
 TOURNAMENT = "examples/contest.toml"
 TURNS = 10_000
 PAUSE = 2
@@ -64,32 +76,48 @@ def free_port() -> int:
 
 
 def arena() -> List[str]:
-    """The command that the words of the server follow."""
+    """The command that ARENA names, or ./arena, which proves and builds the program first."""
     return shlex.split(os.environ.get("ARENA", str(TOP / "arena")))
 
 
+def server_words(asks_for_proof: bool) -> List[str]:
+    """The command that the words of the server follow."""
+    if "ARENA" in os.environ and not asks_for_proof:
+        return arena()
+    try:
+        return [str(built.proved_program() if asks_for_proof else built.any_program())]
+    except built.NoProgram as fault:
+        raise SystemExit(f"contest: {fault}") from None
+
+
 def build(folder: pathlib.Path) -> None:
-    """Builds the agent that is written in C."""
-    source = str(AGENTS / "ring.c")
-    subprocess.run(["cc", "-O2", "-Wall", "-Wextra", "-o", str(folder / "ring"), source], check=True)
+    """Builds the agent that is written in C. A release has it built."""
+    if RELEASED_RING.exists():
+        shutil.copy2(RELEASED_RING, folder / "ring")
+        return
+    words = ["-O2", "-Wall", "-Wextra", "-o", str(folder / "ring"), str(AGENTS / "ring.c")]
+    try:
+        subprocess.run(["cc", *words], check=True)
+    except FileNotFoundError:
+        raise SystemExit("contest: cc is missing: install a C compiler, by Debian's package gcc") from None
 
 
-def start_server(port: int, replays: str, turns: int, pause: int) -> subprocess.Popen:
+def start_server(server: List[str], port: int, replays: str, pause: int) -> subprocess.Popen:
     sessions = sum(len(agents) for agents in TEAMS.values())
-    words = ["serve", TOURNAMENT, "--port", port, "--sessions", sessions, "--turns", turns, "--pause", pause]
-    command = [*arena(), *map(str, words), "--gather", str(GATHER), "--early", "--replay", replays]
-    server = subprocess.Popen(command, cwd=TOP, stdout=subprocess.PIPE, text=True)
-    line = server.stdout.readline()
+    words = ["serve", TOURNAMENT, "--port", port, "--sessions", sessions, "--turns", TURNS, "--pause", pause]
+    command = [*server, *map(str, words), "--gather", str(GATHER), "--early", "--replay", replays]
+    started = subprocess.Popen(command, cwd=TOP, stdout=subprocess.PIPE, text=True)
+    line = started.stdout.readline()
     if line != f"listening {port}\n":
         raise SystemExit(f"contest: the server did not start: {line}")
-    return server
+    return started
 
 
-def play(folder: pathlib.Path, replays: str, kills: bool) -> str:
+def play(command: List[str], folder: pathlib.Path, replays: str, kills: bool) -> str:
     """Plays the contest, and answers the server's table. The agents of one team may be killed meanwhile."""
     build(folder)
     port = free_port()
-    server = start_server(port, replays, TURNS, SLOW_PAUSE if kills else PAUSE)
+    server = start_server(command, port, replays, SLOW_PAUSE if kills else PAUSE)
     agents = {
         team: [subprocess.Popen(command_of(agent, f"{team}-{number}", port, folder), stderr=subprocess.DEVNULL,
                                 stdout=subprocess.DEVNULL) for number, agent in enumerate(programs)]
@@ -119,9 +147,8 @@ def outcomes(table: str) -> Dict[str, str]:
     return {row[1]: " ".join(row[2:-2]) for row in rows}
 
 
-def write_pages(replays: str, folder: pathlib.Path) -> None:
+def write_pages(command: List[str], replays: str, folder: pathlib.Path) -> None:
     """Writes a page of each match, by the program that served it, if that is one."""
-    command = arena()
     program = ["--program", command[0]] if len(command) == 1 else []
     for number, team in enumerate(TEAMS):
         page = folder / f"{team}.html"
@@ -132,15 +159,17 @@ def write_pages(replays: str, folder: pathlib.Path) -> None:
 
 def main() -> int:
     parser = argparse.ArgumentParser(description=__doc__, formatter_class=argparse.RawDescriptionHelpFormatter)
+    parser.add_argument("--proved", action="store_true", help="prove and build the program first, if needed")
     parser.add_argument("--keep", metavar="FOLDER", type=pathlib.Path, help="write the replays there")
     parser.add_argument("--pages", metavar="FOLDER", type=pathlib.Path, help="write a page of each match there")
     parser.add_argument("--kill", action="store_true", help=f"kill the agents of {VICTIM} after a second")
     words = parser.parse_args()
+    command = server_words(words.proved)
     with tempfile.TemporaryDirectory() as name:
         kept = words.keep or words.pages or pathlib.Path(name)
         kept.mkdir(parents=True, exist_ok=True)
         replays = str(kept.resolve() / "match")
-        table = play(pathlib.Path(name), replays, words.kill)
+        table = play(command, pathlib.Path(name), replays, words.kill)
         print(table, end="", flush=True)
         found = outcomes(table)
         judged = [team for team in TEAMS if not (words.kill and team == VICTIM)]
@@ -148,7 +177,7 @@ def main() -> int:
         for team in judged:
             print(f"{team} solved its network" if team not in failed else f"{team} did not solve its network")
         if words.pages:
-            write_pages(replays, words.pages)
+            write_pages(command, replays, words.pages)
     return 1 if failed else 0
 
 

@@ -6,13 +6,16 @@ import subprocess
 import tempfile
 from typing import List, Optional, Protocol
 
+from lab import built
+from lab.built import NoProgram
 from lab.fixtures import Fixture, write_tournament
 from lab.model import Match, Verdict
 from lab.rehearsal import Rehearsal, Said
 
 TOP = pathlib.Path(__file__).resolve().parent.parent
-BUILT = TOP / "crates" / "bhs_main" / "out" / "bhs_main"
 HOW_TO_BUILD = "build it by `./arena --help` at the top of the repository, or name another by --program"
+# what stands for the program's path if the proved one is asked for
+ASK_FOR_PROOF = "--proved"
 
 
 class Engine(Protocol):
@@ -31,8 +34,9 @@ class Engine(Protocol):
     def stop(self) -> None: ...
 
 
-class NoProgram(Exception):
-    """The program is not there; says what to do."""
+def text_of_fault(errors: bytes) -> str:
+    """What the program says of a fault. One without a proof says that before, which is left out."""
+    return built.without_warning(errors.decode(errors="replace")).strip()
 
 
 class Differs(Exception):
@@ -48,24 +52,33 @@ class Refused(Exception):
 
 
 def program_at(path: Optional[str]) -> str:
-    """The program that is named, or else the one that `./arena` builds."""
-    found = pathlib.Path(path) if path else BUILT
+    """The program that is named, or else the proved one if it is built, or else one without a proof, which is compiled
+    first. One that is not proved is told on standard error."""
+    found = built.proved_program() if path == ASK_FOR_PROOF else pathlib.Path(path or built.any_program())
     if not found.is_file() or not os.access(found, os.X_OK):
         raise NoProgram(f"{found}: there is no such program: {HOW_TO_BUILD}")
+    built.warn_of(found.resolve())
     return str(found.resolve())
 
 
+def is_unproved(program: str) -> bool:
+    return built.is_unproved(pathlib.Path(program))
+
+
 def add_program(parser: argparse.ArgumentParser) -> None:
-    """The option that names the program."""
-    parser.add_argument("--program", metavar="PATH", help="the proved program; the one that ./arena builds, where none "
-                        "is named")
+    """The options that name the program."""
+    named = parser.add_mutually_exclusive_group()
+    named.add_argument("--program", metavar="PATH", help="the program; where none is named the proved one if it is "
+                       "built, else one without a proof, which is compiled in a minute or two and says so")
+    named.add_argument("--proved", dest="program", action="store_const", const=ASK_FOR_PROOF, help="the proved program, "
+                       "which is proved and built first if needed, in many minutes")
 
 
 def asked(program: str, *words: str) -> str:
     """What the program prints for these words."""
     ran = subprocess.run([program, *words], stdin=subprocess.DEVNULL, capture_output=True)
     if ran.returncode != 0:
-        raise Refused(ran.stderr.decode(errors="replace").strip(), ran.returncode)
+        raise Refused(text_of_fault(ran.stderr), ran.returncode)
     return ran.stdout.decode()
 
 
@@ -110,7 +123,7 @@ class Program:
         """The replay that the program writes, which ends the rehearsal."""
         _, errors = self._child.communicate()
         if self._child.returncode != 0:
-            raise Refused(errors.decode(errors="replace").strip(), self._child.returncode)
+            raise Refused(text_of_fault(errors), self._child.returncode)
         written = (pathlib.Path(self._folder.name) / "match0.jsonl").read_bytes()
         if written != self._beside.replay():
             raise Differs("the program and the Python model write other replays")
@@ -146,6 +159,6 @@ class Program:
                 answer += piece
         except BrokenPipeError:
             _, errors = self._child.communicate()
-            raise Refused(errors.decode(errors="replace").strip(), self._child.returncode) from None
+            raise Refused(text_of_fault(errors), self._child.returncode) from None
         answer, _, self._left = (b"\n" + answer).partition(b"\n\n")
         return answer[1:] + (b"\n" if answer else b"")

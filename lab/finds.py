@@ -1,9 +1,9 @@
-"""Finds: a schedule worth keeping, played by the proved program and written with all that shows it."""
+"""Finds: a schedule worth keeping, played by the program and written with all that shows it."""
 import contextlib
 import pathlib
 from typing import List, Optional
 
-from lab.engines import Engine, Program, judged
+from lab.engines import Engine, Program, is_unproved, judged
 from lab.fixtures import write_tournament
 from lab.missing import Missing
 from lab.model import Verdict
@@ -47,7 +47,8 @@ def write_find(folder: pathlib.Path, schedule: Schedule, played: Played, program
     said = [f"{folder}: {len(schedule.choices)} choices; again by `python3 -m lab replay {folder}`"]
     if program is None:
         return [*said, "the Python model played it, which proves nothing: the program was not asked"]
-    said.append(f"the program's verdict: {verdict_text(judged(program, folder / REPLAY))}")
+    by = " (by a program that is not proved)" if is_unproved(program) else ""
+    said.append(f"the program's verdict: {verdict_text(judged(program, folder / REPLAY))}{by}")
     return said + written_page(folder, program)
 
 

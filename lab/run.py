@@ -67,7 +67,7 @@ def maker_of(name: str) -> schedulers.Maker:
 
 def add_engine(parser: argparse.ArgumentParser) -> None:
     """The options that choose the engine."""
-    parser.add_argument("--engine", choices=(PROGRAM, MODEL), default=PROGRAM, help="who plays: the proved program, or "
+    parser.add_argument("--engine", choices=(PROGRAM, MODEL), default=PROGRAM, help="who plays: the program, or "
                         "the Python model, which needs no build and proves nothing (program)")
     add_program(parser)
 

@@ -1,4 +1,5 @@
 """The Python model as an engine: what connections are sent, and what stands in files."""
+import argparse
 import contextlib
 import importlib
 import io
@@ -9,9 +10,9 @@ import unittest
 from typing import List
 from unittest import mock
 
-from lab import networks
+from lab import built, networks
 from lab.__main__ import COMMANDS, main
-from lab.engines import TOP, Refused, program_at
+from lab.engines import TOP, NoProgram, Refused, add_program, asked, is_unproved, program_at
 from lab.fixtures import Fixture, fixture_of, read_tournament, write_tournament
 from lab.missing import Missing, needed
 from lab.model import Setup
@@ -145,6 +146,30 @@ class CommandLine(unittest.TestCase):
             os.chmod(file.name, 0o755)
             self.assertEqual(program_at(file.name), file.name)
         self.assertEqual(str(Refused("", 6)), "the program ended with status 6")
+
+    def test_a_program_that_is_not_proved_is_told(self) -> None:
+        folder = pathlib.Path(self.enterContext(tempfile.TemporaryDirectory())).resolve()
+        refusing = f"echo '{built.SAID}' >&2\necho 'replay: line 1' >&2\nexit 3\n"
+        for name, text, said in (("one", refusing, built.SAID + "\n"), ("two", "exit 0\n", "")):
+            program, errors = folder / name, io.StringIO()
+            program.write_text(f"#!/bin/sh\n{text}")
+            program.chmod(0o755)
+            with mock.patch.object(built, "any_program", return_value=program):
+                with contextlib.redirect_stderr(errors):
+                    self.assertEqual(program_at(None), str(program))
+            self.assertEqual(errors.getvalue(), said)
+            self.assertEqual(is_unproved(str(program)), bool(said))
+        with self.assertRaises(Refused) as refused:
+            asked(str(folder / "one"), "judge")
+        self.assertEqual(str(refused.exception), "replay: line 1")
+
+    def test_the_proved_program_can_be_asked_for(self) -> None:
+        parser = argparse.ArgumentParser()
+        add_program(parser)
+        with mock.patch.object(built, "proved_program", side_effect=built.NoProgram("it was not proved")):
+            with self.assertRaisesRegex(NoProgram, "it was not proved"):
+                program_at(parser.parse_args(["--proved"]).program)
+        self.assertIsNone(parser.parse_args([]).program)
 
 
 if __name__ == "__main__":

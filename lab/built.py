@@ -1,0 +1,72 @@
+"""Which program plays, for the lab and examples/contest.py: that of a release, or the proved one if it is built of the
+sources as they are, or else one without a proof, which is compiled in a minute or two (tools/unproved.py). It runs on
+Python 3.8, as the contest does."""
+import functools
+import pathlib
+import subprocess
+import sys
+
+TOP = pathlib.Path(__file__).resolve().parent.parent
+PROVED = TOP / "crates" / "bhs_main" / "out" / "bhs_main"
+# where a release has its program
+RELEASED = TOP / "bin" / "arena"
+# what each start of a program without a proof says on standard error; by these words it is told from a proved one
+SAID = "arena: this build is not proved, and slow; ./arena at the top of the repository proves and builds the program"
+
+
+class NoProgram(Exception):
+    """There is no program; says what to do."""
+
+
+def is_unproved(program: pathlib.Path) -> bool:
+    """Whether a program says of itself that it is not proved."""
+    try:
+        return SAID.encode() in program.read_bytes()
+    except OSError:
+        return False
+
+
+def is_proved() -> bool:
+    """Whether the proved program is built of the sources as they are."""
+    return PROVED.exists() and subprocess.run([str(TOP / "tools" / "is_proved")]).returncode == 0
+
+
+def proved_program() -> pathlib.Path:
+    """The proved program, which is proved and built first where that is needed."""
+    if RELEASED.exists():
+        if is_unproved(RELEASED):
+            raise NoProgram("this release is not proved: take one whose name has no `unproved`")
+        return RELEASED
+    if not is_proved():
+        # ./arena shows on standard error how far it is
+        ran = subprocess.run([str(TOP / "arena"), "--help"], stdin=subprocess.DEVNULL, stdout=subprocess.DEVNULL)
+        if ran.returncode != 0:
+            raise NoProgram("the program was not proved: `./arena --help` says why")
+    return PROVED
+
+
+def any_program() -> pathlib.Path:
+    """The proved program if it is built, else one without a proof."""
+    if RELEASED.exists():
+        return RELEASED
+    if is_proved():
+        return PROVED
+    sys.path.insert(0, str(TOP / "tools"))
+    try:
+        import unproved
+    except ModuleNotFoundError:
+        raise NoProgram("there is no program here, and no sources of it: name one by --program") from None
+    return unproved.compiled()
+
+
+@functools.lru_cache(maxsize=None)
+def warn_of(program: pathlib.Path) -> None:
+    """Says once on standard error that a program is not proved, if it is not. For who hears the program's own standard
+    error himself, where it says so."""
+    if is_unproved(program):
+        print(SAID, file=sys.stderr, flush=True)
+
+
+def without_warning(errors: str) -> str:
+    """What a program wrote to standard error, but that it is not proved."""
+    return "".join(line for line in errors.splitlines(keepends=True) if line.rstrip("\n") != SAID)
