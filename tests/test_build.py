@@ -1,0 +1,144 @@
+"""What tools/build shows of a build, and what is left of it by earlier times. The prover here is a script."""
+import contextlib
+import io
+import pathlib
+import subprocess
+import sys
+import tempfile
+import unittest
+import unittest.mock
+
+import bar
+import prover
+from forecast import LAST_PART, SECONDS, TRUST, Forecast, seconds_of, text_of
+from tests import TOP
+from tests.test_gate import module
+
+LIBRARIES = {"low": [], "left": ["low"], "right": ["low", "json"], "bhs_main": ["left", "right"]}
+RATTLE = f"""#!{sys.executable}
+import pathlib, sys
+words = sys.argv[1:]
+name = words[words.index("--crate-name") + 1]
+if "broken" in pathlib.Path("src/lib.rt").read_text():
+    sys.exit("not proved")
+pathlib.Path(words[words.index("-o") + 1]).write_text(name)
+"""
+LINK = f"""#!{sys.executable}
+import pathlib, sys
+words = sys.argv[1:]
+pathlib.Path(words[words.index("-o") + 1]).write_text("the program")
+"""
+
+
+class Forecasts(unittest.TestCase):
+    def forecast(self, workers: int) -> Forecast:
+        return Forecast(LIBRARIES, {*LIBRARIES}, {"low": 100, "left": 100, "right": 200, "bhs_main": 100}, workers)
+
+    def test_at_first_it_is_what_earlier_runs_took(self) -> None:
+        self.assertEqual(self.forecast(1).seconds_left(0), 500)
+        # low, right and bhs_main wait for each other
+        self.assertEqual(self.forecast(4).seconds_left(0), 400)
+        self.assertEqual(self.forecast(4).share(0), 0)
+
+    def test_what_runs_and_what_is_done_counts(self) -> None:
+        found = self.forecast(1)
+        found.begin("low", 10)
+        self.assertAlmostEqual(found.share(60), 0.1)
+        self.assertEqual(found.seconds_left(60), 450)
+        found.end("low", 110)
+        self.assertAlmostEqual(found.share(110), 0.2)
+        self.assertEqual(found.seconds_left(110), 400)
+
+    def test_a_slow_machine_takes_longer(self) -> None:
+        found = self.forecast(1)
+        found.begin("low", 0)
+        found.end("low", 300)
+        pace = (300 + TRUST) / (100 + TRUST)
+        self.assertAlmostEqual(found.seconds_left(300), 400 * pace)
+
+    def test_a_crate_that_takes_longer_is_not_taken_as_done(self) -> None:
+        found = self.forecast(1)
+        found.begin("low", 0)
+        self.assertEqual(found.seconds_left(5000), 400 + LAST_PART * 100)
+        self.assertLess(found.share(5000), 0.2)
+
+    def test_all_done_and_nothing_to_do(self) -> None:
+        found = Forecast(LIBRARIES, {"low"}, {}, 2)
+        self.assertEqual(found.seconds_left(0), 1)
+        found.begin("low", 0)
+        found.end("low", 1)
+        self.assertEqual((found.share(1), found.seconds_left(1)), (1, 0))
+        self.assertEqual(Forecast(LIBRARIES, set(), {}, 2).share(0), 1)
+
+    def test_the_file_names_the_crates(self) -> None:
+        text = SECONDS.read_text()
+        self.assertEqual(text_of(seconds_of(text), text), text)
+        # a crate without a time gets the median; most are to have one
+        named = set(seconds_of(text)) & set(prover.libraries_of())
+        self.assertGreater(len(named), 0.7 * len(prover.libraries_of()))
+
+
+class Build(unittest.TestCase):
+    def setUp(self) -> None:
+        self.top = pathlib.Path(self.enterContext(tempfile.TemporaryDirectory()))
+        self.crates, kit = self.top / "crates", self.top / "kit"
+        for name in LIBRARIES:
+            self.write(self.crates / name / "src" / "lib.rt", "whole\n")
+        for name, text in (("rattle", RATTLE), ("rattle-link", LINK)):
+            self.write(kit / "bin" / name, text).chmod(0o755)
+        self.build = module(TOP / "tools" / "build")
+        for owner, found in ((prover, {"BUILT": self.crates}), (self.build, {"libraries_of": lambda: LIBRARIES})):
+            for name, value in {**found, "CRATES": self.crates, "KIT": kit}.items():
+                self.enterContext(unittest.mock.patch.object(owner, name, value))
+
+    @staticmethod
+    def write(path: pathlib.Path, text: str) -> pathlib.Path:
+        path.parent.mkdir(parents=True, exist_ok=True)
+        path.write_text(text)
+        return path
+
+    def said(self, status: int) -> str:
+        errors = io.StringIO()
+        with contextlib.redirect_stdout(errors):
+            with unittest.mock.patch.object(self.build, "BAR", bar.Bar(errors, 0)):
+                self.assertEqual(self.build.main(), status)
+        return errors.getvalue()
+
+    def test_it_shows_what_is_done_and_what_is_left(self) -> None:
+        said = self.said(0)
+        self.assertIn("meanwhile `python3 examples/contest.py` plays without a proof", said)
+        self.assertRegex(said, r"arena: \[\.{20}\]   0% 0 of 4 crates are proved, 0 s, (about \d+ min|less than a minute) "
+                         r"left; now low\n")
+        self.assertRegex(said, r"\[#+\.+\] +\d+% 3 of 4 crates are proved, 0 s, .* left; now bhs_main\n")
+        self.assertRegex(said, r"all 4 crates are proved and the program is built, \d s\n$")
+        self.assertEqual((self.crates / "bhs_main" / "out" / "bhs_main").read_text(), "the program")
+
+    def test_what_is_built_is_not_proved_again(self) -> None:
+        self.said(0)
+        self.assertNotIn(" left; now ", self.said(0))
+        source = self.write(self.crates / "left" / "src" / "lib.rt", "changed\n")
+        self.assertEqual(self.build.unbuilt(LIBRARIES, ["low", "left", "right", "bhs_main"]), {"left", "bhs_main"})
+        said = self.said(0)
+        self.assertIn("2 of 4 crates are proved", said)
+        self.assertNotIn("the first time", said)
+        self.write(source, "broken\n")
+        said = self.said(1)
+        self.assertIn("left was not proved: see crates/left/out/build.log\n", said)
+        self.assertNotIn("all 4 crates are proved", said)
+
+
+class GateTimes(unittest.TestCase):
+    def test_it_keeps_what_the_proofs_took(self) -> None:
+        times = module(TOP / "tools" / "gate_times")
+        path = pathlib.Path(self.enterContext(tempfile.TemporaryDirectory())) / "seconds"
+        path.write_text("# shares\nold 3\n")
+        times.keep({(1, ("low", "proof")): 2.6, (2, ("low", "proof")): 1.0, (3, ("low", "edits")): 9,
+                    (4, ("high", "proof")): 5}, path)
+        self.assertEqual(path.read_text(), "# shares\nhigh 5\nlow 4\n")
+
+    def test_its_help_names_what_it_takes(self) -> None:
+        self.assertIn("--keep", module(TOP / "tools" / "gate_times").__doc__)
+
+
+if __name__ == "__main__":
+    unittest.main()

@@ -1,0 +1,69 @@
+"""What is left of a build of many crates, by what the proof of each took before. For the bar of tools/build."""
+import pathlib
+import statistics
+from typing import Dict, Set
+
+from prover import Libraries, below
+
+SECONDS = pathlib.Path(__file__).resolve().parent / "proof_seconds"
+# a crate that takes longer than it should is still taken to need this part of its time
+LAST_PART = 0.1
+# how much of the pace is taken from earlier runs: as if so many of their seconds had been seen to take as long here
+TRUST = 60.0
+
+
+def seconds_of(text: str) -> Dict[str, float]:
+    """The seconds of each crate, by the lines of the file."""
+    rows = [line.split() for line in text.splitlines() if line and not line.startswith("#")]
+    return {name: float(seconds) for name, seconds in rows}
+
+
+def text_of(seconds: Dict[str, float], before: str) -> str:
+    """The file with these seconds, under the comment that it had before."""
+    head = "".join(line for line in before.splitlines(keepends=True) if line.startswith("#"))
+    return head + "".join(f"{name} {value:.0f}\n" for name, value in sorted(seconds.items()))
+
+
+class Forecast:
+    """How far a build is. Times are those of one clock, in seconds."""
+
+    def __init__(self, libraries: Libraries, crates: Set[str], seconds: Dict[str, float], workers: int) -> None:
+        """A build of these crates, so many at a time. One that has no time of its own gets the median."""
+        other = statistics.median(seconds.values()) if seconds else 1.0
+        self._seconds = {name: seconds.get(name, other) for name in crates}
+        self._needs = {name: [it for it in below(libraries, name) if it in crates] for name in crates}
+        self._workers = workers
+        self._begun: Dict[str, float] = {}
+        self._took: Dict[str, float] = {}
+
+    def begin(self, name: str, now: float) -> None:
+        self._begun[name] = now
+
+    def end(self, name: str, now: float) -> None:
+        self._took[name] = now - self._begun.pop(name)
+
+    def _pace(self) -> float:
+        """How many seconds here are one of the earlier ones, by the crates that are done."""
+        expected = sum(self._seconds[name] for name in self._took)
+        return (sum(self._took.values()) + TRUST) / (expected + TRUST)
+
+    def _left(self, now: float) -> Dict[str, float]:
+        """What each crate still needs, in earlier seconds."""
+        pace, left = self._pace(), {}
+        for name, seconds in self._seconds.items():
+            past = (now - self._begun[name]) / pace if name in self._begun else 0.0
+            left[name] = 0.0 if name in self._took else max(seconds - past, LAST_PART * seconds)
+        return left
+
+    def share(self, now: float) -> float:
+        """The part of the work that is done."""
+        total = sum(self._seconds.values())
+        return 1 - sum(self._left(now).values()) / total if total else 1.0
+
+    def seconds_left(self, now: float) -> float:
+        """How long it still takes: as long as its longest chain of crates that wait for each other, and as all of them
+        on that many workers."""
+        left, chain = self._left(now), {}
+        for name in sorted(left, key=lambda it: len(self._needs[it])):
+            chain[name] = left[name] + max((chain[it] for it in self._needs[name]), default=0.0)
+        return self._pace() * max(sum(left.values()) / self._workers, max(chain.values(), default=0.0))
