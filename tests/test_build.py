@@ -84,6 +84,7 @@ class Build(unittest.TestCase):
         self.crates, kit = self.top / "crates", self.top / "kit"
         for name in LIBRARIES:
             self.write(self.crates / name / "src" / "lib.rt", "whole\n")
+        self.write(kit / "KIT-ID", "kit 1\n")
         for name, text in (("rattle", RATTLE), ("rattle-link", LINK)):
             self.write(kit / "bin" / name, text).chmod(0o755)
         self.build = module(TOP / "tools" / "build")
@@ -101,17 +102,27 @@ class Build(unittest.TestCase):
         errors = io.StringIO()
         with contextlib.redirect_stdout(errors):
             with unittest.mock.patch.object(self.build, "BAR", bar.Bar(errors, 0)):
-                self.assertEqual(self.build.main(), status)
+                self.assertEqual(self.build.main([]), status)
         return errors.getvalue()
 
     def test_it_shows_what_is_done_and_what_is_left(self) -> None:
         said = self.said(0)
         self.assertIn("meanwhile `python3 examples/contest.py` plays without a proof", said)
-        self.assertRegex(said, r"arena: \[\.{20}\]   0% 0 of 4 crates are proved, 0 s, (about \d+ min|less than a minute) "
-                         r"left; now low\n")
+        self.assertRegex(said, r"arena: \[\.{20}\]   0% 0 of 4 crates are proved, 0 s, (about \d+ min|less than a "
+                         r"minute) left; now low\n")
         self.assertRegex(said, r"\[#+\.+\] +\d+% 3 of 4 crates are proved, 0 s, .* left; now bhs_main\n")
         self.assertRegex(said, r"all 4 crates are proved and the program is built, \d s\n$")
-        self.assertEqual((self.crates / "bhs_main" / "out" / "bhs_main").read_text(), "the program")
+        made = self.crates / "bhs_main" / "out"
+        self.assertEqual((made / "bhs_main").read_text(), "the program")
+        self.assertEqual((made / "toolchain").read_text(), "kit 1\n")
+
+    def test_words_prove_nothing(self) -> None:
+        for words, status in ((["--help"], 0), (["-h"], 0), (["bhs_net"], 2)):
+            said = io.StringIO()
+            with contextlib.redirect_stdout(said):
+                self.assertEqual(self.build.main(words), status)
+            self.assertIn("tools/build", said.getvalue())
+        self.assertFalse((self.crates / "low" / "out").exists())
 
     def test_what_is_built_is_not_proved_again(self) -> None:
         self.said(0)

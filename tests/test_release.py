@@ -1,0 +1,180 @@
+"""What a release has, that it says whether its program is proved, and that its bytes are the same each time."""
+import contextlib
+import io
+import os
+import pathlib
+import subprocess
+import tarfile
+import tempfile
+import unittest
+import unittest.mock
+from typing import Dict, Tuple
+
+import prover
+import version
+from lab import built
+from tests import TOP
+from tests.test_built import write
+from tests.test_gate import module
+
+release = module(TOP / "tools" / "release")
+NAME = "arena-1.2.3-x86_64-linux"
+FILES = {
+    "VERSION": "1.2.3\n", "README.md": "read\n", "CHANGELOG.md": "changes\n", "CONTRIBUTING.md": "how\n",
+    "arena": "#!/bin/sh\n", "docs/PROOFS.md": "claims\n", "examples/contest.py": "print('played')\n",
+    "examples/agents/ring.c": "int main(void) { return 0; }\n", "lab/built.py": "", "lab/tests/test.py": "",
+    "tools/version.py": "", "tools/build": "", "crates.txt": "bhs_main:\n", "crates/bhs_main/src/main.rt": "main\n",
+    ".gitignore": "out/\n",
+}
+
+
+class Repositories(unittest.TestCase):
+    """Tests in a repository of its own, whose program is a copy of a small one of this machine."""
+
+    def setUp(self) -> None:
+        self.top = pathlib.Path(self.enterContext(tempfile.TemporaryDirectory())).resolve()
+        for path, text in FILES.items():
+            write(self.top / path, text, 0o755 if path == "arena" else 0o644)
+        self.git("init", "-q")
+        self.git("add", ".")
+        self.git("commit", "-q", "-m", "one")
+        write(self.top / "kit" / "KIT-ID", "kit 1\n")
+        write(self.top / "kit" / "WHAT", "compiler 2\n")
+        write(self.top / ".git" / "info" / "exclude", "kit/\n")
+        self.proved = write(self.top / "out" / "proved", "", 0o755)
+        self.proved.write_bytes(pathlib.Path("/bin/true").read_bytes())
+        self.unproved = write(self.top / "out" / "unproved", "", 0o755)
+        self.unproved.write_bytes(self.proved.read_bytes() + built.SAID.encode())
+        crates, kit = self.top / "crates", self.top / "kit"
+        for owner, found in ((release, {"TOP": self.top, "CRATES": crates, "KIT": kit}),
+                             (prover, {"TOP": self.top, "CRATES": crates, "KIT": kit}),
+                             (version, {"TOP": self.top, "KIT": kit}),
+                             (built, {"PROVED": self.top / "crates/bhs_main/out/bhs_main",
+                                      "proved_program": lambda: self.proved}),
+                             (release.unproved, {"compiled": lambda: self.unproved})):
+            for name, value in found.items():
+                self.enterContext(unittest.mock.patch.object(owner, name, value))
+
+    def git(self, *words: str) -> None:
+        who = ["-c", "user.name=N", "-c", "user.email=n@example.org"]
+        subprocess.run(["git", *who, *words], cwd=self.top, check=True)
+
+
+class Releases(Repositories):
+    def made(self, *words: str, status: int = 0) -> Tuple[str, str]:
+        """What making a release says on standard output and on standard error."""
+        said, errors = io.StringIO(), io.StringIO()
+        with contextlib.redirect_stdout(said), contextlib.redirect_stderr(errors):
+            self.assertEqual(release.main([*words, "--out", str(self.top / "out" / "release")]), status)
+        return said.getvalue(), errors.getvalue()
+
+    def unpacked(self, name: str) -> Dict[str, Tuple[str, int]]:
+        """The texts and modes of the files of an archive, by their paths."""
+        with tarfile.open(self.top / "out" / "release" / f"{name}.tar.gz") as archive:
+            self.assertEqual(archive.getnames(), sorted(archive.getnames()))
+            found = {}
+            for entry in archive.getmembers():
+                self.assertEqual((entry.uid, entry.gid, entry.uname, entry.gname), (0, 0, "root", "root"))
+                folder, _, path = entry.name.partition("/")
+                self.assertEqual(folder, name)
+                found[path] = (archive.extractfile(entry).read().decode(errors="replace"), entry.mode)
+        return found
+
+    def test_it_has_what_plays_and_what_was_proved(self) -> None:
+        self.assertIn(f"{NAME}.tar.gz: ", self.made()[0])
+        found = self.unpacked(NAME)
+        self.assertEqual(sorted(found), sorted([
+            "BUILD", "CHANGELOG.md", "PROVED.txt", "README.md", "SHA256SUMS", "VERSION", "arena", "bin/arena",
+            "bin/ring", "docs/PROOFS.md", "examples/agents/ring.c", "examples/contest.py", "lab/built.py",
+            "tools/version.py"]))
+        runnable = {path for path, (_, mode) in found.items() if mode == 0o755}
+        self.assertEqual(runnable, {"arena", "bin/arena", "bin/ring"})
+        build, facts = found["BUILD"][0], found["PROVED.txt"][0]
+        self.assertRegex(build, r"^arena 1\.2\.3, proved\ncommit [0-9a-f]{40}, tree clean\ntoolchain kit 1\n"
+                         r"needs Linux on x86-64 with glibc 2\.\d+ or newer, and Python 3\.8 or newer\n$")
+        self.assertTrue(facts.startswith(build))
+        for said in (release.digest_of(self.proved.read_bytes()), "compiler 2", "  bhs_main\n", "once each was proved"):
+            self.assertIn(said, facts)
+
+    def test_what_it_takes_is_there(self) -> None:
+        for path in release.TAKEN:
+            self.assertTrue((TOP / path).exists(), path)
+
+    def test_the_checksums_are_those_of_the_files(self) -> None:
+        self.made()
+        folder = self.top / "out" / "release"
+        subprocess.run(["sha256sum", "--quiet", "-c", f"{NAME}.tar.gz.sha256"], cwd=folder, check=True)
+        subprocess.run(["tar", "-xzf", f"{NAME}.tar.gz"], cwd=folder, check=True)
+        subprocess.run(["sha256sum", "--quiet", "-c", "SHA256SUMS"], cwd=folder / NAME, check=True)
+        self.assertEqual((folder / NAME / "SHA256SUMS").read_text().count("\n"), 13)
+
+    def test_two_archives_of_one_commit_are_alike(self) -> None:
+        archive, found = self.top / "out" / "release" / f"{NAME}.tar.gz", []
+        for seconds in (1, 2_000_000_000):
+            for path in FILES:
+                os.utime(self.top / path, (seconds, seconds))
+            with unittest.mock.patch("time.time", return_value=float(seconds)):
+                self.made()
+            found.append(archive.read_bytes())
+        self.assertEqual(*found)
+
+    def test_one_without_a_proof_never_says_proved(self) -> None:
+        write(self.top / "README.md", "changed\n")
+        name = f"{NAME}-unproved"
+        self.assertIn(f"{name}.tar.gz: ", self.made("--unproved")[0])
+        found = self.unpacked(name)
+        self.assertNotIn("PROVED.txt", found)
+        self.assertRegex(found["BUILD"][0], r"^arena 1\.2\.3, unproved\ncommit [0-9a-f]{40}, tree changed\n")
+        said = found["UNPROVED.txt"][0]
+        self.assertIn("Nothing that this archive has was proved.", said)
+        self.assertNotIn(", proved", said)
+        self.assertNotIn("once each was proved", said)
+
+    def test_a_tree_that_has_changed_is_refused(self) -> None:
+        write(self.top / "README.md", "changed\n")
+        self.assertIn("release: the tree has changed since its commit", self.made(status=1)[1])
+        self.git("checkout", "-q", ".")
+        write(self.top / "new", "")
+        self.assertIn("release: the tree has changed since its commit", self.made(status=1)[1])
+
+    def test_the_other_program_is_refused(self) -> None:
+        with unittest.mock.patch.object(built, "proved_program", lambda: self.unproved):
+            self.assertIn("this program says that it is not proved", self.made(status=1)[1])
+        with unittest.mock.patch.object(release.unproved, "compiled", lambda: self.proved):
+            self.assertIn("this program does not say that it is not proved", self.made("--unproved", status=1)[1])
+        self.assertFalse((self.top / "out" / "release").exists())
+
+    def test_without_a_repository_it_says_what_to_do(self) -> None:
+        (self.top / ".git").rename(self.top / "git")
+        self.assertIn("run it in a git repository", self.made("--unproved", status=1)[1])
+
+
+class Versions(Repositories):
+    def test_a_clone_says_whether_its_program_is_proved(self) -> None:
+        head = subprocess.run(["git", "rev-parse", "HEAD"], cwd=self.top, check=True, capture_output=True, text=True)
+        commit = f"commit {head.stdout.strip()}, tree"
+        for is_proved, word, more in ((True, "proved", ""), (False, "unproved", f"{version.HOW_TO_PROVE}\n")):
+            with unittest.mock.patch.object(built, "is_proved", lambda: is_proved):
+                self.assertEqual(version.text(), f"arena 1.2.3, {word}\n{commit} clean\ntoolchain kit 1\n{more}")
+        write(self.top / "new", "")
+        self.assertEqual(version.commit(), f"{commit} changed")
+        (self.top / ".git").rename(self.top / "git")
+        self.assertEqual(version.commit(), "commit not known: this is no git repository")
+
+    def test_the_toolchain_is_the_one_that_built_the_program(self) -> None:
+        noted = write(built.PROVED.parent / "toolchain", "kit 0\n")
+        self.assertEqual(version.toolchain(), "toolchain kit 1")
+        write(built.PROVED, "")
+        os.utime(built.PROVED, (1, 1))
+        self.assertEqual(version.toolchain(), "toolchain kit 0")
+        os.utime(noted, (0, 0))
+        self.assertEqual(version.toolchain(), "toolchain kit 1")
+
+    def test_a_release_says_what_it_was_made_of(self) -> None:
+        write(self.top / "BUILD", "arena 1.2.3, proved\n")
+        with unittest.mock.patch.object(built, "is_proved", lambda: False):
+            self.assertEqual(version.text(), "arena 1.2.3, proved\n")
+
+
+if __name__ == "__main__":
+    unittest.main()
