@@ -175,6 +175,11 @@ class Versions(Repositories):
         with unittest.mock.patch.object(built, "is_proved", lambda: False):
             self.assertEqual(version.text(), "arena 1.2.3, proved\n")
 
+    def test_the_version_is_that_of_the_changelog(self) -> None:
+        with unittest.mock.patch.object(version, "TOP", TOP):
+            self.assertRegex(version.version(), r"^\d+\.\d+\.\d+$")
+            self.assertTrue(f"## {version.version()}, " in (TOP / "CHANGELOG.md").read_text())
+
 
 if __name__ == "__main__":
     unittest.main()
