@@ -1,6 +1,7 @@
 """A bar on standard error for work whose time is known from earlier runs. It needs no package, as the first start of
 the program has none."""
 import math
+import shutil
 import sys
 import time
 from typing import TextIO
@@ -41,7 +42,8 @@ class Bar:
         """Shows that this share of the work is done, with a text behind it."""
         line = f"arena: {picture(share)} {text}"
         if self._is_terminal:
-            self._stream.write(f"\r{line}\x1b[K")
+            # a line that is wider than the terminal could not be drawn over
+            self._stream.write(f"\r{line[:shutil.get_terminal_size().columns - 1]}\x1b[K")
         elif time.monotonic() >= self._until and line != self._last:
             self._stream.write(f"{line}\n")
             self._until = time.monotonic() + self._quiet
