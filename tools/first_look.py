@@ -20,7 +20,7 @@ sys.path[:0] = [str(HERE), str(HERE.parent)]
 
 import unproved  # noqa: E402
 import version  # noqa: E402
-from lab.built import SAID  # noqa: E402
+from lab.built import SAID, NoProgram  # noqa: E402
 
 TOP = HERE.parent
 EXAMPLES = TOP / "examples"
@@ -84,7 +84,11 @@ def main(given: List[str]) -> int:
     if len(given) > 1 or given in (["-h"], ["--help"]):
         print(__doc__.strip())
         return 0 if given in (["-h"], ["--help"]) else 2
-    unproved.compiled()
+    try:
+        unproved.compiled()
+    except NoProgram as fault:
+        print(f"FAILED first look: {fault}\n0 passed, 1 failed")
+        return 1
     cases: Dict[str, Callable[[], None]] = {case.__name__.replace("_", " "): case for case in
                                             (says_that_it_is_not_proved, plays_at_once, is_released)}
     for program in given:
