@@ -80,7 +80,7 @@ class Player:
 
 
 class Team:
-    """The players of a match. One that computes for so many seconds is ended."""
+    """The players of a match. A player that computes longer than its limit is ended."""
 
     def __init__(self, keys: Sequence[str], scripts: Mapping[int, Script], seconds: float = 5) -> None:
         """The scripts are by the number of their agent."""

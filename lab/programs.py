@@ -183,7 +183,7 @@ class Player:
 
 
 class Team:
-    """The programs of a match, each with so many seconds for each of its lines."""
+    """The programs of a match, each with a limit of seconds for each of its lines."""
 
     def __init__(self, keys: Sequence[str], commands: Mapping[int, str], seconds: float) -> None:
         self.keys = list(keys)

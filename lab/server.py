@@ -165,7 +165,7 @@ def table(rows: List[Tuple[str, Verdict]]) -> str:
 
 
 def host(listener: socket.socket, sessions: int, keys: Dict[str, Tuple[Game, int]]) -> None:
-    """Serves so many sessions to their ends."""
+    """Serves this number of sessions to their ends."""
     taken: set = set()
     threads = []
     for _ in range(sessions):

@@ -48,7 +48,7 @@ def place(word: str) -> Place:
     """A node and a port, as `3,1`."""
     found = re.fullmatch(r"(\d+),(\d+)", word)
     if not found:
-        raise argparse.ArgumentTypeError(f"{word} is no node and port, as 3,1 is")
+        raise argparse.ArgumentTypeError(f"{word} is not a node and a port: write them as in 3,1")
     return int(found[1]), int(found[2])
 
 

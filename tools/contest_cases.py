@@ -210,7 +210,7 @@ def gather(stage: Stage) -> None:
         raise Wrong(f"the server took {took:.1f} s")
 
 
-@case("with --gather the turns begin after so many milliseconds at the latest")
+@case("with --gather the turns begin when its milliseconds have passed, at the latest")
 def gather_ends(stage: Stage) -> None:
     with served(stage, "--gather", "400", turns=1, grace=0) as server:
         server.ended()

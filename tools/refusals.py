@@ -262,7 +262,8 @@ def wanted_fault(lab: Lab, command: Command, plain: Run, whole: Attempt) -> Opti
         return f"status {plain.status}, `{plain.told.strip()[:200]}`"
     if plain.printed != wanted:
         return f"another text was printed: `{plain.printed[-200:]!r}`"
-    if command.name in ("rehearse", "interactive") and whole.replays.get("kept0.jsonl") != (examples / "first0.jsonl").read_bytes():
+    kept, first = whole.replays.get("kept0.jsonl"), (examples / "first0.jsonl").read_bytes()
+    if command.name in ("rehearse", "interactive") and kept != first:
         return "its replay is not examples/first0.jsonl"
     return None
 

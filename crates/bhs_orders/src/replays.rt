@@ -75,7 +75,7 @@ pub(crate) fn write_replays<F: Files, E: Write>(
 
 /// Writes the replay of each match to a file, whose name is the prefix with the match's number, counted from 0, and
 /// `.jsonl`, and then removes its part. One that cannot be written is reported, and keeps no other from being written.
-/// The answer is the exit status of the first of these, and `DONE` where there is none.
+/// The answer is the exit status of the first that failed, and `DONE` if none did.
 pub fn write_sealed<F: Files, E: Write>(
     alloc: Global,
     files: &F,

@@ -16,7 +16,8 @@ ghost use Rattle.bhs_rehearsal.specs.Examples.{ThePresentAreToldLater, TheQuotaI
 ghost use Rattle.bhs_rehearsal.specs.Examples.{TheSecondWriterSeesTheFirst, TheSlowTriangleIsSlow};
 ghost use Rattle.bhs_rehearsal.specs.Examples.{WhatIsNotThereDoesNothing};
 
-/// One more instruction at the end of a script leads from the script's stage to the next, and sends what it sends there.
+/// One more instruction at the end of a script leads from the script's stage to the next, and sends what it sends
+/// there.
 pub fn scripts_grow()
     ensures { ScriptsGrow }
 {}
