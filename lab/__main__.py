@@ -34,6 +34,8 @@ COMMANDS = {
     "speed": Command("lab.speed", "measure how many steps a second the lab plays"),
     "compare": Command("lab.compare", "compare the proved program with the Python model, byte for byte"),
     "serve": Command("lab.server", "a stand-in for `arena serve`, to try agents without building the program"),
+    "network": Command("lab.network", "write a network file"),
+    "tournament": Command("lab.tournament", "write a tournament of teams, networks and black holes, with their keys"),
     "page": Command("lab.page", "write a page on which one watches a match that has ended"),
 }
 

@@ -2,7 +2,7 @@
 import json
 import pathlib
 import tomllib
-from typing import Any, Dict, List, NamedTuple, Sequence
+from typing import Any, Dict, Iterable, List, NamedTuple, Sequence, Tuple
 
 from lab import networks
 from lab.model import Object, Place, Setup, command_of, text_of
@@ -53,21 +53,30 @@ def fixture_in(row: Dict[str, Any]) -> Fixture:
     return Fixture(row["team"], setup, row["keys"], [tuple(place) for place in row.get("held", [])])
 
 
-def write_tournament(fixture: Fixture, folder: pathlib.Path) -> pathlib.Path:
-    """Writes a tournament of this one match, tournament.toml with network.toml beside it. The program is to be run in
-    that folder."""
+def match_text(fixture: Fixture, network: str) -> str:
+    """The table of a match, whose network stands in this file."""
     setup = fixture.setup
-    network = networks.Network(setup.nodes, setup.links)
-    (folder / "network.toml").write_text(networks.text_of(network), encoding="utf-8")
     rows: Object = {
-        "team": fixture.team, "network": "network.toml", "home": setup.home, "holes": setup.holes,
+        "team": fixture.team, "network": network, "home": setup.home, "holes": setup.holes,
         "dark": pairs(setup.dark), "quota": setup.quota, "board": setup.board, "keys": fixture.keys,
         "held": pairs(fixture.held),
     }
     # what JSON spells of these values is TOML too
-    table = "".join(f"{key} = {json.dumps(value)}\n" for key, value in rows.items())
+    return "\n[[match]]\n" + "".join(f"{key} = {json.dumps(value)}\n" for key, value in rows.items())
+
+
+def tournament_text(seed: str, matches: Iterable[Tuple[Fixture, str]]) -> str:
+    """The file of a tournament: its seed, and its matches with the files of their networks."""
+    return f'version = 2\nseed = "{seed}"\n' + "".join(match_text(*match) for match in matches)
+
+
+def write_tournament(fixture: Fixture, folder: pathlib.Path) -> pathlib.Path:
+    """Writes a tournament of this one match, tournament.toml with network.toml beside it. The program is to be run in
+    that folder."""
+    network = networks.Network(fixture.setup.nodes, fixture.setup.links)
+    (folder / "network.toml").write_text(networks.text_of(network), encoding="utf-8")
     path = folder / "tournament.toml"
-    path.write_text(f'version = 2\nseed = "{SEED}"\n\n[[match]]\n{table}', encoding="utf-8")
+    path.write_text(tournament_text(SEED, [(fixture, "network.toml")]), encoding="utf-8")
     return path
 
 

@@ -4,17 +4,25 @@
     hypercube:D     2^D nodes: port I leads to the node whose number differs in bit I
     complete:N      N nodes, each joined to all others: port P of node V leads to node V + P + 1, round and round
     torus:RxC       R rows and C columns: ports 0 to 3 lead east, west, south and north
+    ccc:D           the cube-connected cycles of D 2^D nodes: node D W + I stands at place I of the cycle W; port 0
+                    leads on along the cycle, port 1 back, and port 2 to the cycle whose number differs in bit I
     random:SEED     3 to 24 nodes with 2 to 6 ports each, drawn by the seed; ports are numbered by chance
+    random:N:degK:seedS
+                    N nodes with K ports each, drawn by the seed S; ports are numbered by chance
     FILE            a network file, as `arena check` reads it
 """
 import pathlib
 import random
+import re
 import tomllib
 from typing import Dict, List, NamedTuple, Tuple
 
+from lab.missing import needed
+
 Link = Tuple[int, int, int, int]
 
-NAMES = "ring:N, hypercube:D, complete:N, torus:RxC, random:SEED"
+NAMES = "ring:N, hypercube:D, complete:N, torus:RxC, ccc:D, random:SEED, random:N:degK:seedS"
+MOST_NODES = 256
 LARGEST = 24
 LARGEST_DEGREE = 6
 
@@ -68,6 +76,50 @@ def torus(rows: int, columns: int) -> Network:
     return Network(rows * columns, links)
 
 
+def cube_connected_cycles(dimension: int) -> Network:
+    """A hypercube with a cycle in the place of each node."""
+    links = []
+    for node in range(dimension * 2 ** dimension):
+        cycle, spot = divmod(node, dimension)
+        links.append((node, 0, cycle * dimension + (spot + 1) % dimension, 1))
+        if not cycle >> spot & 1:
+            links.append((node, 2, (cycle | 1 << spot) * dimension + spot, 2))
+    return Network(dimension * 2 ** dimension, links)
+
+
+def regular(nodes: int, degree: int, seed: int) -> Network:
+    """A network drawn among those whose nodes all have this degree. It may have a cut node: ask `cut_of`."""
+    if nodes > MOST_NODES:
+        raise NoNetwork(f"a network has 3 to {MOST_NODES} nodes, and not {nodes}")
+    if nodes * degree % 2 or not 2 <= degree < nodes:
+        raise ValueError("no such network")
+    graph = needed("networkx").random_regular_graph(degree, nodes, seed=seed)
+    pairs = sorted((min(pair), max(pair)) for pair in graph.edges)
+    return Network(nodes, numbered(nodes, pairs, random.Random(seed)))
+
+
+def shuffled(network: Network, seed: int) -> Network:
+    """The network with the ports of each node numbered anew by the seed."""
+    chance = random.Random(seed)
+    labels = [list(range(degree)) for degree in network.degrees()]
+    for ports in labels:
+        chance.shuffle(ports)
+    return Network(network.nodes, [(v, labels[v][p], w, labels[w][q]) for v, p, w, q in network.links])
+
+
+def cut_of(network: Network) -> str:
+    """Why the network is not biconnected, or nothing where it is."""
+    networkx = needed("networkx")
+    graph = networkx.Graph()
+    graph.add_nodes_from(range(network.nodes))
+    graph.add_edges_from((v, w) for v, _, w, _ in network.links)
+    if not networkx.is_connected(graph):
+        apart = sorted(min(part) for part in networkx.connected_components(graph))
+        return f"no path joins node {apart[0]} to node {apart[1]}"
+    cuts = sorted(networkx.articulation_points(graph))
+    return f"without node {cuts[0]} some other nodes are apart" if cuts else ""
+
+
 def drawn(chance: random.Random, largest: int = LARGEST) -> Network:
     """A network made of a ring by adding ears, which makes every biconnected one, and then some links by chance."""
     nodes = chance.randint(3, largest)
@@ -113,14 +165,41 @@ def named(name: str) -> Network:
             raise NoNetwork(f"{name}: there is no such file; a network is {NAMES} or a file")
         return in_file(name)
     try:
-        sizes = [int(word) for word in size.split("x")]
-        made = {"ring": ring, "hypercube": hypercube, "complete": complete, "torus": torus,
-                "random": lambda seed: drawn(random.Random(seed))}
-        network = made[kind](*sizes)
+        sizes, made = sizes_of(kind, size), MADE[kind]
+        if not SMALLEST.get(kind, 0) <= min(sizes) or sizes[0] > LARGEST_SIZE.get(kind, sizes[0]):
+            raise NoNetwork(f"{name}: a network has 3 to {MOST_NODES} nodes, a torus 3 rows and columns or more, and "
+                            "cube-connected cycles 3 dimensions or more")
+        network = made(*sizes)
     except (KeyError, TypeError, ValueError):
-        raise NoNetwork(f"{name}: a network is {NAMES} or a file") from None
-    if kind == "torus" and min(sizes) < 3 or not 3 <= network.nodes <= 256:
-        raise NoNetwork(f"{name}: a network has 3 to 256 nodes, and a torus 3 rows and columns or more")
+        raise NoNetwork(f"{name}: a network is {NAMES} or a file; N times K is even, and K less than N") from None
+    if not 3 <= network.nodes <= MOST_NODES:
+        raise NoNetwork(f"{name}: a network has 3 to {MOST_NODES} nodes, and this one has {network.nodes}")
+    return network
+
+
+MADE = {
+    "ring": ring, "hypercube": hypercube, "complete": complete, "torus": torus, "ccc": cube_connected_cycles,
+    "random": lambda *sizes: regular(*sizes) if len(sizes) == 3 else drawn(random.Random(*sizes)),
+}
+SMALLEST = {"torus": 3, "ccc": 3}
+LARGEST_SIZE = {"hypercube": 8, "ccc": 8, "ring": MOST_NODES, "complete": MOST_NODES, "torus": MOST_NODES}
+
+
+def sizes_of(kind: str, size: str) -> List[int]:
+    """The numbers behind the kind of a network."""
+    found = re.fullmatch(r"(\d+):deg(\d+):seed(\d+)", size)
+    if found and kind == "random":
+        return [int(number) for number in found.groups()]
+    return [int(word) for word in size.split("x")]
+
+
+def biconnected(name: str) -> Network:
+    """The network that a word names, or else a line that says where it can be cut."""
+    network = named(name)
+    cut = cut_of(network)
+    if cut:
+        advice = "take another seed" if name.startswith("random") else "add a link"
+        raise NoNetwork(f"{name}: the network is not biconnected: {cut}; {advice}")
     return network
 
 

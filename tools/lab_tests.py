@@ -13,7 +13,7 @@ import sys
 
 TOP = pathlib.Path(__file__).resolve().parent.parent
 DEBIANS_PYTHON = "/usr/bin/python3"
-PACKAGES = ["python3-greenlet", "python3-hypothesis", "python3-tqdm"]
+PACKAGES = ["python3-greenlet", "python3-hypothesis", "python3-tqdm", "python3-networkx"]
 # runs the tests, and says how many passed
 TESTS = """
 import sys, unittest

@@ -1,0 +1,122 @@
+"""The program takes each network and each tournament that the lab writes, and the lab refuses what it would not take."""
+import contextlib
+import io
+import os
+import pathlib
+import stat
+import subprocess
+import tempfile
+import tomllib
+import unittest
+from typing import Tuple
+
+from lab.__main__ import main
+from lab.fixtures import read_tournament
+from lab.networks import Network, cut_of
+from lab.tests.playing import program
+
+NAMES = ("ring:32", "torus:5x5", "hypercube:4", "complete:8", "ccc:3", "random:40:deg4:seed7", "random:12:deg3:seed1",
+         "random:5")
+
+
+def lab(*words: str) -> Tuple[int, str, str]:
+    """The status of a command of the lab, and what it says."""
+    said, errors = io.StringIO(), io.StringIO()
+    with contextlib.redirect_stdout(said), contextlib.redirect_stderr(errors):
+        status = main(list(words))
+    return status, said.getvalue(), errors.getvalue()
+
+
+class Written(unittest.TestCase):
+    def setUp(self) -> None:
+        folder = tempfile.TemporaryDirectory()
+        self.addCleanup(folder.cleanup)
+        self.addCleanup(os.chdir, os.getcwd())
+        os.chdir(folder.name)
+
+    def checked(self, folder: str) -> str:
+        """What `arena check` says of the tournament in a folder."""
+        words = [program(), "check", "tournament.toml"]
+        ran = subprocess.run(words, cwd=folder, capture_output=True, text=True, stdin=subprocess.DEVNULL)
+        self.assertEqual((ran.returncode, ran.stderr), (0, ""))
+        return ran.stdout
+
+    def test_each_kind_of_network(self) -> None:
+        for number, name in enumerate(NAMES):
+            with self.subTest(name):
+                file, folder = f"net{number}.toml", f"contest{number}"
+                self.assertEqual(lab("network", name, "--ports", f"shuffled:{number}", "--out", file)[0], 0)
+                self.assertEqual(lab("tournament", "--team", "red", "--network", file, "--out", folder)[0], 0)
+                nodes = len({end for link in tomllib.loads(pathlib.Path(file).read_text())["links"] for end in link[::2]})
+                self.assertIn(f"match 0 red nodes {nodes} ", self.checked(folder))
+
+    def test_standard_output_has_the_same_file(self) -> None:
+        lab("network", "ccc:3", "--out", "ccc.toml")
+        self.assertEqual(lab("network", "ccc:3")[1], pathlib.Path("ccc.toml").read_text())
+
+    def test_teams_by_networks_by_holes(self) -> None:
+        words = ["--team", "red", "--team", "blue", "--network", "ring:6", "--network", "complete:5", "--holes", "all",
+                 "--agents", "degree"]
+        self.assertEqual(lab("tournament", *words, "--out", "contest")[0], 0)
+        self.assertEqual(len(self.checked("contest").splitlines()), 2 * (5 + 4))
+        os.chdir("contest")
+        fixtures = read_tournament("tournament.toml").fixtures
+        self.assertEqual([(it.team, it.setup.nodes, it.setup.holes, it.setup.agents) for it in fixtures],
+                         [(team, nodes, [hole], agents) for nodes, agents in ((6, 3), (5, 5))
+                          for hole in range(1, nodes) for team in ("red", "blue")])
+
+    def test_each_team_has_a_sheet_of_its_own_keys(self) -> None:
+        lab("tournament", "--team", "red", "--team", "blue", "--network", "ring:6", "--holes", "2", "--out", "contest")
+        os.chdir("contest")
+        fixtures = read_tournament("tournament.toml").fixtures
+        keys = [key for it in fixtures for key in it.keys]
+        self.assertEqual(len(set(keys)), 8)
+        for team in ("red", "blue"):
+            sheet = pathlib.Path(f"keys-{team}.txt")
+            words = sheet.read_text().split()
+            wanted = {key for it in fixtures if it.team == team for key in it.keys}
+            self.assertEqual(wanted, set(keys) & set(words))
+            self.assertEqual(stat.S_IMODE(sheet.stat().st_mode), 0o600)
+        self.assertEqual(stat.S_IMODE(os.stat("tournament.toml").st_mode), 0o600)
+
+    def test_two_tournaments_share_no_key_and_no_seed(self) -> None:
+        found = []
+        for folder in ("one", "two"):
+            lab("tournament", "--team", "red", "--network", "ring:6", "--out", folder)
+            found.append(tomllib.loads(pathlib.Path(folder, "tournament.toml").read_text()))
+        self.assertNotEqual(found[0]["seed"], found[1]["seed"])
+        self.assertFalse(set(found[0]["match"][0]["keys"]) & set(found[1]["match"][0]["keys"]))
+
+    def test_a_tournament_is_never_overwritten(self) -> None:
+        words = ["tournament", "--team", "red", "--network", "ring:6", "--out", "contest"]
+        lab(*words)
+        before = pathlib.Path("contest/tournament.toml").read_text()
+        status, _, said = lab(*words)
+        self.assertEqual(status, 2)
+        self.assertIn("name another folder by --out", said)
+        self.assertEqual(pathlib.Path("contest/tournament.toml").read_text(), before)
+
+    def test_what_is_refused(self) -> None:
+        bow = Network(5, [(0, 0, 1, 0), (1, 1, 2, 0), (2, 1, 0, 1), (2, 2, 3, 0), (3, 1, 4, 0), (4, 1, 2, 3)])
+        self.assertEqual(cut_of(bow), "without node 2 some other nodes are apart")
+        pathlib.Path("bow.toml").write_text(f"version = 1\nnodes = 5\nlinks = {[list(it) for it in bow.links]}\n")
+        team = ["tournament", "--out", "contest", "--team", "red", "--network"]
+        for words, said in ((["network", "bow.toml"], "without node 2 some other nodes are apart; add a link"),
+                            (["network", "random:10:deg2:seed1"], "no path joins node 0 to node 1; take another seed"),
+                            ([*team, "bow.toml"], "without node 2"), ([*team, "ring:6", "--hole", "0"], "black hole"),
+                            ([*team, "ring:6", "--holes", "9"], "only 5 nodes can be the black hole"),
+                            ([*team, "ring:80", "--holes", "all"], "at most 64 matches, and this would have 79"),
+                            ([*team, "complete:70", "--agents", "degree"], "1 to 64 agents, and not 70"),
+                            ([*team, "ring:6", "--home", "6"], "it has no node 6"),
+                            ([*team, "ring:6", "--quota", "1001"], "1 to 1000 commands"),
+                            ([*team, "ring:6", "--board", "4097"], "0 to 4096 bytes"),
+                            ([*team, "ring:6", "--team", "red"], "two teams have the same name")):
+            with self.subTest(" ".join(words)):
+                status, _, errors = lab(*words)
+                self.assertEqual(status, 2)
+                self.assertIn(said, errors)
+                self.assertFalse(pathlib.Path("contest").exists())
+
+
+if __name__ == "__main__":
+    unittest.main()
