@@ -3,7 +3,9 @@
     FILE.py[:FUNCTION] [WORD ..]
 
 The function is `search` unless another is named. It takes an agent, its key, and the words, which are whole numbers;
-`{nodes}` and `{links}` stand for the network's numbers. If it has a parameter `sleep`, it gets a function to wait by.
+`{nodes}` and `{links}` stand for the network's numbers and `{home}` for the home base. A parameter `sleep` behind the
+words gets a function to wait by. For agents that have a map, parameters `network` and `home` get the network's links as
+(node, port, node, port) and the home base.
 """
 import functools
 import hashlib
@@ -57,12 +59,12 @@ def member(word: str, usual: str) -> Any:
 
 def numbers_of(words: Sequence[str], setup: Setup) -> List[int]:
     """The whole numbers that the words say, of this match."""
-    facts = {"nodes": setup.nodes, "links": len(setup.links)}
+    facts = {"nodes": setup.nodes, "links": len(setup.links), "home": setup.home}
     try:
         return [int(word.format(**facts)) for word in words]
     except (KeyError, ValueError, IndexError):
-        raise NoAgent(f"{' '.join(words)}: the words behind an agent's file are whole numbers, {{nodes}} or "
-                      "{links}") from None
+        raise NoAgent(f"{' '.join(words)}: the words behind an agent's file are whole numbers, {{nodes}}, {{links}} or "
+                      "{home}") from None
 
 
 def script_of(words: str, setup: Setup) -> Script:
@@ -70,12 +72,13 @@ def script_of(words: str, setup: Setup) -> Script:
     file, *rest = words.split()
     search = member(file, "search")
     numbers = numbers_of(rest, setup)
-    sleeps = "sleep" in inspect.signature(search).parameters
+    asked = list(inspect.signature(search).parameters)[2 + len(numbers):]
     client = importlib.import_module("client")
 
     def play(lines: Any, key: str, sleep: Sleep) -> None:
+        given = {"sleep": sleep, "network": tuple(setup.links), "home": setup.home}
         try:
-            search(client.Agent(lines), key, *numbers, **({"sleep": sleep} if sleeps else {}))
+            search(client.Agent(lines), key, *numbers, **{name: given[name] for name in asked if name in given})
         except client.MatchOver:
             pass
     return play

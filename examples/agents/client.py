@@ -183,13 +183,19 @@ class Agent:
 def play(usage: str, search: Callable[..., None], numbers: int) -> None:
     """Plays one agent by the words HOST PORT KEY and this many whole numbers, which its search takes behind the agent
     and the key. Other words are answered with the usage."""
+    play_words(usage, search, *[int] * numbers)
+
+
+def play_words(usage: str, search: Callable[..., None], *kinds: Callable[[str], Any]) -> None:
+    """Plays one agent by the words HOST PORT KEY and one word of each kind, such as `int`."""
     words = sys.argv[1:]
-    if len(words) != 3 + numbers:
+    if len(words) != 3 + len(kinds):
         sys.exit(usage.strip())
     host, port, key = words[:3]
+    told = [kind(word) for kind, word in zip(kinds, words[3:])]
     agent = Agent.connect(host, int(port))
     try:
-        search(agent, key, *map(int, words[3:]))
+        search(agent, key, *told)
     except MatchOver:
         print(f"{key}: the match ended before the search did")
     finally:

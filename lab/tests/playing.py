@@ -15,6 +15,7 @@ from lab.teams import INSIDE, AgentWords, Together
 AGENTS = TOP / "examples" / "agents"
 RING = AgentWords(INSIDE, f"{AGENTS / 'ring.py'} {{nodes}}")
 MAP = AgentWords(INSIDE, f"{AGENTS / 'map.py'} {{nodes}} {{links}}")
+KNOWN_MAP = AgentWords(INSIDE, str(AGENTS / "known_map.py"))
 
 
 def program() -> str:
