@@ -7,6 +7,7 @@ import sys
 from typing import List, NamedTuple, Optional
 
 from lab.engines import Differs, NoProgram, Refused
+from lab.grid import NoSweep
 from lab.missing import Missing
 from lab.networks import NoNetwork
 from lab.pasts import NoFunction
@@ -14,7 +15,7 @@ from lab.schedulers import Impossible
 from lab.schedules import NoSchedule
 from lab.agent_files import NoAgent
 
-FAULTS = (Differs, Impossible, Missing, NoAgent, NoFunction, NoNetwork, NoProgram, NoSchedule)
+FAULTS = (Differs, Impossible, Missing, NoAgent, NoFunction, NoNetwork, NoProgram, NoSchedule, NoSweep)
 
 
 class Command(NamedTuple):
@@ -36,6 +37,7 @@ COMMANDS = {
     "serve": Command("lab.server", "a stand-in for `arena serve`, to try agents without building the program"),
     "network": Command("lab.network", "write a network file"),
     "tournament": Command("lab.tournament", "write a tournament of teams, networks and black holes, with their keys"),
+    "sweep": Command("lab.sweep", "play teams over a grid of networks and schedules, and write a report"),
     "page": Command("lab.page", "write a page on which one watches a match that has ended"),
 }
 

@@ -13,7 +13,8 @@ import sys
 
 TOP = pathlib.Path(__file__).resolve().parent.parent
 DEBIANS_PYTHON = "/usr/bin/python3"
-PACKAGES = ["python3-greenlet", "python3-hypothesis", "python3-tqdm", "python3-networkx"]
+PACKAGES = ["python3-greenlet", "python3-hypothesis", "python3-tqdm", "python3-networkx",
+            "python3-numpy", "python3-scipy", "python3-matplotlib"]
 # runs the tests, and says how many passed
 TESTS = """
 import sys, unittest

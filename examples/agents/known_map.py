@@ -7,9 +7,9 @@ NETWORK is the file of the network, which does not say where the black hole is, 
 Start it twice, with the keys of both agents. The network has one black hole.
 
 The agents explore disjoint parts of what is left, as in the search of a ring by S. Dobrev, P. Flocchini, G. Prencipe
-and N. Santoro, "Mobile search for a black hole in an anonymous ring" (Algorithmica 48, 2007). The same authors show that
-two agents that have the map suffice, with a number of moves of the order of n log n: "Searching for a black hole in
-arbitrary networks: optimal mobile agents protocols" (Distributed Computing 19, 2006). The division below is our own.
+and N. Santoro, "Mobile search for a black hole in an anonymous ring" (Algorithmica 48, 2007). In "Searching for a black
+hole in arbitrary networks: optimal mobile agents protocols" (Distributed Computing 19, 2006) they show that two agents
+that have the map suffice, and that they need moves of the order of n log n. The division below is our own.
 
 A network stays connected without any one node. So the nodes that are left can be put in an order such that each front
 of the order, and each rest behind a front, hangs together with what is explored (`order_of`). One agent takes the front

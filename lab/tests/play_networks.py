@@ -1,4 +1,4 @@
-"""The program takes each network and each tournament that the lab writes, and the lab refuses what it would not take."""
+"""The program takes each network and tournament that the lab writes, and the lab refuses what it would not take."""
 import contextlib
 import io
 import os
@@ -47,7 +47,8 @@ class Written(unittest.TestCase):
                 file, folder = f"net{number}.toml", f"contest{number}"
                 self.assertEqual(lab("network", name, "--ports", f"shuffled:{number}", "--out", file)[0], 0)
                 self.assertEqual(lab("tournament", "--team", "red", "--network", file, "--out", folder)[0], 0)
-                nodes = len({end for link in tomllib.loads(pathlib.Path(file).read_text())["links"] for end in link[::2]})
+                links = tomllib.loads(pathlib.Path(file).read_text())["links"]
+                nodes = len({end for link in links for end in link[::2]})
                 self.assertIn(f"match 0 red nodes {nodes} ", self.checked(folder))
 
     def test_standard_output_has_the_same_file(self) -> None:

@@ -17,6 +17,8 @@ from lab.tests.playing import program
 
 README = TOP / "lab" / "README.md"
 LAB = "$ python3 -m lab "
+# commands that play nothing
+NO_PROGRAM = ("network", "tournament")
 
 
 def examples() -> Iterator[Tuple[str, List[str]]]:
@@ -61,9 +63,11 @@ class Readme(unittest.TestCase):
                  for word in shlex.split(command)]
         if words[0] == "hunt":
             words += ["--database", str(folder / "database")]
+        if words[0] not in NO_PROGRAM:
+            words += ["--program", program()]
         said = io.StringIO()
         with contextlib.redirect_stdout(said):
-            main([*words, "--program", program()])
+            main(words)
         return said.getvalue()
 
 

@@ -1,0 +1,227 @@
+"""A sweep's file: which teams are played on which networks, with which black holes, under which schedules.
+
+    title = "Two agents on rings"
+    networks = ["ring:8", "ring:16", "ring:32"]
+    holes = "by seed"
+    schedulers = ["fair", "slow-agents"]
+    seeds = 20
+    bound = "2 n log2 n"
+
+    [[team]]
+    name = "ring"
+    agents = 2
+    agent = "examples/agents/ring.py {nodes}"
+
+    title         what the report is called
+    networks      names of networks, as --network takes them, or files
+    ports         "shuffled:SEED" numbers the ports of each node anew; may be absent
+    home          the home base (0)
+    holes         "by seed": seed S has a black hole of its own, as `run` takes it; "all": each node in turn; a number:
+                  so many nodes, drawn for each network; a list: these nodes ("by seed")
+    schedulers    as --scheduler takes them (["fair"])
+    seeds         how many seeds each scheduler gets (1)
+    quota, board  commands of an agent, and bytes of a whiteboard (1000, 4096)
+    bound         moves that the plots show beside: "2 n log2 n", "n log2 n" or "n^2"; may be absent
+
+Each [[team]] has a `name`, `agents`, a number or "degree" for one more than the network's greatest degree (2), and
+either `agent` or `command`, the words that --agent or --command takes.
+"""
+import math
+import pathlib
+import random
+import tomllib
+from typing import Any, Callable, Dict, Iterator, List, NamedTuple, Optional, Union
+
+from lab import networks
+from lab.agent_files import AGENTS, TOP, digests
+from lab.fixtures import Fixture, fixture_of
+from lab.model import Setup
+from lab.network import ports_seed
+from lab.networks import Network
+from lab.teams import BOARD, INSIDE, OUTSIDE, QUOTA, AgentWords
+
+BY_SEED, ALL, DEGREE = "by seed", "all", "degree"
+BOUNDS: Dict[str, Callable[[int], float]] = {
+    "2 n log2 n": lambda nodes: 2 * nodes * math.log2(nodes),
+    "n log2 n": lambda nodes: nodes * math.log2(nodes),
+    "n^2": lambda nodes: nodes ** 2,
+}
+KEYS = {"title", "networks", "ports", "home", "holes", "schedulers", "seeds", "quota", "board", "bound", "team"}
+TEAM_KEYS = {"name", "agents", INSIDE, OUTSIDE}
+
+
+class NoSweep(Exception):
+    """A file is no sweep, or its folder has another; says what to change."""
+
+
+class TeamRow(NamedTuple):
+    """A team: its name, how many agents it has, and how each is played."""
+
+    name: str
+    agents: Union[int, str]
+    words: AgentWords
+
+
+class Case(NamedTuple):
+    """A run of the sweep: its number, and what is played."""
+
+    number: int
+    network: str
+    hole: int
+    team: TeamRow
+    scheduler: str
+    seed: int
+
+
+class Grid(NamedTuple):
+    """What a sweep's file says."""
+
+    title: str
+    names: List[str]
+    networks: Dict[str, Network]
+    home: int
+    holes: Union[str, int, List[int]]
+    schedulers: List[str]
+    seeds: int
+    quota: int
+    board: int
+    bound: Optional[str]
+    teams: List[TeamRow]
+
+    def cases(self) -> Iterator[Case]:
+        """All runs, in the order of their numbers."""
+        number = 0
+        for name in self.names:
+            for holes in self._holes(name):
+                for team in self.teams:
+                    for scheduler in self.schedulers:
+                        for seed in range(self.seeds):
+                            yield Case(number, name, holes[seed % len(holes)], team, scheduler, seed)
+                            number += 1
+
+    def fixture(self, case: Case) -> Fixture:
+        """The match of a run."""
+        network, agents = self.networks[case.network], case.team.agents
+        count = max(network.degrees()) + 1 if isinstance(agents, str) else agents
+        return fixture_of(Setup(network.nodes, network.links, self.home, [case.hole], count, self.quota, self.board))
+
+    def files(self) -> Dict[str, str]:
+        """The digest of each file that the runs depend on."""
+        words = [*(team.words.words for team in self.teams), *self.schedulers, *self.names]
+        return digests([*words, str((AGENTS / "client.py").relative_to(TOP))])
+
+    def _holes(self, name: str) -> List[List[int]]:
+        """The black holes of a network: lists, out of which each seed takes its own in turn."""
+        others = [node for node in range(self.networks[name].nodes) if node != self.home]
+        if self.holes == BY_SEED:
+            return [others]
+        if self.holes == ALL:
+            return [[hole] for hole in others]
+        if isinstance(self.holes, int):
+            drawn = random.Random(f"{name} {self.holes}").sample(others, min(self.holes, len(others)))
+            return [[hole] for hole in sorted(drawn)]
+        return [[hole] for hole in self.holes]
+
+
+def read(path: pathlib.Path) -> Grid:
+    """The grid of a sweep's file."""
+    try:
+        return grid_of(path.read_text(encoding="utf-8"))
+    except NoSweep as fault:
+        raise NoSweep(f"{path}: {fault}") from None
+
+
+def grid_of(text: str) -> Grid:
+    """The grid that a sweep's text says."""
+    try:
+        found = tomllib.loads(text)
+    except tomllib.TOMLDecodeError as fault:
+        raise NoSweep(f"it is no TOML: {fault}") from None
+    unknown = sorted(set(found) - KEYS)
+    if unknown:
+        raise NoSweep(f"it has no key {unknown[0]}; its keys are {', '.join(sorted(KEYS))}")
+    title = taken(found, "title", is_text, "a text")
+    names = taken(found, "networks", is_texts, "a list of names, such as [\"ring:8\"]")
+    ports = ports_seed(found["ports"]) if "ports" in found else None
+    grid = Grid(
+        title, names, {name: numbered(name, ports) for name in names},
+        taken(found, "home", is_number, "a node", 0), taken(found, "holes", is_holes, HOLES_ARE, BY_SEED),
+        taken(found, "schedulers", is_texts, "a list of names, such as [\"fair\"]", ["fair"]),
+        taken(found, "seeds", is_count, "a whole number from 1", 1),
+        taken(found, "quota", lambda it: is_count(it) and it <= QUOTA, f"1 to {QUOTA}", QUOTA),
+        taken(found, "board", lambda it: is_number(it) and it <= BOARD, f"0 to {BOARD}", BOARD),
+        taken(found, "bound", lambda it: it in [None, *BOUNDS], f"one of {', '.join(BOUNDS)}", None),
+        [team_of(row) for row in taken(found, "team", is_tables, "given: write [[team]] and its keys below it")])
+    check_nodes(grid)
+    return grid
+
+
+HOLES_ARE = f'"{BY_SEED}", "{ALL}", how many to draw, or a list of nodes'
+
+
+def numbered(name: str, ports: Optional[int]) -> Network:
+    network = networks.named(name)
+    return network if ports is None else networks.shuffled(network, ports)
+
+
+def check_nodes(grid: Grid) -> None:
+    """Refuses a home base or a black hole that is no node."""
+    listed = grid.holes if isinstance(grid.holes, list) else []
+    for name, network in grid.networks.items():
+        if grid.home >= network.nodes:
+            raise NoSweep(f"home is {grid.home}, and {name} has the nodes 0 to {network.nodes - 1}")
+        for hole in listed:
+            if hole >= network.nodes or hole == grid.home:
+                raise NoSweep(f"holes has {hole}, and a black hole of {name} is a node up to {network.nodes - 1} other "
+                              "than the home base")
+    if len({team.name for team in grid.teams}) < len(grid.teams):
+        raise NoSweep("two teams have the same name")
+
+
+def team_of(row: Dict[str, Any]) -> TeamRow:
+    """The team of a [[team]] table."""
+    unknown = sorted(set(row) - TEAM_KEYS)
+    if unknown:
+        raise NoSweep(f"a team has no key {unknown[0]}; its keys are {', '.join(sorted(TEAM_KEYS))}")
+    kinds = [kind for kind in (INSIDE, OUTSIDE) if kind in row]
+    if len(kinds) != 1:
+        raise NoSweep(f"each team needs either {INSIDE} or {OUTSIDE}, the words that play an agent")
+    agents = taken(row, "agents", lambda it: it == DEGREE or is_count(it) and it <= 64, '1 to 64, or "degree"', 2)
+    words = AgentWords(kinds[0], taken(row, kinds[0], is_text, "a text"))
+    return TeamRow(taken(row, "name", is_text, "a text"), agents, words)
+
+
+NEEDED = object()
+
+
+def taken(table: Dict[str, Any], key: str, is_right: Callable[[Any], bool], wanted: str, usual: Any = NEEDED) -> Any:
+    """The value of a key, or what is usual where it is absent."""
+    value = table.get(key, usual)
+    if value is NEEDED or not is_right(value):
+        raise NoSweep(f"{key} must be {wanted}")
+    return value
+
+
+def is_text(value: Any) -> bool:
+    return isinstance(value, str) and value != "" and "\n" not in value
+
+
+def is_texts(value: Any) -> bool:
+    return isinstance(value, list) and value != [] and all(map(is_text, value)) and len(set(value)) == len(value)
+
+
+def is_number(value: Any) -> bool:
+    return isinstance(value, int) and not isinstance(value, bool) and value >= 0
+
+
+def is_count(value: Any) -> bool:
+    return is_number(value) and value > 0
+
+
+def is_holes(value: Any) -> bool:
+    return value in (BY_SEED, ALL) or is_count(value) or isinstance(value, list) and value != [] and all(
+        map(is_number, value))
+
+
+def is_tables(value: Any) -> bool:
+    return isinstance(value, list) and value != [] and all(isinstance(row, dict) for row in value)

@@ -1,0 +1,219 @@
+"""Plays teams over a grid of networks, black holes, schedulers and seeds, and writes a report.
+
+    python3 -m lab sweep experiments/rings.toml --out out/rings
+
+The folder gets `runs.csv`, with a row for each run, `summary.csv`, `report.html`, which opens without a network, and
+the runs with the most moves, each with its schedule, its replay and its page. If you interrupt the command, run it
+again: it goes on behind the last row. The same file gives the same rows, however many --workers there are.
+
+A row has the verdict of the proved program on the replay, and the replay's SHA-256. With `--engine model` the Python
+model plays and judges, which proves nothing; the rows are the same.
+"""
+import argparse
+import concurrent.futures
+import csv
+import hashlib
+import io
+import json
+import os
+import pathlib
+import signal
+import tempfile
+from typing import Any, Dict, Iterable, Iterator, List, NamedTuple, Optional, Tuple
+
+from lab import grid, report
+from lab.agent_files import NoAgent
+from lab.engines import Differs, NoProgram, Refused, judged, program_at
+from lab.finds import engine_of, write_find
+from lab.grid import Case, Grid, NoSweep
+from lab.missing import Missing
+from lab.networks import NoNetwork
+from lab.play import Played, play
+from lab.progress import along
+from lab.run import PROGRAM, add_engine, maker_of
+from lab.schedulers import Impossible
+from lab.schedules import Schedule, schedule_of
+from lab.teams import Together
+
+COLUMNS = ("run", "network", "nodes", "links", "home", "hole", "team", "agents", "scheduler", "seed", "outcome",
+           "moves", "lost", "commands", "events", "replay", "fault")
+RUNS, SUMMARY, REPORT, MADE, WORST = "runs.csv", "summary.csv", "report.html", "made.json", "worst"
+FAULTS = (Differs, Impossible, Missing, NoAgent, NoNetwork, NoProgram, Refused, OSError)
+LIMIT = 5
+
+
+class Work(NamedTuple):
+    """What a worker needs: the sweep's text and the program, or None for the Python model."""
+
+    text: str
+    program: Optional[str]
+
+
+class Result(NamedTuple):
+    """What came of a run: its row, or why there is none."""
+
+    row: List[str]
+    fault: str
+
+
+def played_case(work: Work, spec: Grid, case: Case) -> Tuple[Schedule, Played]:
+    """Plays a run."""
+    fixture = spec.fixture(case)
+    agents = [case.team.words] * fixture.setup.agents
+    empty = schedule_of(fixture, agents, f"{case.scheduler} {case.seed}", [])
+    scheduler, team = maker_of(case.scheduler)(case.seed), Together(agents, fixture, LIMIT)
+    played = play(engine_of(empty, work.program), team, scheduler, fixture)
+    return empty._replace(choices=played.choices), played
+
+
+def row_of(work: Work, spec: Grid, case: Case) -> List[str]:
+    """The row of a run."""
+    schedule, played = played_case(work, spec, case)
+    setup, match = schedule.fixture.setup, played.match
+    verdict = played.verdict()
+    if work.program:
+        with tempfile.NamedTemporaryFile(suffix=".jsonl") as file:
+            file.write(played.replay)
+            file.flush()
+            verdict = judged(work.program, pathlib.Path(file.name))
+    commands = sum(agent.used for agent in match.agents)
+    found = (case.number, case.network, setup.nodes, len(setup.links), setup.home, case.hole, case.team.name,
+             setup.agents, case.scheduler, case.seed, verdict.outcome, verdict.moves, verdict.lost, commands,
+             len(match.log), hashlib.sha256(played.replay).hexdigest(), " ".join("; ".join(played.faults).split()))
+    return [str(value) for value in found]
+
+
+class Worker:
+    """Plays runs in a process of its own."""
+
+    work: Work
+    spec: Grid
+
+    @classmethod
+    def begin(cls, work: Work) -> None:
+        # whoever interrupts the command interrupts it alone; it ends its workers
+        signal.signal(signal.SIGINT, signal.SIG_IGN)
+        signal.signal(signal.SIGTERM, signal.SIG_DFL)
+        cls.work, cls.spec = work, grid.grid_of(work.text)
+
+    @classmethod
+    def play(cls, case: Case) -> Result:
+        try:
+            return Result(row_of(cls.work, cls.spec, case), "")
+        except FAULTS as fault:
+            return Result([], f"run {case.number}: {fault}")
+
+
+def results(work: Work, cases: List[Case], workers: int) -> Iterator[Result]:
+    """The results of all runs, in order."""
+    pool = concurrent.futures.ProcessPoolExecutor(workers, initializer=Worker.begin, initargs=(work,))
+    try:
+        yield from pool.map(Worker.play, cases, chunksize=4)
+    finally:
+        pool.shutdown(wait=True, cancel_futures=True)
+
+
+def line_of(row: Iterable[str]) -> str:
+    """A row as a line of a CSV file."""
+    text = io.StringIO()
+    csv.writer(text, lineterminator="\n").writerow(row)
+    return text.getvalue()
+
+
+def rows_in(path: pathlib.Path) -> List[Dict[str, str]]:
+    with path.open(encoding="utf-8", newline="") as file:
+        return list(csv.DictReader(file))
+
+
+def done_in(path: pathlib.Path) -> int:
+    """How many rows a file has. A row that was not written whole is dropped."""
+    if not path.exists():
+        path.write_text(line_of(COLUMNS), encoding="utf-8")
+    text = path.read_bytes()
+    whole = text[:text.rfind(b"\n") + 1]
+    if whole != text:
+        path.write_bytes(whole)
+    if not whole:
+        path.write_text(line_of(COLUMNS), encoding="utf-8")
+    return max(0, whole.count(b"\n") - 1)
+
+
+def made_of(spec: Grid, text: str, engine: str) -> Dict[str, Any]:
+    """What the rows of a folder depend on."""
+    return {"engine": engine, "files": spec.files(), "sweep": hashlib.sha256(text.encode()).hexdigest()}
+
+
+def prepared(folder: pathlib.Path, made: Dict[str, Any]) -> int:
+    """Makes the folder of a sweep, or takes up one that was interrupted; gives how many runs are done."""
+    folder.mkdir(parents=True, exist_ok=True)
+    path, text = folder / MADE, json.dumps(made, indent=1, sort_keys=True) + "\n"
+    if not path.exists():
+        if (folder / RUNS).exists():
+            raise NoSweep(f"{folder / RUNS}: it is not known of which sweep these rows are: name another folder")
+        path.write_text(text, encoding="utf-8")
+    elif path.read_text(encoding="utf-8") != text:
+        raise NoSweep(f"{folder} has the rows of another sweep: the file, its agents or the engine were others; name "
+                      "another folder by --out, or remove this one")
+    return done_in(folder / RUNS)
+
+
+def add_words(parser: argparse.ArgumentParser) -> None:
+    """The words of the command `sweep`."""
+    group = parser.add_argument_group("the file", grid.__doc__)
+    group.add_argument("file", metavar="FILE", type=pathlib.Path, help="the sweep")
+    parser.add_argument("--out", metavar="FOLDER", type=pathlib.Path, required=True, help="write everything there")
+    parser.add_argument("--workers", metavar="N", type=int, default=os.cpu_count() or 1, help="how many processes play "
+                        "(as many as there are processors)")
+    add_engine(parser)
+
+
+def run(words: argparse.Namespace) -> int:
+    spec, text = grid.read(words.file), words.file.read_text(encoding="utf-8")
+    if words.workers < 1:
+        raise NoSweep("at least one worker is needed: name a whole number from 1 by --workers")
+    work = Work(text, program_at(words.program) if words.engine == PROGRAM else None)
+    for name in spec.schedulers:
+        maker_of(name)
+    cases = list(spec.cases())
+    done = prepared(words.out, made_of(spec, text, words.engine))
+    try:
+        play_cases(work, cases[done:], words)
+    except KeyboardInterrupt:
+        print(f"interrupted; {done_in(words.out / RUNS)} of {len(cases)} runs are done: the same command goes on there")
+        return 130
+    return told(work, spec, cases, words)
+
+
+def play_cases(work: Work, cases: List[Case], words: argparse.Namespace) -> None:
+    """Plays runs, and writes their rows as they come."""
+    if not cases:
+        return
+    with (words.out / RUNS).open("a", encoding="utf-8", newline="") as file:
+        for result in along(results(work, cases, words.workers), len(cases), "run"):
+            if result.fault:
+                raise NoSweep(result.fault)
+            file.write(line_of(result.row))
+            file.flush()
+
+
+def told(work: Work, spec: Grid, cases: List[Case], words: argparse.Namespace) -> int:
+    """Writes the summary, the worst runs and the report."""
+    rows = rows_in(words.out / RUNS)
+    groups = report.groups_of(rows, spec)
+    (words.out / SUMMARY).write_text("".join(map(line_of, report.summary(groups))), encoding="utf-8")
+    pages = [report.Kept(row, kept(work, spec, cases[int(row["run"])], words.out)) for row in report.worst_runs(rows)]
+    engine = "the proved program" if work.program else "the Python model, of which nothing is proved"
+    (words.out / REPORT).write_text(report.page(spec, groups, pages, engine), encoding="utf-8")
+    failed = sum(not report.is_solved(row) for row in rows)
+    print(f"{len(rows)} runs on {engine}: solved {len(rows) - failed}; failed {failed}")
+    print(f"read {words.out / REPORT}; the rows are in {words.out / RUNS} and {words.out / SUMMARY}")
+    return 1 if failed else 0
+
+
+def kept(work: Work, spec: Grid, case: Case, folder: pathlib.Path) -> str:
+    """Writes a run with its schedule, its replay and its page; gives the page, or else the schedule, from the folder of
+    the report."""
+    place = folder / WORST / str(case.number)
+    write_find(place, *played_case(work, spec, case), work.program)
+    names = [name for name in ("match0.html", "schedule.txt") if (place / name).exists()]
+    return f"{WORST}/{case.number}/{names[0]}"

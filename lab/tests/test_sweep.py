@@ -1,0 +1,118 @@
+"""What a sweep's file says, and what is made of rows."""
+import pathlib
+import tempfile
+import unittest
+from typing import Dict, List
+
+from lab import report, sweep
+from lab.grid import Grid, NoSweep, grid_of
+
+HEAD = 'title = "T"\nnetworks = ["ring:4", "ring:5"]\n'
+TEAM = '[[team]]\nname = "a"\nagent = "examples/agents/ring.py {nodes}"\n'
+
+
+def text(middle: str = "", team: str = TEAM) -> str:
+    return HEAD + middle + team
+
+
+def runs(grid: Grid) -> List[tuple]:
+    return [(case.network, case.hole, case.team.name, case.scheduler, case.seed) for case in grid.cases()]
+
+
+class Files(unittest.TestCase):
+    def test_what_is_usual(self) -> None:
+        grid = grid_of(text())
+        self.assertEqual(runs(grid), [("ring:4", 1, "a", "fair", 0), ("ring:5", 1, "a", "fair", 0)])
+        setup = grid.fixture(next(grid.cases())).setup
+        self.assertEqual((setup.home, setup.holes, setup.agents, setup.quota, setup.board), (0, [1], 2, 1000, 4096))
+
+    def test_the_order_of_runs(self) -> None:
+        two = TEAM + TEAM.replace('"a"', '"b"').replace("agent =", "command =")
+        grid = grid_of(text('holes = [1, 3]\nschedulers = ["fair", "starved"]\nseeds = 2\n', two))
+        wanted = [(network, hole, team, scheduler, seed) for network in ("ring:4", "ring:5") for hole in (1, 3)
+                  for team in "ab" for scheduler in ("fair", "starved") for seed in (0, 1)]
+        self.assertEqual(runs(grid), wanted)
+        self.assertEqual([case.number for case in grid.cases()], list(range(len(wanted))))
+
+    def test_black_holes(self) -> None:
+        def holes(said: str) -> List[int]:
+            grid = grid_of(text(f"home = 2\nseeds = 3\nholes = {said}\n"))
+            return [case.hole for case in grid.cases() if case.network == "ring:5"]
+        self.assertEqual(holes('"by seed"'), [0, 1, 3])
+        self.assertEqual(holes('"all"'), [0, 0, 0, 1, 1, 1, 3, 3, 3, 4, 4, 4])
+        self.assertEqual(len(set(holes("2"))), 2)
+        self.assertEqual(holes("2"), holes("2"))
+        self.assertNotIn(2, holes("4"))
+
+    def test_one_agent_more_than_the_greatest_degree(self) -> None:
+        grid = grid_of(text().replace("ring:5", "complete:6").replace("name =", 'agents = "degree"\nname ='))
+        self.assertEqual([grid.fixture(case).setup.agents for case in grid.cases()], [3, 6])
+
+    def test_what_is_refused(self) -> None:
+        for given, said in (("title = 3\n" + TEAM, "title must be a text"), (HEAD, "team must be given"),
+                            (text("seed = 3\n"), "it has no key seed; its keys are board,"), ("title", "it is no TOML"),
+                            (text("seeds = 0\n"), "seeds must be a whole number from 1"),
+                            (text("bound = 'n'\n"), "bound must be one of 2 n log2 n,"),
+                            (text("holes = 'some'\n"), "holes must be \"by seed\", \"all\","),
+                            (text("holes = [4]\n"), "holes has 4, and a black hole of ring:4 is a node up to 3"),
+                            (text("home = 4\n"), "home is 4, and ring:4 has the nodes 0 to 3"),
+                            (text(team=TEAM + TEAM), "two teams have the same name"),
+                            (text(team=TEAM + "command = 'x'\n"), "needs either agent or command"),
+                            (text(team=TEAM + "agents = 65\n"), "agents must be 1 to 64"),
+                            (text(team=TEAM + "size = 1\n"), "a team has no key size")):
+            with self.subTest(said), self.assertRaises(NoSweep) as fault:
+                grid_of(given)
+            self.assertIn(said, str(fault.exception))
+
+
+def row(run: int, moves: int, outcome: str = "solved", network: str = "ring:4", fault: str = "") -> Dict[str, str]:
+    values = [run, network, 4, 4, 0, 1, "a", 2, "fair", run, outcome, moves, 1, 9, 9, "00", fault]
+    return dict(zip(sweep.COLUMNS, map(str, values)))
+
+
+class Reports(unittest.TestCase):
+    def test_a_summary(self) -> None:
+        grid = grid_of(text('bound = "n^2"\n'))
+        groups = report.groups_of([row(0, 4), row(1, 8), row(2, 6), row(3, 9, network="ring:5")], grid)
+        self.assertEqual(report.summary(groups)[1],
+                         ["ring:4", "4", "a", "2", "fair", "3", "3", "6.0", "2.3", "8", "1", "1", "16"])
+        self.assertEqual(report.summary(groups)[2][7:9], ["9.0", "0.0"])
+
+    def test_the_runs_that_are_kept(self) -> None:
+        rows = [row(0, 4), row(1, 8), row(2, 8), row(3, 5, network="ring:5"), row(4, 9, "silent", "ring:5"),
+                row(5, 99, "silent", "ring:5")]
+        self.assertEqual([it["run"] for it in report.worst_runs(rows)], ["1", "4"])
+
+    def test_a_fault_is_a_failure(self) -> None:
+        grid = grid_of(text())
+        self.assertEqual(report.groups_of([row(0, 4, fault="agent 1: raises")], grid)[0].solved, 0)
+
+
+class Resumed(unittest.TestCase):
+    def setUp(self) -> None:
+        folder = tempfile.TemporaryDirectory()
+        self.addCleanup(folder.cleanup)
+        self.folder = pathlib.Path(folder.name) / "made"
+
+    def test_a_row_that_was_not_written_whole_is_dropped(self) -> None:
+        self.assertEqual(sweep.prepared(self.folder, {"engine": "model"}), 0)
+        path = self.folder / sweep.RUNS
+        whole = path.read_text() + "0,a\n1,b\n"
+        path.write_text(whole + "2,c")
+        self.assertEqual(sweep.prepared(self.folder, {"engine": "model"}), 2)
+        self.assertEqual(path.read_text(), whole)
+        path.write_text("run,net")
+        self.assertEqual(sweep.prepared(self.folder, {"engine": "model"}), 0)
+        self.assertEqual(path.read_text(), sweep.line_of(sweep.COLUMNS))
+
+    def test_rows_of_another_sweep_are_kept_as_they_are(self) -> None:
+        sweep.prepared(self.folder, {"engine": "model"})
+        with self.assertRaisesRegex(NoSweep, "has the rows of another sweep"):
+            sweep.prepared(self.folder, {"engine": "program"})
+        (self.folder / sweep.MADE).unlink()
+        with self.assertRaisesRegex(NoSweep, "name another folder"):
+            sweep.prepared(self.folder, {"engine": "model"})
+
+
+if __name__ == "__main__":
+    unittest.main()
