@@ -13,7 +13,7 @@ PARTS = pathlib.Path(__file__).resolve().parent / "page_parts"
 HEAD = ("network", "nodes", "team", "agents", "scheduler", "runs", "solved", "mean moves", "confidence 95 %",
         "most moves", "its run", "most lost", "bound")
 CONFIDENCE = 1.96
-SIZE = (7.2, 4.2)
+SIZE = (7.6, 4.8)
 COLOURS = ("#0b6e99", "#c2410c", "#4d7c0f", "#7e22ce", "#a16207", "#be123c")
 
 Row = Dict[str, str]
@@ -157,7 +157,7 @@ def label_axes(axes: Any, spec: Grid, spots: Dict[str, float]) -> None:
         axes.spines[side].set_visible(False)
     axes.grid(axis="y", color="#dddddd", linewidth=0.6)
     axes.set_axisbelow(True)
-    axes.legend(frameon=False, fontsize=8)
+    axes.legend(frameon=False, fontsize=8, ncols=3, loc="lower left", bbox_to_anchor=(0, 1))
 
 
 def page(spec: Grid, groups: Sequence[Group], kept: Sequence[Kept], engine: str) -> str:

@@ -7,7 +7,8 @@ the runs with the most moves, each with its schedule, its replay and its page. I
 again: it goes on behind the last row. The same file gives the same rows, however many --workers there are.
 
 A row has the verdict of the proved program on the replay, and the replay's SHA-256. With `--engine model` the Python
-model plays and judges, which proves nothing; the rows are the same.
+model plays and judges, which is faster and proves nothing; the rows are the same. If you name a program with it by
+--program, the program plays the runs that are kept once more, and their replays must be the same.
 """
 import argparse
 import concurrent.futures
@@ -39,7 +40,8 @@ COLUMNS = ("run", "network", "nodes", "links", "home", "hole", "team", "agents",
            "moves", "lost", "commands", "events", "replay", "fault")
 RUNS, SUMMARY, REPORT, MADE, WORST = "runs.csv", "summary.csv", "report.html", "made.json", "worst"
 FAULTS = (Differs, Impossible, Missing, NoAgent, NoNetwork, NoProgram, Refused, OSError)
-LIMIT = 5
+# an agent may wait for a processor that has much other work: a row is not to depend on that
+LIMIT = 60
 
 
 class Work(NamedTuple):
@@ -201,7 +203,9 @@ def told(work: Work, spec: Grid, cases: List[Case], words: argparse.Namespace) -
     rows = rows_in(words.out / RUNS)
     groups = report.groups_of(rows, spec)
     (words.out / SUMMARY).write_text("".join(map(line_of, report.summary(groups))), encoding="utf-8")
-    pages = [report.Kept(row, kept(work, spec, cases[int(row["run"])], words.out)) for row in report.worst_runs(rows)]
+    keeper = work._replace(program=work.program or (program_at(words.program) if words.program else None))
+    pages = [report.Kept(row, kept(keeper, spec, cases[int(row["run"])], row, words.out))
+             for row in along(report.worst_runs(rows), len(spec.names) * len(spec.teams), "page")]
     engine = "the proved program" if work.program else "the Python model, of which nothing is proved"
     (words.out / REPORT).write_text(report.page(spec, groups, pages, engine), encoding="utf-8")
     failed = sum(not report.is_solved(row) for row in rows)
@@ -210,10 +214,14 @@ def told(work: Work, spec: Grid, cases: List[Case], words: argparse.Namespace) -
     return 1 if failed else 0
 
 
-def kept(work: Work, spec: Grid, case: Case, folder: pathlib.Path) -> str:
+def kept(work: Work, spec: Grid, case: Case, row: report.Row, folder: pathlib.Path) -> str:
     """Writes a run with its schedule, its replay and its page; gives the page, or else the schedule, from the folder of
     the report."""
+    schedule, played = played_case(work, spec, case)
+    if hashlib.sha256(played.replay).hexdigest() != row["replay"]:
+        raise Differs(f"run {case.number} has another replay when it is played again: its agents or its scheduler are "
+                      "no functions of what they are given")
     place = folder / WORST / str(case.number)
-    write_find(place, *played_case(work, spec, case), work.program)
+    write_find(place, schedule, played, work.program)
     names = [name for name in ("match0.html", "schedule.txt") if (place / name).exists()]
     return f"{WORST}/{case.number}/{names[0]}"

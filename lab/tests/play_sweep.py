@@ -56,18 +56,19 @@ class Sweeps(unittest.TestCase):
     def test_the_rows_are_the_same_by_either_engine_and_by_more_workers(self) -> None:
         rows = self.swept("program", "--workers", "2", "--program", program())
         self.assertEqual(self.swept("model", "--workers", "1", *MODEL), rows)
-        self.assertEqual(self.swept("more", "--workers", "3", *MODEL), rows)
-        self.check_report(self.folder / "program")
+        self.assertEqual(self.swept("more", "--workers", "3", "--program", program(), *MODEL), rows)
+        self.check_report(self.folder / "program", "the proved program")
+        self.check_report(self.folder / "more", "the Python model")
 
-    def check_report(self, folder: pathlib.Path) -> None:
+    def check_report(self, folder: pathlib.Path, engine: str) -> None:
         page = (folder / sweep.REPORT).read_text()
         self.assertIn("A &lt;small&gt; trial", page)
-        self.assertIn("played and judged by the proved program", page)
+        self.assertIn(f"played and judged by {engine}", page)
         links = re.findall('href="(worst/[^"]*)"', page)
         self.assertEqual(len(set(links)), 4)
         digests = {row["run"]: row["replay"] for row in sweep.rows_in(folder / sweep.RUNS)}
         for link in links:
-            self.assertTrue((folder / link).is_file(), link)
+            self.assertTrue(link.endswith(".html") and (folder / link).is_file(), link)
             place = folder / pathlib.Path(link).parent
             replay = (place / finds.REPLAY).read_bytes()
             self.assertEqual(hashlib.sha256(replay).hexdigest(), digests[place.name])

@@ -1,0 +1,265 @@
+"""Makes the tables of docs/EXPERIMENTS.md anew.
+
+    python3 -m experiments.make [TABLE ..] [--write]
+
+Without a table it makes all of them, which takes hours on the proved program and less on the Python model (`--engine
+model`). Rows, reports and pages go to the folder of --out; interrupted, sweeps go on there. With --write the
+tables are put into docs/EXPERIMENTS.md, each with its command, its engine, its time and the commit.
+
+Tables:
+    rings        moves of two agents on rings under fair and under weighted schedules
+    explored     the most moves of all schedules on small networks
+    no-map       one agent more than the greatest degree, without a map
+    known-map    two agents that have the map
+    too-few      one agent too few: a schedule after which the team fails
+    losses       the most agents that were lost in each table
+"""
+import argparse
+import contextlib
+import io
+import pathlib
+import re
+import subprocess
+import sys
+import time
+from typing import Callable, Dict, List, NamedTuple, Sequence, Tuple
+
+from lab import grid, report, sweep
+from lab.__main__ import main as lab
+from lab.engines import TOP
+from lab.run import PROGRAM, add_engine
+
+EXPERIMENTS = TOP / "experiments"
+DOCUMENT = TOP / "docs" / "EXPERIMENTS.md"
+AGENTS = "examples/agents"
+RING, MAP = f"{AGENTS}/ring.py {{nodes}}", f"{AGENTS}/map.py {{nodes}} {{links}}"
+KNOWN_MAP = f"{AGENTS}/known_map.py"
+
+Cells = Sequence[str]
+
+
+class Made(NamedTuple):
+    """A table: its rows with their head, and the commands that made it."""
+
+    rows: List[Cells]
+    commands: List[str]
+
+
+class Asked(NamedTuple):
+    """Where files go, and the words that choose the engine."""
+
+    out: pathlib.Path
+    engine: List[str]
+
+
+def said_by(words: Sequence[str], asked: Asked) -> str:
+    """What a command of the lab says."""
+    said = io.StringIO()
+    with contextlib.redirect_stdout(said):
+        status = lab([*words, *asked.engine])
+    if status not in (0, 1):
+        sys.exit(f"{shown(words)} ended with status {status}")
+    return said.getvalue()
+
+
+def shown(words: Sequence[str]) -> str:
+    """A command of the lab as one types it."""
+    quoted = [f'"{word}"' if " " in word else word for word in words]
+    return f"python3 -m lab {' '.join(quoted)}"
+
+
+def groups_of_sweep(name: str, asked: Asked) -> Tuple[List[report.Group], List[str]]:
+    """The groups of a sweep, which is played now, and its command."""
+    words = ["sweep", f"experiments/{name}.toml", "--out", str(asked.out / name)]
+    said_by(words, asked)
+    spec = grid.read(EXPERIMENTS / f"{name}.toml")
+    return report.groups_of(sweep.rows_in(asked.out / name / sweep.RUNS), spec), [shown([*words[:3], f"out/{name}"])]
+
+
+def sweep_table(name: str, asked: Asked) -> Made:
+    """A sweep: a row for each network, and of each scheduler the mean and the most moves."""
+    groups, commands = groups_of_sweep(name, asked)
+    return Made(rows_of(groups), commands)
+
+
+def rows_of(groups: Sequence[report.Group]) -> List[Cells]:
+    """A row for each network."""
+    schedulers = list(dict.fromkeys(group.name[2] for group in groups))
+    bound = grid_bound(groups)
+    moves = [f"{name}: {what}" for name in schedulers for what in ("mean", "most")]
+    head = ["network", "agents", "runs", "solved", *moves, "most lost", bound, "most / bound"]
+    networks = list(dict.fromkeys(group.name[0] for group in groups))
+    return [head, *(row_of([group for group in groups if group.name[0] == name]) for name in networks)]
+
+
+def grid_bound(groups: Sequence[report.Group]) -> str:
+    """The name of the bound, which the groups have as a number."""
+    return next((name for name, bound in grid.BOUNDS.items()
+                 if all(group.bound == bound(group.nodes) for group in groups)), "bound")
+
+
+def row_of(groups: Sequence[report.Group]) -> Cells:
+    most = max(int(group.worst["moves"]) for group in groups)
+    bound = groups[0].bound or 1
+    cells = [f"{group.mean:.1f} ± {group.confidence:.1f}" if column == 0 else group.worst["moves"]
+             for group in groups for column in (0, 1)]
+    return [groups[0].name[0], str(groups[0].agents), str(sum(group.runs for group in groups)),
+            str(sum(group.solved for group in groups)), *cells, str(max(group.lost for group in groups)),
+            f"{bound:.0f}", f"{most / bound:.2f}"]
+
+
+def most_on_ring(nodes: int) -> int:
+    """The most moves of the search of a ring, as docs/EXPERIMENTS.md counts them: three for each node that is safe, one
+    of the agent that is lost, and the walks of divisions at which 2, 3, 5, 9, .. nodes are left."""
+    found, left = 3 * (nodes - 2) + 1, 2
+    while left <= nodes // 2:
+        found += 2 * (nodes - 1 - left)
+        left = 2 * left - 1
+    return found
+
+
+class Exploration(NamedTuple):
+    """A small network, of which all schedules are tried."""
+
+    network: str
+    agent: str
+    agents: int
+
+    def words(self) -> List[str]:
+        return ["explore", "--network", self.network, "--agents", str(self.agents), "--agent", self.agent]
+
+
+EXPLORED = [
+    *(Exploration(f"ring:{nodes}", RING, 2) for nodes in range(3, 10)),
+    *(Exploration(f"ring:{nodes}", KNOWN_MAP, 2) for nodes in range(3, 8)),
+    Exploration("hypercube:3", KNOWN_MAP, 2),
+]
+EXPLORED_HEAD = ("network", "agents", "states", "schedules that fail", "most moves", "most lost")
+
+
+def explored_row(exploration: Exploration, asked: Asked) -> Cells:
+    """What was found of a small network."""
+    said = said_by([*exploration.words(), "--keep", str(asked.out / "explored")], asked)
+    states = re.search(r"^(\d+) states in .*: no schedule fails", said, re.M)
+    most = re.search(r"^most moves: .* moves (\d+) lost (\d+)$", said, re.M)
+    if not states or not most:
+        sys.exit(f"{shown(exploration.words())}: {said}")
+    file = exploration.agent.partition(" ")[0].rpartition("/")[2]
+    return [exploration.network, f"{exploration.agents}, `{file}`", states[1], "none", most[1], most[2]]
+
+
+def explored(asked: Asked) -> Made:
+    rows = [explored_row(exploration, asked) for exploration in EXPLORED]
+    return Made([EXPLORED_HEAD, *rows], [shown(EXPLORED[0].words())])
+
+
+class Hunt(NamedTuple):
+    """A team that has one agent too few."""
+
+    network: str
+    agent: str
+    agents: int
+
+    def words(self) -> List[str]:
+        return ["hunt", "--network", self.network, "--agents", str(self.agents), "--agent", self.agent]
+
+
+TOO_FEW = [
+    Hunt("ring:8", RING, 1), Hunt("hypercube:3", KNOWN_MAP, 1), Hunt("hypercube:3", MAP, 3), Hunt("torus:3x3", MAP, 4),
+]
+TOO_FEW_HEAD = ("network", "agents", "needed", "schedules tried", "verdict", "choices of the smallest schedule")
+
+
+def too_few_row(hunt: Hunt, asked: Asked) -> Cells:
+    """How a team with an agent too few fails."""
+    folder = asked.out / "too_few" / f"{hunt.network.replace(':', '')}_{hunt.agents}"
+    said = said_by([*hunt.words(), "--keep", str(folder), "--database", str(asked.out / "hunted")], asked)
+    tried = re.search(r"^(\d+) schedules were tried: the team fails$", said, re.M)
+    verdict = re.search(r"^it comes to: home 0 (holes .*)$", said, re.M)
+    choices = re.search(r": (\d+) choices; again by", said)
+    if not tried or not verdict or not choices:
+        sys.exit(f"{shown(hunt.words())} found no schedule after which the team fails: {said}")
+    file = hunt.agent.partition(" ")[0].rpartition("/")[2]
+    return [hunt.network, f"{hunt.agents}, `{file}`", str(hunt.agents + 1), tried[1], verdict[1], choices[1]]
+
+
+def too_few(asked: Asked) -> Made:
+    rows = [too_few_row(hunt, asked) for hunt in TOO_FEW]
+    return Made([TOO_FEW_HEAD, *rows], [shown(hunt.words()) for hunt in TOO_FEW])
+
+
+def losses(asked: Asked) -> Made:
+    """The most agents that were lost in each sweep, by how many there were."""
+    rows: List[Cells] = [("sweep", "agents of a team", "runs", "most lost", "fewest that were left")]
+    commands = []
+    for name in ("rings", "no_map", "known_map"):
+        groups, told = groups_of_sweep(name, asked)
+        commands += told
+        for agents in sorted({group.agents for group in groups}):
+            of_these = [group for group in groups if group.agents == agents]
+            lost = max(group.lost for group in of_these)
+            rows.append((name, str(agents), str(sum(group.runs for group in of_these)), str(lost), str(agents - lost)))
+    return Made(rows, commands)
+
+
+TABLES: Dict[str, Callable[[Asked], Made]] = {
+    "rings": lambda asked: sweep_table("rings", asked), "explored": explored,
+    "no-map": lambda asked: sweep_table("no_map", asked), "known-map": lambda asked: sweep_table("known_map", asked),
+    "too-few": too_few, "losses": losses,
+}
+
+
+def markdown(rows: Sequence[Cells]) -> str:
+    head, *others = rows
+    return "\n".join(f"| {' | '.join(row)} |" for row in [head, ["---"] * len(head), *others])
+
+
+def commit() -> str:
+    ran = subprocess.run(["git", "rev-parse", "--short", "HEAD"], cwd=TOP, capture_output=True, text=True)
+    return ran.stdout.strip() or "unknown"
+
+
+def text_of(name: str, made: Made, seconds: float, engine: str) -> str:
+    """A table as the document has it."""
+    commands = "".join(f"\n    {command}" for command in made.commands)
+    player = "proved program" if engine == PROGRAM else "Python model"
+    said = f"Engine: the {player}. {seconds:.0f} s. Commit {commit()}."
+    return f"{markdown(made.rows)}\n\n{said}\n{commands}\n"
+
+
+def written(document: str, name: str, text: str) -> str:
+    """The document with this text in the place of a table."""
+    begin, end = f"<!-- table {name} -->\n", f"<!-- end of {name} -->"
+    before, found, rest = document.partition(begin)
+    _, also, after = rest.partition(end)
+    if not found or not also:
+        sys.exit(f"{DOCUMENT}: the table {name} stands between `{begin.strip()}` and `{end}`: add these lines")
+    return f"{before}{begin}{text}{end}{after}"
+
+
+def main() -> int:
+    parser = argparse.ArgumentParser("python3 -m experiments.make", description=__doc__,
+                                     formatter_class=argparse.RawDescriptionHelpFormatter)
+    parser.add_argument("tables", metavar="TABLE", nargs="*", help="which tables (all)")
+    parser.add_argument("--write", action="store_true", help="put the tables into docs/EXPERIMENTS.md")
+    parser.add_argument("--out", metavar="FOLDER", type=pathlib.Path, default=pathlib.Path("out/experiments"),
+                        help="where rows and reports go (out/experiments)")
+    add_engine(parser)
+    words = parser.parse_args()
+    for name in words.tables:
+        if name not in TABLES:
+            parser.error(f"{name}: there is no such table; there are {', '.join(TABLES)}")
+    engine = ["--engine", words.engine, *(["--program", words.program] if words.program else [])]
+    for name in words.tables or TABLES:
+        started = time.monotonic()
+        made = TABLES[name](Asked(words.out, engine))
+        text = text_of(name, made, time.monotonic() - started, words.engine)
+        print(f"{name}\n\n{text}", flush=True)
+        if words.write:
+            document = written(DOCUMENT.read_text(encoding="utf-8"), name, text)
+            DOCUMENT.write_text(document, encoding="utf-8")
+    return 0
+
+
+if __name__ == "__main__":
+    sys.exit(main())

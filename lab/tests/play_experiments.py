@@ -1,0 +1,85 @@
+"""Small parts of the experiments give the figures of docs/EXPERIMENTS.md."""
+import os
+import pathlib
+import tempfile
+import unittest
+from typing import Dict, List
+
+from experiments import make
+from lab import grid, report, sweep
+from lab.engines import TOP
+from lab.sweep import Work
+
+DOCUMENT = make.DOCUMENT
+SMALL = {"rings": ("rings", ["ring:4", "ring:6"]), "known-map": ("known_map", ["hypercube:3"])}
+SMALL_EXPLORED = ("ring:3", "ring:4", "ring:5")
+
+
+def table(name: str) -> List[List[str]]:
+    """The rows of a table of the document, without its head."""
+    text = DOCUMENT.read_text(encoding="utf-8").partition(f"<!-- table {name} -->")[2].partition("<!-- end")[0]
+    lines = [line for line in text.splitlines() if line.startswith("|")]
+    return [line.strip("| ").split(" | ") for line in lines[2:]]
+
+
+def rows_by_network(name: str) -> Dict[str, List[str]]:
+    return {row[0]: row for row in table(name)}
+
+
+class Experiments(unittest.TestCase):
+    def setUp(self) -> None:
+        self.addCleanup(os.chdir, os.getcwd())
+        os.chdir(TOP)
+        folder = tempfile.TemporaryDirectory()
+        self.addCleanup(folder.cleanup)
+        self.asked = make.Asked(pathlib.Path(folder.name), ["--engine", "model"])
+
+    def test_small_parts_of_the_sweeps(self) -> None:
+        for name, (file, networks) in SMALL.items():
+            spec = grid.read(make.EXPERIMENTS / f"{file}.toml")._replace(names=networks)
+            rows = [sweep.row_of(Work("", None), spec, case) for case in spec.cases()]
+            groups = report.groups_of([dict(zip(sweep.COLUMNS, row)) for row in rows], spec)
+            for row in make.rows_of(groups)[1:]:
+                with self.subTest(name, network=row[0]):
+                    self.assertEqual(rows_by_network(name)[row[0]], list(row))
+
+    def test_small_networks_that_were_explored(self) -> None:
+        found = {tuple(row[:2]): row for row in table("explored")}
+        self.assertEqual(len(found), len(make.EXPLORED))
+        for exploration in make.EXPLORED:
+            if exploration.network in SMALL_EXPLORED:
+                row = list(make.explored_row(exploration, self.asked))
+                with self.subTest(row[0], agents=row[1]):
+                    self.assertEqual(found[tuple(row[:2])], row)
+
+    def test_the_count_agrees_with_what_was_explored_hunted_and_drawn(self) -> None:
+        explored = {int(row[0].partition(":")[2]): int(row[4]) for row in table("explored") if "`ring.py`" in row[1]}
+        self.assertEqual(explored, {nodes: make.most_on_ring(nodes) for nodes in range(3, 10)})
+        for row in table("rings"):
+            nodes = int(row[0].partition(":")[2])
+            with self.subTest(nodes=nodes):
+                self.assertEqual(max(int(row[5]), int(row[7])), make.most_on_ring(nodes))
+        self.assertEqual([make.most_on_ring(nodes) for nodes in (8, 16, 32, 64)], [37, 113, 301, 745])
+
+    def test_teams_with_one_agent_too_few(self) -> None:
+        for hunt in make.TOO_FEW[:2]:
+            row = list(make.too_few_row(hunt, self.asked))
+            with self.subTest(row[0]):
+                self.assertIn(row, table("too-few"))
+
+    def test_no_team_of_a_table_is_lost_whole(self) -> None:
+        for name in ("rings", "known-map"):
+            for row in table(name):
+                with self.subTest(name, network=row[0]):
+                    self.assertEqual(row[2], row[3])
+                    self.assertLess(int(row[-3]), int(row[1]))
+
+    def test_a_table_is_put_into_the_document(self) -> None:
+        text = "a\n<!-- table one -->\nold\n<!-- end of one -->\nb\n"
+        self.assertEqual(make.written(text, "one", "new\n"), "a\n<!-- table one -->\nnew\n<!-- end of one -->\nb\n")
+        with self.assertRaises(SystemExit):
+            make.written(text, "two", "new\n")
+
+
+if __name__ == "__main__":
+    unittest.main()
