@@ -88,11 +88,11 @@ class Sweeps(unittest.TestCase):
         words = [sys.executable, "-m", "lab", *self.words("stopped", "--workers", "2", *MODEL)]
         with subprocess.Popen(words, cwd=TOP, stdout=subprocess.PIPE, text=True, start_new_session=True) as ran:
             path = self.folder / "stopped" / sweep.RUNS
-            until = time.monotonic() + 30
+            until = time.monotonic() + 120
             while time.monotonic() < until and not (path.exists() and path.read_bytes().count(b"\n") > 5):
                 time.sleep(0.02)
             ran.send_signal(signal.SIGINT)
-            said, _ = ran.communicate(timeout=30)
+            said, _ = ran.communicate(timeout=120)
         self.assertEqual(ran.returncode, 130)
         self.assertRegex(said, r"interrupted; \d+ of 4000 runs are done: the same command goes on there")
 
