@@ -1,5 +1,6 @@
 """A sweep gives the same rows by any number of workers, by either engine, and after an interruption."""
 import contextlib
+import functools
 import hashlib
 import io
 import os
@@ -86,7 +87,10 @@ class Sweeps(unittest.TestCase):
     def test_who_interrupts_it_is_told_that_it_can_go_on(self) -> None:
         self.file.write_text(TEXT.replace("seeds = 6", "seeds = 500"))
         words = [sys.executable, "-m", "lab", *self.words("stopped", "--workers", "2", *MODEL)]
-        with subprocess.Popen(words, cwd=TOP, stdout=subprocess.PIPE, text=True, start_new_session=True) as ran:
+        # a shell starts what runs in the background with this signal ignored
+        heeds = functools.partial(signal.signal, signal.SIGINT, signal.SIG_DFL)
+        with subprocess.Popen(words, cwd=TOP, stdout=subprocess.PIPE, text=True, start_new_session=True,
+                              preexec_fn=heeds) as ran:
             path = self.folder / "stopped" / sweep.RUNS
             until = time.monotonic() + 120
             while time.monotonic() < until and not (path.exists() and path.read_bytes().count(b"\n") > 5):
