@@ -26,7 +26,7 @@ from typing import Callable, Dict, List, NamedTuple, Sequence, Tuple
 
 from lab import grid, report, sweep
 from lab.__main__ import main as lab
-from lab.engines import TOP
+from lab.engines import TOP, is_unproved, program_at
 from lab.run import PROGRAM, add_engine
 
 EXPERIMENTS = TOP / "experiments"
@@ -39,10 +39,12 @@ Cells = Sequence[str]
 
 
 class Made(NamedTuple):
-    """A table: its rows with their head, and the commands that made it."""
+    """A table: its rows with their head, the commands that made it, and whether the Python model searched for its
+    rows, which the engine then played again."""
 
     rows: List[Cells]
     commands: List[str]
+    is_searched: bool = False
 
 
 class Asked(NamedTuple):
@@ -150,7 +152,7 @@ def explored_row(exploration: Exploration, asked: Asked) -> Cells:
 
 def explored(asked: Asked) -> Made:
     rows = [explored_row(exploration, asked) for exploration in EXPLORED]
-    return Made([EXPLORED_HEAD, *rows], [shown(EXPLORED[0].words())])
+    return Made([EXPLORED_HEAD, *rows], [shown(EXPLORED[0].words())], is_searched=True)
 
 
 class Hunt(NamedTuple):
@@ -185,7 +187,7 @@ def too_few_row(hunt: Hunt, asked: Asked) -> Cells:
 
 def too_few(asked: Asked) -> Made:
     rows = [too_few_row(hunt, asked) for hunt in TOO_FEW]
-    return Made([TOO_FEW_HEAD, *rows], [shown(hunt.words()) for hunt in TOO_FEW])
+    return Made([TOO_FEW_HEAD, *rows], [shown(hunt.words()) for hunt in TOO_FEW], is_searched=True)
 
 
 def losses(asked: Asked) -> Made:
@@ -219,11 +221,18 @@ def commit() -> str:
     return ran.stdout.strip() or "unknown"
 
 
-def text_of(name: str, made: Made, seconds: float, engine: str) -> str:
+def player_of(words: argparse.Namespace) -> str:
+    """Who plays, in words."""
+    if words.engine != PROGRAM:
+        return "the Python model"
+    return "a build without a proof" if is_unproved(program_at(words.program)) else "the proved program"
+
+
+def text_of(made: Made, seconds: float, player: str) -> str:
     """A table as the document has it."""
     commands = "".join(f"\n    {command}" for command in made.commands)
-    player = "proved program" if engine == PROGRAM else "Python model"
-    said = f"Engine: the {player}. {seconds:.0f} s. Commit {commit()}."
+    search = "The Python model searched. " if made.is_searched else ""
+    said = f"{search}Engine: {player}. {seconds:.0f} s. Commit {commit()}."
     return f"{markdown(made.rows)}\n\n{said}\n{commands}\n"
 
 
@@ -253,7 +262,7 @@ def main() -> int:
     for name in words.tables or TABLES:
         started = time.monotonic()
         made = TABLES[name](Asked(words.out, engine))
-        text = text_of(name, made, time.monotonic() - started, words.engine)
+        text = text_of(made, time.monotonic() - started, player_of(words))
         print(f"{name}\n\n{text}", flush=True)
         if words.write:
             document = written(DOCUMENT.read_text(encoding="utf-8"), name, text)
