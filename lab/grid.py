@@ -165,7 +165,7 @@ def numbered(name: str, ports: Optional[int]) -> Network:
 
 
 def check_nodes(grid: Grid) -> None:
-    """Refuses a home base or a black hole that is no node."""
+    """Refuses a home base or a black hole that is not in the network."""
     listed = grid.holes if isinstance(grid.holes, list) else []
     for name, network in grid.networks.items():
         if grid.home >= network.nodes:

@@ -311,7 +311,7 @@ def log(stage: Stage) -> None:
         raise Wrong(f"told was {found}")
 
 
-@case("a contest is served on an address of IPv6, and on none that is no address")
+@case("a contest is served on an address of IPv6, and a word that is not an address is refused")
 def address(stage: Stage) -> None:
     writes(stage, cup=TWO_TEAMS, tri=TRIANGLE)
     words = ["serve", "cup.toml", "--port", str(free_port()), "--sessions", "1", "--turns", "1", "--pause", "1",
@@ -326,7 +326,7 @@ ROOM = 900
 
 
 def full_disk() -> None:
-    """Has each file of a program that is started take no more than so many bytes: writes beyond them fail."""
+    """Has each file of a program that is started take no more than this number of bytes: writes beyond them fail."""
     signal.signal(signal.SIGXFSZ, signal.SIG_IGN)
     resource.setrlimit(resource.RLIMIT_FSIZE, (ROOM, ROOM))
 

@@ -270,7 +270,7 @@ class Player:
 
 
 def drawn(agents: int) -> Drawn:
-    """A rehearsal of two matches, the one of so many agents and the other of 65 less these."""
+    """A rehearsal of two matches, one of this number of agents and one of 65 less that."""
     chance = random.Random(agents)
     ready = [ready_by_chance(0, agents, chance), ready_by_chance(1, 65 - agents, chance)]
     files = files_of(ready)

@@ -8,7 +8,7 @@ from prover import Libraries, below
 SECONDS = pathlib.Path(__file__).resolve().parent / "proof_seconds"
 # a crate that takes longer than it should is still taken to need this part of its time
 LAST_PART = 0.1
-# how much of the pace is taken from earlier runs: as if so many of their seconds had been seen to take as long here
+# how much of the pace is taken from earlier runs: as if this many of their seconds had taken as long here
 TRUST = 60.0
 
 
