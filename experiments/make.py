@@ -120,59 +120,53 @@ def most_on_ring(nodes: int) -> int:
     return found
 
 
-class Exploration(NamedTuple):
-    """A small network, of which all schedules are tried."""
+class Search(NamedTuple):
+    """A command of the lab that searches schedules of a team on a network."""
 
+    command: str
     network: str
     agent: str
     agents: int
 
     def words(self) -> List[str]:
-        return ["explore", "--network", self.network, "--agents", str(self.agents), "--agent", self.agent]
+        return [self.command, "--network", self.network, "--agents", str(self.agents), "--agent", self.agent]
+
+    def team(self) -> str:
+        """How many agents there are, and which."""
+        return f"{self.agents}, `{self.agent.partition(' ')[0].rpartition('/')[2]}`"
 
 
 EXPLORED = [
-    *(Exploration(f"ring:{nodes}", RING, 2) for nodes in range(3, 10)),
-    *(Exploration(f"ring:{nodes}", KNOWN_MAP, 2) for nodes in range(3, 8)),
-    Exploration("hypercube:3", KNOWN_MAP, 2),
+    *(Search("explore", f"ring:{nodes}", RING, 2) for nodes in range(3, 10)),
+    *(Search("explore", f"ring:{nodes}", KNOWN_MAP, 2) for nodes in range(3, 8)),
+    Search("explore", "hypercube:3", KNOWN_MAP, 2),
 ]
 EXPLORED_HEAD = ("network", "agents", "states", "schedules that fail", "most moves", "most lost")
 
 
-def explored_row(exploration: Exploration, asked: Asked) -> Cells:
+def explored_row(search: Search, asked: Asked) -> Cells:
     """What was found of a small network."""
-    said = said_by([*exploration.words(), "--keep", str(asked.out / "explored")], asked)
+    said = said_by([*search.words(), "--keep", str(asked.out / "explored")], asked)
     states = re.search(r"^(\d+) states in .*: no schedule fails", said, re.M)
     most = re.search(r"^most moves: .* moves (\d+) lost (\d+)$", said, re.M)
     if not states or not most:
-        sys.exit(f"{shown(exploration.words())}: {said}")
-    file = exploration.agent.partition(" ")[0].rpartition("/")[2]
-    return [exploration.network, f"{exploration.agents}, `{file}`", states[1], "none", most[1], most[2]]
+        sys.exit(f"{shown(search.words())}: {said}")
+    return [search.network, search.team(), states[1], "none", most[1], most[2]]
 
 
 def explored(asked: Asked) -> Made:
-    rows = [explored_row(exploration, asked) for exploration in EXPLORED]
+    rows = [explored_row(search, asked) for search in EXPLORED]
     return Made([EXPLORED_HEAD, *rows], [shown(EXPLORED[0].words())], is_searched=True)
 
 
-class Hunt(NamedTuple):
-    """A team that has one agent too few."""
-
-    network: str
-    agent: str
-    agents: int
-
-    def words(self) -> List[str]:
-        return ["hunt", "--network", self.network, "--agents", str(self.agents), "--agent", self.agent]
-
-
 TOO_FEW = [
-    Hunt("ring:8", RING, 1), Hunt("hypercube:3", KNOWN_MAP, 1), Hunt("hypercube:3", MAP, 3), Hunt("torus:3x3", MAP, 4),
+    Search("hunt", "ring:8", RING, 1), Search("hunt", "hypercube:3", KNOWN_MAP, 1),
+    Search("hunt", "hypercube:3", MAP, 3), Search("hunt", "torus:3x3", MAP, 4),
 ]
 TOO_FEW_HEAD = ("network", "agents", "needed", "schedules tried", "verdict", "choices of the smallest schedule")
 
 
-def too_few_row(hunt: Hunt, asked: Asked) -> Cells:
+def too_few_row(hunt: Search, asked: Asked) -> Cells:
     """How a team with an agent too few fails."""
     folder = asked.out / "too_few" / f"{hunt.network.replace(':', '')}_{hunt.agents}"
     said = said_by([*hunt.words(), "--keep", str(folder), "--database", str(asked.out / "hunted")], asked)
@@ -181,8 +175,7 @@ def too_few_row(hunt: Hunt, asked: Asked) -> Cells:
     choices = re.search(r": (\d+) choices; again by", said)
     if not tried or not verdict or not choices:
         sys.exit(f"{shown(hunt.words())} found no schedule after which the team fails: {said}")
-    file = hunt.agent.partition(" ")[0].rpartition("/")[2]
-    return [hunt.network, f"{hunt.agents}, `{file}`", str(hunt.agents + 1), tried[1], verdict[1], choices[1]]
+    return [hunt.network, hunt.team(), str(hunt.agents + 1), tried[1], verdict[1], choices[1]]
 
 
 def too_few(asked: Asked) -> Made:

@@ -17,7 +17,7 @@
     ports         "shuffled:SEED" numbers the ports of each node anew; may be absent
     home          the home base (0)
     holes         "by seed": seed S has a black hole of its own, as `run` takes it; "all": each node in turn; a number:
-                  so many nodes, drawn for each network; a list: these nodes ("by seed")
+                  this number of nodes, drawn for each network; a list: these nodes ("by seed")
     schedulers    as --scheduler takes them (["fair"])
     seeds         how many seeds each scheduler gets (1)
     quota, board  commands of an agent, and bytes of a whiteboard (1000, 4096)

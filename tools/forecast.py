@@ -28,7 +28,7 @@ class Forecast:
     """How far a build is. Times are those of one clock, in seconds."""
 
     def __init__(self, libraries: Libraries, crates: Set[str], seconds: Dict[str, float], workers: int) -> None:
-        """A build of these crates, so many at a time. One that has no time of its own gets the median."""
+        """A build of these crates by `workers` workers. A crate without an earlier time gets the median."""
         other = statistics.median(seconds.values()) if seconds else 1.0
         self._seconds = {name: seconds.get(name, other) for name in crates}
         self._needs = {name: [it for it in below(libraries, name) if it in crates] for name in crates}

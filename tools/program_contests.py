@@ -30,7 +30,7 @@ TRIES = 3
 
 
 class Side(NamedTuple):
-    """A match: a ring of so many nodes, on which node 0 is the home base and port 0 leads to the next node; the black
+    """A match on a ring, on which node 0 is the home base and port 0 leads to the next node: how many nodes; the black
     hole; the link that is held, as its departure; and what its agents do, each by the steps of a word."""
     team: str
     nodes: int
@@ -74,7 +74,7 @@ def delivered(match: Match, held: Set[Place], number: int) -> Optional[int]:
 
 
 def may_be(match: Match, held: Set[Place], words: Sequence[int], turns: Set[int]) -> Set[int]:
-    """How many turns may have been taken before the next event, if so many may have been before."""
+    """The numbers of turns that may have been taken before the next event, by those before the last one."""
     found, new = set(turns), set(turns)
     while new:
         new = {turn + 1 for turn in new if turn < len(words) and delivered(match, held, words[turn]) is None} - found

@@ -216,6 +216,17 @@ fn arrived(pass: &Pass) -> Option<(u32, Option<u16>)> {
     }
 }
 
+/// Waits until the flag is set, for ten seconds at most; then it gives up.
+fn wait_for<C: Clock>(clock: &C, flag: &AtomicBool, gave_up: &AtomicBool) {
+    for _ in 0..10_000 {
+        if flag.load(Ordering::SeqCst) {
+            return;
+        }
+        thread::sleep(clock, Duration::from_millis(1));
+    }
+    gave_up.store(true, Ordering::SeqCst);
+}
+
 /// Lets a thread under the lock of match 0 wait for one that was under the lock of match 1.
 #[derive(Drop)]
 struct Crossing<'a, C: Clock> {
@@ -227,13 +238,7 @@ struct Crossing<'a, C: Clock> {
 
 impl<C: Clock> Crossing<'_, C> {
     fn waits_for(&self, flag: &AtomicBool) {
-        for _ in 0..10_000 {
-            if flag.load(Ordering::SeqCst) {
-                return;
-            }
-            thread::sleep(self.clock, Duration::from_millis(1));
-        }
-        self.gave_up.store(true, Ordering::SeqCst);
+        wait_for(self.clock, flag, &self.gave_up);
     }
 }
 

@@ -42,7 +42,7 @@ fn write(alloc: Global, expect: &str, put: &str) -> Result<Command, AllocError> 
     })
 }
 
-fn here(came: Option<u16>, board: Option<u32>) -> Option<Mark> {
+pub(super) fn here(came: Option<u16>, board: Option<u32>) -> Option<Mark> {
     Some(Mark::Here {
         ports: 2,
         came,

@@ -10,6 +10,19 @@ const TRIANGLE: [(u16, u16, u16, u16); 3] = [(0, 0, 1, 0), (1, 1, 2, 0), (2, 1, 
 
 const RING: [(u16, u16, u16, u16); 4] = [(0, 0, 1, 0), (1, 1, 2, 0), (2, 1, 3, 0), (3, 1, 0, 1)];
 
+/// The word of a command.
+pub fn word_of(command: &Command) -> &'static str {
+    match command {
+        Command::Enter => "enter",
+        Command::Look => "look",
+        Command::Write { .. } => "write",
+        Command::Depart { .. } => "depart",
+        Command::Accuse { .. } => "accuse",
+        Command::Leave => "leave",
+        Command::Bad => "bad",
+    }
+}
+
 /// A match of two agents from node 0 of the triangle, or of the ring of four nodes, after the words of a row and a
 /// close. Each word is an agent's number and `e` for enter, `l` for look, `w` for a write, `v` for a Deliver, or `d` or
 /// `a` with a port for depart or accuse.

@@ -6,6 +6,7 @@
 //! go out before writing fails. `␠`, `␉` and `␍` stand for a space, a tab and a carriage return. Rows are parted by
 //! empty lines.
 
+use super::played::word_of;
 use super::streams::{Narrow, Pieces};
 use bhs_model::{Command, MAX_LINE, Reply, Text};
 use bhs_net::Memory;
@@ -269,18 +270,6 @@ impl Port for Script<'_> {
         self.note("news")?;
         let alloc = self.alloc;
         reply_of(alloc, self.answer()?)
-    }
-}
-
-fn word_of(command: &Command) -> &'static str {
-    match command {
-        Command::Enter => "enter",
-        Command::Look => "look",
-        Command::Write { .. } => "write",
-        Command::Depart { .. } => "depart",
-        Command::Accuse { .. } => "accuse",
-        Command::Leave => "leave",
-        Command::Bad => "bad",
     }
 }
 

@@ -1,5 +1,6 @@
 //! Worlds: how a setup is judged, and what events are answered one after the other.
 
+use super::matches::here;
 use super::triangle::{network, setup};
 use bhs_model::{Command, DarkLinks, Event, Holes, Kept, Mark, Setup, Text, Why};
 use bhs_world::{SetupFault, World};
@@ -73,14 +74,6 @@ fn write(alloc: Global, put: &str) -> Result<Command, Fail> {
     Ok(Command::Write {
         expect: Text::from(String::new(alloc)),
         put: Text::from(String::from_str(alloc, put)?),
-    })
-}
-
-fn here(came: Option<u16>, board: Option<u32>) -> Option<Mark> {
-    Some(Mark::Here {
-        ports: 2,
-        came,
-        board,
     })
 }
 

@@ -1,6 +1,6 @@
 //! The gate is called under the lock: while one command is held there, no other of its match comes so far.
 
-use super::{cell, claimed, enters};
+use super::{cell, claimed, enters, wait_for};
 use bhs_lock::Gate;
 use std::sync::atomic::{AtomicBool, Ordering};
 use std::test::Fail;
@@ -20,13 +20,7 @@ struct Keeper<'a, C: Clock> {
 
 impl<C: Clock> Keeper<'_, C> {
     fn waits_for(&self, flag: &AtomicBool) {
-        for _ in 0..10_000 {
-            if flag.load(Ordering::SeqCst) {
-                return;
-            }
-            thread::sleep(self.clock, Duration::from_millis(1));
-        }
-        self.gave_up.store(true, Ordering::SeqCst);
+        wait_for(self.clock, flag, &self.gave_up);
     }
 }
 

@@ -1,5 +1,6 @@
+use super::super::played::word_of;
 use bhs_match::Sealed;
-use bhs_model::{Command, Event};
+use bhs_model::Event;
 use std::alloc::Global;
 use std::test::Fail;
 
@@ -10,18 +11,6 @@ pub(super) fn lengths(alloc: Global, sealed: &[Sealed]) -> Result<Vec<usize>, Fa
         lengths.push(one.log().len())?;
     }
     Ok(lengths)
-}
-
-fn word_of(command: &Command) -> &'static str {
-    match command {
-        Command::Enter => "enter",
-        Command::Look => "look",
-        Command::Write { .. } => "write",
-        Command::Depart { .. } => "depart",
-        Command::Accuse { .. } => "accuse",
-        Command::Leave => "leave",
-        Command::Bad => "bad",
-    }
 }
 
 /// The agent of an event, and what it is: the command or the delivery; None of a close.
