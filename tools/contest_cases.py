@@ -298,17 +298,23 @@ def no_part(stage: Stage) -> None:
         expect(stage.run(["recover", "p"]), b"", b"p: " + told + b"\n", REFUSED_TEXT)
 
 
-@case("with --log it is told who comes and how sessions and matches end")
+SESSION_0_ENDED = "serve: session 0 played match 1 agent 0: its agent accused"
+
+
+@case("with --log it is told who comes, who plays, and how sessions and matches end")
 def log(stage: Stage) -> None:
     with served(stage, "--log", sessions=2) as server:
         server.hears(enter("ba") + b'{"do":"accuse","port":1}\n')
         server.hears(enter("zz"))
         told = server.ended().told.decode().splitlines()
     found = sorted(re.sub(r"from 127\.0\.0\.1:\d+$", "from PEER", line) for line in told)
-    if found != ["serve: match 0 closed after 20 turns", "serve: match 1 closed after 20 turns",
-                 "serve: session 0 from PEER", "serve: session 0 played match 1 agent 0: its agent accused",
+    if found != ["serve: match 0 closed: turns 20 events 1, silent moves 0 lost 0",
+                 "serve: match 1 closed: turns 20 events 3, guess 1 moves 0 lost 0",
+                 "serve: session 0 from PEER", SESSION_0_ENDED, "serve: session 0 plays match 1 agent 0",
                  "serve: session 1 from PEER", "serve: session 1 played nobody: it was denied"]:
         raise Wrong(f"told was {found}")
+    if told.index("serve: session 0 plays match 1 agent 0") > told.index(SESSION_0_ENDED):
+        raise Wrong(f"a session is told to play once it has ended: {told}")
 
 
 @case("a contest is served on an address of IPv6, and a word that is not an address is refused")

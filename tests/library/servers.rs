@@ -14,7 +14,7 @@ use clients::{
 };
 use contests::{Patience, contest};
 use gates::Turnstile;
-use logs::{lengths, log_of, played_by};
+use logs::{all_sealed, lengths, log_of, played_by};
 use std::alloc::Global;
 use std::net::{Ipv4Addr, Net, SocketAddr, TcpListener, TcpStream};
 use std::sync::Wait;
@@ -100,7 +100,8 @@ fn two_enter_and_leave(rt: HostRuntime) -> Result<(), Fail> {
     let visit = format!(in alloc; "{HERE}{BYE}")?;
     let (first, second) = heard?;
     assert!(rt; first == visit && second == visit);
-    let Served { sealed, ended } = served;
+    let Served { settled, ended } = served;
+    let sealed = all_sealed(alloc, settled)?;
     assert_eq!(rt; ended.as_slice(), [Ended::Bye, Ended::Bye].as_slice());
     assert_eq!(rt; lengths(alloc, &sealed)?.as_slice(), [5].as_slice());
     for agent in 0..2 {
@@ -128,7 +129,7 @@ fn sessions_are_served_beside_each_other(rt: HostRuntime) -> Result<(), Fail> {
         |client| two_visits(client, &pace),
     )?;
     assert!(rt; heard.is_ok());
-    assert_eq!(rt; lengths(alloc, &served.sealed)?.as_slice(), [5].as_slice());
+    assert_eq!(rt; lengths(alloc, &all_sealed(alloc, served.settled)?)?.as_slice(), [5].as_slice());
     assert!(rt; !pace.gave_up() && !gate.gave_up());
     Ok(())
 }
@@ -183,7 +184,8 @@ fn sessions_end_by_each_cause(rt: HostRuntime) -> Result<(), Fail> {
         "{HERE}{BYE}{HERE}{NOTED}{UNKNOWN}{TAKEN}{STRANGE}{HERE}{HERE}{HERE}{GONE}{OVER}"
     )?;
     assert_eq!(rt; heard?.as_str(), expected.as_str());
-    let Served { sealed, ended } = served;
+    let Served { settled, ended } = served;
+    let sealed = all_sealed(alloc, settled)?;
     let causes = [
         Ended::Bye,
         Ended::Noted,
@@ -240,7 +242,8 @@ fn sixty_four_sessions_play_eight_matches(rt: HostRuntime) -> Result<(), Fail> {
     for one in heard? {
         assert!(rt; one?);
     }
-    let Served { sealed, ended } = served;
+    let Served { settled, ended } = served;
+    let sealed = all_sealed(alloc, settled)?;
     assert_eq!(rt; ended.len(), 64);
     assert!(rt; ended.iter().all(|ended| *ended == Ended::Bye));
     assert_eq!(rt; lengths(alloc, &sealed)?.as_slice(), [49; 8].as_slice());
@@ -279,7 +282,8 @@ fn four_come_one_after_the_other(rt: HostRuntime) -> Result<(), Fail> {
     )?;
     let expected = format!(in alloc; "{UNKNOWN}{HERE}{BYE}{TAKEN}")?;
     assert_eq!(rt; heard?.as_str(), expected.as_str());
-    let Served { sealed, ended } = served;
+    let Served { settled, ended } = served;
+    let sealed = all_sealed(alloc, settled)?;
     let causes = [Ended::InputEnded, Ended::Denied, Ended::Bye, Ended::Denied];
     assert_eq!(rt; ended.as_slice(), causes.as_slice());
     assert_eq!(rt; sealed.len(), 1);
@@ -313,7 +317,8 @@ fn a_client_is_gone_at_once(rt: HostRuntime) -> Result<(), Fail> {
         |client| is_gone(client, &pace),
     )?;
     assert!(rt; gone.is_ok());
-    let Served { sealed, ended } = served;
+    let Served { settled, ended } = served;
+    let sealed = all_sealed(alloc, settled)?;
     let causes = [
         Ended::Over,
         Ended::InputEnded,
@@ -362,7 +367,8 @@ fn sessions_are_cut_off_after_the_grace_period(rt: HostRuntime) -> Result<(), Fa
         |client| hold_on(client, &pace),
     )?;
     assert!(rt; held.is_ok());
-    let Served { sealed, ended } = served;
+    let Served { settled, ended } = served;
+    let sealed = all_sealed(alloc, settled)?;
     let causes = [Ended::InputEnded, Ended::InputEnded, Ended::ReadFault];
     assert_eq!(rt; ended.as_slice(), causes.as_slice());
     assert_eq!(rt; lengths(alloc, &sealed)?.as_slice(), [2].as_slice());
@@ -377,7 +383,7 @@ fn an_accept_that_fails_is_a_session(rt: HostRuntime) -> Result<(), Fail> {
     listener.set_nonblocking(true)?;
     let pace = Patience::new(&rt, 0, 0);
     let ready = contest(alloc, 2, 1)?;
-    let Served { sealed, ended } = run_server(
+    let Served { settled, ended } = run_server(
         &rt,
         alloc,
         &listener,
@@ -387,6 +393,7 @@ fn an_accept_that_fails_is_a_session(rt: HostRuntime) -> Result<(), Fail> {
         &Open,
         &Blind,
     )?;
+    let sealed = all_sealed(alloc, settled)?;
     assert_eq!(rt; ended.as_slice(), [Ended::ReadFault; 2].as_slice());
     assert_eq!(rt; lengths(alloc, &sealed)?.as_slice(), [1, 1].as_slice());
     Ok(())

@@ -47,7 +47,7 @@ pub fn run<R: Threads + Wait + Clock + Sync, W: Write, E: Write>(
     };
     match done {
         Ok(()) => DONE,
-        Err(fault) => tell(fault, errors),
+        Err(fault) => report(fault, errors),
     }
 }
 
@@ -91,7 +91,7 @@ fn time_of_playing<C: Clock>(
     events: u64,
 ) -> Result<Duration, BenchFault> {
     let begin = Instant::now(clock).map_err(|_| BenchFault::Clock)?;
-    workload.play(alloc, events)?;
+    workload.play_events(alloc, events)?;
     begin.elapsed(clock).map_err(|_| BenchFault::Clock)
 }
 
@@ -128,7 +128,7 @@ fn stages<C: Clock, W: Write>(
     Ok(())
 }
 
-fn tell<E: Write>(fault: BenchFault, errors: &mut E) -> u8 {
+fn report<E: Write>(fault: BenchFault, errors: &mut E) -> u8 {
     let _ = writeln!(errors, "bhs_bench: {fault}");
     match fault {
         BenchFault::Network(_)

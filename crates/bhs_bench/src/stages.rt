@@ -60,7 +60,7 @@ pub fn lasted<C: Clock>(
     let begin = Instant::now(clock).map_err(|_| BenchFault::Clock)?;
     match stage {
         Stage::Reading => read(alloc, rounds)?,
-        Stage::Playing => play(alloc, rounds)?,
+        Stage::Playing => play_rounds(alloc, rounds)?,
         Stage::Writing => write(alloc, rounds)?,
         Stage::Printing => print(alloc, rounds)?,
     }
@@ -77,8 +77,8 @@ fn read(alloc: Global, rounds: u64) -> Result<(), Memory> {
     Ok(())
 }
 
-fn play(alloc: Global, rounds: u64) -> Result<(), BenchFault> {
-    Workload::new(alloc)?.play(alloc, rounds.saturating_mul(EACH_ROUND))
+fn play_rounds(alloc: Global, rounds: u64) -> Result<(), BenchFault> {
+    Workload::new(alloc)?.play_events(alloc, rounds.saturating_mul(EACH_ROUND))
 }
 
 fn write(alloc: Global, rounds: u64) -> Result<(), Memory> {

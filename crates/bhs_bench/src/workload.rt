@@ -79,7 +79,7 @@ impl Workload {
     }
 
     /// Plays so many events, on one match after the other.
-    pub fn play(&mut self, alloc: Global, events: u64) -> Result<(), BenchFault> {
+    pub fn play_events(&mut self, alloc: Global, events: u64) -> Result<(), BenchFault> {
         for _ in 0..events {
             self.step(alloc)?;
         }
@@ -104,7 +104,7 @@ impl Workload {
         self.events += 1;
         if self.events <= AGENTS {
             let agent = self.events - 1;
-            self.tell(agent, Command::Enter);
+            self.apply_command(agent, Command::Enter);
         } else if self.events == EVENTS_OF_A_MATCH {
             self.game.apply(Event::Close);
         } else {
@@ -114,21 +114,21 @@ impl Workload {
         Ok(())
     }
 
-    fn tell(&mut self, agent: u16, command: Command) {
+    fn apply_command(&mut self, agent: u16, command: Command) {
         self.game.apply(Event::Tell { agent, command });
     }
 
     fn perform(&mut self, alloc: Global, deed: Deed) -> Result<(), Memory> {
         match deed {
-            Deed::Look { agent } => self.tell(agent, Command::Look),
+            Deed::Look { agent } => self.apply_command(agent, Command::Look),
             Deed::Write { agent } => {
                 let expect = Text::from(String::from_str(alloc, self.game.seen(agent))?);
                 let word = self.words.next();
                 let put = Text::from(format!(in alloc; "{word}")?);
-                self.tell(agent, Command::Write { expect, put });
+                self.apply_command(agent, Command::Write { expect, put });
             }
-            Deed::Depart { agent, port } => self.tell(agent, Command::Depart { port }),
-            Deed::Accuse { agent } => self.tell(agent, Command::Accuse { port: PORTS }),
+            Deed::Depart { agent, port } => self.apply_command(agent, Command::Depart { port }),
+            Deed::Accuse { agent } => self.apply_command(agent, Command::Accuse { port: PORTS }),
             Deed::Draw { word } => {
                 draw(&mut self.game, &self.held, word);
             }

@@ -9,12 +9,13 @@ use Rattle.clap.specs.Walk.{is_empty}
 use Rattle.clap.specs.Kinds.{IsAmong, Kinds}
 use Rattle.clap.specs.declared.error.kind.ErrorKind.{ErrorKind}
 use Rattle.clap.specs.declared.error.kind.ErrorKind.TheVariants.{DisplayHelp, DisplayVersion, OutOfMemory}
-use Rattle.bhs_command_line.specs.CommandLine.{Parses, AsksHelp, AreRefused, Says, Explains, is_refused, is_shown}
-use Rattle.bhs_command_line.specs.CommandLine.{arena, command_in, faults, is_asked, order_by, order_in}
+use Rattle.bhs_command_line.specs.CommandLine.{Parses, AsksHelp, AsksVersion, AreRefused, Says, Explains, is_refused}
+use Rattle.bhs_command_line.specs.CommandLine.{arena, command_in, faults, is_asked, is_shown, order_by, order_in}
 use Rattle.bhs_command_line.specs.declared.Parsed.{Parsed}
 use Rattle.bhs_command_line.specs.declared.Parsed.TheVariants.{Ordered, Refused, Shown}
 use Rattle.bhs_command_line.specs.declared.orders.Order.{Order}
 use Rattle.bhs_command_line.proofs.WordLemmas.{arena_is_free, arena_is_simple, help_fault, kind≢none, no_word_fault}
+use Rattle.bhs_command_line.proofs.WordLemmas.{version_fault}
 use Rattle.bhs_command_line.proofs.WordLemmas.{says_gives}
 
 asked_kind : (kind : ErrorKind) → is_asked kind ≡ true → (kind ≡ DisplayHelp) ⊎ (kind ≡ DisplayVersion)
@@ -112,15 +113,14 @@ plainly_answered words (Shown text) e order says =
 plainly_answered words (Refused text) e order says =
     absurd (some≢none order (sym (says_order words order says) ∙ refused_none words e (says_gives words order says).0))
 
--- words that ask for help alone are shown it
-pub help_answered : (words : List Text) (answer : Parsed) → Parses words answer → AsksHelp words
-    → is_shown answer ≡ true
-help_answered words (Ordered order) e asks = absurd
-    (kind≢none _ _ (sym (help_fault words asks) ∙ ordered_taken words order e))
-help_answered words (Shown text) e asks = refl
-help_answered words (Refused text) (inl e) asks =
-    absurd (true≢false (sym e ∙ ap (list_any (λ kind. not (is_asked kind))) (help_fault words asks)))
-help_answered words (Refused text) (inr e) asks = absurd (kind≢none _ _ (sym (help_fault words asks) ∙ e.0))
+-- words that only ask for something are shown it
+shown_answered : (words : List Text) (answer : Parsed) (kind : ErrorKind) → Parses words answer
+    → faults words ≡ kind ∷ [] → is_asked kind ≡ true → is_shown answer ≡ true
+shown_answered words (Ordered order) kind e one asked = absurd (kind≢none _ _ (sym one ∙ ordered_taken words order e))
+shown_answered words (Shown text) kind e one asked = refl
+shown_answered words (Refused text) kind (inl e) one asked =
+    absurd (true≢false (sym e ∙ ap (list_any (λ kind. not (is_asked kind))) one ∙ ap (λ b. not b || false) asked))
+shown_answered words (Refused text) kind (inr e) one asked = absurd (kind≢none _ _ (sym one ∙ e.0))
 
 pub no_word_answered : (words : List Text) (answer : Parsed) → Parses words answer → words ≡ []
     → is_refused answer ≡ true
@@ -134,21 +134,24 @@ no_word_answered words (Refused text) e none = refl
 pub record Plainly (words : List Text) (answer : Parsed) : Type 0 where
   pub plain : (order : Order) → Says words order → answer ≡ Ordered order
   pub help : AsksHelp words → is_shown answer ≡ true
+  pub version : AsksVersion words → is_shown answer ≡ true
   pub no_word : words ≡ [] → is_refused answer ≡ true
 
 pub plainly : (words : List Text) (answer : Parsed) → Parses words answer → Plainly words answer
 plainly words answer e = record {
   plain = plainly_answered words answer e;
-  help = help_answered words answer e;
+  help = λ asks. shown_answered words answer DisplayHelp e (help_fault words asks) refl;
+  version = λ asks. shown_answered words answer DisplayVersion e (version_fault words asks) refl;
   no_word = no_word_answered words answer e;
 }
 
 pub all_plainly : {E : Type 0} (r : Result Parsed E) (words : List Text) → IfOk r (Parses words)
     → IfOk r (λ answer. (order : Order) → Says words order → answer ≡ Ordered order)
     × IfOk r (λ answer. AsksHelp words → is_shown answer ≡ true)
+    × IfOk r (λ answer. AsksVersion words → is_shown answer ≡ true)
     × IfOk r (λ answer. words ≡ [] → is_refused answer ≡ true)
-all_plainly (Ok answer) words answers = let p = plainly words answer answers in (p.plain, p.help, p.no_word)
-all_plainly (Err x) words answers = (tt, tt, tt)
+all_plainly (Ok answer) words answers = let p = plainly words answer answers in (p.plain, p.help, p.version, p.no_word)
+all_plainly (Err x) words answers = (tt, tt, tt, tt)
 
 -- what clap's answers are over the command line as it is told
 module _ (a : App) (is : a ≡ arena) (words : List Text) where

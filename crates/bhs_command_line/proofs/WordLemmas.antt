@@ -9,8 +9,10 @@ use Rattle.clap.specs.Kinds.{Kinds, or_else}
 use Rattle.clap.specs.Faults.{is_simple_and_free}
 use Rattle.clap.specs.declared.error.kind.ErrorKind.{ErrorKind}
 use Rattle.clap.specs.declared.error.kind.ErrorKind.TheVariants.{DisplayHelp, DisplayHelpOnMissingArgumentOrSubcommand}
+use Rattle.clap.specs.declared.error.kind.ErrorKind.TheVariants.{DisplayVersion}
 use Rattle.clap.proofs.OnLiterals.{clap_on_literals}
-use Rattle.bhs_command_line.specs.CommandLine.{AsksHelp, AskAfter, Says, arena, command_in, faults, is_dashed}
+use Rattle.bhs_command_line.specs.CommandLine.{AsksHelp, AsksVersion, AskAfter, Says, arena, command_in, faults}
+use Rattle.bhs_command_line.specs.CommandLine.{is_dashed}
 use Rattle.bhs_command_line.specs.CommandLine.{number_in, entries_in, order_by}
 use Rattle.bhs_command_line.specs.declared.orders.Order.{Order}
 use Rattle.bhs_command_line.specs.declared.orders.Order.TheVariants.{Check, Explain, Judge, Recover, Rehearse, Serve}
@@ -64,6 +66,11 @@ help_fault words (inr (inr (inr (inr (inr (inr (inr (inl asks)))))))) =
     asked_after (codes "recover" ∷ []) words asks (refl, refl)
 help_fault words (inr (inr (inr (inr (inr (inr (inr (inr asks)))))))) =
     asked_after (codes "serve" ∷ []) words asks (refl, refl)
+
+pub version_fault : (words : List Text) → AsksVersion words → faults words ≡ DisplayVersion ∷ []
+unfolding clap_on_literals
+version_fault words (inl is) = subst (λ (ws : List Text). faults ws ≡ DisplayVersion ∷ []) (sym is) refl
+version_fault words (inr is) = subst (λ (ws : List Text). faults ws ≡ DisplayVersion ∷ []) (sym is) refl
 
 pub no_word_fault : (words : List Text) → words ≡ [] → faults words ≡ DisplayHelpOnMissingArgumentOrSubcommand ∷ []
 unfolding clap_on_literals

@@ -26,9 +26,10 @@ use Rattle.bhs_command_line.specs.declared.Parsed.TheVariants.{Ordered, Shown, R
 
 -- ---- the command line
 
--- a program that wants a command, and answers with its help where it gets no word at all
+-- a program that tells its version, wants a command, and answers with its help if it gets no word at all
 abbrev pub program : Text → App
 program name = on_top (λ s. record s {
+  has_version = true;
   no_binary_name = true;
   arg_required_else_help = true;
   subcommand_required = true;
@@ -328,6 +329,10 @@ AsksHelp words = AskAfter [] words
     ⊎ (AskAfter (codes "twin" ∷ []) words
     ⊎ (AskAfter (codes "recover" ∷ []) words
     ⊎ AskAfter (codes "serve" ∷ []) words)))))))
+
+-- the words that ask for the version and do nothing else
+abbrev pub AsksVersion : List Text → Type 0
+AsksVersion words = (words ≡ codes "--version" ∷ []) ⊎ (words ≡ codes "-V" ∷ [])
 
 abbrev pub is_shown : Parsed → Bool
 is_shown (Shown text) = true

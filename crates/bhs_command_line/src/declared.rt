@@ -9,6 +9,9 @@ use crate::help;
 use clap::{Arg, ArgAction, Command};
 use std::alloc::{AllocError, Global};
 
+/// The version of the project, as the file VERSION has it.
+const VERSION: &str = "0.9.0";
+
 const TOURNAMENT_FILE: &str = "The tournament's file, as a path from the working directory";
 
 const REPLAY_FILE: &str = "The replay's file, as a path from the working directory";
@@ -45,6 +48,7 @@ fn program<'a>(alloc: Global) -> Result<Command<'a>, AllocError>
     ensures { IfOk result (λ command. app_of command ≡ specs.program (codes "arena")) }
 {
     Command::new(alloc, "arena")
+        .version(VERSION)
         .about(help::ARENA)
         .long_about(help::ARENA_AT_LENGTH)
         .no_binary_name(true)

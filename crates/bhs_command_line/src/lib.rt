@@ -2,7 +2,7 @@
 #![tactic(auto)]
 
 ghost use Rattle.std.specs.Prelude.{◌≡◌, [], IfOk, IsErr, IsTrue, map};
-ghost use Rattle.bhs_command_line.specs.CommandLine.{Parses, AsksHelp, Says, Explains};
+ghost use Rattle.bhs_command_line.specs.CommandLine.{Parses, AsksHelp, AsksVersion, Says, Explains};
 ghost use Rattle.bhs_command_line.specs.CommandLine.{is_refused, is_shown};
 ghost use Rattle.bhs_command_line.specs.declared.Parsed.TheVariants.{Ordered};
 ghost use Rattle.bhs_command_line.specs.declared.orders.Order.{Order as OrderData};
@@ -30,7 +30,7 @@ use unfit::unfit_text;
 pub enum Parsed {
     /// The words give an order.
     Ordered(Order),
-    /// The words ask for help: `text` is for standard output, and the exit status is 0.
+    /// The words ask for help or for the version: `text` is for standard output, and the exit status is 0.
     Shown { text: String },
     /// The words give no order: `text` is for standard error, and the exit status is 2.
     Refused { text: String },
@@ -49,6 +49,8 @@ pub fn order_of<S: AsStr>(alloc: Global, words: &[S]) -> Result<Parsed, AllocErr
         Says (map S.text words.now) order → answer ≡ Ordered order) }
     ensures help { IfOk result (λ answer.
         AsksHelp (map S.text words.now) → IsTrue (is_shown answer)) }
+    ensures version { IfOk result (λ answer.
+        AsksVersion (map S.text words.now) → IsTrue (is_shown answer)) }
     ensures no_word { IfOk result (λ answer.
         map S.text words.now ≡ [] → IsTrue (is_refused answer)) }
 {

@@ -83,58 +83,59 @@ spent_means quota used n ended b why some going full = cond-false _ _ _ some ∙
 
 -- the refusal of the definitions is that of the numbers
 pub refusal_same : (quota : ℕ) (now : Standing) (used : ℕ) (tally : Tally) (command : Command)
-    → tally.ended ≡ has_ended now → Fits quota now used tally.heard → accepts now (nat_lt used quota) command ≡ false →
-    refusal_by quota tally command ≡ Some (refusal now command)
-refusal_same quota Outside used tally Look ended fits none = cond-true _ _ _ (eq-eqb tally.heard 0 fits.0)
-refusal_same quota Outside used tally (Write expect put) ended fits none = cond-true _ _ _ (eq-eqb tally.heard 0 fits.0)
-refusal_same quota Outside used tally (Depart port) ended fits none = cond-true _ _ _ (eq-eqb tally.heard 0 fits.0)
-refusal_same quota Outside used tally (Accuse port) ended fits none = cond-true _ _ _ (eq-eqb tally.heard 0 fits.0)
-refusal_same quota Outside used tally Leave ended fits none = cond-true _ _ _ (eq-eqb tally.heard 0 fits.0)
-refusal_same quota Outside used tally Bad ended fits none = cond-true _ _ _ (eq-eqb tally.heard 0 fits.0)
-refusal_same quota Present used tally Enter ended fits none = cond-false _ _ _ (not_none tally.heard used fits.0)
+    → tally.ended ≡ has_ended now → Fits quota now used tally.commands
+    → accepts now (nat_lt used quota) command ≡ false → refusal_by quota tally command ≡ Some (refusal now command)
+refusal_same quota Outside used tally Look ended fits none = cond-true _ _ _ (eq-eqb tally.commands 0 fits.0)
+refusal_same quota Outside used tally (Write expect put) ended fits none =
+    cond-true _ _ _ (eq-eqb tally.commands 0 fits.0)
+refusal_same quota Outside used tally (Depart port) ended fits none = cond-true _ _ _ (eq-eqb tally.commands 0 fits.0)
+refusal_same quota Outside used tally (Accuse port) ended fits none = cond-true _ _ _ (eq-eqb tally.commands 0 fits.0)
+refusal_same quota Outside used tally Leave ended fits none = cond-true _ _ _ (eq-eqb tally.commands 0 fits.0)
+refusal_same quota Outside used tally Bad ended fits none = cond-true _ _ _ (eq-eqb tally.commands 0 fits.0)
+refusal_same quota Present used tally Enter ended fits none = cond-false _ _ _ (not_none tally.commands used fits.0)
 refusal_same quota Present used tally Look ended fits none =
-    spent_means quota used tally.heard tally.ended true None (not_none tally.heard used fits.0) ended
-    (all_spent tally.heard used quota fits.0 fits.1 none)
+    spent_means quota used tally.commands tally.ended true None (not_none tally.commands used fits.0) ended
+    (all_spent tally.commands used quota fits.0 fits.1 none)
 refusal_same quota Present used tally (Write expect put) ended fits none =
-    spent_means quota used tally.heard tally.ended true None (not_none tally.heard used fits.0) ended
-    (all_spent tally.heard used quota fits.0 fits.1 none)
+    spent_means quota used tally.commands tally.ended true None (not_none tally.commands used fits.0) ended
+    (all_spent tally.commands used quota fits.0 fits.1 none)
 refusal_same quota Present used tally (Depart port) ended fits none =
-    spent_means quota used tally.heard tally.ended true None (not_none tally.heard used fits.0) ended
-    (all_spent tally.heard used quota fits.0 fits.1 none)
+    spent_means quota used tally.commands tally.ended true None (not_none tally.commands used fits.0) ended
+    (all_spent tally.commands used quota fits.0 fits.1 none)
 refusal_same quota Present used tally (Accuse port) ended fits none =
-    spent_means quota used tally.heard tally.ended true None (not_none tally.heard used fits.0) ended
-    (all_spent tally.heard used quota fits.0 fits.1 none)
+    spent_means quota used tally.commands tally.ended true None (not_none tally.commands used fits.0) ended
+    (all_spent tally.commands used quota fits.0 fits.1 none)
 refusal_same quota Present used tally Bad ended fits none =
-    spent_means quota used tally.heard tally.ended true None (not_none tally.heard used fits.0) ended
-    (all_spent tally.heard used quota fits.0 fits.1 none)
-refusal_same quota Away used tally Enter ended fits none = cond-false _ _ _ (not_none tally.heard used fits.0)
+    spent_means quota used tally.commands tally.ended true None (not_none tally.commands used fits.0) ended
+    (all_spent tally.commands used quota fits.0 fits.1 none)
+refusal_same quota Away used tally Enter ended fits none = cond-false _ _ _ (not_none tally.commands used fits.0)
 refusal_same quota Away used tally Look ended fits none =
-    spent_means quota used tally.heard tally.ended true None (not_none tally.heard used fits.0) ended
-    (all_spent tally.heard used quota fits.0 fits.1 none)
+    spent_means quota used tally.commands tally.ended true None (not_none tally.commands used fits.0) ended
+    (all_spent tally.commands used quota fits.0 fits.1 none)
 refusal_same quota Away used tally (Write expect put) ended fits none =
-    spent_means quota used tally.heard tally.ended true None (not_none tally.heard used fits.0) ended
-    (all_spent tally.heard used quota fits.0 fits.1 none)
+    spent_means quota used tally.commands tally.ended true None (not_none tally.commands used fits.0) ended
+    (all_spent tally.commands used quota fits.0 fits.1 none)
 refusal_same quota Away used tally (Depart port) ended fits none =
-    spent_means quota used tally.heard tally.ended true None (not_none tally.heard used fits.0) ended
-    (all_spent tally.heard used quota fits.0 fits.1 none)
+    spent_means quota used tally.commands tally.ended true None (not_none tally.commands used fits.0) ended
+    (all_spent tally.commands used quota fits.0 fits.1 none)
 refusal_same quota Away used tally (Accuse port) ended fits none =
-    spent_means quota used tally.heard tally.ended true None (not_none tally.heard used fits.0) ended
-    (all_spent tally.heard used quota fits.0 fits.1 none)
+    spent_means quota used tally.commands tally.ended true None (not_none tally.commands used fits.0) ended
+    (all_spent tally.commands used quota fits.0 fits.1 none)
 refusal_same quota Away used tally Bad ended fits none =
-    spent_means quota used tally.heard tally.ended true None (not_none tally.heard used fits.0) ended
-    (all_spent tally.heard used quota fits.0 fits.1 none)
-refusal_same quota Ended used tally Enter ended fits none = cond-false _ _ _ (some_not_none tally.heard fits)
-refusal_same quota Ended used tally Look ended fits none = cond-false _ _ _ (some_not_none tally.heard fits)
+    spent_means quota used tally.commands tally.ended true None (not_none tally.commands used fits.0) ended
+    (all_spent tally.commands used quota fits.0 fits.1 none)
+refusal_same quota Ended used tally Enter ended fits none = cond-false _ _ _ (some_not_none tally.commands fits)
+refusal_same quota Ended used tally Look ended fits none = cond-false _ _ _ (some_not_none tally.commands fits)
     ∙ cond-true _ _ _ ended
 refusal_same quota Ended used tally (Write expect put) ended fits none =
-    cond-false _ _ _ (some_not_none tally.heard fits) ∙ cond-true _ _ _ ended
-refusal_same quota Ended used tally (Depart port) ended fits none = cond-false _ _ _ (some_not_none tally.heard fits)
+    cond-false _ _ _ (some_not_none tally.commands fits) ∙ cond-true _ _ _ ended
+refusal_same quota Ended used tally (Depart port) ended fits none = cond-false _ _ _ (some_not_none tally.commands fits)
     ∙ cond-true _ _ _ ended
-refusal_same quota Ended used tally (Accuse port) ended fits none = cond-false _ _ _ (some_not_none tally.heard fits)
+refusal_same quota Ended used tally (Accuse port) ended fits none = cond-false _ _ _ (some_not_none tally.commands fits)
     ∙ cond-true _ _ _ ended
-refusal_same quota Ended used tally Leave ended fits none = cond-false _ _ _ (some_not_none tally.heard fits)
+refusal_same quota Ended used tally Leave ended fits none = cond-false _ _ _ (some_not_none tally.commands fits)
     ∙ cond-true _ _ _ ended
-refusal_same quota Ended used tally Bad ended fits none = cond-false _ _ _ (some_not_none tally.heard fits)
+refusal_same quota Ended used tally Bad ended fits none = cond-false _ _ _ (some_not_none tally.commands fits)
     ∙ cond-true _ _ _ ended
 refusal_same quota now used tally command ended fits none = grind arith
 
@@ -156,31 +157,31 @@ free_to_leave : (used n : ℕ) (ended : Bool) → n ≡ used + 1 → ended ≡ f
 free_to_leave used n ended is going = cond-false _ _ _ (not_none n used is) ∙ cond-false _ _ _ going
 
 pub free_none : (quota : ℕ) (now : Standing) (used : ℕ) (tally : Tally) (command : Command)
-    → tally.ended ≡ has_ended now → Fits quota now used tally.heard → accepts now (nat_lt used quota) command ≡ true
+    → tally.ended ≡ has_ended now → Fits quota now used tally.commands → accepts now (nat_lt used quota) command ≡ true
     → refusal_by quota tally command ≡ None
-free_none quota Outside used tally Enter ended fits free = cond-true _ _ _ (eq-eqb tally.heard 0 fits.0)
-free_none quota Present used tally Leave ended fits free = free_to_leave used tally.heard tally.ended fits.0 ended
+free_none quota Outside used tally Enter ended fits free = cond-true _ _ _ (eq-eqb tally.commands 0 fits.0)
+free_none quota Present used tally Leave ended fits free = free_to_leave used tally.commands tally.ended fits.0 ended
 free_none quota Present used tally Look ended fits free =
-    free_with_room quota used tally.heard tally.ended fits.0 ended free
+    free_with_room quota used tally.commands tally.ended fits.0 ended free
 free_none quota Present used tally (Write expect put) ended fits free =
-    free_with_room quota used tally.heard tally.ended fits.0 ended free
+    free_with_room quota used tally.commands tally.ended fits.0 ended free
 free_none quota Present used tally (Depart port) ended fits free =
-    free_with_room quota used tally.heard tally.ended fits.0 ended free
+    free_with_room quota used tally.commands tally.ended fits.0 ended free
 free_none quota Present used tally (Accuse port) ended fits free =
-    free_with_room quota used tally.heard tally.ended fits.0 ended free
+    free_with_room quota used tally.commands tally.ended fits.0 ended free
 free_none quota Present used tally Bad ended fits free =
-    free_with_room quota used tally.heard tally.ended fits.0 ended free
-free_none quota Away used tally Leave ended fits free = free_to_leave used tally.heard tally.ended fits.0 ended
+    free_with_room quota used tally.commands tally.ended fits.0 ended free
+free_none quota Away used tally Leave ended fits free = free_to_leave used tally.commands tally.ended fits.0 ended
 free_none quota Away used tally Look ended fits free =
-    free_with_room quota used tally.heard tally.ended fits.0 ended free
+    free_with_room quota used tally.commands tally.ended fits.0 ended free
 free_none quota Away used tally (Write expect put) ended fits free =
-    free_with_room quota used tally.heard tally.ended fits.0 ended free
+    free_with_room quota used tally.commands tally.ended fits.0 ended free
 free_none quota Away used tally (Depart port) ended fits free =
-    free_with_room quota used tally.heard tally.ended fits.0 ended free
+    free_with_room quota used tally.commands tally.ended fits.0 ended free
 free_none quota Away used tally (Accuse port) ended fits free =
-    free_with_room quota used tally.heard tally.ended fits.0 ended free
+    free_with_room quota used tally.commands tally.ended fits.0 ended free
 free_none quota Away used tally Bad ended fits free =
-    free_with_room quota used tally.heard tally.ended fits.0 ended free
+    free_with_room quota used tally.commands tally.ended fits.0 ended free
 free_none quota now used tally command ended fits free = grind arith
 
 -- ---- what is said of a command

@@ -33,7 +33,7 @@ use Rattle.bhs_lock.proofs.FitLemmas.{event_fit, fit_more}
 
 -- one receipt more
 receipts_more : (receipts : List Receipt) (receipt : Receipt) → tally_in (receipts ++ receipt ∷ []) ≡ record
-    { heard = length receipts + 1; ended = list_any is_last receipts || is_last receipt }
+    { commands = length receipts + 1; ended = list_any is_last receipts || is_last receipt }
 receipts_more receipts receipt =
     let longer : length (receipts ++ receipt ∷ []) ≡ length receipts + 1 = length-append receipts _ in
     let ended : list_any is_last (receipts ++ receipt ∷ []) ≡ (list_any is_last receipts || is_last receipt) =
@@ -48,11 +48,11 @@ bool_same false false e = refl
 
 tally_is : (one two : Tally) → same_tally one two ≡ true → one ≡ two
 tally_is one two e =
-    let parts = and_parts (one.heard == two.heard) (same_bool one.ended two.ended) e in
-    let heard : one.heard ≡ two.heard = eqb-true _ _ parts.0 in
+    let parts = and_parts (one.commands == two.commands) (same_bool one.ended two.ended) e in
+    let heard : one.commands ≡ two.commands = eqb-true _ _ parts.0 in
     let ended : one.ended ≡ two.ended = bool_same _ _ parts.1 in
-    ap (λ (n : ℕ). let t : Tally = record { heard = n; ended = one.ended } in t) heard
-    ∙ ap (λ (b : Bool). let t : Tally = record { heard = two.heard; ended = b } in t) ended
+    ap (λ (n : ℕ). let t : Tally = record { commands = n; ended = one.ended } in t) heard
+    ∙ ap (λ (b : Bool). let t : Tally = record { commands = two.commands; ended = b } in t) ended
 
 -- what it says that a pass agrees
 pub record HasAgreed (hall : Housed) (pass : Passed) : Type 0 where
@@ -158,11 +158,11 @@ tally_heard play agent command mark said place receipts is replied agreed =
     (glance (world_in play) state (state.position agent) command) is.free)
     ∙ ap (λ (b : Bool). has_ended (standing view) || b) answered in
     receipts_more receipts (record { place = place; reply = said })
-    ∙ ap (λ (tally : Tally). let t : Tally = record { heard = tally.heard + 1; ended = tally.ended || is_end said } in
-    t) (sym agreed)
+    ∙ ap (λ (tally : Tally). let t : Tally = record
+    { commands = tally.commands + 1; ended = tally.ended || is_end said } in t) (sym agreed)
     ∙ sym (ap (λ (n : ℕ). let t : Tally = record
-    { heard = n; ended = has_ended (standing ((state_of after).past agent)) } in t) count
-    ∙ ap (λ (b : Bool). let t : Tally = record { heard = heard_count agent play.log + 1; ended = b } in t) ended)
+    { commands = n; ended = has_ended (standing ((state_of after).past agent)) } in t) count
+    ∙ ap (λ (b : Bool). let t : Tally = record { commands = heard_count agent play.log + 1; ended = b } in t) ended)
   where
     said_is : {r : Option Reply} {a : Reply} → r ≡ Some a → Some said ≡ r → is_end a ≡ is_end said
     said_is {r} {a} one two = let both : Some a ≡ Some said = sym one ∙ sym two in
@@ -181,9 +181,9 @@ tally_other play event mark other kept apart =
     let ended : has_ended (standing ((state_of after).past other)) ≡ has_ended (standing ((state_of play).past other)) =
     ap (λ (state : State). has_ended (standing (state.past other))) (state_more play one)
     ∙ (event_fit play event other kept).ended apart in
-    ap (λ (n : ℕ). let t : Tally = record { heard = n; ended = has_ended (standing ((state_of after).past other)) } in
-    t) count
-    ∙ ap (λ (b : Bool). let t : Tally = record { heard = heard_count other play.log; ended = b } in t) ended
+    ap (λ (n : ℕ). let t : Tally = record { commands = n; ended = has_ended (standing ((state_of after).past other)) }
+    in t) count
+    ∙ ap (λ (b : Bool). let t : Tally = record { commands = heard_count other play.log; ended = b } in t) ended
 
 -- a command that is heard gives its agent the numbers of the pass
 legal_heard : (play play' : Play) (pass pass' : Passed) (command : Command) (place : Option ℕ) (mark : Mark)

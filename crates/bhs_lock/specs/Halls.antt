@@ -35,7 +35,7 @@ same_bool a b = if a then b else not b
 
 -- whether two agents' numbers are the same
 abbrev pub same_tally : (one two : Tally) → Bool
-same_tally one two = (one.heard == two.heard) && same_bool one.ended two.ended
+same_tally one two = (one.commands == two.commands) && same_bool one.ended two.ended
 
 -- whether this receipt's place is below this length, if there is a receipt
 abbrev pub place_below : Option Receipt → (length : ℕ) → Bool

@@ -46,7 +46,7 @@ is_last receipt = is_end receipt.reply
 
 -- how many commands a pass has receipts of, and whether its agent has ended
 abbrev pub tally_in : List Receipt → Tally
-tally_in receipts = record { heard = length receipts; ended = list_any is_last receipts }
+tally_in receipts = record { commands = length receipts; ended = list_any is_last receipts }
 
 -- the places of these receipts ascend, from this one on
 abbrev pub Ascend : (least : ℕ) → List Receipt → Type 0

@@ -28,9 +28,10 @@ spent_by quota heard command = if heard - 1 == quota then Some Spent else None
 
 -- why a command is not heard, by the numbers of its agent and the quota; None where it is
 abbrev pub refusal_by : (quota : ℕ) → Tally → Command → Option Why
-refusal_by quota tally Enter = if tally.heard == 0 then None else Some Twice
+refusal_by quota tally Enter = if tally.commands == 0 then None else Some Twice
 refusal_by quota tally command =
-    if tally.heard == 0 then Some Outside else (if tally.ended then Some Ended else spent_by quota tally.heard command)
+    if tally.commands == 0 then Some Outside else (if tally.ended then Some Ended
+    else spent_by quota tally.commands command)
 
 -- a command that was heard: the pass gains its receipt, whose place is above those before it and above that of the last
 -- arrival; the pass's own numbers do not refuse it

@@ -28,13 +28,13 @@ has_ended standing = false
 -- the two numbers of an agent: how many of its commands were heard, and whether it has ended
 abbrev pub tally_of : (agent : ℕ) → Play → Tally
 tally_of agent play = record {
-  heard = heard_count agent play.log;
+  commands = heard_count agent play.log;
   ended = has_ended (standing ((state_of play).past agent));
 }
 
 -- no command, and not ended
 abbrev pub nothing : Tally
-nothing = record { heard = 0; ended = false }
+nothing = record { commands = 0; ended = false }
 
 -- the numbers that stand at an agent's place
 abbrev pub tally_at : List Tally → (agent : ℕ) → Tally

@@ -72,6 +72,20 @@ impl Cell {
         })
     }
 
+    /// The network that the cell was given.
+    pub fn net(&self) -> &Net
+        ensures { result.now ≡ self.now.net }
+    {
+        &self.net
+    }
+
+    /// The setup that the cell was given.
+    pub fn setup(&self) -> &Setup
+        ensures { result.now ≡ self.now.setup }
+    {
+        &self.setup
+    }
+
     /// The pass of an agent in this match, once; None for a number that is no agent's, and for an agent whose pass was
     /// claimed before.
     pub fn claim<R: Wait>(&self, rt: &R, agent: u16) -> Option<Pass>

@@ -126,7 +126,7 @@ impl Hall {
         let agent = pass.agent();
         // The proof needs that the places of the receipts ascend.
         let _order = pass.receipts();
-        let step = pass.tell(&mut self.play, command)?;
+        let step = pass.submit_to(&mut self.play, command)?;
         // The proof needs what the log says of itself.
         let _legal = self.play.log();
         if step.place.is_some() {
@@ -198,7 +198,7 @@ pub(crate) fn unheard(alloc: Global, agents: u16) -> Result<Vec<Tally>, Memory>
     ensures { IfOk result (λ tallies. tallies.items ≡ replicate agents nothing) }
 {
     let nothing = Tally {
-        heard: 0,
+        commands: 0,
         ended: false,
     };
     Vec::from_elem(alloc, nothing, usize::from(agents))
@@ -218,7 +218,7 @@ fn empty_passes(alloc: Global, game: u32, quota: u16, agents: u16) -> Result<Vec
 fn same_tally(one: Tally, two: Tally) -> bool
     ensures { result ≡ same_tally one two }
 {
-    one.heard == two.heard && (if one.ended { two.ended } else { !two.ended })
+    one.commands == two.commands && (if one.ended { two.ended } else { !two.ended })
 }
 
 /// Whether the place of the last one, if there is one, is below this length.

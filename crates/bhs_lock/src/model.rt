@@ -18,7 +18,7 @@ pub struct Answer {
 /// How many commands of an agent were heard, and whether it has ended.
 #[derive(Clone, Copy, Debug)]
 pub(crate) struct Tally {
-    pub(crate) heard: usize,
+    pub(crate) commands: usize,
     pub(crate) ended: bool,
 }
 

@@ -139,14 +139,14 @@ impl Pass {
         ensures { result ≡ tally_in self.now.receipts }
     {
         Tally {
-            heard: self.receipts.len(),
+            commands: self.receipts.len(),
             ended: self.ended,
         }
     }
 
     /// Tells a match a command of the pass's agent. Memory is taken before anything changes, and only where the reply
     /// will speak of a whiteboard.
-    pub(crate) fn tell(&mut self, play: &mut Match, command: Command) -> Result<Step, Memory>
+    pub(crate) fn submit_to(&mut self, play: &mut Match, command: Command) -> Result<Step, Memory>
         requires { is_below self.old.receipts (length play.old.log) ≡ true }
         ensures done { IfOk result (λ step. IsTold play.old self.old command step.place step.mark step.reply
             play.new self.new) }

@@ -31,7 +31,8 @@ pub fn print_verdict<F: Files, W: Output, E: Write>(
     }
 }
 
-fn verdict_line(alloc: Global, verdict: Verdict) -> Result<String, Memory>
+/// The line of a verdict.
+pub fn verdict_line(alloc: Global, verdict: Verdict) -> Result<String, Memory>
     ensures { IfOk result (λ text. string_bytes text ≡ verdict_line verdict) }
 {
     let outcome = outcome_text(alloc, verdict.outcome)?;

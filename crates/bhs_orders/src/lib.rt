@@ -28,7 +28,7 @@ pub use checking::{check, lineup_of};
 pub use explaining::print_past;
 pub use faults::{Fault, report};
 pub use interactive::{MAX_READS, rehearse_interactively};
-pub use judging::print_verdict;
+pub use judging::{print_verdict, verdict_line};
 pub use laws::{answers_are_transcripts, known_answers};
 pub use parts::{begin_parts, part_name, print_recovered};
 pub use rehearsing::rehearse;

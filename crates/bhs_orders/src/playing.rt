@@ -15,7 +15,7 @@ use bhs_stream::{Output, send};
 use std::alloc::Global;
 
 /// Plays a script, and prints what each instruction sends before the next. Gives the matches back.
-pub fn play<'s, W: Output>(
+pub fn play_script<'s, W: Output>(
     alloc: Global,
     mut rehearsal: Rehearsal<'s>,
     script: &'s [Instruction<'s>],

@@ -3,7 +3,7 @@ ghost use Rattle.bhs_rehearsal.specs.Rehearsing.{game_of};
 ghost use Rattle.bhs_orders.specs.Rehearsal.{Plays, Stops, opening};
 
 use crate::faults::Fault;
-use crate::playing::play;
+use crate::playing::play_script;
 use bhs_lineup::{Lineup, Ready};
 use bhs_model::MAX_TEXT;
 use bhs_rehearsal::Rehearsal;
@@ -31,5 +31,5 @@ pub fn rehearse<R: Input, W: Output>(
     let script = read_text(alloc, reader, MAX_TEXT, turns)?;
     let instructions = instructions_in(alloc, lineup.ready.len(), &script)?;
     let rehearsal = Rehearsal::new(alloc, lineup, CONNECTIONS)?;
-    play(alloc, rehearsal, &instructions, writer)
+    play_script(alloc, rehearsal, &instructions, writer)
 }

@@ -7,7 +7,7 @@ ghost use Rattle.bhs_stream.specs.Sending.{PutsAll};
 ghost use Rattle.bhs_rehearsal.specs.Rehearsing.{game_of};
 ghost use Rattle.bhs_replay.specs.Replay.{replay_of};
 ghost use Rattle.bhs_orders.specs.Fault.{IsOfFault};
-ghost use Rattle.bhs_orders.specs.Filing.{Files, first_status};
+ghost use Rattle.bhs_orders.specs.Filing.{first_status};
 ghost use Rattle.bhs_orders.specs.Playing.{StopsPlaying};
 ghost use Rattle.bhs_orders.specs.Rehearsal.{IsFiled};
 ghost use Rattle.bhs_orders.specs.Reports.{IsReplayed};
@@ -73,25 +73,22 @@ pub(crate) fn write_replays<F: Files, E: Write>(
     status
 }
 
-/// Writes the replay of each match to a file, whose name is the prefix with the match's number, counted from 0, and
-/// `.jsonl`, and then removes its part. One that cannot be written is reported, and keeps no other from being written.
-/// The answer is the exit status of the first that failed, and `DONE` if none did.
+/// Writes the replay of the match of this number to a file, whose name is the prefix with the number and `.jsonl`, and
+/// then removes its part. Any fault is reported, and leaves the part. The answer is the exit status.
 pub fn write_sealed<F: Files, E: Write>(
     alloc: Global,
     files: &F,
     prefix: &str,
-    sealed: &[Sealed],
+    number: usize,
+    sealed: &Sealed,
     errors: &mut E,
 ) -> u8
-    ensures { Files (known_takes F.File.contents) sealed.now result }
+    ensures filed { result ≡ DONE → Took (known_takes F.File.contents) (replay_of sealed.now) }
+    ensures status { result ≡ DONE ⊎ IsOfFault result }
 {
-    let mut status = DONE;
-    for (number, one) in sealed.iter().enumerate() {
-        let code = write_numbered(alloc, files, prefix, number, one, errors);
-        if code == DONE {
-            remove_part(alloc, files, prefix, number);
-        }
-        status = first_status(status, code);
+    let status = write_numbered(alloc, files, prefix, number, sealed, errors);
+    if status == DONE {
+        remove_part(alloc, files, prefix, number);
     }
     status
 }

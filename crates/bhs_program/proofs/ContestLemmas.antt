@@ -4,7 +4,8 @@ use Rattle.std.proofs.Common.{OnErr, Result, Ok, Err}
 use Rattle.bhs_match.specs.Matches.{Play}
 use Rattle.bhs_lineup.specs.declared.lineups.Ready.{Ready}
 use Rattle.bhs_lineup.specs.declared.lineups.Lineup.{Lineup}
-use Rattle.bhs_server.specs.Settling.{AreSealed}
+use Rattle.bhs_lock.specs.declared.parts.Unsettled.{Unsettled}
+use Rattle.bhs_server.specs.Settling.{HaveFared}
 use Rattle.bhs_host.specs.Hosting.{givens_of}
 use Rattle.bhs_stream.specs.Streams.{Taken}
 use Rattle.bhs_orders.specs.Showing.{Prints, all, part, held_back, Shows}
@@ -14,13 +15,13 @@ use Rattle.bhs_orders.specs.declared.statuses.TheConstants.{DONE, NO_MEMORY}
 use Rattle.bhs_orders.proofs.ReportLemmas.{not_done}
 use Rattle.bhs_program.specs.Contests.{Serves, goes_unheard, refuses_contest, listening}
 
-pub as_many : (place : ℕ) (matches : List Ready) (plays : List Play) → AreSealed (givens_of place matches) plays
-    → length (map (λ ready. ready.team) matches) ≡ length plays
-as_many place [] [] sealed = refl
-as_many place [] (play ∷ plays) sealed = absurd sealed
-as_many place (ready ∷ matches) [] sealed = absurd sealed
-as_many place (ready ∷ matches) (play ∷ plays) (one, others) =
-    omega (arith, as_many (place + 1) matches plays others)
+pub as_many : (place : ℕ) (matches : List Ready) (settled : List (Result Play Unsettled))
+    → HaveFared (givens_of place matches) settled → length (map (λ ready. ready.team) matches) ≡ length settled
+as_many place [] [] fared = refl
+as_many place [] (one ∷ settled) fared = absurd fared
+as_many place (ready ∷ matches) [] fared = absurd fared
+as_many place (ready ∷ matches) (one ∷ settled) (first, others) =
+    omega (arith, as_many (place + 1) matches settled others)
 
 -- the line that says that the program listens
 module _ {O : Type 0} (takes : O → List ℕ → Taken → O → Type 0) (flushes : O → Bool → O → Type 0) (port : ℕ)

@@ -1,14 +1,14 @@
 -- The exit statuses of what the program does.
-use Rattle.std.proofs.Common.{inl, inr, ℕ, List, Option, None, Some, Bool, true, false}
+use Rattle.std.proofs.Common.{inl, inr, ℕ, List, Option, None, Some, Bool, true, false, Result}
 use Rattle.std.specs.Prelude.{◌==◌, if◌then◌else◌}
 use Rattle.bhs_match.specs.Matches.{Play}
+use Rattle.bhs_lock.specs.declared.parts.Unsettled.{Unsettled}
 use Rattle.bhs_lineup.specs.declared.lineups.Ready.{Ready}
 use Rattle.bhs_stream.specs.Streams.{Chunk, Taken}
 use Rattle.bhs_rehearsal.specs.Stages.{Stage}
 use Rattle.bhs_command_line.specs.declared.orders.Order.{Order}
 use Rattle.bhs_command_line.specs.declared.orders.Order.TheVariants as order
 use Rattle.bhs_orders.specs.declared.faults.Fault.TheVariants.{Write, Memory, Twin}
-use Rattle.bhs_orders.specs.Filing.{Files, all_filed, unfiled_one}
 use Rattle.bhs_orders.specs.Rehearsal.{Rehearses, done, unfiled, ends}
 use Rattle.bhs_orders.specs.RehearsedTournaments.{RehearsesNamed, rehearses_on, refuses_file}
 use Rattle.bhs_orders.specs.InteractiveTournaments.{InteractsNamed, InteractsWhole, tournament_refused}
@@ -17,7 +17,7 @@ use Rattle.bhs_orders.specs.InteractiveTournaments.{interaction_unfiled}
 use Rattle.bhs_orders.specs.Showing.{Prints, all, part, held_back, PrintsByLine, whole, cut_off, kept_back, Reports}
 use Rattle.bhs_orders.specs.Showing.{prints, stops}
 use Rattle.bhs_orders.specs.declared.statuses.TheConstants.{DONE}
-use Rattle.bhs_program.specs.Contests.{Hosts, settles, fails}
+use Rattle.bhs_program.specs.Contests.{Files, all_filed, unfiled_one, Tables, tabled, untabled, Hosts, hosts, fails}
 use Rattle.bhs_program.specs.Contests.{Serves, serves_on, goes_unheard, refuses_contest}
 use Rattle.bhs_program.specs.Program.{Does, IsStatus, Obeys, does, lacks_memory}
 use Rattle.bhs_program.specs.Program.{Runs, obeys, helps, refuses_words, lacks_room}
@@ -56,17 +56,23 @@ of_either false one two first second = first
 
 module _ {P O : Type 0} (files : P → List ℕ → Taken → P → Type 0) (takes : O → List ℕ → Taken → O → Type 0)
     (flushes : O → Bool → O → Type 0) where
-  of_files : (plays : List Play) (code : ℕ) → Files files plays code → IsStatus code
-  of_files plays code (all_filed is filed) = inl is
-  of_files plays code (unfiled_one fault is) = inr (inr (fault, is))
+  of_files : (settled : List (Result Play Unsettled)) (code : ℕ) → Files files settled code → IsStatus code
+  of_files settled code (all_filed is filed) = inl is
+  of_files settled code (unfiled_one fault is) = inr (inr (fault, is))
+
+  of_table : (teams : List (List ℕ)) (settled : List (Result Play Unsettled)) (output output' : O) (code : ℕ)
+      → Tables files takes flushes teams settled output output' code → IsStatus code
+  of_table teams settled output output' code (tabled plays are table) =
+      of_text takes flushes output output' code _ table
+  of_table teams settled output output' code (untabled fault why is kept) = inr (inr (fault, is))
 
   of_host : (matches : List Ready) (output output' : O) (code : ℕ)
       → Hosts files takes flushes matches output output' code → IsStatus code
-  of_host matches output output' code (settles plays sealed ended) =
+  of_host matches output output' code (hosts settled fared ended) =
       rw ended.coded (of_either (ended.filed == DONE) ended.filed ended.printed
-      (of_files plays ended.filed ended.writes)
-      (of_text takes flushes output output' ended.printed _ ended.tables))
-  of_host matches output output' code (fails fault unserved is kept) = inr (inr (fault, is))
+      (of_files settled ended.filed ended.writes)
+      (of_table _ settled output output' ended.printed ended.tables))
+  of_host matches output output' code (fails is kept) = inr (inr (Memory, is))
 
 module _ {P I O : Type 0} (files : P → List ℕ → Taken → P → Type 0) (gives : I → Chunk → I → Type 0)
     (takes : O → List ℕ → Taken → O → Type 0)

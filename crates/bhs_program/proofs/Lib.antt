@@ -1,3 +1,4 @@
 pub mod ExitLemmas
+pub mod FilingLemmas
 pub mod ContestLemmas
 pub mod RecordingLemmas

@@ -1,55 +1,83 @@
 -- What a contest over sockets does to its output and to the files of its replays, call by call.
-use Rattle.std.specs.Prelude.{◌≡◌, ℕ, Bool, true, List, ◌++◌, codes, decimal, map}
+use Rattle.std.specs.Prelude.{◌≡◌, ℕ, Bool, true, List, ◌∷◌, ◌++◌, codes, decimal, length, map, Result, Ok, Err}
+use Rattle.std.specs.List.{AllByRecursion}
 use Rattle.bhs_match.specs.Matches.{Play}
 use Rattle.bhs_stream.specs.Streams.{Taken}
 use Rattle.bhs_lineup.specs.declared.lineups.Ready.{Ready}
 use Rattle.bhs_lineup.specs.declared.lineups.Lineup.{Lineup}
-use Rattle.bhs_server.specs.Settling.{AreSealed, IsFirstUnsettled}
-use Rattle.bhs_server.specs.declared.settling.ServerFault.{ServerFault}
-use Rattle.bhs_server.specs.declared.settling.ServerFault.TheVariants as servers
+use Rattle.bhs_lock.specs.declared.parts.Unsettled.{Unsettled}
+use Rattle.bhs_replay.specs.Replay.{replay_of}
+use Rattle.bhs_server.specs.Settling.{HaveFared}
 use Rattle.bhs_host.specs.Hosting.{IsStandings, givens_of}
 use Rattle.bhs_orders.specs.Fault.{status}
-use Rattle.bhs_orders.specs.Filing.{Files, first_status}
-use Rattle.bhs_orders.specs.Showing.{Prints, Reports, Shows}
+use Rattle.bhs_orders.specs.Filing.{first_status}
+use Rattle.bhs_orders.specs.Showing.{Prints, Reports, Shows, Took}
 use Rattle.bhs_orders.specs.Summary.{IsAssembled}
 use Rattle.bhs_orders.specs.declared.faults.Fault.{Fault}
-use Rattle.bhs_orders.specs.declared.faults.Fault.TheVariants.{Write, Memory, Unsettled}
+use Rattle.bhs_orders.specs.declared.faults.Fault.TheVariants as faults
+use Rattle.bhs_orders.specs.declared.statuses.TheConstants.{DONE}
 
 -- the line that says on which port agents can connect
 abbrev pub listening : (port : ℕ) → List ℕ
 listening port = codes "listening " ++ (decimal port ++ codes "\n")
 
--- why a contest was not settled
-abbrev pub of_server : ServerFault → Fault
-of_server (servers.Unsettled game) = Unsettled game
-of_server servers.Memory = Memory
+-- the match of this number is the first that does not settle
+pub record IsFirstUnsettled (settled : List (Result Play Unsettled)) (game : ℕ) : Type 0 where
+  pub plays : List Play
+  pub unsettled : Unsettled
+  pub others : List (Result Play Unsettled)
+  pub settled_are : settled ≡ map Ok plays ++ Err unsettled ∷ others
+  pub place : game ≡ length plays
 
--- why a contest of these matches has no table: one of them, the first of this number, is not what its sessions were
--- answered, or memory ran out
-abbrev pub IsUnserved : (matches : List Ready) → Fault → Type 0
-IsUnserved matches (Unsettled game) = IsFirstUnsettled (givens_of 0 matches) game
-IsUnserved matches Memory = Unit {0}
-IsUnserved matches fault = ⊥
+-- why there is no table of matches: one of them does not settle, or memory ran out
+abbrev pub IsUntabled : (settled : List (Result Play Unsettled)) → Fault → Type 0
+IsUntabled settled (faults.Unsettled game) = IsFirstUnsettled settled game
+IsUntabled settled faults.Memory = Unit {0}
+IsUntabled settled fault = ⊥
+
+-- if the match settled, its replay was written to a file with these calls
+abbrev pub HasReplay : {P : Type 0} → (P → List ℕ → Taken → P → Type 0) → Result Play Unsettled → Type 0
+HasReplay files (Ok play) = Took files (replay_of play)
+HasReplay files (Err unsettled) = Unit {0}
+
+-- what the exit status says of the replays of matches that were to be written to files with these calls
+pub data Files {P : Type 0} (files : P → List ℕ → Taken → P → Type 0) (settled : List (Result Play Unsettled))
+    (code : ℕ) : Type 0 where
+  -- each was written
+  all_filed : code ≡ DONE → AllByRecursion (HasReplay files) settled → Files files settled code
+  -- one was not written
+  unfiled_one : (fault : Fault) → code ≡ status fault → Files files settled code
 
 -- the calls of the files that are written, and of the output
 module _ {P O : Type 0} (files : P → List ℕ → Taken → P → Type 0) (takes : O → List ℕ → Taken → O → Type 0)
     (flushes : O → Bool → O → Type 0) where
-  -- the matches of these teams ended so: their replays were to be written, and then their table was to be printed
-  pub record Ends (teams : List (List ℕ)) (plays : List Play) (output output' : O) (code : ℕ) : Type 0 where
+  -- what was printed of the matches of these teams
+  pub data Tables (teams : List (List ℕ)) (settled : List (Result Play Unsettled)) (output output' : O) (code : ℕ) :
+      Type 0 where
+    -- all settled: their table was to be printed
+    tabled : (plays : List Play) → settled ≡ map Ok plays
+        → Reports (Prints takes flushes) (IsStandings teams plays) output output' code
+        → Tables teams settled output output' code
+    -- one does not settle, or memory ran out: nothing was printed
+    untabled : (fault : Fault) → IsUntabled settled fault → code ≡ status fault → output' ≡ output
+        → Tables teams settled output output' code
+
+  -- the matches of these teams fared so: replays were to be written, and then a table was to be printed
+  pub record Ends (teams : List (List ℕ)) (settled : List (Result Play Unsettled)) (output output' : O) (code : ℕ) :
+      Type 0 where
     pub filed : ℕ
     pub printed : ℕ
-    pub writes : Files files plays filed
-    pub tables : Reports (Prints takes flushes) (IsStandings teams plays) output output' printed
+    pub writes : Files files settled filed
+    pub tables : Tables teams settled output output' printed
     pub coded : code ≡ first_status filed printed
 
   -- what came of a contest of these matches
   pub data Hosts (matches : List Ready) (output output' : O) (code : ℕ) : Type 0 where
-    -- each match ended, and is what its sessions were answered
-    settles : (plays : List Play) → AreSealed (givens_of 0 matches) plays
-        → Ends (map (λ ready. ready.team) matches) plays output output' code → Hosts matches output output' code
-    -- it ended with this fault
-    fails : (fault : Fault) → IsUnserved matches fault → code ≡ status fault → output' ≡ output
-        → Hosts matches output output' code
+    -- each match settled as its sessions were answered, or was refused with their passes
+    hosts : (settled : List (Result Play Unsettled)) → HaveFared (givens_of 0 matches) settled
+        → Ends (map (λ ready. ready.team) matches) settled output output' code → Hosts matches output output' code
+    -- memory ran out
+    fails : code ≡ status faults.Memory → output' ≡ output → Hosts matches output output' code
 
   -- what came of serving a tournament that is named, on this port
   pub data Serves (port : ℕ) (output output' : O) (code : ℕ) : Type 0 where
@@ -58,7 +86,7 @@ module _ {P O : Type 0} (files : P → List ℕ → Taken → P → Type 0) (tak
         → Shows takes flushes (listening port) true output heard → Hosts lineup.ready.items heard output' code
         → Serves port output output' code
     -- it was put together, and the program could not say that it listens
-    goes_unheard : (lineup : Lineup) → IsAssembled lineup → code ≡ status Write
+    goes_unheard : (lineup : Lineup) → IsAssembled lineup → code ≡ status faults.Write
         → Prints takes flushes (listening port) output output' code → Serves port output output' code
     -- its file is refused or cannot be read, the port cannot be had, or memory ran out
     refuses_contest : (fault : Fault) → code ≡ status fault → output' ≡ output → Serves port output output' code

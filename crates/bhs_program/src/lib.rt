@@ -2,7 +2,9 @@
 //! another command.
 #![tactic(auto)]
 
+mod finishing;
 mod hosting;
+mod judged;
 mod keeping;
 mod machines;
 mod orders;

@@ -3,10 +3,11 @@
 ghost use Rattle.std.specs.Prelude.{◌≡◌, IfOk, string_bytes};
 ghost use Rattle.bhs_program.specs.Recording.{full_line, lines_of};
 
+use crate::judged::{FEW, TIMES, judged};
 use crate::keeping::Keep;
 use bhs_lock::{Cell, Copied};
 use bhs_net::Memory;
-use bhs_orders::{Fault, part_name};
+use bhs_orders::{Fault, part_name, verdict_line};
 use bhs_replay::line_of;
 use bhs_server::Watch;
 use bhs_session::Ended;
@@ -14,12 +15,6 @@ use std::alloc::Global;
 use std::io::Eprint;
 use std::net::SocketAddr;
 use std::sync::{Mutex, Wait};
-
-/// How many events are copied under the lock of a match at once.
-const FEW: usize = 64;
-
-/// How often events of a match are copied at one look.
-const TIMES: usize = 65_536;
 
 /// How many looks lie between two reports of how far the matches are. There are two looks a second.
 const LOOKS: u32 = 120;
@@ -94,6 +89,13 @@ impl<R: Keep + Wait + Eprint> Watch for Recorder<'_, R> {
         }
     }
 
+    fn let_in(&self, session: u32, game: u32, agent: u16) {
+        if self.is_telling {
+            let _going = self.going.lock(self.rt);
+            let _ = eprintln!(self.rt; "serve: session {session} plays match {game} agent {agent}");
+        }
+    }
+
     fn ended(&self, session: u32, ended: Ended, played: Option<(u32, u16)>) {
         let mut going = self.going.lock(self.rt);
         going.sessions = going.sessions.saturating_sub(1);
@@ -111,11 +113,16 @@ impl<R: Keep + Wait + Eprint> Watch for Recorder<'_, R> {
         };
     }
 
-    fn closed(&self, game: u32, turns: u32) {
-        if self.is_telling {
-            let _going = self.going.lock(self.rt);
-            let _ = eprintln!(self.rt; "serve: match {game} closed after {turns} turns");
+    fn closed(&self, game: u32, turns: u32, cell: &Cell) {
+        if !self.is_telling {
+            return;
         }
+        let end = end_of(self.rt, self.alloc, cell);
+        let end = end
+            .as_ref()
+            .map_or("and no memory to judge it\n", String::as_str);
+        let _going = self.going.lock(self.rt);
+        let _ = eprint!(self.rt; "serve: match {game} closed: turns {turns} {end}");
     }
 
     fn look(&self, cells: &[Cell]) {
@@ -153,6 +160,16 @@ fn told(ended: Ended) -> &'static str {
         Ended::Memory => "memory ran out",
         Ended::Turns => "it read too often",
     }
+}
+
+// What is told of a match that was closed: how many events it has, and the verdict.
+fn end_of<R: Wait>(rt: &R, alloc: Global, cell: &Cell) -> Result<String, Memory> {
+    let Some((events, verdict)) = judged(rt, alloc, cell)? else {
+        return Err(Memory);
+    };
+    let verdict = verdict_line(alloc, verdict)?;
+    let verdict = verdict.as_str();
+    format!(in alloc; "events {events}, {verdict}")
 }
 
 // Tells how many sessions go on, and how many events each part has.

@@ -68,7 +68,7 @@ impl Walk {
     }
 
     /// Goes over a command that was heard at this site.
-    fn tell(&mut self, agent: u16, command: &Command, mark: Option<Mark>, site: Option<u16>)
+    fn hear(&mut self, agent: u16, command: &Command, mark: Option<Mark>, site: Option<u16>)
         requires { self.old.moves + 1 < 2 ^ 32 }
         ensures { self.new ≡ walk_told self.old agent command.now mark site }
     {
@@ -94,7 +94,7 @@ impl Walk {
         ensures { self.new ≡ walk_after self.old kept.now site }
     {
         match &kept.event {
-            Event::Tell { agent, command } => self.tell(*agent, command, kept.mark, site),
+            Event::Tell { agent, command } => self.hear(*agent, command, kept.mark, site),
             Event::Deliver { .. } => self.deliver(kept.mark, site),
             Event::Close => {}
         }

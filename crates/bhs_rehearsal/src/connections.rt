@@ -145,7 +145,7 @@ impl<'s> Connection<'s> {
     }
 
     // Takes items, as one that plays this agent of this match, and adds the text that it is sent.
-    pub(crate) fn play(
+    pub(crate) fn take_queued(
         &mut self,
         alloc: Global,
         line_reader: &mut LineReader,

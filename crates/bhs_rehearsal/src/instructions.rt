@@ -17,7 +17,7 @@ ghost use Rattle.bhs_rehearsal.specs.Takings.{IsStepped, IsDrawn, after_draw, ma
 use crate::connections::Connection;
 use crate::outs::Out;
 use crate::rehearsals::Rehearsal;
-use crate::takings::play;
+use crate::takings::play_event;
 use bhs_deal::{Drawn, draw};
 use bhs_lineup::Ready;
 use bhs_match::Match;
@@ -201,7 +201,7 @@ impl<'s> Rehearsal<'s> {
             (with_game self.old.stage game (played (game_at self.old.stage game) Close)) }
     {
         let ready = &mut self.ready[game as usize];
-        play(ready, Event::Close);
+        play_event(ready, Event::Close);
     }
 }
 

@@ -76,7 +76,7 @@ impl<'s> Rehearsal<'s> {
         self.holders.seat(seat, conn)?;
         let ready = &mut self.ready[seat.0 as usize];
         let connection = &mut self.connections[conn as usize];
-        connection.play(alloc, &mut self.line_reader, ready, seat, text)
+        connection.take_queued(alloc, &mut self.line_reader, ready, seat, text)
     }
 
     // The items are taken of a connection that plays this agent of this match.
@@ -94,7 +94,7 @@ impl<'s> Rehearsal<'s> {
     {
         let ready = &mut self.ready[seat.0 as usize];
         let connection = &mut self.connections[conn as usize];
-        connection.play(alloc, &mut self.line_reader, ready, seat, text)
+        connection.take_queued(alloc, &mut self.line_reader, ready, seat, text)
     }
 
     // The connection takes no more.

@@ -77,10 +77,10 @@ fn take_item(
     match item {
         Item::Says(line) => {
             let first = line.said(line_reader)?;
-            tell(alloc, ready, agent, command_in(first), text)
+            answer_command(alloc, ready, agent, command_in(first), text)
         }
         Item::Ends => {
-            play(
+            play_event(
                 ready,
                 Event::Tell {
                     agent,
@@ -93,7 +93,7 @@ fn take_item(
 }
 
 // Tells a command, and adds the text of its answer. Says whether this is the last.
-fn tell(
+fn answer_command(
     alloc: Global,
     ready: &mut Ready,
     agent: u16,
@@ -107,7 +107,7 @@ fn tell(
         ≡ goes_on is_done (game_of ready.new) agent others text.new.items) }
     ensures team { team_of ready.new ≡ team_of ready.old }
 {
-    let Some(mark) = play(ready, Event::Tell { agent, command }) else {
+    let Some(mark) = play_event(ready, Event::Tell { agent, command }) else {
         return Ok(false);
     };
     let reply = LentReply::of_mark(mark, ready.game.text(&mark));
@@ -116,7 +116,7 @@ fn tell(
 }
 
 // Plays an event of a match. Takes no memory.
-pub(crate) fn play(ready: &mut Ready, event: Event) -> Option<Mark>
+pub(crate) fn play_event(ready: &mut Ready, event: Event) -> Option<Mark>
     ensures game { game_of ready.new ≡ played (game_of ready.old) event }
     ensures reply { read_if ready.new.game.log result ≡ reply_to (game_of ready.old) event }
     ensures team { team_of ready.new ≡ team_of ready.old }

@@ -1,6 +1,7 @@
 //! The connection of a client. What the client is to be sent is held back while lines of it are still to be answered,
 //! and goes out before its session waits for the client or for an arrival: one call of the system for many lines.
 
+use crate::watching::Watch;
 use bhs_net::Memory;
 use std::alloc::Global;
 use std::cell::{Cell, RefCell};
@@ -15,10 +16,13 @@ const ROOM: usize = 64 * 1024;
 /// How many bytes are taken from a client at once at most.
 const TAKEN: usize = 16 * 1024;
 
-/// Where a session writes to, if that holds anything back.
-pub trait Held {
-    /// Sends what is held back. A session does so before it waits for an arrival.
-    fn send_held(&self) -> io::Result<()>;
+/// Is called by a session while it goes on.
+pub trait SessionHooks {
+    /// The session was let in as this agent of a match. Its Enter has not been played yet.
+    fn let_in(&self, game: u32, agent: u16);
+
+    /// The session is about to wait for an arrival: what it has written so far is to reach its client.
+    fn before_waiting(&self);
 }
 
 /// A connection over TCP. Its session is on one thread.
@@ -43,10 +47,9 @@ impl Connection {
     pub(crate) fn has_failed(&self) -> bool {
         self.has_failed.get()
     }
-}
 
-impl Held for Connection {
-    fn send_held(&self) -> io::Result<()> {
+    /// Sends what is held back.
+    pub(crate) fn send_held(&self) -> io::Result<()> {
         let Ok(mut held) = self.held.try_borrow_mut() else {
             return Ok(());
         };
@@ -59,6 +62,35 @@ impl Held for Connection {
             self.has_failed.set(true);
         }
         sent
+    }
+}
+
+/// The client of a session, and who watches it.
+#[derive(Clone, Copy, Drop)]
+pub(crate) struct Guest<'a, W> {
+    session: u32,
+    connection: &'a Connection,
+    watch: &'a W,
+}
+
+impl<'a, W> Guest<'a, W> {
+    /// The client of this connection, in the session of this number.
+    pub(crate) fn new(session: u32, connection: &'a Connection, watch: &'a W) -> Guest<'a, W> {
+        Guest {
+            session,
+            connection,
+            watch,
+        }
+    }
+}
+
+impl<W: Watch> SessionHooks for Guest<'_, W> {
+    fn let_in(&self, game: u32, agent: u16) {
+        self.watch.let_in(self.session, game, agent);
+    }
+
+    fn before_waiting(&self) {
+        let _ = self.connection.send_held();
     }
 }
 

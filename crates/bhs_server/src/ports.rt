@@ -1,7 +1,7 @@
 ghost use Rattle.std.specs.Prelude.{◌≡◌, None};
 ghost use Rattle.bhs_server.specs.Ports.{agreed};
 
-use crate::connections::Held;
+use crate::connections::SessionHooks;
 use bhs_lineup::Keys;
 use bhs_lock::{Cell, Gate, Pass};
 use bhs_model::{Command, Reply, Why};
@@ -22,7 +22,7 @@ pub struct Played {
 pub struct CellPort<'a, R, G, H> {
     rt: &'a R,
     gate: &'a G,
-    held: &'a H,
+    hooks: &'a H,
     cells: &'a [Cell],
     keys: &'a Keys,
     played: Option<Played>,
@@ -37,12 +37,12 @@ impl<'a, R, G, H> Model for CellPort<'a, R, G, H> {
     ghost view = { λ port. record { keys = port.keys.now; cells = port.cells.now; played = port.played } };
 }
 
-impl<'a, R: Wait, G: Gate, H: Held> CellPort<'a, R, G, H> {
-    /// A port at which nobody has entered. Before it waits for an arrival, what is held back is sent.
+impl<'a, R: Wait, G: Gate, H: SessionHooks> CellPort<'a, R, G, H> {
+    /// A port at which nobody has entered.
     pub fn new(
         rt: &'a R,
         gate: &'a G,
-        held: &'a H,
+        hooks: &'a H,
         cells: &'a [Cell],
         keys: &'a Keys,
     ) -> CellPort<'a, R, G, H>
@@ -51,7 +51,7 @@ impl<'a, R: Wait, G: Gate, H: Held> CellPort<'a, R, G, H> {
         CellPort {
             rt,
             gate,
-            held,
+            hooks,
             cells,
             keys,
             played: None,
@@ -65,7 +65,7 @@ impl<'a, R: Wait, G: Gate, H: Held> CellPort<'a, R, G, H> {
         let CellPort {
             rt: _,
             gate: _,
-            held: _,
+            hooks: _,
             cells: _,
             keys: _,
             played,
@@ -84,7 +84,7 @@ fn agreed(reply: Reply) -> Reply
     }
 }
 
-impl<R: Wait, G: Gate, H: Held> Port for CellPort<'_, R, G, H> {
+impl<R: Wait, G: Gate, H: SessionHooks> Port for CellPort<'_, R, G, H> {
     ghost use Rattle.bhs_server.specs.Ports.{Calls};
 
     ghost calls = { Calls };
@@ -99,6 +99,7 @@ impl<R: Wait, G: Gate, H: Held> Port for CellPort<'_, R, G, H> {
         let Some(pass) = cell.claim(self.rt, agent) else {
             return Ok(Entered::Taken);
         };
+        self.hooks.let_in(game, agent);
         // The proof needs that each receipt has its command.
         let _paired = pass.receipts();
         let mut played = Played { game, pass };
@@ -125,7 +126,7 @@ impl<R: Wait, G: Gate, H: Held> Port for CellPort<'_, R, G, H> {
         let Some(cell) = self.cells.get(*game as usize) else {
             return Ok(Reply::Over);
         };
-        let _ = self.held.send_held();
+        self.hooks.before_waiting();
         cell.news(self.rt, pass)
     }
 }

@@ -1,13 +1,16 @@
-ghost use Rattle.std.specs.Prelude.{◌≡◌, IfOk, IfErr, vec_len};
-ghost use Rattle.bhs_server.specs.Settling.{AreSealed, IsUnsettled};
+ghost use Rattle.std.specs.Prelude.{◌≡◌, IfOk, vec_len};
+ghost use Rattle.bhs_server.specs.Settling.{HaveFared};
 
 use crate::ports::Played;
 use crate::visits::Visit;
-use bhs_lock::{Cell, Pass, settle};
+use bhs_lock::{Cell, Pass, Unsettled, settle};
 use bhs_match::Sealed;
 use bhs_net::Memory;
 use bhs_session::Ended;
 use std::alloc::Global;
+
+/// What came of a match: the match, as its sessions were answered, or why it does not settle with their passes.
+pub type Settled = Result<Sealed, Unsettled>;
 
 /// The passes that sessions played by, by the numbers of their matches, and how the sessions ended, in order.
 #[derive(Drop)]
@@ -16,7 +19,7 @@ pub(crate) struct Returned {
     pub(crate) ended: Vec<Ended>,
 }
 
-/// What came back of sessions on so many matches.
+/// What the sessions on this number of matches gave back.
 pub(crate) fn by_match(alloc: Global, games: usize, visits: Vec<Visit>) -> Result<Returned, Memory>
     ensures { IfOk result (λ returned. vec_len returned.ended ≡ vec_len visits) }
 {
@@ -42,37 +45,19 @@ fn hand_in(passes: &mut Vec<Vec<Pass>>, played: Option<Played>) -> Result<(), Me
     Ok(())
 }
 
-/// A match that does not settle, or memory ran out.
-#[derive(Clone, Copy, Debug, PartialEq, Eq)]
-pub enum ServerFault {
-    /// The first match, by its place, that does not settle with the passes of its sessions.
-    Unsettled { game: usize },
-    /// Memory ran out.
-    Memory,
-}
-
-/// The matches of all cells, in order, each settled with its passes; else the first that does not settle.
+/// What came of the match of each cell, in order, with the passes of its sessions.
 pub(crate) fn settle_all(
     alloc: Global,
     cells: Vec<Cell>,
     passes: Vec<Vec<Pass>>,
-) -> Result<Vec<Sealed>, ServerFault>
-    ensures sealed { IfOk result (λ sealed. AreSealed cells.items sealed.items) }
-    ensures unsettled { IfErr result (IsUnsettled cells.items) }
+) -> Result<Vec<Settled>, Memory>
+    ensures { IfOk result (λ settled. HaveFared cells.items settled.items) }
 {
-    let Ok(mut sealed) = Vec::with_capacity(alloc, cells.len()) else {
-        return Err(ServerFault::Memory);
-    };
+    let mut settled = Vec::with_capacity(alloc, cells.len())?;
     let mut passes = passes.into_iter();
     for cell in cells {
         let own = passes.next().unwrap_or_else(|| Vec::new(alloc));
-        let game = sealed.len();
-        let Ok(one) = settle(cell, own) else {
-            return Err(ServerFault::Unsettled { game });
-        };
-        let Ok(()) = sealed.push(one) else {
-            return Err(ServerFault::Memory);
-        };
+        settled.push(settle(cell, own))?;
     }
-    Ok(sealed)
+    Ok(settled)
 }

@@ -1,6 +1,6 @@
 ghost use Rattle.bhs_server.specs.Written.{IsAttended};
 
-use crate::connections::Held;
+use crate::connections::SessionHooks;
 use crate::ports::{CellPort, Played};
 use bhs_lineup::Keys;
 use bhs_lock::{Cell, Gate};
@@ -19,14 +19,21 @@ pub struct Visit {
     pub played: Option<Played>,
 }
 
-/// Serves one client to its end, on the match of the agent that its key lets in. What the writer holds back is sent, by
-/// `held`, before the session waits for an arrival.
-pub fn attend<I: Input, O: Output, H: Held, R: Wait, G: Gate>(
+impl Visit {
+    /// The match and the agent that the session played, if it was let in.
+    pub(crate) fn seat(&self) -> Option<(u32, u16)> {
+        let played = self.played.as_ref()?;
+        Some((played.game, played.pass.agent()))
+    }
+}
+
+/// Serves one client to its end, on the match of the agent that its key lets in. Meanwhile `hooks` are called.
+pub fn attend<I: Input, O: Output, H: SessionHooks, R: Wait, G: Gate>(
     rt: &R,
     alloc: Global,
     reader: &mut I,
     writer: &mut O,
-    held: &H,
+    hooks: &H,
     cells: &[Cell],
     keys: &Keys,
     gate: &G,
@@ -34,7 +41,7 @@ pub fn attend<I: Input, O: Output, H: Held, R: Wait, G: Gate>(
     ensures { IsAttended I.gives O.takes keys.now cells.now reader.old reader.new writer.old writer.new TURNS
         result.played result.ended }
 {
-    let mut port = CellPort::new(rt, gate, held, cells, keys);
+    let mut port = CellPort::new(rt, gate, hooks, cells, keys);
     let ended = serve(alloc, reader, writer, &mut port, TURNS);
     Visit {
         ended,

@@ -7,11 +7,14 @@ pub trait Watch {
     /// A session began.
     fn came(&self, session: u32, peer: SocketAddr);
 
+    /// A session was let in as this agent of a match.
+    fn let_in(&self, session: u32, game: u32, agent: u16);
+
     /// A session ended; `played` is the match and the agent that it played, if it was let in.
     fn ended(&self, session: u32, ended: Ended, played: Option<(u32, u16)>);
 
     /// A match was closed after this number of turns.
-    fn closed(&self, game: u32, turns: u32);
+    fn closed(&self, game: u32, turns: u32, cell: &Cell);
 
     /// Looks at the matches. One thread calls it: about twice a second while a match is open, and once after that.
     fn look(&self, cells: &[Cell]);
@@ -24,9 +27,11 @@ pub struct Blind;
 impl Watch for Blind {
     fn came(&self, _session: u32, _peer: SocketAddr) {}
 
+    fn let_in(&self, _session: u32, _game: u32, _agent: u16) {}
+
     fn ended(&self, _session: u32, _ended: Ended, _played: Option<(u32, u16)>) {}
 
-    fn closed(&self, _game: u32, _turns: u32) {}
+    fn closed(&self, _game: u32, _turns: u32, _cell: &Cell) {}
 
     fn look(&self, _cells: &[Cell]) {}
 }

@@ -32,7 +32,7 @@ pub fn serve<R: Input, W: Output, P: Port>(
     ensures { Serves R.gives W.takes P.calls reader.old reader.new
         writer.old writer.new port.old port.new turns (Finished result) }
 {
-    match play(alloc, reader, writer, port, turns) {
+    match take_all_lines(alloc, reader, writer, port, turns) {
         Stop::Finished(ended) => ended,
         Stop::Leaves(ended) => {
             let _ = port.tell(Command::Leave);
@@ -42,7 +42,7 @@ pub fn serve<R: Input, W: Output, P: Port>(
 }
 
 // Takes lines until the session stops.
-fn play<R: Input, W: Output, P: Port>(
+fn take_all_lines<R: Input, W: Output, P: Port>(
     alloc: Global,
     reader: &mut R,
     writer: &mut W,

@@ -1,4 +1,4 @@
--- What is kept of an object, while its members go in, and what it says in the end.
+-- What is taken from an object while its members go in, and what it says in the end.
 use Rattle.std.proofs.Common.{◌≡◌, ℕ, List, [], ◌∷◌, false, bytes_eq, true≢false, Option, Some, None}
 use Rattle.std.proofs.Common.{option_map, option_and_then, length, codes, refl, sym, ap, ◌∙◌, arith}
 use Rattle.std.proofs.lemmas.Slice.Eq.{bytes_eq-Decides}
@@ -119,7 +119,7 @@ told_with-first_by : (o : Option (List ℕ)) (said : Said) (ms : Members) → Is
 told_with-first_by None said ms is = refl
 told_with-first_by (Some word) said ms is = rw (is.key, is.expect, is.put, is.port)
 
--- what was kept says what the object says
+-- what was taken says what the object says
 pub told-first_in : (said : Said) (ms : Members) → IsSaidBy said ms → told said ≡ first_in (object ms)
 told-first_in said ms is =
     ap (λ o. told_with o said) is.word ∙ told_with-first_by (text_at (codes "do") (object ms)) said ms is

@@ -12,7 +12,8 @@ use Rattle.bhs_wire.specs.declared.kinds.LineKind.TheVariants as kind
 use Rattle.bhs_wire.specs.First.{says, says_as}
 use Rattle.bhs_wire.specs.LineKind.{line_kind}
 use Rattle.bhs_wire.specs.Lines.{Line, Over, given, given_as, said_by, is_line_feed, given_at, grown, lines_after}
-use Rattle.bhs_wire.specs.Lines.{rest_after, lines, rest, kept, held_of, found_at, left_at, found_in, left_by, ended_by}
+use Rattle.bhs_wire.specs.Lines.{rest_after, lines, rest, as_held, held_of, found_at, left_at, found_in, left_by}
+use Rattle.bhs_wire.specs.Lines.{ended_by}
 
 -- ---- what a line means
 
@@ -52,24 +53,24 @@ pub rest_after-append : (line stream piece : List ℕ) → rest_after line (stre
 rest_after-append line [] piece = refl
 rest_after-append line (byte ∷ stream) piece = rest_after-append (grown line byte) stream piece
 
-kept_at : (b : Bool) (line : List ℕ) → nat_lt MAX_LINE (length line) ≡ b → kept line ≡ cond b None (Some line)
-kept_at b line is = ap (λ long. cond long None (Some line)) is
+held_at : (b : Bool) (line : List ℕ) → nat_lt MAX_LINE (length line) ≡ b → as_held line ≡ cond b None (Some line)
+held_at b line is = ap (λ long. cond long None (Some line)) is
 
--- a line that is not too long is kept
-pub kept_whole : (line : List ℕ) → length line ≤ MAX_LINE → kept line ≡ Some line
-kept_whole line fits = kept_at false line (grind (arith, nat_tests))
+-- a line that is not too long is held whole
+pub held_whole : (line : List ℕ) → length line ≤ MAX_LINE → as_held line ≡ Some line
+held_whole line fits = held_at false line (grind (arith, nat_tests))
 
-pub kept_none : (line : List ℕ) → MAX_LINE < length line → kept line ≡ None
-kept_none line long = kept_at true line (grind (arith, nat_tests))
+pub held_none : (line : List ℕ) → MAX_LINE < length line → as_held line ≡ None
+held_none line long = held_at true line (grind (arith, nat_tests))
 
 longer : (line : List ℕ) (byte : ℕ) → MAX_LINE < length line → MAX_LINE < length (line ++ byte ∷ [])
 longer line byte long = simp length-append (omega arith)
 
 -- one more byte, of a line that is too long
 grown_long : (line : List ℕ) (byte : ℕ) (b : Bool) → MAX_LINE < length line
-    → kept (cond b [] (line ++ byte ∷ [])) ≡ cond b (Some []) None
+    → as_held (cond b [] (line ++ byte ∷ [])) ≡ cond b (Some []) None
 grown_long line byte true long = refl
-grown_long line byte false long = kept_none (line ++ byte ∷ []) (longer line byte long)
+grown_long line byte false long = held_none (line ++ byte ∷ []) (longer line byte long)
 
 -- the line feed behind a line that is too long
 given_long : (line : List ℕ) → MAX_LINE < length line → given line ≡ Over ∷ []
@@ -83,39 +84,39 @@ either false m n is = inl (grind (arith, nat_tests))
 at_length : (line : List ℕ) → (length line ≤ MAX_LINE) ⊎ (MAX_LINE < length line)
 at_length line = either _ MAX_LINE (length line) refl
 
-left_at-kept : (line : List ℕ) (byte : ℕ) → left_at (kept line) byte ≡ kept (grown line byte)
-left_at-kept line byte = elim (at_length line) [
-  | inl fits ↦ rw (kept_whole line fits)
-  | inr long ↦ rw (kept_none line long) (sym (grown_long line byte (is_line_feed byte) long))
+left_at-as_held : (line : List ℕ) (byte : ℕ) → left_at (as_held line) byte ≡ as_held (grown line byte)
+left_at-as_held line byte = elim (at_length line) [
+  | inl fits ↦ rw (held_whole line fits)
+  | inr long ↦ rw (held_none line long) (sym (grown_long line byte (is_line_feed byte) long))
 ]
 
 found_at_long : (line : List ℕ) (b : Bool) → MAX_LINE < length line → cond b (Over ∷ []) [] ≡ cond b (given line) []
 found_at_long line true long = sym (given_long line long)
 found_at_long line false long = refl
 
-found_at-kept : (line : List ℕ) (byte : ℕ) → found_at (kept line) byte ≡ given_at line byte
-found_at-kept line byte = elim (at_length line) [
-  | inl fits ↦ rw (kept_whole line fits)
-  | inr long ↦ rw (kept_none line long) (found_at_long line (is_line_feed byte) long)
+found_at-as_held : (line : List ℕ) (byte : ℕ) → found_at (as_held line) byte ≡ given_at line byte
+found_at-as_held line byte = elim (at_length line) [
+  | inl fits ↦ rw (held_whole line fits)
+  | inr long ↦ rw (held_none line long) (found_at_long line (is_line_feed byte) long)
 ]
 
-pub lines_after-kept : (line piece : List ℕ) → lines_after line piece ≡ found_in (kept line) piece
-lines_after-kept line [] = refl
-lines_after-kept line (byte ∷ piece) =
-    ap₂ (λ found more. found ++ more) (sym (found_at-kept line byte))
-    (lines_after-kept (grown line byte) piece ∙ ap (λ held. found_in held piece) (sym (left_at-kept line byte)))
+pub lines_after-as_held : (line piece : List ℕ) → lines_after line piece ≡ found_in (as_held line) piece
+lines_after-as_held line [] = refl
+lines_after-as_held line (byte ∷ piece) =
+    ap₂ (λ found more. found ++ more) (sym (found_at-as_held line byte))
+    (lines_after-as_held (grown line byte) piece ∙ ap (λ held. found_in held piece) (sym (left_at-as_held line byte)))
 
-pub rest_after-kept : (line piece : List ℕ) → kept (rest_after line piece) ≡ left_by (kept line) piece
-rest_after-kept line [] = refl
-rest_after-kept line (byte ∷ piece) = rest_after-kept (grown line byte) piece
-    ∙ ap (λ held. left_by held piece) (sym (left_at-kept line byte))
+pub rest_after-as_held : (line piece : List ℕ) → as_held (rest_after line piece) ≡ left_by (as_held line) piece
+rest_after-as_held line [] = refl
+rest_after-as_held line (byte ∷ piece) = rest_after-as_held (grown line byte) piece
+    ∙ ap (λ held. left_by held piece) (sym (left_at-as_held line byte))
 
 pub lines-append : (stream piece : List ℕ) → lines (stream ++ piece) ≡ lines stream ++ found_in (held_of stream) piece
 lines-append stream piece = lines_after-append [] stream piece
-    ∙ ap (λ more. lines stream ++ more) (lines_after-kept (rest stream) piece)
+    ∙ ap (λ more. lines stream ++ more) (lines_after-as_held (rest stream) piece)
 
 pub held_of-append : (stream piece : List ℕ) → held_of (stream ++ piece) ≡ left_by (held_of stream) piece
-held_of-append stream piece = ap kept (rest_after-append [] stream piece) ∙ rest_after-kept (rest stream) piece
+held_of-append stream piece = ap as_held (rest_after-append [] stream piece) ∙ rest_after-as_held (rest stream) piece
 
 -- ---- pieces with no line feed, and with one
 
@@ -148,18 +149,18 @@ regrouped line piece byte = append_assoc line (byte ∷ []) piece
 
 -- what is held after a piece of a line
 pub left_by-flat : (line piece : List ℕ) → length line ≤ MAX_LINE → list_any is_line_feed piece ≡ false
-    → left_by (Some line) piece ≡ kept (line ++ piece)
-left_by-flat line [] fits flat = sym (kept_whole line fits) ∙ ap kept (sym (append-nil line))
+    → left_by (Some line) piece ≡ as_held (line ++ piece)
+left_by-flat line [] fits flat = sym (held_whole line fits) ∙ ap as_held (sym (append-nil line))
 left_by-flat line (byte ∷ piece) fits flat =
     let parts = or_parts (is_line_feed byte) _ flat in
     let next = line ++ byte ∷ [] in
-    let step = ap (λ more. left_by (kept more) piece) (grown-flat line byte parts.0) in
+    let step = ap (λ more. left_by (as_held more) piece) (grown-flat line byte parts.0) in
     step ∙ elim (at_length next) [
-      | inl short ↦ ap (λ held. left_by held piece) (kept_whole next short)
-          ∙ (left_by-flat next piece short parts.1 ∙ ap kept (regrouped line piece byte))
-      | inr long ↦ ap (λ held. left_by held piece) (kept_none next long)
+      | inl short ↦ ap (λ held. left_by held piece) (held_whole next short)
+          ∙ (left_by-flat next piece short parts.1 ∙ ap as_held (regrouped line piece byte))
+      | inr long ↦ ap (λ held. left_by held piece) (held_none next long)
           ∙ (left_by-none piece parts.1 ∙ sym
-          (kept_none (line ++ byte ∷ piece) (subst (λ more. MAX_LINE < length more) (regrouped line piece byte)
+          (held_none (line ++ byte ∷ piece) (subst (λ more. MAX_LINE < length more) (regrouped line piece byte)
           (longer_by next piece long))))
     ]
 
@@ -167,7 +168,7 @@ left_at-ended : (held : Option (List ℕ)) → left_at held 10 ≡ Some []
 left_at-ended None = refl
 left_at-ended (Some line) = refl
 
--- what is held is no more than is kept
+-- what is held is no longer than a line may be
 abbrev pub FitsHeld : Option (List ℕ) → Type 0
 FitsHeld held = ForSome held (λ line. length line ≤ MAX_LINE)
 
@@ -175,7 +176,7 @@ ended : (held : Option (List ℕ)) (end : List ℕ) → FitsHeld held → list_a
     → found_at (left_by held end) 10 ≡ ended_by held end
 ended None end fits flat = ap (λ held. found_at held 10) (left_by-none end flat)
 ended (Some line) end fits flat = ap (λ held. found_at held 10) (left_by-flat line end (fits line refl) flat)
-    ∙ found_at-kept (line ++ end) 10
+    ∙ found_at-as_held (line ++ end) 10
 
 -- the lines of a piece whose first line feed stands behind `end`
 pub found_in-ended : (held : Option (List ℕ)) (end more : List ℕ) → FitsHeld held → list_any is_line_feed end ≡ false
@@ -245,7 +246,7 @@ fits_bytes (Some vec) fits = λ line is. let same : vec.items ≡ line = cc in
     subst (λ bytes. length bytes ≤ MAX_LINE) same (fits vec refl)
 
 pub hold_left : (held : Option (Vec ℕ Global)) (piece : List ℕ) → ForSome held (λ line. length line.items ≤ MAX_LINE)
-    → list_any is_line_feed piece ≡ false → option_and_then (λ line. kept (line.items ++ piece)) held ≡ left_by
+    → list_any is_line_feed piece ≡ false → option_and_then (λ line. as_held (line.items ++ piece)) held ≡ left_by
     (bytes_of held) piece
 hold_left None piece fits flat = sym (left_by-none piece flat)
 hold_left (Some line) piece fits flat = sym (left_by-flat line.items piece (fits line refl) flat)
@@ -254,11 +255,11 @@ pub found_first : (held : Option (Vec ℕ Global)) (piece end more : List ℕ)
     → ForSome held (λ line. length line.items ≤ MAX_LINE) → piece ≡ end ++ 10 ∷ more → list_any is_line_feed end ≡ false
     → ended_by (bytes_of held) end ++ lines more ≡ found_in (bytes_of held) piece
 found_first held piece end more fits is flat =
-    ap (λ found. ended_by (bytes_of held) end ++ found) (lines_after-kept [] more)
+    ap (λ found. ended_by (bytes_of held) end ++ found) (lines_after-as_held [] more)
     ∙ (sym (found_in-ended (bytes_of held) end more (fits_bytes held fits) flat)
     ∙ ap (λ bytes. found_in (bytes_of held) bytes) (sym is))
 
 pub left_last : (held : Option (List ℕ)) (piece end more : List ℕ) → piece ≡ end ++ 10 ∷ more
-    → kept (rest more) ≡ left_by held piece
-left_last held piece end more is = rest_after-kept [] more
+    → as_held (rest more) ≡ left_by held piece
+left_last held piece end more is = rest_after-as_held [] more
     ∙ (sym (left_by-ended held end more) ∙ ap (λ bytes. left_by held bytes) (sym is))

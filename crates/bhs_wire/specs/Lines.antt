@@ -12,7 +12,7 @@ use Rattle.bhs_model.specs.declared.limits.TheConstants.{MAX_LINE}
 use Rattle.bhs_wire.specs.declared.pieces.Raw.{Raw}
 use Rattle.bhs_wire.specs.declared.pieces.Raw.TheVariants as raw
 
--- a line of a stream; of one that is too long nothing is kept
+-- a line of a stream; of one that is too long nothing is held
 pub data Line : Type 0 where
   Whole : List ℕ → Line
   Over : Line
@@ -72,12 +72,12 @@ rest = rest_after []
 -- ---- the same, of what is held
 
 -- an unfinished line as it is held: none of its bytes once they are too many
-abbrev pub kept : List ℕ → Option (List ℕ)
-kept line = if nat_lt MAX_LINE (length line) then None else Some line
+abbrev pub as_held : List ℕ → Option (List ℕ)
+as_held line = if nat_lt MAX_LINE (length line) then None else Some line
 
 -- what is held of a stream
 abbrev pub held_of : List ℕ → Option (List ℕ)
-held_of stream = kept (rest stream)
+held_of stream = as_held (rest stream)
 
 -- what one more byte gives, where this much is held
 abbrev pub found_at : Option (List ℕ) → ℕ → List Line
@@ -87,7 +87,7 @@ found_at (Some line) byte = given_at line byte
 -- what is held after it: nothing of a line that is too long, until it has ended
 abbrev pub left_at : Option (List ℕ) → ℕ → Option (List ℕ)
 left_at None byte = if is_line_feed byte then Some [] else None
-left_at (Some line) byte = kept (grown line byte)
+left_at (Some line) byte = as_held (grown line byte)
 
 -- what a line gives that ends with these bytes, of which this much was held
 abbrev pub ended_by : Option (List ℕ) → List ℕ → List Line

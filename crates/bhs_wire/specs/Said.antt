@@ -1,4 +1,4 @@
--- How a line is read without its tree: what is kept of the members of an object as they come.
+-- How a line is read without its tree: what is taken from the members of an object as they come.
 use Rattle.std.specs.Prelude.{◌≡◌, ℕ, List, codes, bytes_eq, if◌then◌else◌, Option, Some, None, option_map}
 use Rattle.std.specs.Prelude.{option_and_then}
 use Rattle.json.specs.Json.{value, if_last}
@@ -18,13 +18,13 @@ use Rattle.bhs_wire.specs.First.{text_at, port_at, if_port, first_with, write_wi
 abbrev pub rest_of : {A : Type 0} → Option (A × List Token) → Option (List Token)
 rest_of read = option_map (λ p. p.1) read
 
--- the text that was kept of a value
+-- the text that was taken from a value
 abbrev pub text_in : Content → Option (List ℕ)
 text_in (Text text) = Some text.now
 text_in (Port port) = None
 text_in Other = None
 
--- the port that was kept of it
+-- the port that was taken from it
 abbrev pub port_in : Content → Option ℕ
 port_in (Text text) = None
 port_in (Port port) = Some port
@@ -34,12 +34,12 @@ port_in Other = None
 abbrev pub port_from : Data → Option ℕ
 port_from value = option_and_then if_port (option_and_then as_u64 (as_number value))
 
--- the value's text and port were kept
+-- the text and the port of a value were taken
 pub record IsContentOf (content : Content) (value : Data) : Type 0 where
   pub text : text_in content ≡ as_str value
   pub port : port_in content ≡ port_from value
 
--- of the members was kept what stands at the keys that commands look at
+-- what stands at the keys that commands look at was taken from the members
 pub record IsSaidBy (said : Said) (members : Members) : Type 0 where
   pub word : text_in said.word ≡ text_at (codes "do") (object members)
   pub key : text_in said.key ≡ text_at (codes "key") (object members)
@@ -47,7 +47,7 @@ pub record IsSaidBy (said : Said) (members : Members) : Type 0 where
   pub put : text_in said.put ≡ text_at (codes "put") (object members)
   pub port : port_in said.port ≡ port_at (codes "port") (object members)
 
--- what an object says, by its word and what was kept
+-- what an object says, by its word and what was taken from it
 abbrev pub told_with : Option (List ℕ) → Said → First
 told_with None said = Tell Bad
 told_with (Some word) said =
@@ -59,7 +59,7 @@ told_with (Some word) said =
     else (if bytes_eq word (codes "leave") then Tell Leave
     else Tell Bad)))))
 
--- what an object says, by what was kept
+-- what an object says, by what was taken from it
 abbrev pub told : Said → First
 told said = told_with (text_in said.word) said
 

@@ -3,7 +3,7 @@ ghost use Rattle.std.specs.Prelude.{MatchOption, IsOk, IfOk, OnOk, OnErr};
 ghost use Rattle.std.specs.List.{list_any, position};
 ghost use Rattle.std.specs.Option.{ForSome};
 ghost use Rattle.std.specs.Cow.{cow_slice_items};
-ghost use Rattle.bhs_wire.specs.Lines.{Line, seen, given, is_line_feed, kept, lines, rest, ended_by};
+ghost use Rattle.bhs_wire.specs.Lines.{Line, seen, given, is_line_feed, as_held, lines, rest, ended_by};
 
 use crate::commands::{First, LineReader};
 use crate::kinds::is_blank;
@@ -133,7 +133,7 @@ fn joined<'p>(alloc: Global, front: &[u8], end: &'p [u8]) -> Result<CowSlice<'p,
 pub(crate) fn hold(held: &mut Option<Vec<u8>>, piece: &[u8]) -> Result<(), Memory>
     requires { ForSome held.old (λ line. length line.items ≤ MAX_LINE) }
     ensures ok { OnOk result (option_map (λ line. line.items) held.new
-        ≡ option_and_then (λ line. kept (line.items ++ piece.now)) held.old) }
+        ≡ option_and_then (λ line. as_held (line.items ++ piece.now)) held.old) }
     ensures err { OnErr result (option_map (λ line. line.items) held.new
         ≡ option_map (λ line. line.items) held.old) }
     ensures bound { ForSome held.new (λ line. length line.items ≤ MAX_LINE) }
@@ -150,7 +150,7 @@ pub(crate) fn hold(held: &mut Option<Vec<u8>>, piece: &[u8]) -> Result<(), Memor
 
 // An unfinished line, held from its start.
 pub(crate) fn keep(alloc: Global, line: &[u8]) -> Result<Option<Vec<u8>>, Memory>
-    ensures held { IfOk result (λ held. option_map (λ bytes. bytes.items) held ≡ kept line.now) }
+    ensures held { IfOk result (λ held. option_map (λ bytes. bytes.items) held ≡ as_held line.now) }
     ensures bound { IfOk result (λ held. ForSome held (λ bytes. length bytes.items ≤ MAX_LINE)) }
 {
     if line.len() > MAX_LINE {

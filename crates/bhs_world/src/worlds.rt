@@ -166,7 +166,7 @@ impl World {
             ≡ named world (run world (events_of log.now)) (written world (events_of log.now)) event.now }
         ensures same { (self.new.net ≡ self.old.net) × (self.new.setup ≡ self.old.setup) }
     {
-        self.play(log, event)
+        self.play_event(log, event)
     }
 
     /// Plays a command that is heard.
@@ -201,7 +201,7 @@ impl World {
     }
 
     /// Answers a command, and plays it if it is heard.
-    fn tell(&mut self, log: &[Kept], agent: u16, command: &Command) -> Mark
+    fn answer_command(&mut self, log: &[Kept], agent: u16, command: &Command) -> Mark
         requires room { length log.now < 2 ^ 32 }
         ensures mark { result ≡ mark_of_command self.old log.now agent command.now }
         ensures world { self.new ≡ (if heard_in self.old agent command.now then table_heard self.old log.now agent
@@ -241,14 +241,14 @@ impl World {
     }
 
     /// Plays an event, and says what is answered.
-    fn play(&mut self, log: &[Kept], event: &Event) -> Option<Mark>
+    fn play_event(&mut self, log: &[Kept], event: &Event) -> Option<Mark>
         requires room { length log.now < 2 ^ 32 }
         ensures mark { result ≡ mark_after self.old log.now event.now }
         ensures world { self.new ≡ table_after self.old log.now event.now }
         ensures sound { IsSound self.old }
     {
         match event {
-            Event::Tell { agent, command } => Some(self.tell(log, *agent, command)),
+            Event::Tell { agent, command } => Some(self.answer_command(log, *agent, command)),
             Event::Deliver { agent } => self.deliver(*agent),
             Event::Close => {
                 self.closed = true;
@@ -257,17 +257,22 @@ impl World {
         }
     }
 
+    /// Whether a command is heard.
+    fn hears(&self, agent: u16, command: &Command) -> bool
+        ensures { result ≡ heard_in self.now agent command.now }
+    {
+        agent < self.setup.agents && !self.closed && self.refusal(agent, command).is_none()
+    }
+
     fn keeps_event(&self, event: &Event) -> bool
         ensures { result ≡ keeps_in self.now event.now }
     {
-        if self.closed {
-            return false;
-        }
         match event {
-            Event::Tell { agent, command } => *agent < self.setup.agents
-                && self.refusal(*agent, command).is_none(),
-            Event::Deliver { agent } => *agent < self.setup.agents && self.keeps_delivered(*agent),
-            Event::Close => true,
+            Event::Tell { agent, command } => self.hears(*agent, command),
+            Event::Deliver { agent } => {
+                !self.closed && *agent < self.setup.agents && self.keeps_delivered(*agent)
+            }
+            Event::Close => !self.closed,
         }
     }
 
@@ -275,14 +280,12 @@ impl World {
         ensures shows { result ≡ shows_in self.now agent command.now }
         ensures sound { IsSound self.now }
     {
-        if agent >= self.setup.agents || self.closed || self.refusal(agent, command).is_some() {
-            return false;
-        }
-        shows_from(
-            self.setup.board,
-            self.agents[usize::from(agent)].standing(),
-            command,
-        )
+        self.hears(agent, command)
+            && shows_from(
+                self.setup.board,
+                self.agents[usize::from(agent)].standing(),
+                command,
+            )
     }
 
     /// Whether a Deliver of the agent is kept: it arrives, or is destroyed for the first time.

@@ -1,8 +1,21 @@
 use super::super::played::word_of;
 use bhs_match::Sealed;
 use bhs_model::Event;
+use bhs_server::Settled;
 use std::alloc::Global;
 use std::test::Fail;
+
+/// The matches, all of which settled.
+pub(super) fn all_sealed(alloc: Global, settled: Vec<Settled>) -> Result<Vec<Sealed>, Fail> {
+    let mut sealed = Vec::with_capacity(alloc, settled.len())?;
+    for one in settled {
+        match one {
+            Ok(one) => sealed.push(one)?,
+            Err(_) => return Err(Fail::from("a match does not settle")),
+        }
+    }
+    Ok(sealed)
+}
 
 /// How many events the logs have.
 pub(super) fn lengths(alloc: Global, sealed: &[Sealed]) -> Result<Vec<usize>, Fail> {

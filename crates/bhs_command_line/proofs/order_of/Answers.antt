@@ -20,6 +20,10 @@ pub returns-in-Some-clause-help : goal.returns-in-Some-clause-help
 returns-in-Some-clause-help g c = (plainly (map g.S.AsStr.text c.args.words.now) (Ordered c.in-Some.order)
     (returns-in-Some-clause-answers g c)).help
 
+pub returns-in-Some-clause-version : goal.returns-in-Some-clause-version
+returns-in-Some-clause-version g c = (plainly (map g.S.AsStr.text c.args.words.now) (Ordered c.in-Some.order)
+    (returns-in-Some-clause-answers g c)).version
+
 pub returns-in-Some-clause-no_word : goal.returns-in-Some-clause-no_word
 returns-in-Some-clause-no_word g c = (plainly (map g.S.AsStr.text c.args.words.now) (Ordered c.in-Some.order)
     (returns-in-Some-clause-answers g c)).no_word
@@ -40,6 +44,10 @@ pub returns-in-Ok-clause-help : goal.returns-in-Ok-clause-help
 returns-in-Ok-clause-help g c = (plainly (map g.S.AsStr.text c.args.words.now)
     (Refused c.in_ok-unfit_text-in-None.field-0) (returns-in-Ok-clause-answers g c)).help
 
+pub returns-in-Ok-clause-version : goal.returns-in-Ok-clause-version
+returns-in-Ok-clause-version g c = (plainly (map g.S.AsStr.text c.args.words.now)
+    (Refused c.in_ok-unfit_text-in-None.field-0) (returns-in-Ok-clause-answers g c)).version
+
 pub returns-clause-answers : goal.returns-clause-answers
 returns-clause-answers g c =
     let words = map g.S.AsStr.text c.args.words.now in
@@ -56,6 +64,10 @@ pub returns-clause-help : goal.returns-clause-help
 returns-clause-help g c = (all_plainly c.explained.result (map g.S.AsStr.text c.args.words.now)
     (returns-clause-answers g c)).1
 
+pub returns-clause-version : goal.returns-clause-version
+returns-clause-version g c = (all_plainly c.explained.result (map g.S.AsStr.text c.args.words.now)
+    (returns-clause-answers g c)).2
+
 pub returns-clause-no_word : goal.returns-clause-no_word
 returns-clause-no_word g c = (all_plainly c.explained.result (map g.S.AsStr.text c.args.words.now)
-    (returns-clause-answers g c)).2
+    (returns-clause-answers g c)).3

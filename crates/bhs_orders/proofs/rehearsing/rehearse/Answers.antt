@@ -21,9 +21,9 @@ returns-clause-played g c =
           (rw (c.deref.ensures.value, counted) at c.in_ok-instructions.ensures);
     } in
     plays_all g.R.Input.gives g.W.Output.takes c.args.turns stage _ _ _ _ instructions means
-    (λ ready. map game_of ready.items) c.play.result
-    (rw (same, c.deref-2.ensures.value) at c.play.ensures.printed)
-    (rw (same, c.deref-2.ensures.value) at c.play.ensures.played)
+    (λ ready. map game_of ready.items) c.play_script.result
+    (rw (same, c.deref-2.ensures.value) at c.play_script.ensures.printed)
+    (rw (same, c.deref-2.ensures.value) at c.play_script.ensures.played)
 
 pub returns-clause-stopped : goal.returns-clause-stopped
 returns-clause-stopped g c =
@@ -39,5 +39,5 @@ returns-clause-stopped g c =
       meant = rw (length-map c.args.lineup.ready.items game_of)
           (rw (c.deref.ensures.value, counted) at c.in_ok-instructions.ensures);
     } in
-    stops_all g.R.Input.gives g.W.Output.takes c.args.turns stage _ _ _ _ instructions means c.play.result
-    (rw (same, c.deref-2.ensures.value) at c.play.ensures.stopped)
+    stops_all g.R.Input.gives g.W.Output.takes c.args.turns stage _ _ _ _ instructions means c.play_script.result
+    (rw (same, c.deref-2.ensures.value) at c.play_script.ensures.stopped)

@@ -30,10 +30,10 @@ returns-in_ok-first-in-Says-clause-taken c others here =
     ∙ takes_line game agent (seen line) others here
     ∙ ap (λ (command : Command). answers (reply_to game (Tell agent command)) (played game (Tell agent command))
     (taken (played game (Tell agent command)) agent others)) said in
-    subst (λ (taken : Taken). IfOk c.tell.result
-    (λ is_done. behind c.args.text.now.items taken ≡ goes_on is_done (game_of c.tell.new.ready) agent others
-    c.tell.new.text.items))
-    (sym told) (c.tell.ensures.taken others)
+    subst (λ (taken : Taken). IfOk c.answer_command.result
+    (λ is_done. behind c.args.text.now.items taken ≡ goes_on is_done (game_of c.answer_command.new.ready) agent others
+    c.answer_command.new.text.items))
+    (sym told) (c.answer_command.ensures.taken others)
 
 pub returns-in-Ends-clause-taken : goal.returns-in-Ends-clause-taken
 returns-in-Ends-clause-taken c others here =
@@ -44,4 +44,5 @@ returns-in-Ends-clause-taken c others here =
     ∙ ap (behind text) (takes_end game agent others here)
     ∙ ap (λ (all : List ℕ). record
     { game = played game (Tell agent Leave); is_done = true; left = []; text = all }) (append-nil text)
-    ∙ ap (λ (after : Game). record { game = after; is_done = true; left = []; text = text }) (sym c.play.ensures.game)
+    ∙ ap (λ (after : Game). record { game = after; is_done = true; left = []; text = text })
+    (sym c.play_event.ensures.game)

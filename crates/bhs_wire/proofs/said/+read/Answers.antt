@@ -15,7 +15,7 @@ use Rattle.bhs_wire.proofs.Turns.{item_passed, item_broken, items_ended}
 use Rattle.bhs_wire.proofs.Turns.{member_passed, member_broken, key_broken, members_ended}
 use Rattle.bhs_wire.proofs.said.+read.Goals as goal
 
--- a truth or a null is read, and nothing is kept of it
+-- a truth or a null is read, and nothing is taken from it
 plain_read : (depth : ℕ) (ts r : List Token) (t : code.Token) → ts ≡ token_of t ∷ r
     → ((b : Bool) × (t ≡ Boolean b)) ⊎ (t ≡ Null)
     → (d : Data) × (converted of_json (value depth ts) ≡ Some (d, r)) × IsContentOf Other d

@@ -1,5 +1,5 @@
 use Rattle.std.proofs.Common.{List, ◌++◌, map, sym, ap, ◌∙◌, append-nil, append_assoc}
-use Rattle.bhs_wire.specs.Lines.{Line, seen, lines, kept, found_in, left_by, ended_by}
+use Rattle.bhs_wire.specs.Lines.{Line, seen, lines, as_held, found_in, left_by, ended_by}
 use Rattle.bhs_wire.proofs.StreamLaws.{found_in-flat, hold_left, found_first, left_last, bytes_of}
 use Rattle.bhs_wire.proofs.streams.Lines.feed_into.Goals as goal
 
@@ -29,5 +29,6 @@ returns-clause-found c =
 
 pub returns-clause-left : goal.returns-clause-left
 returns-clause-left c =
-    c.in_ok-self-inside.ensures.held ∙ (ap kept c.in_ok-rest.ensures.rest ∙ left_last c.args.self.now c.args.piece.now
+    c.in_ok-self-inside.ensures.held
+    ∙ (ap as_held c.in_ok-rest.ensures.rest ∙ left_last c.args.self.now c.args.piece.now
     c.in-Some.end.now c.in-Some.more.now c.in-Some.ensures.0)

@@ -4,7 +4,7 @@ use Rattle.bhs_wire.specs.Lines.{lines, seen}
 use Rattle.bhs_session.specs.Phase.{between, phase_of}
 use Rattle.bhs_session.specs.Session.{opens}
 use Rattle.bhs_session.proofs.Playing.{Serves-brings_none, Serves-turns, Session-moves, waits}
-use Rattle.bhs_session.proofs.serving.play.Goals as goal
+use Rattle.bhs_session.proofs.serving.take_all_lines.Goals as goal
 
 pub loop-init : goal.loop-init
 loop-init g c =

@@ -3,7 +3,7 @@ use Rattle.std.proofs.Common.{◌≡◌, ℕ, ◌-◌, List}
 use Rattle.bhs_wire.specs.Lines.{lines, held_of}
 use Rattle.bhs_session.specs.Phase.{between}
 use Rattle.bhs_session.specs.Session.{Session, fresh}
-use Rattle.bhs_session.proofs.serving.play.Given as goal
+use Rattle.bhs_session.proofs.serving.take_all_lines.Given as goal
 
 abbrev pub invariant-loop : goal.invariant-loop
 invariant-loop g l = (read : List ℕ) × (written : List ℕ)

@@ -2,7 +2,7 @@ use Rattle.std.proofs.Common.{sym, ap, ◌∙◌}
 use Rattle.bhs_lock.specs.Passes.{Passed}
 use Rattle.bhs_lock.proofs.PassLemmas.{ordered_more}
 use Rattle.bhs_lock.proofs.ToldLemmas.{told_is, same_lists, gain_is}
-use Rattle.bhs_lock.proofs.pass.Pass.tell.Goals as goal
+use Rattle.bhs_lock.proofs.pass.Pass.submit_to.Goals as goal
 
 pub returns-in_default-place-clause-done : goal.returns-in_default-place-clause-done
 returns-in_default-place-clause-done c =

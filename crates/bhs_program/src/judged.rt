@@ -1,0 +1,45 @@
+//! The verdict on a match that stands under its lock.
+
+use bhs_lock::Cell;
+use bhs_match::Match;
+use bhs_net::Memory;
+use bhs_referee::{Verdict, judge};
+use std::alloc::Global;
+use std::sync::Wait;
+
+/// How many events of a match are copied under its lock at once.
+pub(crate) const FEW: usize = 64;
+
+/// How often events of a match are copied at one look.
+pub(crate) const TIMES: usize = 65_536;
+
+/// How many events a match has, and the verdict on it; None while it is open. A copy of the match is judged, so that
+/// its lock is held only while a few events are copied.
+pub(crate) fn judged<R: Wait>(
+    rt: &R,
+    alloc: Global,
+    cell: &Cell,
+) -> Result<Option<(usize, Verdict)>, Memory> {
+    let mut copy = blank(alloc, cell)?;
+    for _ in 0..TIMES {
+        let found = cell.copies(rt, alloc, copy.log().len(), FEW)?;
+        if found.is_empty() {
+            break;
+        }
+        for one in found {
+            copy.apply(one.event);
+        }
+    }
+    let events = copy.log().len();
+    Ok(copy.sealed().ok().map(|sealed| (events, judge(&sealed))))
+}
+
+// The match of a cell before its first event.
+fn blank(alloc: Global, cell: &Cell) -> Result<Match, Memory> {
+    let net = cell.net().try_clone(alloc)?;
+    let setup = cell.setup().try_clone()?;
+    match Match::new(alloc, net, setup) {
+        Ok(blank) => Ok(blank),
+        Err(_) => Err(Memory),
+    }
+}
