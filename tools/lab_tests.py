@@ -11,6 +11,10 @@ import pathlib
 import subprocess
 import sys
 
+sys.path.insert(0, str(pathlib.Path(__file__).resolve().parent))
+
+from packages import install  # noqa: E402
+
 TOP = pathlib.Path(__file__).resolve().parent.parent
 DEBIANS_PYTHON = "/usr/bin/python3"
 PACKAGES = ["python3-greenlet", "python3-hypothesis", "python3-tqdm", "python3-networkx",
@@ -26,23 +30,11 @@ sys.exit(1 if failed or not ran.testsRun else 0)
 """
 
 
-def install() -> None:
-    """Installs the packages, if one is missing."""
-    quiet = {"stdout": subprocess.DEVNULL, "stderr": subprocess.DEVNULL}
-    if subprocess.run(["dpkg", "-s", *PACKAGES], **quiet).returncode == 0:
-        return
-    words = ["apt-get", "install", "-q", "-y", "--no-install-recommends", *PACKAGES]
-    quietly = {**os.environ, "DEBIAN_FRONTEND": "noninteractive"}
-    if subprocess.run(words, env=quietly).returncode != 0:
-        subprocess.run(["apt-get", "update", "-q"], check=True)
-        subprocess.run(words, env=quietly, check=True)
-
-
 def main() -> int:
     if len(sys.argv) != 2 or sys.argv[1] in ("-h", "--help"):
         sys.exit(__doc__.strip())
     program = str(pathlib.Path(sys.argv[1]).resolve())
-    install()
+    install(PACKAGES)
     variables = {**os.environ, "ARENA_PROGRAM": program}
     return subprocess.run([DEBIANS_PYTHON, "-c", TESTS], cwd=TOP, env=variables).returncode
 

@@ -5,10 +5,10 @@
 
 PROGRAM is the built program. With a folder only the rows of its files are played: those of tests/benchmark go with the
 benchmark. tools/program_rows.py says how rows are read and played; the other cases are in tools/program_cases.py,
-tools/interactive_cases.py, tools/contest_cases.py, tools/program_contests.py and tools/program_rehearsals.py. Each row
-and each case is played in a fresh temporary folder; nothing in the repository is overwritten. For each that fails a
-line names the file and the title, what was wanted and what came. The last line reads `N passed, M failed`, and the exit
-status is 1 where one failed.
+tools/interactive_cases.py, tools/contest_cases.py, tools/traced_files.py, tools/program_contests.py and
+tools/program_rehearsals.py. Each row and each case is played in a fresh temporary folder; nothing in the repository is
+overwritten. For each that fails a line names the file and the title, what was wanted and what came. The last line reads
+`N passed, M failed`, and the exit status is 1 if one failed.
 """
 import concurrent.futures
 import functools
@@ -20,6 +20,7 @@ import contest_cases  # noqa: F401  adds its cases
 import interactive_cases  # noqa: F401  adds its cases
 import program_contests  # noqa: F401  adds its cases
 import program_rehearsals  # noqa: F401  adds its cases
+import traced_files  # noqa: F401  adds its case
 from program_cases import CASES, Trial
 from program_rows import fault_of, play, rows_of
 

@@ -1,3 +1,5 @@
+//! What is known of an agent: where it stands, and how much of its quota it has used.
+
 ghost use Rattle.std.specs.Prelude.{◌≡◌, ◌+◌, ◌<◌, true, IsTrue, Some};
 ghost use Rattle.bhs_model.specs.Runs.{Before, At, Bound, After, is_bound};
 ghost use Rattle.bhs_agent.specs.Agents.{newcomer, position_of, node_of, label_of, link_of, is_inside};

@@ -1,3 +1,5 @@
+//! Where an agent can stand.
+
 /// What an agent is doing.
 #[derive(Clone, Copy, Debug, PartialEq, Eq)]
 pub enum Standing {

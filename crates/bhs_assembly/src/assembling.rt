@@ -66,7 +66,7 @@ fn games(alloc: Global, tournament: &Tournament, networks: &[Net]) -> Result<Vec
     games_on(alloc, &tournament.matches, &names, networks)
 }
 
-/// The matches before anything happens, each on the network with its name.
+// The matches before anything happens, each on the network with its name.
 fn games_on(
     alloc: Global,
     matches: &[Fixture],
@@ -92,7 +92,7 @@ fn games_on(
     Ok(games)
 }
 
-/// The network with a name.
+// The network with a name.
 fn network_of<'a>(names: &IndexSet<&str>, networks: &'a [Net], name: &str) -> &'a Net
     requires among { IsTrue (is_among (map (λ one. one.now) names.now.keys) name.now) }
     requires all { length networks.now ≡ length names.now.keys }
@@ -117,7 +117,7 @@ fn setup_of(fixture: &Fixture) -> Result<Setup, AllocError>
     })
 }
 
-/// The match before anything happens.
+// The match before anything happens.
 fn begun(alloc: Global, game: u32, net: &Net, fixture: &Fixture) -> Result<Match, FileFault>
     ensures { GivesUnlessMemory (λ game. game) result
         (unless (setup_fault net.now game (planned fixture.now)) (Ok (start_of net.now (planned fixture.now)))) }
@@ -127,7 +127,7 @@ fn begun(alloc: Global, game: u32, net: &Net, fixture: &Fixture) -> Result<Match
     started(alloc, game, net, setup)
 }
 
-/// The match that is set up so.
+// The match that is set up so.
 fn started(alloc: Global, game: u32, net: Net, setup: Setup) -> Result<Match, FileFault>
     ensures { GivesUnlessMemory (λ game. game) result
         (unless (option_map (faults.Setup game) (first_fault net setup)) (Ok (begins net setup))) }
@@ -160,7 +160,7 @@ fn all_ready(
     Ok(all)
 }
 
-/// The match with its held links.
+// The match with its held links.
 fn ready(alloc: Global, number: u32, fixture: Fixture, game: Match) -> Result<Ready, FileFault>
     ensures { GivesUnlessMemory (λ ready. ready) result
         (readied number (fixture, game)) }
@@ -169,7 +169,7 @@ fn ready(alloc: Global, number: u32, fixture: Fixture, game: Match) -> Result<Re
     with_held(alloc, number, team, game, &held)
 }
 
-/// The match of a team with these links held.
+// The match of a team with these links held.
 fn with_held(
     alloc: Global,
     number: u32,
@@ -185,7 +185,7 @@ fn with_held(
     Ok(Ready { team, game, held })
 }
 
-/// The held links of a match on a network.
+// The held links of a match on a network.
 fn held(alloc: Global, game: u32, net: &Net, pairs: &[(u16, u16)]) -> Result<Held, FileFault>
     ensures { GivesUnlessMemory (λ held. held) result
         (unless (option_map (faults.Held game) (first_strange net.now pairs.now)) (Ok pairs.now)) }

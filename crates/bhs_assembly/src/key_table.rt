@@ -24,7 +24,7 @@ pub fn keys_of(alloc: Global, matches: &[Fixture]) -> Result<Keys, FileFault>
     Ok(table)
 }
 
-/// Adds the keys of a match.
+// Adds the keys of a match.
 fn add_keys(alloc: Global, table: &mut Keys, game: u32, keys: &[Text]) -> Result<(), FileFault>
     requires { length keys.now ≤ MAX_KEYS }
     ensures { GivesUnlessMemory (λ _. table.new) result
@@ -36,7 +36,7 @@ fn add_keys(alloc: Global, table: &mut Keys, game: u32, keys: &[Text]) -> Result
     Ok(())
 }
 
-/// Adds a key that no earlier agent has.
+// Adds a key that no earlier agent has.
 fn add_key(alloc: Global, table: &mut Keys, seat: (u32, u16), key: &Text) -> Result<(), FileFault>
     ensures { GivesUnlessMemory (λ _. table.new) result
         (distinct table.old ((key.now, seat) ∷ [])) }

@@ -1,3 +1,5 @@
+//! Why a benchmark stops.
+
 use bhs_deal::HeldFault;
 use bhs_net::{Memory, NetFault};
 use bhs_stream::WriteFault;

@@ -68,7 +68,7 @@ fn order_to(deed: &str, number: &str, is_timed: bool) -> Option<Order> {
     }
 }
 
-/// The number that decimal digits spell, if it has 64 bits.
+// The number that decimal digits spell, if it has 64 bits.
 fn number_of(text: &str) -> Option<u64> {
     if text.bytes().all(|byte| byte.is_ascii_digit()) {
         text.parse::<u64>().ok()

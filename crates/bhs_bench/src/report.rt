@@ -41,7 +41,7 @@ pub fn print_time<W: Write>(
     Ok(send(writer, text.as_bytes())?)
 }
 
-/// How many were done in a second.
+// How many were done in a second.
 fn rate(number: u64, time: Duration) -> u128 {
     let micros = time.as_micros().max(1);
     u128::from(number) * 1_000_000 / micros

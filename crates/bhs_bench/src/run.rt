@@ -1,3 +1,5 @@
+//! Carrying out the benchmark that the command line names.
+
 use crate::faults::BenchFault;
 use crate::orders::{Order, USAGE, order_of};
 use crate::report::{print_counts, print_run, print_stage, print_time};
@@ -73,7 +75,7 @@ fn step<C: Clock, W: Write>(
     Ok(())
 }
 
-/// What so many events count, and how long they take.
+// What so many events count, and how long they take.
 fn played<C: Clock>(
     alloc: Global,
     clock: &C,

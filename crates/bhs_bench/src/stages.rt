@@ -30,8 +30,8 @@ pub const STAGES: [Stage; 4] = [
     Stage::Printing,
 ];
 
-/// The lines that are read in a round. A reader remembers none of them: they have texts, or spaces that make them
-/// longer than what it remembers.
+// The lines that are read in a round. A reader remembers none of them: they have texts, or spaces that make them
+// longer than what it remembers.
 const LINES: [&[u8]; 4] = [
     b"{\"do\":\"look\"}                    ",
     b"{\"do\":\"depart\",\"port\":3}         ",
@@ -39,7 +39,7 @@ const LINES: [&[u8]; 4] = [
     b"{\"do\":\"loook\"}                   ",
 ];
 
-/// What is printed in a round.
+// What is printed in a round.
 const PRINTED: [&[u8]; 4] = [
     b"{\"board\":\"been here\",\"from\":1,\"ok\":\"here\",\"ports\":4}\n",
     b"{\"ok\":\"gone\"}\n",

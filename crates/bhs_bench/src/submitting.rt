@@ -15,13 +15,13 @@ use std::thread;
 use std::thread::Threads;
 use std::time::{Clock, Duration, Instant};
 
-/// How many agents play, on all matches of a run together.
+// How many agents play, on all matches of a run together.
 const AGENTS: u16 = 64;
 
-/// How many commands each agent is told: an Enter, and as many others as its quota.
+// How many commands each agent is told: an Enter, and as many others as its quota.
 const COMMANDS: u16 = MAX_QUOTA + 1;
 
-/// How many commands are told in a run.
+// How many commands are told in a run.
 fn commands() -> u64 {
     u64::from(AGENTS) * u64::from(COMMANDS)
 }
@@ -79,7 +79,7 @@ impl Measured {
     }
 }
 
-/// Some passes of one match, which one thread plays.
+// Some passes of one match, which one thread plays.
 #[derive(Drop)]
 struct Share {
     cell: usize,
@@ -99,14 +99,14 @@ pub fn run_once<R: Threads + Wait + Clock + Sync>(
     }
 }
 
-/// A match of so many agents on the torus, where no node destroys.
+// A match of so many agents on the torus, where no node destroys.
 fn game(alloc: Global, agents: u16) -> Result<Match, BenchFault>
     ensures { IfOk result (λ play. play.log ≡ []) }
 {
     Ok(Match::new(alloc, torus(alloc)?, setup(alloc, agents))?)
 }
 
-/// The command of this place: an Enter, then in turn a Write, an Accuse of a port that no node has, and two Looks.
+// The command of this place: an Enter, then in turn a Write, an Accuse of a port that no node has, and two Looks.
 fn command_of(alloc: Global, place: u16) -> Result<Command, Memory> {
     if place == 0 {
         return Ok(Command::Enter);
@@ -151,7 +151,7 @@ fn tell_all(alloc: Global, hall: &mut Hall, passes: &mut [Pass]) -> Result<(), M
     Ok(())
 }
 
-/// Each of so many matches is shared by so many threads. The agents are dealt out evenly.
+// Each of so many matches is shared by so many threads. The agents are dealt out evenly.
 fn told_under_locks<R: Threads + Wait + Clock + Sync>(
     rt: &R,
     alloc: Global,
@@ -181,7 +181,7 @@ fn cells(alloc: Global, matches: u16, agents: u16) -> Result<Vec<Cell>, BenchFau
     Ok(cells)
 }
 
-/// The passes of all cells, in shares of so many.
+// The passes of all cells, in shares of so many.
 fn shares<R: Wait>(
     rt: &R,
     alloc: Global,
@@ -206,7 +206,7 @@ fn shares<R: Wait>(
     Ok(shares)
 }
 
-/// Tells the commands of a share.
+// Tells the commands of a share.
 fn played<R: Wait>(
     rt: &R,
     alloc: Global,
@@ -233,7 +233,7 @@ fn submit_all<R: Wait>(
     Ok(())
 }
 
-/// Ends and settles the matches, and answers how many events were kept.
+// Ends and settles the matches, and answers how many events were kept.
 fn settled<R: Wait>(
     rt: &R,
     alloc: Global,
@@ -250,7 +250,7 @@ fn settled<R: Wait>(
     Ok(kept)
 }
 
-/// The passes of all shares, by the numbers of their cells.
+// The passes of all shares, by the numbers of their cells.
 fn handed(
     alloc: Global,
     cells: usize,

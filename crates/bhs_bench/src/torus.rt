@@ -8,7 +8,7 @@ use bhs_model::{DarkLinks, Holes, MAX_QUOTA, Setup};
 use bhs_net::{Link, Net};
 use std::alloc::Global;
 
-/// How many nodes a row has, and a column.
+// How many nodes a row has, and a column.
 const SIDE: u16 = 16;
 
 /// How many nodes there are: the most that a network may have.
@@ -17,7 +17,7 @@ pub const NODES: u16 = 256;
 /// How many ports each node has: to the right, to the left, down and up.
 pub const PORTS: u16 = 4;
 
-/// The node of a row and a column, which go on at the first behind the last.
+// The node of a row and a column, which go on at the first behind the last.
 fn node_at(row: u16, column: u16) -> u16
     ensures { result < NODES }
 {

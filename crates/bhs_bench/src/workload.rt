@@ -11,14 +11,14 @@ use bhs_model::{Command, Event, Text};
 use bhs_net::{Memory, Net};
 use std::alloc::Global;
 
-/// How many events a match has: about as many as use up the quotas of its agents. The first let each agent enter, and
-/// the last one closes the match.
+// How many events a match has: about as many as use up the quotas of its agents. The first let each agent enter, and
+// the last one closes the match.
 const EVENTS_OF_A_MATCH: u16 = 28_000;
 
-/// How many agents play.
+// How many agents play.
 const AGENTS: u16 = 16;
 
-/// The seed of the words.
+// The seed of the words.
 const SEED: [u8; 32] = [7; 32];
 
 /// What was counted. A count that would need more than 64 bits stays at the most that they hold.
@@ -33,7 +33,7 @@ pub struct Counts {
 }
 
 impl Counts {
-    /// These and those of one match more.
+    // These and those of one match more.
     fn with(self, game: &Match) -> Counts {
         let mut arrivals = self.arrivals;
         for agent in 0..AGENTS {
@@ -86,7 +86,7 @@ impl Workload {
         Ok(())
     }
 
-    /// Begins the next match, with what was counted in this one.
+    // Begins the next match, with what was counted in this one.
     fn begin_next(&mut self, alloc: Global) -> Result<(), BenchFault>
         ensures { OnOk result (self.new.events ≡ 0) }
     {

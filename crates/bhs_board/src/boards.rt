@@ -1,3 +1,5 @@
+//! The whiteboard of a node.
+
 ghost use Rattle.std.specs.Prelude.{◌≡◌, None};
 ghost use Rattle.bhs_model.specs.Replying.{swapped};
 ghost use Rattle.bhs_board.specs.Boards.{swap_of, last_after, shown_after};

@@ -1,3 +1,5 @@
+//! What comes of a Write.
+
 /// What comes of a write on a whiteboard.
 #[derive(Clone, Copy, Debug, PartialEq, Eq)]
 pub enum Swap {

@@ -15,7 +15,7 @@ use Rattle.clap.specs.declared.builder.command.Command.{Command}
 use Rattle.clap.specs.declared.builder.command.Command.TheViews.{out-Command as fields_of}
 use Rattle.clap.specs.declared.error.kind.ErrorKind.{ErrorKind}
 use Rattle.clap.specs.declared.error.kind.ErrorKind.TheVariants.{DisplayHelp, DisplayVersion}
-use Rattle.bhs_teams.specs.Teams.{is_team}
+use Rattle.bhs_text.specs.Teams.{is_team}
 use Rattle.bhs_command_line.specs.declared.orders.Order.{Order}
 use Rattle.bhs_command_line.specs.declared.orders.Order.TheVariants.{Rehearse, Check, Judge, Table, Explain, Twin}
 use Rattle.bhs_command_line.specs.declared.orders.Order.TheVariants.{Recover, Serve, RehearseInteractively}

@@ -9,7 +9,7 @@ use crate::help;
 use clap::{Arg, ArgAction, Command};
 use std::alloc::{AllocError, Global};
 
-/// The version of the project, as the file VERSION has it.
+// The version of the project, as the file VERSION has it.
 const VERSION: &str = "0.9.0";
 
 const TOURNAMENT_FILE: &str = "The tournament's file, as a path from the working directory";

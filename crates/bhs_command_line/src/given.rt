@@ -25,7 +25,7 @@ pub(crate) fn order_given(
     }
 }
 
-/// The order that a command gives with its words.
+// The order that a command gives with its words.
 fn order_named(
     alloc: Global,
     name: &str,

@@ -12,19 +12,19 @@ every agent that arrives, and leave no trace. An agent is a stream of JSON lines
 and is told no more than this model allows.
 
 The program serves a contest to agents that connect over TCP, and writes the
-replay of each match. It also rehearses: it plays the lines of many clients that
-stand in a script. It judges replays, ranks teams by them, and says of a match
-why an agent saw what it saw. It reads the files of a tournament, and says what
-is wrong with them.";
+replay of each match. It also rehearses: it plays a script that has the lines of
+many clients. It judges replays, ranks teams by them, and explains why an agent
+saw what it saw. It reads the files of a tournament, and says what is wrong with
+them.";
 
 pub(crate) const REHEARSE: &str = "Plays the script on standard input on a tournament";
 
 pub(crate) const REHEARSE_AT_LENGTH: &str = "\
 Plays the script on standard input on the matches of a tournament: the file that
-is named, or the built-in one. That has one match on the triangle, whose nodes 0,
-1 and 2 have two ports each. Its two agents have the keys ka and kb, enter at
-node 0 and may say 10 commands more. Node 2 is the black hole. A whiteboard holds
-8 bytes.
+is named, or the built-in one. The built-in tournament has one match on the
+triangle, whose nodes 0, 1 and 2 have two ports each. Its two agents have the
+keys ka and kb, enter at node 0 and may say 10 commands more. Node 2 is the black
+hole. A whiteboard holds 8 bytes.
 
 Each line of the script is one of these:
 
@@ -36,7 +36,7 @@ Each line of the script is one of these:
 
 Empty lines and lines that begin with # are skipped.
 
-What REST may be, the first of a client being its enter:
+REST is one of these. A client begins with its enter:
 
   {\"do\":\"enter\",\"key\":\"ka\"}   Enters the network with the key ka
   {\"do\":\"look\"}               Looks again at the node
@@ -50,13 +50,13 @@ Each line that the client of connection N is sent is printed as `N LINE`. While 
 agent is on a link its lines wait.
 
 With --replay each match M that the script has ended is written to the file
-PREFIXM.jsonl, once all lines are printed. A file that stands there is replaced.
-Where one cannot be written, the others still are.
+PREFIXM.jsonl, once all lines are printed. A file of that name is replaced. If
+one cannot be written, the others still are.
 
 With --interactive each line is played as it comes, so that a program can choose
-the next line by what was sent. What a line sends is printed, and then an empty
-line, before more is read; an empty line and a # line are answered by the empty
-line alone. A script may be of any length, a line of it at most 1048576 bytes. A
+the next line by the answers. What the clients are sent is printed, and then an
+empty line, before more is read; an empty line and a # line are answered by the
+empty line alone. A script may be of any length, a line of it at most 1048576 bytes. A
 line that is refused ends the rehearsal, and what was printed before stays.";
 
 pub(crate) const INTERACTIVE: &str =
@@ -115,15 +115,15 @@ port q of node w:
   nodes = 3
   links = [[0,0,1,0],[1,1,2,0],[2,1,0,1]]
 
-The ports of a node are 0 to its degree less 1. Two nodes are joined by one link
-at most, and the network stays connected without any one node.";
+A node with D links has the ports 0 to D - 1. At most one link joins two nodes,
+and the network stays connected without any one node.";
 
 pub(crate) const CHECK_EXAMPLE: &str = "\
 Example:
 
   arena check cup.toml
 
-prints, where cup.toml and tri.toml are the files above,
+prints, if cup.toml and tri.toml are the files above,
 
   match 0 red nodes 3 links 3 agents 2
 
@@ -146,15 +146,15 @@ the agents made, and how many agents were lost.
               be the black hole
   unfinished  An agent was at a node when the match was closed
   silent      Nobody accused, or some black hole or dark link was not accused
-  wrong       A link was accused that leads to no black hole and is not dark
+  wrong       An accused link leads to no black hole and is not dark
 
 A replay is read line by line, and the first line that is wrong is told on
 standard error, as `FILE: FAULT`:
 
-  head       The first line is no head of a replay
-  line N     Line N is no line of a replay
-  event N    The event of line N could not come there
-  differs N  The event of line N was answered otherwise
+  head       The first line is not the head of a replay
+  line N     Line N is not a line of a replay
+  event N    The event of line N cannot happen there
+  differs N  The event of line N has another answer
   end        The replay ends too early, or goes on behind its end";
 
 pub(crate) const JUDGE_EXAMPLE: &str = "\
@@ -162,7 +162,7 @@ Example:
 
   arena judge cup0.jsonl
 
-prints, of a match in which one agent accused from its home base,
+prints, if one agent accused from its home base,
 
   guess 1 moves 0 lost 0
 
@@ -209,15 +209,15 @@ pub(crate) const EXPLAIN_AT_LENGTH: &str = "\
 Reads a replay, and prints each event of the match that the agent could know of,
 as `PLACE LINE`: the event's place in the match, from 0, and its line of the
 replay. These are the agent's own events, what it read on whiteboards, what those
-who wrote there had seen, and so on. Played alone they are answered as they were.
-Of a number that no agent has, nothing is printed.";
+who wrote there had seen, and so on. Played alone, they get the same answers. If
+no agent has this number, nothing is printed.";
 
 pub(crate) const EXPLAIN_EXAMPLE: &str = "\
 Example:
 
   arena explain cup0.jsonl 0
 
-prints, of a match in which agent 0 accused from its home base,
+prints, if agent 0 accused from its home base,
 
   0 {\"agent\":0,\"do\":\"enter\",\"reply\":{\"board\":\"\",\"from\":null,\"ok\":\"here\",\"ports\":2}}
   1 {\"agent\":0,\"do\":\"accuse\",\"port\":1,\"reply\":{\"ok\":\"noted\"}}
@@ -235,12 +235,12 @@ pub(crate) const TWIN: &str =
     "Writes the replay of a twin: a black hole elsewhere, and nobody could tell";
 
 pub(crate) const TWIN_AT_LENGTH: &str = "\
-Reads a replay, and prints the replay of its twin: the same match, but the black
-hole that was accused first is none, and this node is one. In the twin each agent
-saw what it saw in the match. There is such a twin of each node where no agent
-arrived, so a guess is refuted by it: `arena judge` says `wrong` of the twin.
+Reads a replay, and prints the replay of its twin: the same match, with a black
+hole at this node in place of the one that was accused first. In the twin each
+agent saw what it saw in the match. Each node at which no agent arrived has such
+a twin, and the twin refutes a guess: `arena judge` calls it `wrong`.
 
-Why there is no twin is told on standard error, as `twin: FAULT`:
+If there is no such twin, standard error tells why, as `twin: FAULT`:
 
   node       There is no such node
   home       The node is the home base
@@ -253,7 +253,7 @@ Example:
   arena twin cup0.jsonl 1 > twin0.jsonl
   arena judge twin0.jsonl
 
-prints, where `arena judge cup0.jsonl` prints guess 1 moves 0 lost 0,
+prints, if `arena judge cup0.jsonl` prints guess 1 moves 0 lost 0,
 
   wrong moves 0 lost 0
 
@@ -271,8 +271,8 @@ pub(crate) const RECOVER: &str = "Prints the replay of a match whose server was 
 pub(crate) const RECOVER_AT_LENGTH: &str = "\
 While `arena serve` runs, it writes what happens in match M to the file
 PREFIXM.jsonl.part: all but about the last second. At the end the whole replay
-stands in PREFIXM.jsonl, and the part is removed. So where a part stands, its
-server was killed, or the disk was full.
+stands in PREFIXM.jsonl, and the part is removed. So a part that is left means
+that its server was killed, or that the disk was full.
 
 This command reads a part, and prints the replay of its match as if the match
 had been closed where the part ends. A last line that is torn counts for
@@ -312,7 +312,7 @@ port 4000. Turns begin when all agents of a match have entered. A match ends
 when each of its agents has ended or is lost, and at the latest after 100,000
 turns of 5 milliseconds. The table is printed 10 seconds after that, or when 100
 sessions have ended. No agent can hold this up. For agents on other machines
-say on which address to listen, as --address 192.0.2.7; lines are not encrypted.
+add the address to listen on, as --address 192.0.2.7; lines are not encrypted.
 
 The server listens on port PORT, prints `listening PORT`, and accepts up to
 SESSIONS connections. Each is one session of one agent: its first line is the
@@ -326,33 +326,34 @@ arrives, and the seed of the tournament draws which. After TURNS turns the match
 is closed. TURNS should be several times the moves that a search needs. On one
 machine a PAUSE of 0 to 20 will do. With 0 the turns come as fast as they can.
 
-After the close a session is answered `over`: at its next line, or at once where
+After the close a session is answered `over`: at its next line, or at once if
 its agent is on a link. Once all matches are closed, the server waits until
 SESSIONS sessions have ended, but no longer than the grace period of --grace.
 Then it accepts no more connections and cuts off the sessions that are left. So
-SESSIONS may be far above the number of agents: a connection that plays nobody
-counts as one, too.
+SESSIONS may be far above the number of agents: a connection that plays no agent
+counts, too.
 
 While a contest goes on, what happens in match M is written to the file
 PREFIXM.jsonl.part, about once a second; `arena recover` reads it, if the server
 is killed. At the end the replay is written to PREFIXM.jsonl, and the part is
-removed. Files that stand under these names at the beginning are renamed: .old
-is put behind their names. Then each match is judged, and the table is printed
-as `arena table` prints it.
+removed. Earlier files of these names are not overwritten: they get .old behind
+their names before the contest begins. Then each match is judged, and the table
+is printed as `arena table` prints it.
 
 Memory: until the end the server keeps each command as it came, twice, and each
 answer with the whiteboard that it shows. A line has up to 64 KiB. So a match of
 A agents with quota Q and whiteboards of B bytes takes up to A Q (B + 128 KiB),
-and up to 5 A Q B where no agent says longer texts than fit a whiteboard. Each
+and up to 5 A Q B if no agent says longer texts than a whiteboard holds. Each
 session takes up to 96 KiB.
 
 What is wrong with a file is told on standard error, as `FILE: FAULT`, and what
 is wrong with the server as `serve: FAULT`:
 
-  listen       ADDRESS is no address, or it cannot listen there on the port, as
-               where another program does
+  listen       ADDRESS is not an address of this machine, or another program
+               listens on the port
   write        A part or a replay could not be written
-  unsettled M  The log of match M is not what its agents were answered
+  unsettled M  The log of match M is not what its agents were answered; there is
+               no table, and the other matches have their replays
   memory       Memory ran out";
 
 pub(crate) const SERVE_EXAMPLE: &str = "\
@@ -365,8 +366,8 @@ prints
 
   listening 4000
 
-and about 5 seconds later, where one agent accused from its home base and the
-other one left,
+and about 5 seconds later, if one agent accused from its home base and the other
+one left,
 
     # team             outcome     moves lost
     1 red              guess 1         0    0
@@ -398,7 +399,8 @@ pub(crate) const EARLY: &str = "Closes a match as soon as each of its agents has
 
 pub(crate) const ADDRESS: &str = "The address to listen on, of IPv4 or IPv6";
 
-pub(crate) const LOG: &str = "Tells on standard error what happens";
+pub(crate) const LOG: &str =
+    "Tells on standard error who plays, and how sessions and matches end";
 
 pub(crate) const SERVED_REPLAYS: &str =
     "Writes the replay of each match M to the file PREFIXM.jsonl";

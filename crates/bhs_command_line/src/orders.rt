@@ -109,14 +109,6 @@ impl Entries {
     {
         &self.all
     }
-
-    /// The entries, given back. Takes no memory.
-    pub fn into_all(self) -> Vec<Entry>
-        ensures { result.items ≡ self }
-    {
-        let Entries { all } = self;
-        all
-    }
 }
 
 impl From<Vec<Entry>> for Entries {

@@ -6,7 +6,7 @@ ghost use Rattle.std.specs.List.{list_all};
 ghost use Rattle.bhs_command_line.specs.CommandLine.{number_within, entry_in, entries_in};
 
 use crate::orders::{Entries, Entry};
-use bhs_teams::is_team;
+use bhs_text::is_team;
 use bhs_text::Text;
 use std::alloc::{AllocError, Global};
 

@@ -1,3 +1,5 @@
+//! A stream of words, drawn by ChaCha8 from a seed.
+
 ghost use Rattle.std.specs.Prelude.{◌≡◌};
 
 use rand_chacha::ChaCha8Rng;

@@ -1,3 +1,5 @@
+//! Drawing a delivery by a word.
+
 ghost use Rattle.std.specs.Prelude.{◌≡◌};
 ghost use Rattle.bhs_model.specs.Draws.{draw};
 ghost use Rattle.bhs_match.specs.Matches.{state_of};
@@ -35,7 +37,7 @@ pub fn draw(game: &mut Match, held: &Held, word: u32) -> Drawn
     drawn
 }
 
-/// What the word draws.
+// What the word draws.
 fn judged(game: &Match, held: &Held, word: u32) -> Drawn
     ensures { result ≡ drawn (held_in held.now) (state_of game.now) word }
 {

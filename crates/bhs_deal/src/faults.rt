@@ -1,3 +1,5 @@
+//! Why links cannot be held.
+
 ghost use Rattle.std.specs.Prelude.{◌≡◌};
 ghost use Rattle.bhs_deal.specs.declared.faults.HeldFault.TheVariants.{Memory};
 

@@ -1,3 +1,5 @@
+//! The links over which no agent arrives.
+
 ghost use Rattle.std.specs.Prelude.{◌≡◌, ◌⊎◌, ℕ, IfOk, OnOk, IfErr, None, Some};
 ghost use Rattle.bhs_deal.specs.Links.{first_strange, held_in};
 

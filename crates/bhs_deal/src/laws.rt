@@ -1,3 +1,5 @@
+//! Laws of the words and of the draws.
+
 ghost use Rattle.bhs_deal.specs.Examples.{
   ALinkIsHeldInOneDirection,
   NobodyIsDrawnAfterTheClose,

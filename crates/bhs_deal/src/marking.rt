@@ -17,7 +17,7 @@ fn is_port(net: &Net, pair: (u16, u16)) -> bool
     node < net.nodes() && port < net.degree(node)
 }
 
-/// The place of the first pair that is no port of a node.
+// The place of the first pair that is no port of a node.
 fn first_strange(net: &Net, pairs: &[(u16, u16)]) -> Option<usize>
     ensures { result ≡ first_strange net.now pairs.now }
 {

@@ -1,3 +1,5 @@
+//! Picking one of several by a word.
+
 ghost use Rattle.std.specs.Prelude.{◌≡◌, ◌<◌, length, IfSome};
 ghost use Rattle.bhs_deal.specs.Pool.{picked};
 

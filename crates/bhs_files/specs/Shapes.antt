@@ -7,7 +7,7 @@ use Rattle.std.specs.Result.{result_ok}
 use Rattle.toml.specs.Data.{Data, string, integer, array, Items, no_items, item, Members, as_table}
 use Rattle.bhs_model.specs.declared.limits.TheConstants.{SEED_BYTES}
 use Rattle.hex.specs.Hex.{decode_sized}
-use Rattle.bhs_teams.specs.Teams.{is_team}
+use Rattle.bhs_text.specs.Teams.{is_team}
 use Rattle.bhs_files.specs.declared.limits.TheConstants.{MAX_MATCHES, MAX_NETWORK_NAME, MAX_KEY, MAX_KEYS}
 
 -- a whole number 0 to 65,535

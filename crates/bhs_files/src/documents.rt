@@ -11,7 +11,7 @@ use crate::{shapes, tables};
 use std::alloc::Global;
 use toml::Table;
 
-/// The version of a file, from 1 to the latest.
+// The version of a file, from 1 to the latest.
 fn version_in(latest: u16, table: &Table) -> Option<u16>
     ensures { result ≡ version_in latest (table_view table.now) }
 {

@@ -1,3 +1,5 @@
+//! What is wrong with a file.
+
 ghost use Rattle.std.specs.Prelude.{◌≡◌};
 ghost use Rattle.bhs_files.specs.declared.faults.FileFault.TheVariants.{Memory};
 ghost use Rattle.bhs_files.specs.NetworkFiles.{of_network};

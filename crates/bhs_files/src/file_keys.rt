@@ -1,3 +1,5 @@
+//! The keys of a file.
+
 ghost use Rattle.std.specs.Prelude.{◌≡◌};
 ghost use Rattle.bhs_files.specs.Words.{word};
 

@@ -1,3 +1,5 @@
+//! A match as its tournament's file has it.
+
 ghost use Rattle.std.specs.Prelude.{◌≤◌, vec_len};
 ghost use Rattle.bhs_files.specs.declared.limits.TheConstants.{MAX_KEYS};
 

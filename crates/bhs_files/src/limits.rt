@@ -1,3 +1,5 @@
+//! The limits of the files.
+
 /// The version of network files.
 pub const NETWORK_VERSION: u16 = 1;
 

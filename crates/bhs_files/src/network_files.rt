@@ -71,7 +71,7 @@ fn listing(alloc: Global, table: &Table) -> Result<(u16, Vec<Link>), FileFault>
     Ok((nodes, links))
 }
 
-/// What a network file lists. Its table is dropped before the network is judged, which may then use that memory.
+// What a network file lists. Its table is dropped before the network is judged, which may then use that memory.
 #[tactic(auto, unfolding(crate::specs::NetworkFiles::listing_in))]
 fn listing_in(alloc: Global, text: &str) -> Result<(u16, Vec<Link>), FileFault>
     ensures { GivesUnlessMemory (λ listing. (listing.0, listing.1.items)) result (listing_in text.now) }

@@ -1,3 +1,5 @@
+//! Reading the values of a file, each in its shape.
+
 ghost use Rattle.std.specs.Prelude.{◌≡◌, ◌≤◌, length, option_copied, option_map, IfOk, IfSome, map, vec_len};
 ghost use Rattle.toml.specs.Data.{as_table};
 ghost use Rattle.toml.specs.View.{view, items_view, table_view};
@@ -7,7 +9,7 @@ ghost use Rattle.bhs_files.specs.Shapes.{network_name, key, seed, hole, holes, p
 use crate::limits::{MAX_KEY, MAX_KEYS, MAX_MATCHES, MAX_NETWORK_NAME};
 use bhs_model::{SEED_BYTES, Text};
 use bhs_net::Memory;
-use bhs_teams::is_team;
+use bhs_text::is_team;
 use hex::FromHex;
 use std::alloc::Global;
 use toml::{Table, Value};

@@ -1,3 +1,5 @@
+//! A tournament as its file has it.
+
 ghost use Rattle.std.specs.Prelude.{◌≡◌, ◌≤◌, ℕ, List, IfOk, map, vec_len};
 ghost use Rattle.bhs_files.specs.declared.limits.TheConstants.{MAX_MATCHES};
 ghost use Rattle.bhs_files.specs.Names.{first_seen, is_among};

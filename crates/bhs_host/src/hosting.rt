@@ -1,3 +1,5 @@
+//! From the matches of a tournament to a contest.
+
 ghost use Rattle.std.specs.Prelude.{◌≡◌, [], ◌∷◌, ◌++◌, IfOk, length, map};
 ghost use Rattle.bhs_deal.specs.Dealer.{dealer_at};
 ghost use Rattle.bhs_lineup.specs.Fresh.{AreFresh};
@@ -45,7 +47,7 @@ pub fn contest_of(alloc: Global, lineup: Lineup) -> Result<Hosted, Memory>
     Ok(hosted)
 }
 
-/// Empty vectors with room for the teams, the cells and the dealers of this number of matches.
+// Empty vectors with room for the teams, the cells and the dealers of this number of matches.
 fn rooms(alloc: Global, games: usize) -> Result<(Vec<Text>, Vec<Cell>, Vec<Dealer>), Memory>
     ensures { IfOk result (λ rooms. (rooms.0.items ≡ []) × (rooms.1.items ≡ []) × (rooms.2.items ≡ [])) }
 {
@@ -56,7 +58,7 @@ fn rooms(alloc: Global, games: usize) -> Result<(Vec<Text>, Vec<Cell>, Vec<Deale
 }
 
 impl Hosted {
-    /// Puts a match under its lock, with the dealer that has the stream of its number.
+    // Puts a match under its lock, with the dealer that has the stream of its number.
     fn add(&mut self, alloc: Global, seed: [u8; SEED_BYTES], ready: Ready) -> Result<(), Memory>
         requires { ready.game.log ≡ [] }
         ensures teams { IfOk result (λ _. self.new.teams.items ≡ self.old.teams.items ++ ready.team ∷ []) }
@@ -77,7 +79,7 @@ impl Hosted {
     }
 }
 
-/// The number of the match at a place of a lineup.
+// The number of the match at a place of a lineup.
 fn number_at(place: usize) -> u32
     ensures { result ≡ number_at place }
 {

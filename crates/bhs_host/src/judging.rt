@@ -14,7 +14,7 @@ use std::alloc::{AllocError, Global};
 use std::thread;
 use std::thread::Threads;
 
-/// How many matches are judged at the same time.
+// How many matches are judged at the same time.
 const AT_ONCE: usize = 64;
 
 /// The verdicts on these matches, in order. Each match is judged on a thread of its own, so many at the same time.
@@ -37,8 +37,8 @@ pub(crate) fn verdicts_of<R: Threads + Sync>(
     Ok(verdicts)
 }
 
-/// The verdicts on a few matches, in order. The thread of a match shows its verdict and gives back a note that has seen
-/// it; by that note the verdict is read.
+// The verdicts on a few matches, in order. The thread of a match shows its verdict and gives back a note that has seen
+// it; by that note the verdict is read.
 fn judged_at_once<R: Threads + Sync>(
     rt: &R,
     alloc: Global,
@@ -62,8 +62,8 @@ fn judged_at_once<R: Threads + Sync>(
     Ok(verdicts)
 }
 
-/// Judges a few matches, each on a thread of its own, which shows the verdict. A note for each match that has seen it;
-/// None where there was no memory to show it.
+// Judges a few matches, each on a thread of its own, which shows the verdict. A note for each match that has seen it;
+// None where there was no memory to show it.
 fn notes_of<R: Threads + Sync>(
     rt: &R,
     alloc: Global,
@@ -85,8 +85,8 @@ fn notes_of<R: Threads + Sync>(
     )
 }
 
-/// Judges a match and shows the verdict, unless one is shown already: a note that has seen the verdict. None also where
-/// there was no memory to show it.
+// Judges a match and shows the verdict, unless one is shown already: a note that has seen the verdict. None also where
+// there was no memory to show it.
 fn shown_by_judge(showcase: &Showcase, game: u32, sealed: &Sealed) -> Option<ShowNote>
     ensures place { IfSome result (λ note. slice_get showcase.now game ≡ Some note.place) }
     ensures seen { IfSome result (λ note. note.verdict ≡ Some (verdict_of sealed.now)) }
@@ -98,7 +98,7 @@ fn shown_by_judge(showcase: &Showcase, game: u32, sealed: &Sealed) -> Option<Sho
     }
 }
 
-/// The verdict that is shown on a match: that which the note has seen, if it has seen one.
+// The verdict that is shown on a match: that which the note has seen, if it has seen one.
 fn shown(showcase: &Showcase, game: u32, mut note: ShowNote) -> Option<Verdict>
     requires { slice_get showcase.now game ≡ Some note.place }
     ensures { IfSome result (λ verdict. Agree note.verdict (Some verdict)) }

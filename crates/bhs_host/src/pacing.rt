@@ -1,3 +1,5 @@
+//! The pace of the turns.
+
 ghost use Rattle.std.specs.Prelude.{◌≡◌};
 ghost use Rattle.bhs_host.specs.Pacing.{step_after};
 
@@ -48,7 +50,7 @@ impl<C: Clock> Pace for Steady<'_, C> {
     }
 }
 
-/// What comes after so many turns, of which there are to be this many.
+// What comes after so many turns, of which there are to be this many.
 fn step_after(turns: u32, turn: u32) -> Step
     ensures { result ≡ step_after turns turn }
 {

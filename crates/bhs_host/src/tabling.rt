@@ -1,3 +1,5 @@
+//! The table of a contest.
+
 ghost use Rattle.std.specs.Prelude.{◌≡◌, IfOk, length, map, string_bytes};
 ghost use Rattle.bhs_host.specs.Hosting.{IsStandings};
 
@@ -25,7 +27,7 @@ pub fn standings<R: Threads + Sync>(
     table(alloc, &rows)
 }
 
-/// The rows of these teams with their verdicts, in order.
+// The rows of these teams with their verdicts, in order.
 fn rows_of(alloc: Global, teams: &[Text], verdicts: &[Verdict]) -> Result<Vec<Row>, Memory>
     requires { length teams.now ≡ length verdicts.now }
     ensures teams { IfOk result (λ rows. map (λ row. string_bytes row.team) rows.items ≡ teams.now) }

@@ -1,3 +1,5 @@
+//! Which agent of which match each key lets in.
+
 ghost use Rattle.std.specs.Prelude.{◌≡◌, [], not, string_bytes, IfOk, OnErr};
 ghost use Rattle.bhs_lineup.specs.KeyTable.{seat_at, has_key, with_seat};
 

@@ -1,3 +1,5 @@
+//! The matches of a tournament, ready to begin.
+
 use crate::key_table::Keys;
 use bhs_deal::Held;
 use bhs_match::Match;

@@ -3,10 +3,10 @@ use Rattle.std.specs.Prelude.{ℕ, ◌<◌, ◌≡◌, true, false, Option, List
 use Rattle.std.specs.Prelude.{Vec}
 use Rattle.std.specs.declared.alloc.Global.{Global}
 use Rattle.bhs_match.specs.Matches.{Play, state_of}
-use Rattle.bhs_lock.specs.declared.parts.Dispute.{Dispute}
-use Rattle.bhs_lock.specs.declared.parts.Dispute.TheVariants.{Missing, World, Differs, Arrival, NotClosed}
+use Rattle.bhs_lock.specs.declared.settling.Dispute.{Dispute}
+use Rattle.bhs_lock.specs.declared.settling.Dispute.TheVariants.{Missing, World, Differs, Arrival, NotClosed}
 use Rattle.bhs_lock.specs.declared.parts.Parts.{Parts}
-use Rattle.bhs_lock.specs.declared.parts.Unsettled.{Unsettled}
+use Rattle.bhs_lock.specs.declared.settling.Unsettled.{Unsettled}
 use Rattle.bhs_lock.specs.Passes.{Passed}
 use Rattle.bhs_lock.specs.Cells.{Given}
 use Rattle.bhs_lock.specs.Settling.{IsOfWorld, NoneMissing, IsLeastMissing, Agree, IsLeastDifference, commands_of}

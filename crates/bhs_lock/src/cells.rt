@@ -1,11 +1,14 @@
+//! A match that threads share.
+
 ghost use Rattle.std.specs.Prelude.{◌≡◌, [], IfOk, IfSome, IsTrue, OnErr, replicate};
+ghost use Rattle.bhs_match.specs.Decided.{AreAllDone, HaveAllEntered};
 ghost use Rattle.bhs_deal.specs.Dealer.{moved_on};
 ghost use Rattle.bhs_lock.specs.Recording.{IsSubmitted};
 ghost use Rattle.bhs_lock.specs.Tallies.{nothing};
 ghost use Rattle.bhs_lock.specs.Unclaimed.{IsFresh};
 ghost use Rattle.bhs_lock.specs.Cells.{IsNews};
 ghost use Rattle.bhs_lock.specs.Copies.{AreCopies};
-ghost use Rattle.bhs_lock.specs.Deciding.{WereDone, WereGathered};
+ghost use Rattle.bhs_lock.specs.Deciding.{WasSeen};
 
 use crate::copies::{Copied, copies};
 use crate::gates::Gate;
@@ -159,7 +162,7 @@ impl Cell {
 
     /// Whether all agents have entered.
     pub fn is_gathered<R: Wait>(&self, rt: &R) -> bool
-        ensures { IsTrue result → WereGathered }
+        ensures { IsTrue result → WasSeen HaveAllEntered }
     {
         let hall = self.hall.lock(rt);
         hall.state().is_gathered()
@@ -167,7 +170,7 @@ impl Cell {
 
     /// Whether each agent has ended or is lost: then nothing that may still happen changes the verdict.
     pub fn is_decided<R: Wait>(&self, rt: &R) -> bool
-        ensures { IsTrue result → WereDone }
+        ensures { IsTrue result → WasSeen AreAllDone }
     {
         let hall = self.hall.lock(rt);
         hall.state().is_decided()
@@ -221,7 +224,7 @@ impl Cell {
     }
 }
 
-/// What a new cell needs besides its match. All memory of a cell is taken here.
+// What a new cell needs besides its match. All memory of a cell is taken here.
 struct Frame {
     net: Net,
     setup: Setup,
@@ -231,7 +234,7 @@ struct Frame {
 }
 
 impl Frame {
-    /// The frame for a match in which no agent was heard yet.
+    // The frame for a match in which no agent was heard yet.
     fn new(alloc: Global, game: u32, play: &Match) -> Result<Frame, Memory>
         ensures net { IfOk result (λ frame. frame.net ≡ play.now.net) }
         ensures setup { IfOk result (λ frame. frame.setup ≡ play.now.setup) }

@@ -1,3 +1,5 @@
+//! Comparing what a pass has with what the log has.
+
 ghost use Rattle.std.specs.Prelude.{◌≡◌, ◌↔◌, IsTrue, Some};
 ghost use Rattle.bhs_model.specs.Marks.{read, read_if};
 ghost use Rattle.bhs_lock.specs.Comparing.{entry_of, entry_in};
@@ -22,7 +24,7 @@ pub(crate) fn is_entry(
         && kept.is_kept_of(command, &receipt.reply)
 }
 
-/// Whether a mark, if there is one, is read as this reply.
+// Whether a mark, if there is one, is read as this reply.
 fn is_reply(log: &[Kept], mark: &Option<Mark>, reply: &Reply) -> bool
     ensures { IsTrue result ↔ (read_if log.now mark.now ≡ Some reply.now) }
 {

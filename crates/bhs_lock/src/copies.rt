@@ -1,3 +1,5 @@
+//! Copying events out of a log.
+
 ghost use Rattle.std.specs.Prelude.{◌≡◌, IfOk, take, drop, map};
 ghost use Rattle.bhs_lock.specs.Copies.{copy_of, copies};
 
@@ -25,7 +27,7 @@ pub(crate) fn copies(
     copies_of(alloc, play, few(play.log(), from, most))
 }
 
-/// The events from this place on, `most` of them at the most.
+// The events from this place on, `most` of them at the most.
 fn few(log: &[Kept], from: usize, most: usize) -> &[Kept]
     ensures { result.now ≡ take most (drop from log.now) }
 {

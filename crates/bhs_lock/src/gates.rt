@@ -1,3 +1,5 @@
+//! What is told of each command, before and under the lock.
+
 /// Is called before, under and after the lock of a match, for each command that is submitted. Tests make threads wait
 /// for each other by it.
 pub trait Gate {

@@ -1,3 +1,5 @@
+//! What stands under the lock of a match.
+
 ghost use Rattle.std.specs.Prelude.{◌≡◌, [], true, IfOk, OnErr, replicate};
 ghost use Rattle.bhs_lock.specs.Halls.{agrees, same_tally, is_below, empty_hall, IsAnswered};
 ghost use Rattle.bhs_lock.specs.Tallies.{IsLegalHistory, nothing};
@@ -93,7 +95,7 @@ impl Hall {
         }
     }
 
-    /// Whether a pass is of this match, and agrees with what stands in its log.
+    // Whether a pass is of this match, and agrees with what stands in its log.
     fn agrees(&self, pass: &Pass) -> bool
         ensures { result ≡ agrees self.now pass.now }
     {
@@ -179,7 +181,7 @@ impl Hall {
     }
 }
 
-/// What stands under the lock of agents that were not heard yet, and their passes.
+// What stands under the lock of agents that were not heard yet, and their passes.
 fn unheard_and_passes(
     alloc: Global,
     game: u32,
@@ -204,7 +206,7 @@ pub(crate) fn unheard(alloc: Global, agents: u16) -> Result<Vec<Tally>, Memory>
     Vec::from_elem(alloc, nothing, usize::from(agents))
 }
 
-/// One pass for each agent, in order.
+// One pass for each agent, in order.
 fn empty_passes(alloc: Global, game: u32, quota: u16, agents: u16) -> Result<Vec<Pass>, Memory>
     ensures { IfOk result (λ passes. passes.items ≡ passes_of game quota agents) }
 {
@@ -221,7 +223,7 @@ fn same_tally(one: Tally, two: Tally) -> bool
     one.commands == two.commands && (if one.ended { two.ended } else { !two.ended })
 }
 
-/// Whether the place of the last one, if there is one, is below this length.
+// Whether the place of the last one, if there is one, is below this length.
 fn is_below(receipts: &[Receipt], length: usize) -> bool
     ensures { result ≡ is_below receipts.now length }
 {

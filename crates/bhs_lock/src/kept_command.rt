@@ -104,7 +104,7 @@ impl KeptCommand {
     }
 }
 
-/// Whether these are the texts of a Write.
+// Whether these are the texts of a Write.
 fn are_texts(texts: &Option<Box<Texts>>, expect: &str, put: &str) -> bool
     ensures { IsTrue result ↔ (Write expect.now put.now ≡ write_of texts.now) }
 {
@@ -114,7 +114,7 @@ fn are_texts(texts: &Option<Box<Texts>>, expect: &str, put: &str) -> bool
     }
 }
 
-/// Whether a reply says what a whiteboard shows, or that it was written.
+// Whether a reply says what a whiteboard shows, or that it was written.
 fn is_of_board(reply: &Reply) -> bool
     ensures { result ≡ is_of_board reply.now }
 {

@@ -1,3 +1,5 @@
+//! The records that cells, halls and passes share.
+
 use crate::kept_command::KeptCommand;
 use bhs_model::{Mark, Reply, Text};
 

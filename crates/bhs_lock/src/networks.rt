@@ -15,7 +15,7 @@ pub(crate) fn is_of_world(play: &Match, net: &Net, setup: &Setup) -> bool
     is_same_network(play.net(), net) && *play.setup() == *setup
 }
 
-/// Whether these are the same network.
+// Whether these are the same network.
 fn is_same_network(one: &Net, two: &Net) -> bool
     ensures { IsTrue result ↔ (one.now ≡ two.now) }
 {
@@ -31,7 +31,7 @@ fn is_same_network(one: &Net, two: &Net) -> bool
     true
 }
 
-/// Whether the ports of a node lead to the same ends in both networks.
+// Whether the ports of a node lead to the same ends in both networks.
 fn has_same_row(one: &Net, two: &Net, node: u16) -> bool
     requires in_one { node < nodes_of one.now }
     requires in_two { node < nodes_of two.now }

@@ -1,15 +1,8 @@
-//! The settlement of a match that no thread shares any more.
+//! What a cell is made of.
 
-ghost use Rattle.std.specs.Prelude.{◌≡◌, IfOk, IfErr, MatchOption};
-ghost use Rattle.bhs_lock.specs.Disputes.{account_of, AreInAccord, IsDispute, IsSettled, IsRefused, HasRefused};
-
-use crate::cells::Cell;
 use crate::hall::Hall;
-use crate::networks::is_of_world;
 use crate::pass::Pass;
-use crate::settling::{first_difference, first_stray, missing};
 use bhs_deal::Held;
-use bhs_match::Sealed;
 use bhs_model::Setup;
 use bhs_net::Net;
 
@@ -23,93 +16,4 @@ pub struct Parts {
     pub net: Net,
     pub setup: Setup,
     pub held: Held,
-}
-
-/// Why a match does not settle.
-#[derive(Clone, Copy, Debug, PartialEq, Eq)]
-pub enum Dispute {
-    /// The pass of this agent was claimed, and is not among those handed in.
-    Missing { agent: u16 },
-    /// The match is not of the network and the setup that the cell was given.
-    World,
-    /// The agent's receipts and kept commands are not its heard commands in the log. This is the least index at which
-    /// they differ, or one of both ends. Of an agent without a pass no command may have been heard.
-    Differs { agent: u16, receipt: usize },
-    /// The arrival of this index in a pass is not that of its agent in the log.
-    Arrival { agent: u16, index: usize },
-    /// The match has not ended.
-    NotClosed,
-}
-
-/// A match that does not settle: why, and what was handed in.
-#[derive(Debug, Drop)]
-pub struct Unsettled {
-    pub why: Dispute,
-    pub hall: Hall,
-    /// The passes that nobody claimed, by agent; None for one that was.
-    pub left: Vec<Option<Pass>>,
-    pub passes: Vec<Pass>,
-}
-
-/// The match of a cell that no thread shares any more, for reading alone, where the passes agree with it: each claimed
-/// pass is among them, and each has the heard commands of its agent and its first arrivals, with places and replies.
-/// Else the first dispute, in the order of `Dispute`, of the least agent and there of the least index; the parts come
-/// back. Takes no memory. Any pass may be handed in.
-pub fn settle(cell: Cell, passes: Vec<Pass>) -> Result<Sealed, Unsettled>
-    ensures settled { IfOk result (λ sealed. AreInAccord cell sealed passes.items) }
-    ensures refused { IfErr result (λ unsettled. HasRefused cell passes unsettled) }
-{
-    cell.into_parts().settle(passes)
-}
-
-impl Parts {
-    /// The match for reading alone, where the passes agree with it and with the parts; else the first dispute, and the
-    /// parts. Takes no memory.
-    pub fn settle(self, passes: Vec<Pass>) -> Result<Sealed, Unsettled>
-        ensures settled { IfOk result (λ sealed. (sealed ≡ self.hall.play) × IsSettled (account_of self passes.items)) }
-        ensures refused { IfErr result (λ unsettled. IsRefused self passes unsettled) }
-    {
-        let dispute = self.first_dispute(&passes);
-        let Parts {
-            game: _,
-            hall,
-            left,
-            net: _,
-            setup: _,
-            held: _,
-        } = self;
-        match dispute {
-            None => Ok(hall.into_sealed()),
-            Some(why) => Err(Unsettled {
-                why,
-                hall,
-                left,
-                passes,
-            }),
-        }
-    }
-
-    /// The first dispute between the parts and the passes, if there is one.
-    fn first_dispute(&self, passes: &[Pass]) -> Option<Dispute>
-        ensures { MatchOption result (IsSettled (account_of self.now passes.now))
-            (IsDispute (account_of self.now passes.now)) }
-    {
-        let play = self.hall.state();
-        if let Some(agent) = missing(self.setup.agents, &self.left, passes) {
-            return Some(Dispute::Missing { agent });
-        }
-        if !is_of_world(play, &self.net, &self.setup) {
-            return Some(Dispute::World);
-        }
-        if let Some((agent, receipt)) = first_difference(play, passes) {
-            return Some(Dispute::Differs { agent, receipt });
-        }
-        if let Some((agent, index)) = first_stray(play, passes) {
-            return Some(Dispute::Arrival { agent, index });
-        }
-        if !play.closed() {
-            return Some(Dispute::NotClosed);
-        }
-        None
-    }
 }

@@ -1,3 +1,5 @@
+//! What the session of an agent was answered.
+
 ghost use Rattle.std.specs.Prelude.{◌≡◌, [], true, IfOk, OnErr, length, option_map, option_and_then, slice_get, map};
 ghost use Rattle.std.specs.Prelude.{Some, IsTrue, ◌↔◌};
 ghost use Rattle.bhs_match.specs.Matches.{world_in, state_of, shown_at};
@@ -219,7 +221,7 @@ impl Pass {
     }
 }
 
-/// Whether the arrival of this index, of an agent whose arrivals stand at these places, is this receipt.
+// Whether the arrival of this index, of an agent whose arrivals stand at these places, is this receipt.
 fn is_arrival(places: &[u32], log: &[Kept], index: usize, receipt: &Receipt) -> bool
     ensures { IsTrue result ↔ (slice_get (map (receipt_at log.now) places.now) index ≡ Some (Some receipt.now)) }
 {
@@ -229,7 +231,7 @@ fn is_arrival(places: &[u32], log: &[Kept], index: usize, receipt: &Receipt) -> 
     }
 }
 
-/// The place and the mark of the arrival of this index, of an agent whose arrivals stand at these places.
+// The place and the mark of the arrival of this index, of an agent whose arrivals stand at these places.
 fn arrival_of(places: &[u32], log: &[Kept], index: usize) -> Option<(u32, Mark)>
     ensures { option_map (λ found. record { place = found.0; reply = read log.now found.1 }) result
         ≡ option_and_then (receipt_at log.now) (slice_get places.now index) }
@@ -239,7 +241,7 @@ fn arrival_of(places: &[u32], log: &[Kept], index: usize) -> Option<(u32, Mark)>
     Some((place, mark))
 }
 
-/// The mark of the arrival at a place of a log.
+// The mark of the arrival at a place of a log.
 fn arrival_at(log: &[Kept], place: u32) -> Option<Mark>
     ensures { result ≡ arrival_at log.now place }
 {
@@ -250,7 +252,7 @@ fn arrival_at(log: &[Kept], place: u32) -> Option<Mark>
     }
 }
 
-/// What a command may need, by what its reply will speak of.
+// What a command may need, by what its reply will speak of.
 fn spare(alloc: Global, play: &Match, agent: u16, command: &Command) -> Result<Spare, Memory>
     ensures { IfOk result (IsSpareFor play.now agent command.now) }
 {
@@ -275,7 +277,7 @@ fn no_text(alloc: Global) -> Text
     Text::from(String::new(alloc))
 }
 
-/// A copy of the text that the agent sees.
+// A copy of the text that the agent sees.
 fn seen(alloc: Global, play: &Match, agent: u16) -> Result<Text, Memory>
     ensures { IfOk result (λ text. text ≡ shown_at (world_in play.now) (state_of play.now)
         ((state_of play.now).position agent)) }
@@ -284,7 +286,7 @@ fn seen(alloc: Global, play: &Match, agent: u16) -> Result<Text, Memory>
     Ok(Text::from(text))
 }
 
-/// The reply of a mark whose whiteboard shows this text.
+// The reply of a mark whose whiteboard shows this text.
 #[inline(always)]
 fn spoken(mark: Mark, text: Text) -> Reply
     ensures { result ≡ spoken mark text }
@@ -305,7 +307,7 @@ fn spoken(mark: Mark, text: Text) -> Reply
     }
 }
 
-/// Whether an agent that is answered so has ended.
+// Whether an agent that is answered so has ended.
 #[inline(always)]
 fn is_end(reply: &Reply) -> bool
     ensures { result ≡ is_end reply.now }

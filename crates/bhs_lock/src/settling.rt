@@ -1,125 +1,101 @@
-ghost use Rattle.std.specs.Prelude.{◌≡◌, ◌<◌, Some, None, IfSome, MatchOption};
-ghost use Rattle.bhs_lock.specs.Comparing.{entry_of};
-ghost use Rattle.bhs_lock.specs.Saying.{IsSaid};
-ghost use Rattle.bhs_lock.specs.Settling.{lesser, has_pass, is_missing, NoneMissing, IsLeastMissing};
-ghost use Rattle.bhs_lock.specs.Settling.{IsLeast, commands_of, arrivals_of};
+//! The settlement of a match that no thread shares any more.
 
+ghost use Rattle.std.specs.Prelude.{◌≡◌, IfOk, IfErr, MatchOption};
+ghost use Rattle.bhs_lock.specs.Disputes.{account_of, AreInAccord, IsDispute, IsSettled, IsRefused, HasRefused};
+
+use crate::cells::Cell;
+use crate::differences::{first_difference, first_stray, missing};
+use crate::hall::Hall;
+use crate::networks::is_of_world;
+use crate::parts::Parts;
 use crate::pass::Pass;
-use bhs_match::Match;
-use bhs_model::{Command, Event, Kept, MAX_AGENTS, Mark};
+use bhs_match::Sealed;
 
-/// An agent, and an index into its commands or arrivals.
-pub(crate) type Place = (u16, usize);
-
-/// The lesser of what was found and of an index of an agent, if there are such.
-fn lesser(best: Option<Place>, agent: u16, index: Option<usize>) -> Option<Place>
-    ensures { result ≡ lesser best agent index }
-{
-    match (best, index) {
-        (best, None) => best,
-        (None, Some(index)) => Some((agent, index)),
-        (Some(best), Some(index)) => if agent < best.0 || (agent == best.0 && index < best.1) {
-            Some((agent, index))
-        } else {
-            Some(best)
-        },
-    }
+/// Why a match does not settle.
+#[derive(Clone, Copy, Debug, PartialEq, Eq)]
+pub enum Dispute {
+    /// The pass of this agent was claimed, and is not among those handed in.
+    Missing { agent: u16 },
+    /// The match is not of the network and the setup that the cell was given.
+    World,
+    /// The agent's receipts and kept commands are not its heard commands in the log. This is the least index at which
+    /// they differ, or one of both ends. Of an agent without a pass no command may have been heard.
+    Differs { agent: u16, receipt: usize },
+    /// The arrival of this index in a pass is not that of its agent in the log.
+    Arrival { agent: u16, index: usize },
+    /// The match has not ended.
+    NotClosed,
 }
 
-/// Whether one of these passes is the agent's.
-fn has_pass(passes: &[Pass], agent: u16) -> bool
-    ensures { result ≡ has_pass passes.now agent }
-{
-    passes.iter().any(|pass| pass.agent() == agent)
+/// A match that does not settle: why, and what was handed in.
+#[derive(Debug, Drop)]
+pub struct Unsettled {
+    pub why: Dispute,
+    pub hall: Hall,
+    /// The passes that nobody claimed, by agent; None for one that was.
+    pub left: Vec<Option<Pass>>,
+    pub passes: Vec<Pass>,
 }
 
-/// Whether the pass of an agent was claimed and does not come back.
-fn is_missing(left: &[Option<Pass>], passes: &[Pass], agent: u16) -> bool
-    ensures { result ≡ is_missing left.now passes.now agent }
+/// The match of a cell that no thread shares any more, for reading alone, where the passes agree with it: each claimed
+/// pass is among them, and each has the heard commands of its agent and its first arrivals, with places and replies.
+/// Else the first dispute, in the order of `Dispute`, of the least agent and there of the least index; the parts come
+/// back. Takes no memory. Any pass may be handed in.
+pub fn settle(cell: Cell, passes: Vec<Pass>) -> Result<Sealed, Unsettled>
+    ensures settled { IfOk result (λ sealed. AreInAccord cell sealed passes.items) }
+    ensures refused { IfErr result (λ unsettled. HasRefused cell passes unsettled) }
 {
-    match left.get(usize::from(agent)) {
-        Some(None) => !has_pass(passes, agent),
-        _ => false,
-    }
+    cell.into_parts().settle(passes)
 }
 
-/// The least agent, of the first `agents`, whose pass was claimed and is not among those handed in. `left` are the
-/// passes that nobody claimed, by agent. Takes no memory.
-pub(crate) fn missing(agents: u16, left: &[Option<Pass>], passes: &[Pass]) -> Option<u16>
-    ensures least { MatchOption result (NoneMissing agents left.now passes.now) (IsLeastMissing left.now passes.now) }
-    ensures agent { IfSome result (λ agent. agent < agents) }
-{
-    for agent in 0..agents {
-        if is_missing(left, passes, agent) {
-            return Some(agent);
+impl Parts {
+    /// The match for reading alone, where the passes agree with it and with the parts; else the first dispute, and the
+    /// parts. Takes no memory.
+    pub fn settle(self, passes: Vec<Pass>) -> Result<Sealed, Unsettled>
+        ensures settled { IfOk result (λ sealed. (sealed ≡ self.hall.play) × IsSettled (account_of self passes.items)) }
+        ensures refused { IfErr result (λ unsettled. IsRefused self passes unsettled) }
+    {
+        let dispute = self.first_dispute(&passes);
+        let Parts {
+            game: _,
+            hall,
+            left,
+            net: _,
+            setup: _,
+            held: _,
+        } = self;
+        match dispute {
+            None => Ok(hall.into_sealed()),
+            Some(why) => Err(Unsettled {
+                why,
+                hall,
+                left,
+                passes,
+            }),
         }
     }
-    None
-}
 
-/// The least agent and index at which the receipts of a pass, or none for an agent without a pass, are not the agent's
-/// heard commands in the log of a match; None where each pass has the agent's heard commands, each once, in order, with
-/// places and replies, and an agent without a pass has none. Takes no memory; goes over the log once.
-pub(crate) fn first_difference(play: &Match, passes: &[Pass]) -> Option<Place>
-    ensures { IsLeast (commands_of play.now passes.now) result }
-{
-    let log = play.log();
-    // Every match has a setup that is within the limits: no agent is past the places of `heard`.
-    let _setup = play.setup();
-    let mut heard = [0; MAX_AGENTS as usize];
-    let mut best = None;
-    for (place, one) in log.iter().enumerate() {
-        let Event::Tell { agent, command } = &one.event else {
-            continue;
-        };
-        let index = heard[usize::from(*agent)];
-        if !is_said(passes, *agent, index, log, place, command, &one.mark) {
-            best = lesser(best, *agent, Some(index));
+    // The first dispute between the parts and the passes, if there is one.
+    fn first_dispute(&self, passes: &[Pass]) -> Option<Dispute>
+        ensures { MatchOption result (IsSettled (account_of self.now passes.now))
+            (IsDispute (account_of self.now passes.now)) }
+    {
+        let play = self.hall.state();
+        if let Some(agent) = missing(self.setup.agents, &self.left, passes) {
+            return Some(Dispute::Missing { agent });
         }
-        heard[usize::from(*agent)] = index + 1;
-    }
-    for pass in passes {
-        let index = heard.get(usize::from(pass.agent())).copied().unwrap_or(0);
-        if index < pass.commands_heard() {
-            best = lesser(best, pass.agent(), Some(index));
+        if !is_of_world(play, &self.net, &self.setup) {
+            return Some(Dispute::World);
         }
-    }
-    best
-}
-
-/// Whether an agent has a pass, and each of its passes has a command of the log at this index.
-fn is_said(
-    passes: &[Pass],
-    agent: u16,
-    index: usize,
-    log: &[Kept],
-    place: usize,
-    command: &Command,
-    mark: &Option<Mark>,
-) -> bool
-    ensures { IsSaid result passes.now agent index (entry_of log.now place command.now mark.now) }
-{
-    let mut has_pass = false;
-    for pass in passes {
-        if pass.agent() != agent {
-            continue;
+        if let Some((agent, receipt)) = first_difference(play, passes) {
+            return Some(Dispute::Differs { agent, receipt });
         }
-        if !pass.says(index, log, place, command, mark) {
-            return false;
+        if let Some((agent, index)) = first_stray(play, passes) {
+            return Some(Dispute::Arrival { agent, index });
         }
-        has_pass = true;
+        if !play.closed() {
+            return Some(Dispute::NotClosed);
+        }
+        None
     }
-    has_pass
-}
-
-/// The least agent and index at which an arrival of a pass is not the agent's arrival of that index in the log of a
-/// match; None where the arrivals of each pass are the agent's first ones, with places and replies. Takes no memory.
-pub(crate) fn first_stray(play: &Match, passes: &[Pass]) -> Option<Place>
-    ensures { IsLeast (arrivals_of play.now passes.now) result }
-{
-    let mut best = None;
-    for pass in passes {
-        best = lesser(best, pass.agent(), pass.stray(play));
-    }
-    best
 }

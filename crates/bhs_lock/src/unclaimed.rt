@@ -1,3 +1,5 @@
+//! The passes that nobody has claimed yet.
+
 ghost use Rattle.std.specs.Prelude.{◌≡◌, IfSome, IsTrue};
 ghost use Rattle.bhs_lock.specs.Unclaimed.{IsFresh};
 
@@ -60,7 +62,7 @@ impl Unclaimed {
     }
 }
 
-/// Whether this is a pass of the match of this number, with this quota.
+// Whether this is a pass of the match of this number, with this quota.
 fn is_of_match(pass: &Option<Pass>, game: u32, quota: u16) -> bool
     ensures game { IsTrue result → IfSome pass.now (λ pass. pass.game ≡ game) }
     ensures quota { IsTrue result → IfSome pass.now (λ pass. pass.quota ≡ quota) }

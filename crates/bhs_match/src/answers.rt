@@ -1,3 +1,5 @@
+//! The answer of a match to an event.
+
 use bhs_model::Mark;
 
 /// What came of an event.

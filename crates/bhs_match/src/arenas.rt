@@ -1,3 +1,5 @@
+//! Many matches, by their numbers.
+
 ghost use Rattle.std.specs.Prelude.{◌≡◌, ◌≤◌, List, length, IfOk, OnErr, slice_get, option_copied};
 ghost use Rattle.bhs_model.specs.Arenas.{Happening};
 ghost use Rattle.bhs_match.specs.Games.{IsPlayedIn, AreLogsOf, GoesOn};

@@ -1,3 +1,5 @@
+//! A match that goes on.
+
 ghost use Rattle.std.specs.Prelude.{◌≡◌, ◌<◌, ◌≤◌, List, [], length, Some, None, Ok, Err, IfSome, IfOk, IfErr, OnOk};
 ghost use Rattle.std.specs.Prelude.{if◌then◌else◌, ◌⊎◌, ◌↔◌, IsTrue, map, option_and_then, replicate, vec_capacity};
 ghost use Rattle.std.specs.List.{All};
@@ -200,7 +202,7 @@ impl Match {
         true
     }
 
-    /// Whether the agent has entered.
+    // Whether the agent has entered.
     fn has_entered(&self, agent: u16) -> bool
         requires { agent < self.now.setup.agents }
         ensures { result ≡ has_entered self.now agent }
@@ -300,7 +302,7 @@ impl Match {
     }
 }
 
-/// The node whose whiteboard an agent sees.
+// The node whose whiteboard an agent sees.
 fn node_seen(world: &World, agent: u16) -> Option<u16>
     ensures node { result ≡ node_seen world.now agent }
     ensures range { IfSome result (λ node. node < nodes_of world.now.net) }
@@ -315,7 +317,7 @@ fn node_seen(world: &World, agent: u16) -> Option<u16>
     }
 }
 
-/// Whether an agent has ended or is lost.
+// Whether an agent has ended or is lost.
 fn is_done_at(agent: &Agent) -> bool
     ensures { result ≡ is_done_at agent.now.position agent.now.lost }
 {
@@ -325,7 +327,7 @@ fn is_done_at(agent: &Agent) -> bool
     }
 }
 
-/// Whether an agent has entered.
+// Whether an agent has entered.
 fn has_entered_at(agent: &Agent) -> bool
     ensures { result ≡ has_entered_at agent.now.position }
 {
@@ -335,7 +337,7 @@ fn has_entered_at(agent: &Agent) -> bool
     }
 }
 
-/// An empty log and no sites, with room for all that may happen.
+// An empty log and no sites, with room for all that may happen.
 fn no_events(alloc: Global, agents: u16, quota: u16) -> Result<(Vec<Kept>, Vec<Site>), AllocError>
     requires agents { agents ≤ MAX_AGENTS }
     requires quota { quota ≤ MAX_QUOTA }
@@ -347,7 +349,7 @@ fn no_events(alloc: Global, agents: u16, quota: u16) -> Result<(Vec<Kept>, Vec<S
     Ok((log, sites))
 }
 
-/// An empty pool and no news, with room for all that may happen.
+// An empty pool and no news, with room for all that may happen.
 fn nobody(alloc: Global, agents: u16, quota: u16) -> Result<(Vec<Bound>, Vec<News>), AllocError>
     ensures pool { IfOk result (λ made. (made.0.items ≡ []) × (agents ≤ vec_capacity made.0)) }
     ensures news { IfOk result (λ made. made.1.items ≡ replicate agents (record { places = []; room = quota })) }
@@ -356,7 +358,7 @@ fn nobody(alloc: Global, agents: u16, quota: u16) -> Result<(Vec<Bound>, Vec<New
     Ok((pool, no_news(alloc, agents, quota)?))
 }
 
-/// The most events that a log may hold.
+// The most events that a log may hold.
 fn most_kept(agents: u16, quota: u16) -> usize
     requires agents { agents ≤ MAX_AGENTS }
     requires quota { quota ≤ MAX_QUOTA }

@@ -1,3 +1,5 @@
+//! The arrivals of each agent.
+
 ghost use Rattle.std.specs.Prelude.{◌≡◌, ◌<◌, ◌++◌, ◌∷◌, [], length, IfOk, replicate};
 ghost use Rattle.bhs_match.specs.Keeping.{news_at, noted, noted_at, CanNote, HasShelf};
 

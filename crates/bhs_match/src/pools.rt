@@ -1,3 +1,5 @@
+//! The agents on links, from which deliveries are drawn.
+
 ghost use Rattle.std.specs.Prelude.{◌≡◌, ◌<◌, ◌==◌, not, None, IsSome, filter, vec_capacity, vec_len};
 ghost use Rattle.bhs_match.specs.Keeping.{link_by, link_at, settled, settled_by};
 
@@ -63,7 +65,7 @@ fn settle_agent(pool: &mut Vec<Bound>, agent: u16, was: Option<(u16, u16)>, now:
     }
 }
 
-/// Takes an agent out of the pool.
+// Takes an agent out of the pool.
 fn leave(pool: &mut Vec<Bound>, agent: u16)
     ensures items { pool.new.items ≡ filter (λ bound. not (bound.agent == agent)) pool.old.items }
     ensures capacity { vec_capacity pool.new ≡ vec_capacity pool.old }

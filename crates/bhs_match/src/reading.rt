@@ -1,9 +1,11 @@
+//! The texts that marks name in a log.
+
 ghost use Rattle.std.specs.Prelude.{◌≡◌};
 ghost use Rattle.bhs_model.specs.Marks.{text_at, board_of};
 
 use bhs_model::{Kept, Mark, text_at};
 
-/// The place that a mark names.
+// The place that a mark names.
 fn board(mark: &Mark) -> Option<u32>
     ensures { result ≡ board_of mark.now }
 {

@@ -1,3 +1,5 @@
+//! A match that has ended.
+
 ghost use Rattle.std.specs.Prelude.{◌≡◌, ◌<◌, ◌≤◌, true, length, map, List, IfOk, IfSome, option_and_then};
 ghost use Rattle.std.specs.List.{All};
 ghost use Rattle.bhs_net.specs.Network.{nodes_of};

@@ -1,3 +1,5 @@
+//! Where each event of a log happened.
+
 ghost use Rattle.std.specs.Prelude.{◌≡◌, ◌<◌, IfSome};
 ghost use Rattle.bhs_net.specs.Network.{nodes_of};
 ghost use Rattle.bhs_match.specs.Keeping.{said_by, bound_for, site_by};
@@ -7,7 +9,7 @@ use bhs_model::{Command, Event};
 use bhs_world::World;
 use std::marker::Model;
 
-/// What stands for no node, since a network has fewer.
+// What stands for no node, since a network has fewer.
 const NO_NODE: u16 = 65535;
 
 /// The site of an event: a node, or none.
@@ -68,7 +70,7 @@ fn node(world: &World, event: &Event) -> Option<u16>
     }
 }
 
-/// The node at which an agent says a command.
+// The node at which an agent says a command.
 fn said(world: &World, agent: u16, command: &Command) -> Option<u16>
     ensures site { result ≡ said_by world.now agent command.now }
     ensures range { IfSome result (λ node. node < nodes_of world.now.net) }
@@ -83,7 +85,7 @@ fn said(world: &World, agent: u16, command: &Command) -> Option<u16>
     }
 }
 
-/// The node that an agent on a link is bound for.
+// The node that an agent on a link is bound for.
 fn bound_for(world: &World, agent: u16) -> Option<u16>
     ensures site { result ≡ bound_for world.now agent }
     ensures range { IfSome result (λ node. node < nodes_of world.now.net) }

@@ -1,3 +1,5 @@
+//! Copies of what agents say and hear.
+
 ghost use Rattle.std.specs.Prelude.{◌≡◌, IfOk};
 
 use crate::commands::Command;

@@ -1,3 +1,5 @@
+//! What an agent can say.
+
 use bhs_text::Text;
 
 /// What an agent may say.

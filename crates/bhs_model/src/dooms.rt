@@ -1,3 +1,5 @@
+//! Which arrivals destroy an agent.
+
 ghost use Rattle.std.specs.Prelude.{◌≡◌, ◌<◌, ◌++◌, ◌∷◌, [], ℕ, List, length, IfOk, OnOk, OnErr};
 ghost use Rattle.bhs_net.specs.Network.{Network, nodes_of, degree_of};
 ghost use Rattle.bhs_model.specs.Worlds.{doomed};
@@ -115,7 +117,7 @@ impl Dooms {
         Ok(DarkLinks::from(ends))
     }
 
-    /// Adds the dark links whose lesser end is at this node.
+    // Adds the dark links whose lesser end is at this node.
     fn add_dark_at(
         &self,
         net: &Net,
@@ -133,7 +135,7 @@ impl Dooms {
         Ok(())
     }
 
-    /// Whether this is the lesser end of a dark link.
+    // Whether this is the lesser end of a dark link.
     fn is_lesser_end(&self, net: &Net, node: u16, port: u16) -> bool
         requires { port < degree_of net.now node }
         ensures { result ≡ is_lesser_end net.now (mark_at self.now.ports) (node, port) }

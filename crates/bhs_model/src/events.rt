@@ -1,3 +1,5 @@
+//! What happens in a match.
+
 use crate::commands::Command;
 
 /// What may happen in a match.

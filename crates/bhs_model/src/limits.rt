@@ -1,3 +1,5 @@
+//! The limits of the model.
+
 /// The most agents that a match may have. The least is 1.
 pub const MAX_AGENTS: u16 = 64;
 

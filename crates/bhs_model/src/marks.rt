@@ -1,3 +1,5 @@
+//! Replies as a log keeps them: a text is named by the place of its Write.
+
 ghost use Rattle.std.specs.Prelude.{◌≡◌, IfOk};
 ghost use Rattle.bhs_model.specs.Marks.{text_at, read};
 

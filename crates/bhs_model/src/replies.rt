@@ -1,3 +1,5 @@
+//! What an agent is answered.
+
 use bhs_text::Text;
 
 /// What an agent is answered.

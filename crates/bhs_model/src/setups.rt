@@ -1,3 +1,5 @@
+//! The setup of a match.
+
 use crate::dark_links::DarkLinks;
 use crate::holes::Holes;
 

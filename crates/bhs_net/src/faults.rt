@@ -1,3 +1,5 @@
+//! The limits of a network, and why links make none.
+
 ghost use Rattle.bhs_net.specs.declared.faults.NetFault.TheVariants.{Memory};
 ghost use Rattle.std.specs.Prelude.{◌≡◌};
 

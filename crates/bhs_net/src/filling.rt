@@ -15,7 +15,7 @@ use crate::listing::{End, check_loops};
 use crate::numbering::NODES;
 use std::alloc::{AllocError, Global};
 
-/// Writes the place of a link into the index, if that has room for this end.
+// Writes the place of a link into the index, if that has room for this end.
 fn set_place(index: &mut Vec<Vec<u16>>, node: u16, port: u16, place: u16)
     ensures size { length index.new.items ≡ length index.old.items }
 {
@@ -25,7 +25,7 @@ fn set_place(index: &mut Vec<Vec<u16>>, node: u16, port: u16, place: u16)
     }
 }
 
-/// The index of links: for each node as many places as links end at it, in the order of their ports.
+// The index of links: for each node as many places as links end at it, in the order of their ports.
 fn indexed(alloc: Global, nodes: u16, links: &[Link]) -> Result<Vec<Vec<u16>>, AllocError>
     ensures size { IfOk result (λ index. length index.items ≡ nodes) }
 {
@@ -52,7 +52,7 @@ fn indexed(alloc: Global, nodes: u16, links: &[Link]) -> Result<Vec<Vec<u16>>, A
     Ok(index)
 }
 
-/// The place of the list that the index has for an end.
+// The place of the list that the index has for an end.
 fn place_at(index: &[Vec<u16>], node: u16, port: u16) -> Option<usize>
     ensures { result ≡ place_at (index_of index.now) (node, port) }
 {
@@ -65,7 +65,7 @@ fn place_at(index: &[Vec<u16>], node: u16, port: u16) -> Option<usize>
     }
 }
 
-/// Whether the index has each link for both of its ends.
+// Whether the index has each link for both of its ends.
 fn are_indexed(links: &[Link], index: &[Vec<u16>]) -> bool
     ensures { result ≡ true → AreIndexed links.now (index_of index.now) }
 {
@@ -79,7 +79,7 @@ fn are_indexed(links: &[Link], index: &[Vec<u16>]) -> bool
     true
 }
 
-/// The other end of the link at this place of the list, if it has this end.
+// The other end of the link at this place of the list, if it has this end.
 fn other_end(links: &[Link], place: usize, node: usize, port: usize) -> Option<End>
     ensures { IfSome result (λ other. AreJoined links.now (node, port) other) }
 {
@@ -93,7 +93,7 @@ fn other_end(links: &[Link], place: usize, node: usize, port: usize) -> Option<E
     }
 }
 
-/// The far ends of a node's ports, if the links at these places have the ports in turn.
+// The far ends of a node's ports, if the links at these places have the ports in turn.
 fn filled_row(
     alloc: Global,
     links: &[Link],
@@ -130,7 +130,7 @@ fn filled_rows(
     Ok(Some(rows))
 }
 
-/// Whether no two ports of the row lead to one node.
+// Whether no two ports of the row lead to one node.
 fn leads_apart(row: &[End]) -> bool
     ensures { result ≡ true → LeadsApart row.now }
 {

@@ -1,3 +1,5 @@
+//! A link, by its two ends.
+
 /// One link of a network: port `p` of node `v` is joined to port `q` of node `w`.
 #[derive(Clone, Copy, Debug, PartialEq, Eq)]
 pub struct Link {

@@ -69,7 +69,7 @@ fn check_doubles(alloc: Global, links: &[Link]) -> Result<(), NetFault>
     Ok(())
 }
 
-/// The far end of each end that is listed.
+// The far end of each end that is listed.
 fn far_ends(alloc: Global, links: &[Link]) -> Result<BTreeMap<End, End>, NetFault>
     requires { (place : ℕ) → ¬ IsLoop links.now place }
     ensures once { OnOk result ((place : ℕ) → ¬ IsPortTwice links.now place) }
@@ -90,7 +90,7 @@ fn far_ends(alloc: Global, links: &[Link]) -> Result<BTreeMap<End, End>, NetFaul
     Ok(far_ends)
 }
 
-/// The far ends of a node's ports from port 0 to the first that is not listed.
+// The far ends of a node's ports from port 0 to the first that is not listed.
 fn row(alloc: Global, far_ends: &BTreeMap<End, End>, node: u16) -> Result<Vec<End>, AllocError>
     ensures { IfOk result (λ row. IsRowOf far_ends.now node row.items) }
 {
@@ -118,7 +118,7 @@ fn rows(
     Ok(rows)
 }
 
-/// The lesser of `least` and the node, where the port lies beyond the node's row.
+// The lesser of `least` and the node, where the port lies beyond the node's row.
 fn with_end(rows: &[Vec<End>], least: Option<u16>, node: u16, port: u16) -> Option<u16>
     requires { node < length rows.now }
     ensures small { port < 65536 }

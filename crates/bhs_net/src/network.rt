@@ -1,3 +1,5 @@
+//! A port-labelled network.
+
 ghost use Rattle.std.specs.Prelude.{◌≡◌, ◌<◌, ◌*◌, length, IfOk, IfErr};
 ghost use Rattle.bhs_net.specs.Network.{nodes_of, degree_of, far_of, ports_of, IsNetwork, Makes};
 ghost use Rattle.bhs_net.specs.Faults.{Refuses};

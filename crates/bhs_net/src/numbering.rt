@@ -16,7 +16,7 @@ use crate::listing::End;
 /// A table by node has a place for each `u8`, which is each node that a network may have.
 pub const NODES: usize = 256;
 
-/// The most steps of a search: one for each port, and one back from each node.
+// The most steps of a search: one for each port, and one back from each node.
 const STEPS: usize = NODES * NODES;
 
 /// The nodes by place, and the places by node.
@@ -26,8 +26,8 @@ pub struct Order {
     places: [u8; NODES],
 }
 
-/// A depth-first search from node 0. By place: the nodes that were found; by node: its place, the node from which it
-/// was found, and the first place to which a link leads from it or from one that was found behind it.
+// A depth-first search from node 0. By place: the nodes that were found; by node: its place, the node from which it
+// was found, and the first place to which a link leads from it or from one that was found behind it.
 #[derive(Drop)]
 struct Search {
     found: [u8; NODES],
@@ -36,7 +36,7 @@ struct Search {
     lows: [u8; NODES],
 }
 
-/// A node's place in a table by node.
+// A node's place in a table by node.
 fn at(node: u8) -> usize
     ensures same { result ≡ node }
     ensures within { result < NODES }
@@ -44,7 +44,7 @@ fn at(node: u8) -> usize
     usize::from(node)
 }
 
-/// The node to which a port leads.
+// The node to which a port leads.
 fn head(rows: &[Vec<End>], node: u8, port: usize) -> Option<u8> {
     match rows.get(at(node)) {
         Some(row) => match row.get(port) {
@@ -55,9 +55,9 @@ fn head(rows: &[Vec<End>], node: u8, port: usize) -> Option<u8> {
     }
 }
 
-/// Searches depth first. Once all nodes are found, a node that is known to lead back to the first one is left at once,
-/// since its other links say no more. Neither counter wraps: a node has fewer than 256 ports, and at most 255 nodes are
-/// found behind the first.
+// Searches depth first. Once all nodes are found, a node that is known to lead back to the first one is left at once,
+// since its other links say no more. Neither counter wraps: a node has fewer than 256 ports, and at most 255 nodes are
+// found behind the first.
 fn depth_first(rows: &[Vec<End>]) -> Search {
     let mut search = Search {
         found: [0; NODES],
@@ -141,8 +141,8 @@ pub fn order_of(rows: &[Vec<End>]) -> Order {
     order
 }
 
-/// Whether a row leads to a node of a lower place, but from the first; to one of a higher place, but from the last; and
-/// from the first to the last.
+// Whether a row leads to a node of a lower place, but from the first; to one of a higher place, but from the last; and
+// from the first to the last.
 fn leads_on(row: &[End], places: &[u8], place: u8, last: u8) -> bool
     ensures { result ≡ true → LeadsOn row.now places.now place last }
 {

@@ -12,7 +12,7 @@ use crate::listing::End;
 use crate::numbering::order_of;
 use std::alloc::{AllocError, Global};
 
-/// Marks the nodes to which paths lead from `start` that keep off the node `removed`.
+// Marks the nodes to which paths lead from `start` that keep off the node `removed`.
 fn reached(
     alloc: Global,
     rows: &[Vec<End>],
@@ -45,7 +45,7 @@ fn reached(
     Ok(marks)
 }
 
-/// Whether paths that keep off `removed` lead from `start` to every other node.
+// Whether paths that keep off `removed` lead from `start` to every other node.
 fn reaches_all(
     alloc: Global,
     rows: &[Vec<End>],

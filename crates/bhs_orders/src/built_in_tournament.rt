@@ -1,3 +1,5 @@
+//! The tournament that is played if none is named.
+
 ghost use Rattle.std.specs.Prelude.{◌≡◌, IfOk, MatchResult};
 ghost use Rattle.bhs_files.specs.declared.faults.FileFault.TheVariants as faults;
 ghost use Rattle.bhs_lineup.specs.Lineups.{contest};
@@ -11,13 +13,13 @@ use bhs_lineup::Lineup;
 use bhs_net::{Memory, Net};
 use std::alloc::Global;
 
-/// The network of the built-in tournament, as its file.
+// The network of the built-in tournament, as its file.
 const NETWORK: &str = "version = 1
 nodes = 3
 links = [[0,0,1,0],[1,1,2,0],[2,1,0,1]]
 ";
 
-/// The built-in tournament, as its file.
+// The built-in tournament, as its file.
 const TOURNAMENT: &str = "version = 2
 seed = \"0000000000000000000000000000000000000000000000000000000000000000\"
 

@@ -23,7 +23,7 @@ use std::fs;
 use std::io::Write;
 use std::rt::Files;
 
-/// What is wrong, and with which file.
+// What is wrong, and with which file.
 #[derive(Clone, Copy)]
 struct Blamed<'a> {
     name: &'a str,
@@ -74,7 +74,7 @@ pub fn lineup_of<F: Files, E: Write>(
     }
 }
 
-/// The text of a file.
+// The text of a file.
 fn text_of<F: Files>(alloc: Global, files: &F, name: &str) -> Result<String, Fault> {
     let mut file = fs::open(files, name)?;
     let bytes = read_text(alloc, &mut file, MAX_TEXT, MAX_TURNS)?;
@@ -95,8 +95,8 @@ fn network_of<F: Files>(alloc: Global, files: &F, name: &str) -> Result<Net, Fau
     Ok(read_network(alloc, text.as_str())?)
 }
 
-/// The networks that a tournament names, in the order of `Tournament::networks`, each judged before the next is read.
-/// `own` is the name of the tournament's file.
+// The networks that a tournament names, in the order of `Tournament::networks`, each judged before the next is read.
+// `own` is the name of the tournament's file.
 fn networks_of<'a, F: Files>(
     alloc: Global,
     files: &F,

@@ -1,3 +1,5 @@
+//! Why a command of the program stops, and its exit status.
+
 ghost use Rattle.std.specs.Prelude.{◌≡◌};
 ghost use Rattle.bhs_orders.specs.declared.faults.Fault.TheVariants as faults;
 ghost use Rattle.std.specs.IoError.{error_kind};

@@ -1,3 +1,5 @@
+//! Names of files, as they are printed.
+
 use std::fmt;
 use std::fmt::{Display, Formatter};
 

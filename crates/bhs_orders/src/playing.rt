@@ -1,3 +1,5 @@
+//! Playing the instructions of a script, and printing what is sent.
+
 ghost use Rattle.std.specs.Prelude.{◌≡◌, ◌++◌, map, IfOk, IfErr, OnOk};
 ghost use Rattle.bhs_stream.specs.Sending.{PutsAll};
 ghost use Rattle.bhs_rehearsal.specs.Stages.{step, stands_after};

@@ -1,3 +1,5 @@
+//! A rehearsal by a script that is read whole.
+
 ghost use Rattle.std.specs.Prelude.{map, IfOk, IfErr};
 ghost use Rattle.bhs_rehearsal.specs.Rehearsing.{game_of};
 ghost use Rattle.bhs_orders.specs.Rehearsal.{Plays, Stops, opening};

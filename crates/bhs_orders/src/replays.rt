@@ -26,7 +26,7 @@ use bhs_stream::Output;
 use std::alloc::Global;
 use std::fs;
 use std::fs::OpenFile;
-use std::io::Write;
+use std::io::{ErrorKind, Write};
 use std::rt::Files;
 
 /// The match of a replay's file, or the exit status of a fault that was reported.
@@ -168,10 +168,19 @@ fn put_in_place<F: Files>(files: &F, new: &str, name: &str) -> Result<(), Fault>
     if file.sync_all().is_err() || fs::rename(files, new, name).is_err() {
         return Err(Fault::Write);
     }
-    if let Ok(folder) = fs::open(files, folder_of(name)) {
-        let _ = folder.sync_all();
+    synced_folder(files, folder_of(name))
+}
+
+// Sees that the names in a folder are on the disk. A folder that cannot be read, or whose file system syncs no folders,
+// leaves that to the system.
+fn synced_folder<F: Files>(files: &F, folder: &str) -> Result<(), Fault> {
+    let Ok(folder) = fs::open(files, folder) else {
+        return Ok(());
+    };
+    match folder.sync_all() {
+        Err(error) if error.kind() != ErrorKind::InvalidInput => Err(Fault::Write),
+        _ => Ok(()),
     }
-    Ok(())
 }
 
 // The folder in which a name stands.

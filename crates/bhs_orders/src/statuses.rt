@@ -1,3 +1,5 @@
+//! The exit statuses of the program.
+
 /// The exit status where all was done.
 pub const DONE: u8 = 0;
 

@@ -2,7 +2,7 @@
 use Rattle.std.proofs.Common.{inl, inr, ℕ, List, Option, None, Some, Bool, true, false, Result}
 use Rattle.std.specs.Prelude.{◌==◌, if◌then◌else◌}
 use Rattle.bhs_match.specs.Matches.{Play}
-use Rattle.bhs_lock.specs.declared.parts.Unsettled.{Unsettled}
+use Rattle.bhs_lock.specs.declared.settling.Unsettled.{Unsettled}
 use Rattle.bhs_lineup.specs.declared.lineups.Ready.{Ready}
 use Rattle.bhs_stream.specs.Streams.{Chunk, Taken}
 use Rattle.bhs_rehearsal.specs.Stages.{Stage}

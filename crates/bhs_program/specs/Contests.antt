@@ -5,7 +5,7 @@ use Rattle.bhs_match.specs.Matches.{Play}
 use Rattle.bhs_stream.specs.Streams.{Taken}
 use Rattle.bhs_lineup.specs.declared.lineups.Ready.{Ready}
 use Rattle.bhs_lineup.specs.declared.lineups.Lineup.{Lineup}
-use Rattle.bhs_lock.specs.declared.parts.Unsettled.{Unsettled}
+use Rattle.bhs_lock.specs.declared.settling.Unsettled.{Unsettled}
 use Rattle.bhs_replay.specs.Replay.{replay_of}
 use Rattle.bhs_server.specs.Settling.{HaveFared}
 use Rattle.bhs_host.specs.Hosting.{IsStandings, givens_of}

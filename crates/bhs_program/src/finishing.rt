@@ -47,8 +47,8 @@ pub(crate) fn finish<R: Files + Threads + Sync, W: Output, E: Write>(
     first_status(filed, printed)
 }
 
-/// Writes the replay of each match that settled under the match's number. One that cannot be written is reported, and
-/// keeps no other from being written. The answer is the exit status of the first that failed, and `DONE` if none did.
+// Writes the replay of each match that settled under the match's number. One that cannot be written is reported, and
+// keeps no other from being written. The answer is the exit status of the first that failed, and `DONE` if none did.
 fn write_settled<F: Files, E: Write>(
     alloc: Global,
     files: &F,
@@ -84,7 +84,7 @@ fn write_one<F: Files, E: Write>(
     }
 }
 
-/// The matches, if all settled; else the first that did not.
+// The matches, if all settled; else the first that did not.
 fn all_sealed(alloc: Global, settled: Vec<Settled>) -> Result<Vec<Sealed>, Fault>
     ensures all { IfOk result (λ sealed. settled.items ≡ map Ok sealed.items) }
     ensures fault { IfErr result (IsUntabled settled.items) }

@@ -1,3 +1,5 @@
+//! What the program needs of the machine.
+
 use crate::keeping::Keep;
 use std::io::Eprint;
 use std::rt::Files;

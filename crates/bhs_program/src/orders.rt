@@ -1,3 +1,5 @@
+//! Carrying out the order of the command line.
+
 ghost use Rattle.std.specs.Prelude.{map};
 ghost use Rattle.bhs_stream.specs.Streams.{known_takes};
 ghost use Rattle.bhs_program.specs.Program.{IsStatus, Obeys, Runs};

@@ -16,7 +16,7 @@ use std::io::Eprint;
 use std::net::SocketAddr;
 use std::sync::{Mutex, Wait};
 
-/// How many looks lie between two reports of how far the matches are. There are two looks a second.
+// How many looks lie between two reports of how far the matches are. There are two looks a second.
 const LOOKS: u32 = 120;
 
 /// Keeps the parts of the replays, and tells the operator what happens.
@@ -34,14 +34,14 @@ pub(crate) struct Recorder<'a, R> {
     going: Mutex<Going>,
 }
 
-/// How many sessions go on, and how many looks there were since that was told.
+// How many sessions go on, and how many looks there were since that was told.
 #[derive(Clone, Copy)]
 struct Going {
     sessions: u32,
     looks: u32,
 }
 
-/// How far the part of a match is.
+// How far the part of a match is.
 #[derive(Clone, Copy)]
 struct Part {
     /// How many events it has.
@@ -147,7 +147,7 @@ impl<R: Keep + Wait + Eprint> Watch for Recorder<'_, R> {
     }
 }
 
-/// How a session ended, in words.
+// How a session ended, in words.
 fn told(ended: Ended) -> &'static str {
     match ended {
         Ended::Bye => "its agent left",

@@ -1,3 +1,5 @@
+//! The words of the command line.
+
 ghost use Rattle.std.specs.Prelude.{◌≡◌, ◌⊎◌, IfErr};
 ghost use Rattle.bhs_orders.specs.declared.statuses.TheConstants.{NO_MEMORY, REFUSED_WORDS};
 ghost use Rattle.bhs_program.specs.Program.{IsStatus};
@@ -9,7 +11,7 @@ use std::env::FillError;
 use std::io::Write;
 use std::rt::Env;
 
-/// The bytes of a word for which there is room at first.
+// The bytes of a word for which there is room at first.
 const ROOM: usize = 256;
 
 /// The words after the program's name. Where one of them is no UTF-8 the command line is refused: the first such word

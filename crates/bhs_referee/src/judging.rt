@@ -1,3 +1,5 @@
+//! The verdict on a match that has ended.
+
 ghost use Rattle.std.specs.Prelude.{◌≡◌};
 ghost use Rattle.bhs_model.specs.Setups.{world_of};
 ghost use Rattle.bhs_match.specs.Matches.{state_of};
@@ -27,7 +29,7 @@ pub fn judge(sealed: &Sealed) -> Verdict
     }
 }
 
-/// The outcome that a walk over the whole log leads to.
+// The outcome that a walk over the whole log leads to.
 fn outcome(net: &Net, setup: &Setup, sealed: &Sealed, walk: &Walk) -> Outcome
     ensures { result ≡ outcome_of (world_of net.now setup.now) (state_of sealed.now).position (found_in walk.now) }
 {

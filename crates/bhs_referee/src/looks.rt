@@ -28,14 +28,14 @@ pub(crate) fn is_wrong(net: &Net, setup: &Setup, walk: &Walk) -> bool
     })
 }
 
-/// Whether some agent accused.
+// Whether some agent accused.
 fn accuses(net: &Net, setup: &Setup, walk: &Walk) -> bool
     ensures { result ≡ accuses (world_of net.now setup.now) (found_in walk.now) (λ link. true) }
 {
     (0..setup.agents).any(|agent| walk.accused(agent).is_some())
 }
 
-/// Whether some accusation's link leads to this black hole.
+// Whether some accusation's link leads to this black hole.
 fn is_hole_accused(net: &Net, setup: &Setup, walk: &Walk, hole: u16) -> bool
     ensures { result ≡ is_hole_accused (world_of net.now setup.now) (found_in walk.now) hole }
 {
@@ -45,7 +45,7 @@ fn is_hole_accused(net: &Net, setup: &Setup, walk: &Walk, hole: u16) -> bool
     })
 }
 
-/// Whether some accusation goes over this dark link.
+// Whether some accusation goes over this dark link.
 fn is_dark_accused(net: &Net, setup: &Setup, walk: &Walk, end: (u16, u16)) -> bool
     ensures { result ≡ is_dark_accused (world_of net.now setup.now) (found_in walk.now) end }
 {
@@ -55,7 +55,7 @@ fn is_dark_accused(net: &Net, setup: &Setup, walk: &Walk, end: (u16, u16)) -> bo
     })
 }
 
-/// Whether some black hole was not accused.
+// Whether some black hole was not accused.
 fn leaves_hole(net: &Net, setup: &Setup, walk: &Walk) -> bool
     ensures { result ≡ list_any (λ hole. not (is_hole_accused (world_of net.now setup.now) (found_in walk.now) hole))
         setup.now.holes }
@@ -67,7 +67,7 @@ fn leaves_hole(net: &Net, setup: &Setup, walk: &Walk) -> bool
         .any(|hole| !is_hole_accused(net, setup, walk, *hole))
 }
 
-/// Whether some dark link was not accused.
+// Whether some dark link was not accused.
 fn leaves_link(net: &Net, setup: &Setup, walk: &Walk) -> bool
     ensures { result ≡ list_any (λ end. not (is_dark_accused (world_of net.now setup.now) (found_in walk.now) end))
         setup.now.dark }
@@ -104,7 +104,7 @@ pub(crate) fn is_past_dark(net: &Net, setup: &Setup, walk: &Walk) -> bool
     })
 }
 
-/// Whether no agent arrived at a node that is neither the home base nor a black hole.
+// Whether no agent arrived at a node that is neither the home base nor a black hole.
 fn is_unreached(net: &Net, setup: &Setup, walk: &Walk, node: u16) -> bool
     ensures { result ≡ is_unreached (world_of net.now setup.now) (found_in walk.now) node }
 {

@@ -1,3 +1,5 @@
+//! Verdicts.
+
 /// What came of a match.
 #[derive(Clone, Copy, Debug, PartialEq, Eq)]
 pub enum Outcome {

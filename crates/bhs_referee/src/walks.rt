@@ -1,3 +1,5 @@
+//! One pass over a log and its sites.
+
 ghost use Rattle.std.specs.Prelude.{◌≡◌, ◌+◌, ◌-◌, ◌<◌, ◌^◌, length, true, false, slice_set, slice_index_or};
 ghost use Rattle.bhs_referee.specs.Walks.{start, accused_at, accused_told, moves_told, walk_told, walk_delivered};
 ghost use Rattle.bhs_referee.specs.Walks.{walk_after, walk_from};
@@ -47,7 +49,7 @@ impl Walk {
         }
     }
 
-    /// Keeps this link of an agent.
+    // Keeps this link of an agent.
     #[tactic(auto, using(std::proofs::lemmas::List::set_past))]
     fn keep(&mut self, agent: u16, link: Option<(u16, u16)>)
         ensures { self.new ≡ record self.old { accused = slice_set self.old.accused agent link } }
@@ -57,7 +59,7 @@ impl Walk {
         }
     }
 
-    /// Marks a node as reached.
+    // Marks a node as reached.
     #[tactic(auto, using(std::proofs::lemmas::List::set_past))]
     fn mark(&mut self, node: u16)
         ensures { self.new ≡ record self.old { reached = slice_set self.old.reached node true } }
@@ -67,7 +69,7 @@ impl Walk {
         }
     }
 
-    /// Goes over a command that was heard at this site.
+    // Goes over a command that was heard at this site.
     fn hear(&mut self, agent: u16, command: &Command, mark: Option<Mark>, site: Option<u16>)
         requires { self.old.moves + 1 < 2 ^ 32 }
         ensures { self.new ≡ walk_told self.old agent command.now mark site }
@@ -79,7 +81,7 @@ impl Walk {
         self.moves = moves_told(mark, self.moves);
     }
 
-    /// Goes over a Deliver of an agent that was bound for this site.
+    // Goes over a Deliver of an agent that was bound for this site.
     fn deliver(&mut self, mark: Option<Mark>, site: Option<u16>)
         ensures { self.new ≡ walk_delivered self.old mark site }
     {
@@ -88,7 +90,7 @@ impl Walk {
         }
     }
 
-    /// Goes over an event of the log with this site.
+    // Goes over an event of the log with this site.
     fn see(&mut self, kept: &Kept, site: Option<u16>)
         requires { self.old.moves + 1 < 2 ^ 32 }
         ensures { self.new ≡ walk_after self.old kept.now site }
@@ -101,7 +103,7 @@ impl Walk {
     }
 }
 
-/// The link that an agent has accused after a command with this mark and this site.
+// The link that an agent has accused after a command with this mark and this site.
 fn accused_told(
     mark: Option<Mark>,
     command: &Command,
@@ -116,7 +118,7 @@ fn accused_told(
     }
 }
 
-/// The number of moves after a command with this mark.
+// The number of moves after a command with this mark.
 fn moves_told(mark: Option<Mark>, moves: u32) -> u32
     requires { moves + 1 < 2 ^ 32 }
     ensures { result ≡ moves_told mark moves }

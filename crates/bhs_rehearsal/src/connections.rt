@@ -1,3 +1,5 @@
+//! A connection of a rehearsal.
+
 ghost use Rattle.std.specs.Prelude.{◌≡◌, [], ◌∷◌, ◌++◌, map, false, true, Some, Option, IfOk, OnOk};
 ghost use Rattle.std.specs.Prelude.{slice_get, option_map};
 ghost use Rattle.bhs_wire.specs.Lines.{seen, found_in, left_by};

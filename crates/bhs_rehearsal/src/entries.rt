@@ -1,3 +1,5 @@
+//! What the first line of a connection comes to.
+
 ghost use Rattle.std.specs.Prelude.{◌≡◌, ◌<◌, length, IfOk};
 ghost use Rattle.std.specs.List.{list_any};
 ghost use Rattle.bhs_rehearsal.specs.Stages.{Stage, connection_at, entry, entry_by, let_in, has_seat};

@@ -1,3 +1,5 @@
+//! Why a call of a rehearsal is refused.
+
 /// Why a rehearsal refuses a call.
 #[derive(Clone, Copy, Debug, PartialEq, Eq)]
 pub enum RehearsalFault {

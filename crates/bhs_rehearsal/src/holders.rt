@@ -1,3 +1,5 @@
+//! Which connection plays each agent.
+
 ghost use Rattle.std.specs.Prelude.{◌≡◌, ◌<◌, ◌==◌, ℕ, length, replicate, Some, None, [], IfOk, OnOk, OnErr};
 ghost use Rattle.std.specs.Prelude.{if◌then◌else◌, slice_index_or};
 ghost use Rattle.bhs_rehearsal.specs.Holders.{held_at, same_seat};

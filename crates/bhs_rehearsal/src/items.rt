@@ -1,3 +1,5 @@
+//! What waits in the queue of a connection.
+
 use bhs_wire::Raw;
 
 // What a connection's input brings.

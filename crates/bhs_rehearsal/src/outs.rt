@@ -1,3 +1,5 @@
+//! What a connection is sent.
+
 /// Bytes that a connection is sent.
 #[derive(Clone, Debug, PartialEq, Eq, Drop)]
 pub struct Out {

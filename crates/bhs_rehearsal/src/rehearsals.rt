@@ -1,3 +1,5 @@
+//! A rehearsal: the matches, the keys and the connections.
+
 ghost use Rattle.std.specs.Prelude.{◌≡◌, [], false, map, IfOk, replicate};
 ghost use Rattle.bhs_rehearsal.specs.Connections.{unfed};
 ghost use Rattle.bhs_rehearsal.specs.Stages.{Feeds, EndsInput, Draws, Closes};

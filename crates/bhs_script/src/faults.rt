@@ -1,3 +1,5 @@
+//! Why a script is refused.
+
 ghost use Rattle.std.specs.Prelude.{◌≡◌};
 ghost use Rattle.bhs_script.specs.declared.faults.ScriptFault.TheVariants as faults;
 

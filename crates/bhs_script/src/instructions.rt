@@ -1,3 +1,5 @@
+//! The instructions of a script.
+
 use std::borrow::CowSlice;
 
 /// How many connections the program's rehearsal has.

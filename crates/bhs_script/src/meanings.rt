@@ -1,3 +1,5 @@
+//! What a line of a script means.
+
 use crate::instructions::Instruction;
 
 /// What a line of a script means.

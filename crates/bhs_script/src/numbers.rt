@@ -1,3 +1,5 @@
+//! Numbers in a script.
+
 ghost use Rattle.std.specs.Prelude.{◌≡◌};
 ghost use Rattle.bhs_script.specs.Number.{number, fitting, read_on};
 

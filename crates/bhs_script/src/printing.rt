@@ -1,3 +1,5 @@
+//! What connections are sent, as it is printed.
+
 ghost use Rattle.std.specs.Prelude.{◌≡◌, ◌++◌, ◌∷◌, [], true, OnOk};
 ghost use Rattle.bhs_script.specs.Transcript.{begun_with, printed};
 

@@ -2,7 +2,7 @@
 use Rattle.std.proofs.Common.{◌≡◌, ◌∙◌, sym, append_assoc, suc, List, [], ◌∷◌, ◌++◌, length, ap, refl, Result}
 use Rattle.bhs_match.specs.Matches.{Play}
 use Rattle.bhs_lock.specs.Cells.{Given}
-use Rattle.bhs_lock.specs.declared.parts.Unsettled.{Unsettled}
+use Rattle.bhs_lock.specs.declared.settling.Unsettled.{Unsettled}
 use Rattle.bhs_server.specs.Settling.{HaveFared, HasFared}
 
 -- one more match that is settled

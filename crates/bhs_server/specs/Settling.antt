@@ -5,7 +5,7 @@ use Rattle.bhs_match.specs.Matches.{Play}
 use Rattle.bhs_lock.specs.Passes.{Passed}
 use Rattle.bhs_lock.specs.Cells.{Given}
 use Rattle.bhs_lock.specs.Disputes.{AreInAccord, HasRefused}
-use Rattle.bhs_lock.specs.declared.parts.Unsettled.{Unsettled}
+use Rattle.bhs_lock.specs.declared.settling.Unsettled.{Unsettled}
 
 -- The match has ended, is of the world that the cell was given, and some passes are in accord with it: they have all
 -- commands that its agents were heard with.

@@ -10,10 +10,10 @@ use std::io::{BufReader, Read, Write};
 use std::net::TcpStream;
 use std::sync::Arc;
 
-/// How many bytes are held back at most.
+// How many bytes are held back at most.
 const ROOM: usize = 64 * 1024;
 
-/// How many bytes are taken from a client at once at most.
+// How many bytes are taken from a client at once at most.
 const TAKEN: usize = 16 * 1024;
 
 /// Is called by a session while it goes on.

@@ -1,3 +1,5 @@
+//! The turns of a match.
+
 ghost use Rattle.std.specs.Prelude.{◌≡◌};
 ghost use Rattle.bhs_server.specs.Dealing.{moved_by};
 
@@ -8,7 +10,7 @@ use std::sync::Wait;
 use std::thread;
 use std::time::{Clock, Duration};
 
-/// How many milliseconds pass between two looks at whether all agents have entered.
+// How many milliseconds pass between two looks at whether all agents have entered.
 const EVERY: u32 = 5;
 
 /// Waits until all agents of a match have entered, or `most` milliseconds have passed.

@@ -10,10 +10,10 @@ use std::os::fd::AsRawFd;
 use std::sync::{Arc, Condvar, Mutex, Wait};
 use std::time::{Clock, Duration};
 
-/// How many milliseconds lie between two looks at the matches.
+// How many milliseconds lie between two looks at the matches.
 const EVERY: u64 = 500;
 
-/// What is still going on in a contest.
+// What is still going on in a contest.
 #[derive(Drop)]
 struct Going {
     /// How many matches are open.
@@ -99,7 +99,7 @@ impl Ending {
         self.going.lock(rt).is_over
     }
 
-    /// Waits this long, or until all matches are closed. Answers whether one is still open.
+    // Waits this long, or until all matches are closed. Answers whether one is still open.
     fn is_open_after<R: Wait + Clock>(&self, rt: &R, time: Duration) -> bool {
         let going = self.going.lock(rt);
         self.changed

@@ -1,3 +1,5 @@
+//! When the turns of a match come.
+
 /// What a match's dealer does next.
 #[derive(Clone, Copy, Debug, PartialEq, Eq)]
 pub enum Step {

@@ -1,3 +1,5 @@
+//! Where a session plays its agent: in a match that threads share.
+
 ghost use Rattle.std.specs.Prelude.{◌≡◌, None};
 ghost use Rattle.bhs_server.specs.Ports.{agreed};
 
@@ -74,7 +76,7 @@ impl<'a, R: Wait, G: Gate, H: SessionHooks> CellPort<'a, R, G, H> {
     }
 }
 
-/// What a client is told: where the pass does not agree with what stands under the lock, that the match is over.
+// What a client is told: where the pass does not agree with what stands under the lock, that the match is over.
 fn agreed(reply: Reply) -> Reply
     ensures { result ≡ agreed reply }
 {

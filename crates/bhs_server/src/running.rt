@@ -21,7 +21,7 @@ use std::thread;
 use std::thread::{JoinHandle, Threads};
 use std::time::{Clock, Duration};
 
-/// How many milliseconds the server pauses after an accept that failed.
+// How many milliseconds the server pauses after an accept that failed.
 const PAUSE: u64 = 50;
 
 /// What the threads of a contest share.
@@ -92,17 +92,17 @@ impl<R: Threads + Wait + Clock + Sync, P: Pace + Sync, G: Gate + Sync, W: Watch 
         joined(self.rt, self.alloc, handles)
     }
 
-    /// Ends the contest once its matches are closed.
+    // Ends the contest once its matches are closed.
     fn end(&self) {
         self.ending.end(self.rt, self.listener, self.limits.grace);
     }
 
-    /// Has the matches looked at while one is open.
+    // Has the matches looked at while one is open.
     fn look(&self) {
         self.ending.watch(self.rt, self.watch, self.cells);
     }
 
-    /// Plays a match to its end.
+    // Plays a match to its end.
     fn play(&self, game: u32, cell: &Cell, dealer: &mut Dealer) {
         gather(self.rt, cell, self.limits.gather);
         let turns = deal(self.rt, self.pace, self.limits.early, game, cell, dealer);
@@ -110,7 +110,7 @@ impl<R: Threads + Wait + Clock + Sync, P: Pace + Sync, G: Gate + Sync, W: Watch 
         self.ending.match_closed(self.rt);
     }
 
-    /// The next connection, or None once the contest is over.
+    // The next connection, or None once the contest is over.
     fn accepted(&self) -> Option<(TcpStream, SocketAddr)> {
         for _ in self.rt.forever() {
             if self.ending.is_over(self.rt) {
@@ -126,7 +126,7 @@ impl<R: Threads + Wait + Clock + Sync, P: Pace + Sync, G: Gate + Sync, W: Watch 
         unreachable!()
     }
 
-    /// Serves the client of a connection to its end.
+    // Serves the client of a connection to its end.
     fn serve(&self, session: u32, stream: TcpStream, peer: SocketAddr) -> Visit {
         self.watch.came(session, peer);
         let visit = self.welcome(session, stream).unwrap_or(Visit {
@@ -138,7 +138,7 @@ impl<R: Threads + Wait + Clock + Sync, P: Pace + Sync, G: Gate + Sync, W: Watch 
         visit
     }
 
-    /// What came of the session of a client. Its socket is kept meanwhile, so that the session can be cut off.
+    // What came of the session of a client. Its socket is kept meanwhile, so that the session can be cut off.
     fn welcome(&self, session: u32, stream: TcpStream) -> Result<Visit, Memory> {
         let _ = stream.set_nodelay(true);
         let socket = Arc::new(self.alloc, stream)?;
@@ -148,7 +148,7 @@ impl<R: Threads + Wait + Clock + Sync, P: Pace + Sync, G: Gate + Sync, W: Watch 
         visit
     }
 
-    /// What came of the session of a client, all that was held back being sent.
+    // What came of the session of a client, all that was held back being sent.
     fn visited(&self, session: u32, stream: Arc<TcpStream, Global>) -> Result<Visit, Memory> {
         let connection = Connection::new(self.alloc, stream)?;
         let mut incoming = Incoming::new(self.alloc, &connection)?;
@@ -173,7 +173,7 @@ impl<R: Threads + Wait + Clock + Sync, P: Pace + Sync, G: Gate + Sync, W: Watch 
     }
 }
 
-/// What came of the sessions, once their threads have ended.
+// What came of the sessions, once their threads have ended.
 fn joined<R: Threads>(
     rt: &R,
     alloc: Global,

@@ -1,3 +1,5 @@
+//! Settling the matches of a contest once its sessions have ended.
+
 ghost use Rattle.std.specs.Prelude.{◌≡◌, IfOk, vec_len};
 ghost use Rattle.bhs_server.specs.Settling.{HaveFared};
 
@@ -35,7 +37,7 @@ pub(crate) fn by_match(alloc: Global, games: usize, visits: Vec<Visit>) -> Resul
     Ok(Returned { passes, ended })
 }
 
-/// Lays a pass to those of its match.
+// Lays a pass to those of its match.
 fn hand_in(passes: &mut Vec<Vec<Pass>>, played: Option<Played>) -> Result<(), Memory> {
     if let Some(Played { game, pass }) = played {
         if let Some(own) = passes.get_mut(game as usize) {

@@ -1,3 +1,5 @@
+//! A session of a contest, from its first line to its end.
+
 ghost use Rattle.bhs_server.specs.Written.{IsAttended};
 
 use crate::connections::SessionHooks;

@@ -1,3 +1,5 @@
+//! Watching a contest while it goes on.
+
 use bhs_lock::Cell;
 use bhs_session::Ended;
 use std::net::SocketAddr;

@@ -1,3 +1,5 @@
+//! Answering a command, and the arrival that follows a departure.
+
 ghost use Rattle.std.specs.Prelude.{◌≡◌, true, if◌then◌else◌};
 ghost use Rattle.bhs_session.specs.Phase.{Ready, Awaits, Owes, answered_by, waiting};
 ghost use Rattle.bhs_session.specs.Texts.{text_of};

@@ -1,3 +1,5 @@
+//! How a session ends.
+
 ghost use Rattle.std.specs.Prelude.{◌≡◌};
 ghost use Rattle.bhs_wire.specs.LentReply.{reply_of};
 ghost use Rattle.bhs_session.specs.Phase.{ended_by, phase_of, stopped, between};

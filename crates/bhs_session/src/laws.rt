@@ -1,3 +1,5 @@
+//! Laws of sessions.
+
 ghost use Rattle.std.specs.Prelude.{◌≡◌, ℕ, List, [], ◌++◌};
 ghost use Rattle.bhs_wire.specs.Lines.{Line, lines};
 ghost use Rattle.bhs_session.specs.declared.endings.Ended.{Ended};

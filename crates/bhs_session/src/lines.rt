@@ -1,3 +1,5 @@
+//! Taking the lines of a client.
+
 ghost use Rattle.std.specs.Prelude.{◌≡◌, [], ◌∷◌, ◌++◌, map, IfOk, IfErr};
 ghost use Rattle.bhs_wire.specs.Lines.{Line, lines, seen, said_by};
 ghost use Rattle.bhs_session.specs.Phase.{Fresh, Ready, between};

@@ -1,3 +1,5 @@
+//! Where a session plays its agent.
+
 ghost use Rattle.bhs_session.specs.Port.{Asked, Enters, Tells, News, Heard, entered, answered};
 
 use bhs_model::{Command, Reply};

@@ -1,3 +1,5 @@
+//! Reading lines from a client.
+
 ghost use Rattle.std.specs.Prelude.{◌≡◌, ℕ, List, map, IfOk, IfErr};
 ghost use Rattle.bhs_wire.specs.Lines.{seen, held_of};
 ghost use Rattle.bhs_session.specs.Input.{Brings, BringsNone};

@@ -1,3 +1,5 @@
+//! Writing replies to a client.
+
 ghost use Rattle.std.specs.Prelude.{◌≡◌, ℕ, List, Bool, OnOk, OnErr, IfErr, ◌++◌};
 ghost use Rattle.bhs_stream.specs.Sending.{PutsAll, PutsPart};
 ghost use Rattle.bhs_wire.specs.LentReply.{reply_of};
@@ -14,7 +16,7 @@ use bhs_stream::{Output, WriteFault, send};
 use bhs_wire::{Denial, LentReply, denial_of, push_line};
 use std::alloc::Global;
 
-/// The bytes that the line of a reply takes at most besides its whiteboard.
+// The bytes that the line of a reply takes at most besides its whiteboard.
 const ROOM: usize = 128;
 
 // Writes the line of an answer. It stops the session where the answer ends it, or a fault does.

@@ -1,3 +1,5 @@
+//! Serving one client to its end.
+
 ghost use Rattle.bhs_session.specs.Phase.{Finished, phase_of};
 ghost use Rattle.bhs_session.specs.Session.{Serves};
 

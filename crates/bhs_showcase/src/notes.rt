@@ -1,3 +1,5 @@
+//! What a thread has seen of a verdict.
+
 ghost use Rattle.std.specs.Prelude.{◌≡◌};
 ghost use Rattle.bhs_showcase.specs.Shown.{Agree};
 

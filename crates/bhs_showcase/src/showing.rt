@@ -1,3 +1,5 @@
+//! Verdicts that threads share.
+
 ghost use Rattle.std.specs.Prelude.{◌≡◌, None, Some, IfOk, IfSome, IfNone, OnErr, length, slice_get};
 ghost use Rattle.bhs_showcase.specs.Shown.{IsOf, IsShown, Shows};
 

@@ -1,3 +1,5 @@
+//! The text of a table.
+
 ghost use Rattle.std.specs.Prelude.{◌≡◌, IfOk, ℕ, List, slice_get, string_bytes};
 ghost use Rattle.bhs_standings.specs.Tables.{outcome_text, line, line_of, table_of};
 ghost use Rattle.bhs_standings.specs.Ranks.{IsRanking};
@@ -21,7 +23,7 @@ pub fn outcome_text(alloc: Global, outcome: Outcome) -> Result<String, Memory>
     }
 }
 
-/// The line of a row, with its place from 1.
+// The line of a row, with its place from 1.
 fn line(alloc: Global, place: usize, row: &Row) -> Result<String, Memory>
     ensures { IfOk result (λ text. string_bytes text ≡ line place row.now) }
 {
@@ -33,7 +35,7 @@ fn line(alloc: Global, place: usize, row: &Row) -> Result<String, Memory>
     format!(in alloc; "{place:>3} {team:<16} {outcome:<10} {moves:>6} {lost:>4}\n")
 }
 
-/// The line of the row at a place of the list, with its place from 1 in the table; nothing past the end of the list.
+// The line of the row at a place of the list, with its place from 1 in the table; nothing past the end of the list.
 fn line_at(alloc: Global, place: usize, rows: &[Row], at: usize) -> Result<String, Memory>
     ensures { IfOk result (λ text. string_bytes text ≡ line_of place (slice_get rows.now at)) }
 {

@@ -1,3 +1,5 @@
+//! Who comes before whom.
+
 ghost use Rattle.std.specs.Prelude.{◌≡◌, IfOk};
 ghost use Rattle.bhs_standings.specs.Ranks.{rank_of, compare, compare_at, IsRanking};
 
@@ -20,7 +22,7 @@ pub fn rank(alloc: Global, rows: &[Row]) -> Result<Vec<usize>, Memory>
     Ok(places)
 }
 
-/// Which of the rows at two places comes first.
+// Which of the rows at two places comes first.
 fn compare_at(rows: &[Row], one: usize, other: usize) -> Ordering
     ensures { result ≡ compare_at rows.now one other }
 {
@@ -32,7 +34,7 @@ fn compare_at(rows: &[Row], one: usize, other: usize) -> Ordering
     }
 }
 
-/// Which of two rows comes first.
+// Which of two rows comes first.
 fn compare(one: &Row, other: &Row) -> Ordering
     ensures { result ≡ compare one.now other.now }
 {
@@ -43,7 +45,7 @@ fn compare(one: &Row, other: &Row) -> Ordering
         .then(one.team.as_bytes().cmp(other.team.as_bytes()))
 }
 
-/// The rank of an outcome, the best first.
+// The rank of an outcome, the best first.
 fn rank_of(outcome: Outcome) -> u8
     ensures { result ≡ rank_of outcome }
 {

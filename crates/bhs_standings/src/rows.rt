@@ -1,3 +1,5 @@
+//! The row of a team.
+
 use bhs_referee::Verdict;
 
 /// A team with the verdict on its match.

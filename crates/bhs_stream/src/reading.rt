@@ -1,3 +1,5 @@
+//! Reading a text to its end.
+
 // A text read to the end of its input.
 ghost use Rattle.std.specs.Prelude.{IfOk, IfErr};
 ghost use Rattle.bhs_stream.specs.Streams.{End};

@@ -1,3 +1,5 @@
+//! Writing a text whole.
+
 // Bytes sent to a writer.
 ghost use Rattle.std.specs.Prelude.{true, false, OnOk, OnErr};
 ghost use Rattle.bhs_stream.specs.Sending.{PutsAll, PutsPart};

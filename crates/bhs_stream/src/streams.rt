@@ -1,3 +1,5 @@
+//! What contracts say of streams.
+
 // Where bytes come from and go to. Contracts see each call.
 ghost use Rattle.std.specs.Prelude.{ℕ, List, Bool, ◌<◌, ◌≤◌, length, IfOk};
 ghost use Rattle.std.specs.Io.KnownBytes.{Keeps};

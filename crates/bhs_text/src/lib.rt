@@ -1,12 +1,15 @@
-//! Texts of agents and of words.
+//! Texts of agents and of words, and the names of teams.
 #![tactic(auto)]
 
 ghost use Rattle.std.specs.Prelude.{◌≡◌, string_bytes, nat_eq};
 ghost use Rattle.std.specs.Cmp.{partial_equiv_from_equiv};
 ghost use Rattle.std.specs.Cmp.Lexicographic.{pointwise, nat_list_eq_equiv};
 
+mod teams;
+
 use std::alloc::AllocError;
 use std::marker::Model;
+pub use teams::{MAX_TEAM, is_team};
 
 /// A text of an agent or of a word: what a whiteboard shows, a client says or a file is named. Contracts see it as its
 /// bytes in UTF-8.
@@ -29,14 +32,6 @@ impl Text {
         ensures { result.now ≡ self.now }
     {
         self.string.as_str()
-    }
-
-    /// The text, given back. Takes no memory.
-    pub fn into_string(self) -> String
-        ensures { string_bytes result ≡ self }
-    {
-        let Text { string } = self;
-        string
     }
 }
 

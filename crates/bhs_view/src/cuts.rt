@@ -1,3 +1,5 @@
+//! The causal past of an agent.
+
 ghost use Rattle.std.specs.Prelude.{◌≡◌, ◌≤◌, ◌^◌, ◌<◌, [], Some, IfOk, length};
 ghost use Rattle.bhs_model.specs.Cuts.{footprints, cut};
 ghost use Rattle.bhs_model.specs.Marks.{events_of};
@@ -46,7 +48,7 @@ pub fn cut_and_looks(alloc: Global, sealed: &Sealed, agent: u16) -> Result<(Vec<
     walk_back(alloc, needed, log, sites, agent)
 }
 
-/// Walks back over a log whose places have these sites, and chooses what is needed. Counts the places that it looks at.
+// Walks back over a log whose places have these sites, and chooses what is needed. Counts the places that it looks at.
 fn walk_back(
     alloc: Global,
     mut needed: Needed,

@@ -1,3 +1,5 @@
+//! What a walk back through a log still looks for.
+
 ghost use Rattle.std.specs.Prelude.{◌≡◌, ◌<◌, IfOk, IfSome, length};
 ghost use Rattle.bhs_view.specs.Entries.{closes};
 ghost use Rattle.bhs_view.specs.Walks.{footprint_at, who_of, seen_by, written_by, marked, marks_with, is_needed};
@@ -84,7 +86,7 @@ fn mark(marks: &mut [bool], place: Option<u16>)
     }
 }
 
-/// Whose event this is.
+// Whose event this is.
 fn who(event: &Event) -> Option<u16>
     ensures { result ≡ who_of event.now }
 {
@@ -94,7 +96,7 @@ fn who(event: &Event) -> Option<u16>
     }
 }
 
-/// The node that an event with this mark and this site sees.
+// The node that an event with this mark and this site sees.
 fn seen(event: &Event, mark: Option<Mark>, site: Option<u16>) -> Option<u16>
     ensures { result ≡ seen_by event.now mark site }
 {
@@ -111,7 +113,7 @@ fn seen(event: &Event, mark: Option<Mark>, site: Option<u16>) -> Option<u16>
     }
 }
 
-/// The node that an event writes which sees this node.
+// The node that an event writes which sees this node.
 fn written(event: &Event, seen: Option<u16>) -> Option<u16>
     ensures { result ≡ written_by event.now seen }
 {

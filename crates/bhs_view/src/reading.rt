@@ -1,3 +1,5 @@
+//! What a log says at a place.
+
 ghost use Rattle.std.specs.Prelude.{◌≡◌, ◌<◌, None, length, slice_index_or};
 ghost use Rattle.bhs_view.specs.Reading.{IsRead};
 

@@ -1,3 +1,5 @@
+//! A match restricted to some of its events.
+
 ghost use Rattle.std.specs.Prelude.{ℕ, ◌≡◌, ◌<◌, ◌⊎◌, ◌^◌, [], None, Some, IfOk, IfErr, OnOk, length, slice_index_or};
 ghost use Rattle.std.specs.Prelude.{nat_eq, false};
 ghost use Rattle.std.specs.List.{list_any};
@@ -51,7 +53,7 @@ pub fn restrict(alloc: Global, sealed: &Sealed, places: &[u32]) -> Result<Sealed
     Ok(replay(game, sealed.log(), &set)?)
 }
 
-/// The places as a set, where they ascend and are closed; else the first fault.
+// The places as a set, where they ascend and are closed; else the first fault.
 fn closed_set(alloc: Global, sealed: &Sealed, places: &[u32]) -> Result<Vec<bool>, RestrictFault>
     ensures set { IfOk result (λ set. set.items ≡ set_in sealed.now places.now) }
     ensures network { OnOk result (IsNetwork sealed.now.net) }
@@ -76,7 +78,7 @@ fn closed_set(alloc: Global, sealed: &Sealed, places: &[u32]) -> Result<Vec<bool
     Ok(set)
 }
 
-/// The index of the first place that is not above the one before it, or is past so many.
+// The index of the first place that is not above the one before it, or is past so many.
 fn misplaced(places: &[u32], count: usize) -> Option<usize>
     ensures { result ≡ misplaced count places.now }
 {
@@ -91,7 +93,7 @@ fn misplaced(places: &[u32], count: usize) -> Option<usize>
     None
 }
 
-/// The places as a set of so many.
+// The places as a set of so many.
 fn set_of(alloc: Global, places: &[u32], count: usize) -> Result<Vec<bool>, Memory>
     ensures length { IfOk result (λ set. length set.items ≡ count) }
     ensures marks { IfOk result (λ set. (place : ℕ) → place < count → slice_index_or set.items place false
@@ -106,7 +108,7 @@ fn set_of(alloc: Global, places: &[u32], count: usize) -> Result<Vec<bool>, Memo
     Ok(set)
 }
 
-/// The least place that the set lacks and that one of its places needs.
+// The least place that the set lacks and that one of its places needs.
 fn unclosed(mut needed: Needed, log: &[Kept], sites: &[Site], set: &[bool]) -> Option<u32>
     requires small { length log.now < 2 ^ 32 }
     requires sites { length sites.now ≡ length log.now }

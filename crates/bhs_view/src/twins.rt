@@ -1,3 +1,5 @@
+//! Twins: the same match with a black hole elsewhere.
+
 ghost use Rattle.std.specs.Prelude.{◌≡◌, ◌⊎◌, ◌<◌, ◌^◌, None, Some, IfOk, IfErr, OnOk, find, length};
 ghost use Rattle.std.specs.List.{range_with_len};
 ghost use Rattle.std.specs.Option.{option_or};
@@ -91,7 +93,7 @@ pub fn twin_of(alloc: Global, sealed: &Sealed, node: u16) -> Result<Sealed, Twin
     Ok(replay(game, log, &set)?)
 }
 
-/// The place of the first arrival at a node.
+// The place of the first arrival at a node.
 fn first_arrival(log: &[Kept], sites: &[Site], node: u16) -> Option<u32>
     requires small { length log.now < 2 ^ 32 }
     requires sites { length sites.now ≡ length log.now }
@@ -105,7 +107,7 @@ fn first_arrival(log: &[Kept], sites: &[Site], node: u16) -> Option<u32>
     None
 }
 
-/// Whether a place with this site is an arrival at a node.
+// Whether a place with this site is an arrival at a node.
 fn is_arrival(kept: &Kept, site: Option<u16>, node: u16) -> bool
     ensures { result ≡ is_arrival_at kept.now site node }
 {
@@ -115,7 +117,7 @@ fn is_arrival(kept: &Kept, site: Option<u16>, node: u16) -> bool
     }
 }
 
-/// The black hole that gives way.
+// The black hole that gives way.
 fn replaced(net: &Net, setup: &Setup, log: &[Kept], sites: &[Site]) -> Option<u16>
     requires sites { length sites.now ≡ length log.now }
     ensures { result ≡ option_or (first_hole (world_of net.now setup.now) log.now sites.now)
@@ -133,7 +135,7 @@ fn least_hole(net: &Net, setup: &Setup) -> Option<u16>
     (0..net.nodes()).find(|node| is_hole(setup, *node))
 }
 
-/// The black hole that was first accused by a link that is not dark.
+// The black hole that was first accused by a link that is not dark.
 fn first_hole(net: &Net, setup: &Setup, log: &[Kept], sites: &[Site]) -> Option<u16>
     requires sites { length sites.now ≡ length log.now }
     ensures { result ≡ first_hole (world_of net.now setup.now) log.now sites.now }
@@ -147,7 +149,7 @@ fn first_hole(net: &Net, setup: &Setup, log: &[Kept], sites: &[Site]) -> Option<
     None
 }
 
-/// The black hole that a place with this site accuses by a link that is not dark.
+// The black hole that a place with this site accuses by a link that is not dark.
 fn hole_at(net: &Net, setup: &Setup, kept: &Kept, site: Option<u16>) -> Option<u16>
     ensures { result ≡ hole_at (world_of net.now setup.now) kept.now site }
 {
@@ -164,7 +166,7 @@ fn hole_at(net: &Net, setup: &Setup, kept: &Kept, site: Option<u16>) -> Option<u
     }
 }
 
-/// The black hole that the link at a port leads to, where the link is not dark.
+// The black hole that the link at a port leads to, where the link is not dark.
 fn hole_beyond(net: &Net, setup: &Setup, node: u16, port: u16) -> Option<u16>
     ensures { result ≡ hole_beyond (world_of net.now setup.now) node port }
 {
@@ -176,7 +178,7 @@ fn hole_beyond(net: &Net, setup: &Setup, node: u16, port: u16) -> Option<u16>
     }
 }
 
-/// The set of the places that are left when each Deliver that finds its agent bound for a node is taken out.
+// The set of the places that are left when each Deliver that finds its agent bound for a node is taken out.
 fn left(alloc: Global, log: &[Kept], sites: &[Site], node: Option<u16>) -> Result<Vec<bool>, Memory>
     requires sites { length sites.now ≡ length log.now }
     ensures { IfOk result (λ set. set.items ≡ left_at node log.now sites.now) }
@@ -188,7 +190,7 @@ fn left(alloc: Global, log: &[Kept], sites: &[Site], node: Option<u16>) -> Resul
     Ok(set)
 }
 
-/// Whether a Deliver with this site finds its agent bound for a node.
+// Whether a Deliver with this site finds its agent bound for a node.
 fn is_bound_for(event: &Event, site: Option<u16>, node: Option<u16>) -> bool
     ensures { result ≡ is_bound_for event.now site node }
 {
@@ -198,7 +200,7 @@ fn is_bound_for(event: &Event, site: Option<u16>, node: Option<u16>) -> bool
     }
 }
 
-/// The black holes once one has given way to another.
+// The black holes once one has given way to another.
 fn moved_holes(
     alloc: Global,
     net: &Net,
@@ -217,7 +219,7 @@ fn moved_holes(
     Ok(Holes::from(nodes))
 }
 
-/// Whether a node is a black hole once one has given way to another.
+// Whether a node is a black hole once one has given way to another.
 fn is_moved(setup: &Setup, old: Option<u16>, new: u16, node: u16) -> bool
     ensures { result ≡ is_moved setup.now.holes old new node }
 {

@@ -1,9 +1,9 @@
-ghost use Rattle.std.specs.Prelude.{◌≡◌, ◌≢◌, IsOk, IfOk};
-ghost use Rattle.bhs_wire.specs.LineKind.{line_kind};
-ghost use Rattle.bhs_wire.specs.First.{first_of, says, first_with, write_with, depart_by, accuse_by};
+//! What a line of a client says.
+
+ghost use Rattle.std.specs.Prelude.{◌≡◌, IfOk};
+ghost use Rattle.bhs_wire.specs.First.{first_of, first_with, write_with, depart_by, accuse_by};
 ghost use Rattle.bhs_wire.specs.Said.{told, text_in, port_in};
 
-use crate::kinds::{LineKind, kind_of};
 use crate::said::{Content, Said, read_object};
 use crate::short_lines::ShortLines;
 use bhs_model::{Command, Text};
@@ -36,20 +36,6 @@ impl LineReader {
             alloc,
             scratch: Scratch::new(alloc),
             short_lines: ShortLines::new(),
-        }
-    }
-
-    /// What a client means by a line, given without its line feed: nothing by a blank line, a bad command by
-    /// one of more than `MAX_LINE` bytes.
-    pub fn read_line(&mut self, line: &[u8]) -> Result<Option<First>, Memory>
-        ensures said { IfOk result (λ first. first ≡ says line.now) }
-        // Only a line that is read takes memory.
-        ensures unread { line_kind line.now ≢ LineKind.Whole → IsOk result }
-    {
-        match kind_of(line) {
-            LineKind::Over => Ok(Some(First::Tell(Command::Bad))),
-            LineKind::Blank => Ok(None),
-            LineKind::Whole => Ok(Some(self.command_of(line)?)),
         }
     }
 

@@ -1,3 +1,5 @@
+//! Why a client is not let in.
+
 ghost use Rattle.std.specs.Prelude.{◌≡◌};
 ghost use Rattle.bhs_wire.specs.Denial.{denial_line};
 

@@ -1,3 +1,5 @@
+//! Blank lines, overlong lines, and lines that are read.
+
 ghost use Rattle.std.specs.Prelude.{◌≡◌};
 ghost use Rattle.std.specs.List.{list_all};
 ghost use Rattle.bhs_wire.specs.LineKind.{line_kind, is_space};

@@ -1,3 +1,5 @@
+//! Laws of lines.
+
 ghost use Rattle.std.specs.Prelude.{◌≡◌, ℕ, List, [], ◌∷◌, ◌++◌, false, Option, option_to_list, map};
 ghost use Rattle.std.specs.List.{list_any};
 ghost use Rattle.bhs_wire.specs.First.{says};

@@ -1,3 +1,5 @@
+//! Replies whose texts are lent.
+
 ghost use Rattle.std.specs.Prelude.{◌≡◌, List};
 ghost use Rattle.bhs_model.specs.Marks.{board_of, read, text_at};
 ghost use Rattle.bhs_model.specs.declared.marks.Kept.{Kept};

@@ -1,3 +1,5 @@
+//! Lines in a piece of a stream.
+
 ghost use Rattle.std.specs.Prelude.{◌≡◌, ◌+◌, ◌≤◌, List, ◌∷◌, ◌++◌, length, map, false, option_map, option_and_then};
 ghost use Rattle.std.specs.Prelude.{MatchOption, IsOk, IfOk, OnOk, OnErr};
 ghost use Rattle.std.specs.List.{list_any, position};

@@ -1,3 +1,5 @@
+//! The lines of replies.
+
 ghost use Rattle.std.specs.Prelude.{◌≡◌, ℕ, List, ◌++◌, ◌∷◌, [], codes, OnOk};
 ghost use Rattle.json.specs.Token.{key};
 ghost use Rattle.bhs_model.specs.declared.replies.Reply.TheVariants.{Here, Changed};

@@ -1,3 +1,5 @@
+//! Why a match cannot be set up.
+
 ghost use Rattle.std.specs.Prelude.{◌≡◌};
 ghost use Rattle.bhs_world.specs.declared.faults.SetupFault.TheVariants.{Memory};
 

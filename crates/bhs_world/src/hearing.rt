@@ -1,3 +1,5 @@
+//! Answering a command that is heard.
+
 ghost use Rattle.std.specs.Prelude.{◌≡◌, ◌<◌, ◌≤◌, ◌^◌, nat_lt, IsTrue, length};
 ghost use Rattle.bhs_net.specs.Network.{nodes_of};
 ghost use Rattle.bhs_model.specs.Views.{counts};
@@ -27,7 +29,7 @@ pub(crate) fn refusal(standing: Standing, room: bool, command: &Command) -> Opti
     }
 }
 
-/// Whether a heard command counts against the quota.
+// Whether a heard command counts against the quota.
 fn counts(command: &Command) -> bool
     ensures { result ≡ counts command.now }
 {
@@ -75,7 +77,7 @@ pub(crate) fn here(net: &Net, boards: &[Board], setup: &Setup, node: u16, came: 
     }
 }
 
-/// Writes on a whiteboard. The event will stand next in the log.
+// Writes on a whiteboard. The event will stand next in the log.
 fn write(board: &mut Board, log: &[Kept], expect: &str, put: &str) -> Mark
     requires { length log.now < 2 ^ 32 }
     ensures mark { result ≡ mark_of_swap (swap_at log.now board.old expect.now put.now) board.old.last }

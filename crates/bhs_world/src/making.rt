@@ -1,3 +1,5 @@
+//! Checking a setup.
+
 ghost use Rattle.std.specs.Prelude.{◌≡◌, ◌⊎◌, IfOk, IfErr, OnOk, IsTrue, None, Some, [], replicate};
 ghost use Rattle.bhs_net.specs.Network.{nodes_of};
 ghost use Rattle.bhs_model.specs.Dooms.{AreSignsOf};
@@ -13,14 +15,14 @@ use bhs_model::{Dooms, MAX_AGENTS, MAX_BOARD, MAX_QUOTA, Setup};
 use bhs_net::Net;
 use std::alloc::{AllocError, Global};
 
-/// Whether a black hole is a node other than home.
+// Whether a black hole is a node other than home.
 fn is_hole_fit(nodes: u16, home: u16, hole: u16) -> bool
     ensures { result ≡ is_hole_fit nodes home hole }
 {
     hole < nodes && hole != home
 }
 
-/// Marks the black holes. Tells whether each is a node other than home, and stands but once.
+// Marks the black holes. Tells whether each is a node other than home, and stands but once.
 fn mark_holes(dooms: &mut Dooms, net: &Net, home: u16, holes: &[u16]) -> bool
     requires { AreSignsOf net.now [] [] dooms.old }
     ensures fit { result ≡ are_holes_fit (nodes_of net.now) home [] holes.now }
@@ -42,7 +44,7 @@ fn is_port(net: &Net, end: (u16, u16)) -> bool
     node < net.nodes() && port < net.degree(node)
 }
 
-/// Marks the dark links. Tells whether each end is a port of a node, and each link stands but once.
+// Marks the dark links. Tells whether each end is a port of a node, and each link stands but once.
 fn mark_links(dooms: &mut Dooms, net: &Net, setup: &Setup) -> Result<bool, AllocError>
     requires { AreSignsOf net.now setup.now.holes [] dooms.old }
     ensures fit { IfOk result (λ are_fit. are_fit ≡ are_links_fit net.now [] setup.now.dark) }

@@ -1,3 +1,5 @@
+//! A match without its log: network, setup, whiteboards and agents.
+
 ghost use Rattle.std.specs.Prelude.{◌≡◌, ◌<◌, ◌^◌, List, length, [], Some, None, IfOk, IfErr, true};
 ghost use Rattle.std.specs.Prelude.{IsTrue, OnOk, if◌then◌else◌, ◌⊎◌, nat_lt, option_and_then};
 ghost use Rattle.bhs_net.specs.Network.{nodes_of};
@@ -169,7 +171,7 @@ impl World {
         self.play_event(log, event)
     }
 
-    /// Plays a command that is heard.
+    // Plays a command that is heard.
     fn hear(&mut self, log: &[Kept], agent: u16, command: &Command) -> Mark
         requires room { length log.now < 2 ^ 32 }
         requires agent { agent < self.old.setup.agents }
@@ -190,7 +192,7 @@ impl World {
         mark
     }
 
-    /// Why a command is not heard of an agent, the match being open.
+    // Why a command is not heard of an agent, the match being open.
     fn refusal(&self, agent: u16, command: &Command) -> Option<Why>
         requires { agent < self.now.setup.agents }
         ensures { result ≡ refusal_of (standing_at (agent_at self.now.agents agent).position)
@@ -200,7 +202,7 @@ impl World {
         refusal(agent.standing(), agent.used() < self.setup.quota, command)
     }
 
-    /// Answers a command, and plays it if it is heard.
+    // Answers a command, and plays it if it is heard.
     fn answer_command(&mut self, log: &[Kept], agent: u16, command: &Command) -> Mark
         requires room { length log.now < 2 ^ 32 }
         ensures mark { result ≡ mark_of_command self.old log.now agent command.now }
@@ -220,7 +222,7 @@ impl World {
         }
     }
 
-    /// Lets an agent through on its link: it arrives, or it is destroyed.
+    // Lets an agent through on its link: it arrives, or it is destroyed.
     fn deliver(&mut self, agent: u16) -> Option<Mark>
         ensures mark { result ≡ mark_after self.old [] (Event.Deliver agent) }
         ensures world { self.new ≡ table_after self.old [] (Event.Deliver agent) }
@@ -240,7 +242,7 @@ impl World {
         Some(here(&self.net, &self.boards, &self.setup, node, Some(label)))
     }
 
-    /// Plays an event, and says what is answered.
+    // Plays an event, and says what is answered.
     fn play_event(&mut self, log: &[Kept], event: &Event) -> Option<Mark>
         requires room { length log.now < 2 ^ 32 }
         ensures mark { result ≡ mark_after self.old log.now event.now }
@@ -257,7 +259,7 @@ impl World {
         }
     }
 
-    /// Whether a command is heard.
+    // Whether a command is heard.
     fn hears(&self, agent: u16, command: &Command) -> bool
         ensures { result ≡ heard_in self.now agent command.now }
     {
@@ -288,7 +290,7 @@ impl World {
             )
     }
 
-    /// Whether a Deliver of the agent is kept: it arrives, or is destroyed for the first time.
+    // Whether a Deliver of the agent is kept: it arrives, or is destroyed for the first time.
     fn keeps_delivered(&self, agent: u16) -> bool
         requires { agent < self.now.setup.agents }
         ensures { result ≡ keeps_delivered (world_in self.now) (agent_at self.now.agents agent)

@@ -5,10 +5,10 @@ use Rattle.bhs_lock.proofs.OnePassLemmas.{begun_so_far, counts_skip}
 use Rattle.bhs_lock.proofs.LoopLemmas.{untold, few_agents, index_short, step_on}
 use Rattle.bhs_lock.proofs.PastLogLemmas.{begun_ending, ended_all}
 use Rattle.bhs_lock.proofs.LoopLemmas.{ending_past, ending_within}
-use Rattle.bhs_lock.proofs.settling.first_difference.Goals.{then-not-is_said, else-not-is_said}
-use Rattle.bhs_lock.proofs.settling.first_difference.Goals.{then-index-commands_heard}
-use Rattle.bhs_lock.proofs.settling.first_difference.Goals.{else-index-commands_heard}
-use Rattle.bhs_lock.proofs.settling.first_difference.Goals as goal
+use Rattle.bhs_lock.proofs.differences.first_difference.Goals.{then-not-is_said, else-not-is_said}
+use Rattle.bhs_lock.proofs.differences.first_difference.Goals.{then-index-commands_heard}
+use Rattle.bhs_lock.proofs.differences.first_difference.Goals.{else-index-commands_heard}
+use Rattle.bhs_lock.proofs.differences.first_difference.Goals as goal
 
 pub loop-place-init : goal.loop-place-init
 loop-place-init c = begun_so_far _ _ _

@@ -1,6 +1,6 @@
 use Rattle.bhs_lock.specs.Settling.{arrived_by}
 use Rattle.bhs_lock.proofs.SettleLemmas.{mapped_more, mapped_all}
-use Rattle.bhs_lock.proofs.settling.first_stray.Goals as goal
+use Rattle.bhs_lock.proofs.differences.first_stray.Goals as goal
 
 pub loop-pass-preserved : goal.loop-pass-preserved
 loop-pass-preserved c =

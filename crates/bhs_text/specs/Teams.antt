@@ -1,6 +1,6 @@
 use Rattle.std.specs.Prelude.{ℕ, Bool, ◌&&◌, ◌||◌, ◌==◌, nat_le, List, length}
 use Rattle.std.specs.List.{list_all}
-use Rattle.bhs_teams.specs.declared.TheConstants.{MAX_TEAM}
+use Rattle.bhs_text.specs.declared.teams.TheConstants.{MAX_TEAM}
 
 -- `a` to `z`, `0` to `9`, or `-`
 abbrev pub is_team_character : ℕ → Bool

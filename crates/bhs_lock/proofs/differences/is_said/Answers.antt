@@ -1,6 +1,6 @@
 use Rattle.std.proofs.Common.{◌≡◌, true, false, inr, sym, ◌∙◌}
 use Rattle.bhs_lock.proofs.LoopLemmas.{other_at}
-use Rattle.bhs_lock.proofs.settling.is_said.Goals as goal
+use Rattle.bhs_lock.proofs.differences.is_said.Goals as goal
 
 not_both : false ≡ true → ⊥
 not_both e = cc

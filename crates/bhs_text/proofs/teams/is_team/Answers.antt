@@ -2,8 +2,8 @@ use Rattle.std.proofs.Common.{◌≡◌, rules, tests}
 use Rattle.std.specs.List.{list_all}
 use Rattle.std.proofs.lemmas.Iterator.{YieldsList-from_slice}
 use Rattle.std.proofs.lemmas.Iterator.Search.{all_from_yields_List}
-use Rattle.bhs_teams.specs.Teams.{is_team_character}
-use Rattle.bhs_teams.proofs.is_team.Goals as goal
+use Rattle.bhs_text.specs.Teams.{is_team_character}
+use Rattle.bhs_text.proofs.teams.is_team.Goals as goal
 
 pub returns-then-is_sized : goal.returns-then-is_sized
 returns-then-is_sized c =

@@ -1,6 +1,6 @@
 use Rattle.bhs_lock.proofs.OnePassLemmas.{IsSoFar}
 use Rattle.bhs_lock.proofs.PastLogLemmas.{IsEnding}
-use Rattle.bhs_lock.proofs.settling.first_difference.Given as goal
+use Rattle.bhs_lock.proofs.differences.first_difference.Given as goal
 
 abbrev pub invariant-loop-place : goal.invariant-loop-place
 invariant-loop-place l = IsSoFar l.play l.passes l.log l.heard l.place l.best

@@ -1,8 +1,7 @@
 //! The names of teams.
-#![tactic(auto)]
 
 ghost use Rattle.std.specs.Prelude.{◌≡◌};
-ghost use Rattle.bhs_teams.specs.Teams.{is_team, is_sized, is_team_character};
+ghost use Rattle.bhs_text.specs.Teams.{is_team, is_sized, is_team_character};
 
 /// The most characters of a team's name. The least is 1.
 pub const MAX_TEAM: usize = 16;

@@ -1,0 +1,21 @@
+"""The version of the project stands in the file VERSION; what says it elsewhere says the same."""
+import pathlib
+import re
+import unittest
+
+TOP = pathlib.Path(__file__).resolve().parent.parent
+VERSION = (TOP / "VERSION").read_text().strip()
+
+
+class Versions(unittest.TestCase):
+    def test_the_program_has_it(self) -> None:
+        source = (TOP / "crates" / "bhs_command_line" / "src" / "declared.rt").read_text()
+        self.assertEqual(re.findall(r'const VERSION: &str = "(.*)";', source), [VERSION])
+
+    def test_the_newest_changes_have_it(self) -> None:
+        headings = re.findall(r"^## (\S+)", (TOP / "CHANGELOG.md").read_text(), re.M)
+        self.assertEqual(headings[0].rstrip(","), VERSION)
+
+
+if __name__ == "__main__":
+    unittest.main()
