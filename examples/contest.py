@@ -13,8 +13,8 @@ a contest whose results count asks for that.
 
 With --kill the agents of the team green are killed in the middle of their search, and the other teams must solve
 theirs. Files go to a temporary folder; --keep has the replays of the matches written to a folder, --pages also a page
-of each (python3 -m lab page). ARENA in the environment names another server, as ARENA="python3 -m lab" for one in
-Python, which needs neither a build nor the toolchain.
+of each and a list of them (python3 -m lab pages). ARENA in the environment names another server, as
+ARENA="python3 -m lab" for one in Python, which needs neither a build nor the toolchain.
 """
 import argparse
 import itertools
@@ -148,20 +148,18 @@ def outcomes(table: str) -> Dict[str, str]:
 
 
 def write_pages(command: List[str], replays: str, folder: pathlib.Path) -> None:
-    """Writes a page of each match, by the program that served it, if that is one."""
+    """Writes a page of each match and one that lists them, by the program that served them, if that is one."""
     program = ["--program", command[0]] if len(command) == 1 else []
-    for number, team in enumerate(TEAMS):
-        page = folder / f"{team}.html"
-        tool = [DEBIANS_PYTHON, "-m", "lab", "page", f"{replays}{number}.jsonl", "--out", str(page.resolve()), *program]
-        subprocess.run(tool, cwd=TOP, check=True)
-        print(f"{team}'s match: {page}")
+    tool = [DEBIANS_PYTHON, "-m", "lab", "pages", TOURNAMENT, replays, "--out", str(folder.resolve()), *program]
+    subprocess.run(tool, cwd=TOP, check=True)
 
 
 def main() -> int:
     parser = argparse.ArgumentParser(description=__doc__, formatter_class=argparse.RawDescriptionHelpFormatter)
     parser.add_argument("--proved", action="store_true", help="prove and build the program first, if needed")
     parser.add_argument("--keep", metavar="FOLDER", type=pathlib.Path, help="write the replays there")
-    parser.add_argument("--pages", metavar="FOLDER", type=pathlib.Path, help="write a page of each match there")
+    parser.add_argument("--pages", metavar="FOLDER", type=pathlib.Path,
+                        help="write a page of each match there, and a list of them")
     parser.add_argument("--kill", action="store_true", help=f"kill the agents of {VICTIM} after a second")
     words = parser.parse_args()
     command = server_words(words.proved)

@@ -39,6 +39,7 @@ COMMANDS = {
     "tournament": Command("lab.tournament", "write a tournament of teams, networks and black holes, with their keys"),
     "sweep": Command("lab.sweep", "play teams over a grid of networks and schedules, and write a report"),
     "page": Command("lab.page", "write a page on which one watches a match that has ended"),
+    "pages": Command("lab.contest_pages", "write a page of each match of a contest, and one that lists them"),
 }
 
 ABOUT = """Plays agents under a schedule that you choose, records it, and plays it again byte for byte.

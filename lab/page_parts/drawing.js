@@ -21,11 +21,14 @@ function mark(layer, [x, y], number, lost) {
   draw(layer, "text", { x, y: y + 4, class: lost ? "lostnumber" : "number" }, number);
   if (lost) draw(layer, "text", { x, y: y + 23, class: "word" }, "lost");
 }
+// the spot so far ahead on the way to another one, and so far beside it
+function spotBeside(from, to, far, aside) {
+  const [x, y] = ahead(from, to, far), length = Math.hypot(to[0] - from[0], to[1] - from[1]) || 1;
+  return { x: x + (from[1] - to[1]) / length * aside, y: y + (to[0] - from[0]) / length * aside + 4 };
+}
 // an accusation stands beside its link, near the accuser's end
 function flag(layer, from, to, number) {
-  const [x, y] = ahead(from, to, NODE + 30), length = Math.hypot(to[0] - from[0], to[1] - from[1]) || 1;
-  const side = [(from[1] - to[1]) / length * 17, (to[0] - from[0]) / length * 17];
-  draw(layer, "text", { x: x + side[0], y: y + side[1] + 4, class: "flag" }, "\u2691" + number);
+  draw(layer, "text", { ...spotBeside(from, to, NODE + 30, 17), class: "flag" }, "\u2691" + number);
 }
 
 class Whole {
@@ -51,8 +54,8 @@ class Whole {
     for (const kind in paths) if (paths[kind]) draw(svg, "path", { d: paths[kind], class: kind });
     if (match.links.length * 2 <= LABELS) {
       for (const [v, p, w, q] of match.links) for (const [from, port, to] of [[v, p, w], [w, q, v]]) {
-        const [x, y] = ahead(spots[from], spots[to], NODE + 11);
-        draw(svg, "text", { x: x + 6, y: y + 4, class: "port" }, port);
+        const far = NODE + (match.holes.includes(from) || match.home === from ? 18 : 13);
+        draw(svg, "text", { ...spotBeside(spots[from], spots[to], far, 8), class: "port" }, port);
       }
     }
     spots.forEach(([x, y], node) => this.node(node, x, y));
@@ -63,7 +66,24 @@ class Whole {
     else draw(this.svg, "circle", { cx: x, cy: y, r: NODE, class: "node" });
     if (home) draw(this.svg, "circle", { cx: x, cy: y, r: NODE + 4, class: "node", "fill-opacity": 0 });
     draw(this.svg, "text", { x, y: y + 5, class: hole ? "name inhole" : "name" }, node);
-    if (hole || home) draw(this.svg, "text", { x, y: y - NODE - 9, class: "beside" }, hole ? "black hole" : "home");
+    if (hole || home) this.label(node, hole ? "black hole" : "home");
+  }
+  // a label stands between the links of its node, so that it covers no port; the whiteboard's text stands below
+  label(node, text) {
+    const [x, y] = this.spots[node], turn = this.gap(node);
+    const at = { x: x + Math.cos(turn) * (NODE + 22 + 3 * text.length), y: y + Math.sin(turn) * (NODE + 16) + 4 };
+    draw(this.svg, "text", { ...at, class: "beside" }, text);
+  }
+  // the direction in the middle of the widest gap between the links of a node; below it only if there is no other
+  gap(node) {
+    const [x, y] = this.spots[node];
+    const turns = this.match.far[node].map(([to]) => Math.atan2(this.spots[to][1] - y, this.spots[to][0] - x));
+    turns.sort((a, b) => a - b);
+    const gaps = turns.map((turn, place) => {
+      const next = place + 1 < turns.length ? turns[place + 1] : turns[0] + 2 * Math.PI, middle = (turn + next) / 2;
+      return { middle, room: next - turn - (Math.sin(middle) > 0.6 ? Math.PI / 2 : 0) };
+    });
+    return gaps.reduce((best, one) => one.room > best.room ? one : best).middle;
   }
   spotOf(agent, beside) {
     const { spots, match } = this;

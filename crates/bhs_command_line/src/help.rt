@@ -399,8 +399,7 @@ pub(crate) const EARLY: &str = "Closes a match as soon as each of its agents has
 
 pub(crate) const ADDRESS: &str = "The address to listen on, of IPv4 or IPv6";
 
-pub(crate) const LOG: &str =
-    "Tells on standard error who plays, and how sessions and matches end";
+pub(crate) const LOG: &str = "Tells on standard error who plays, and how sessions and matches end";
 
 pub(crate) const SERVED_REPLAYS: &str =
     "Writes the replay of each match M to the file PREFIXM.jsonl";

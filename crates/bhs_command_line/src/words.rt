@@ -6,8 +6,7 @@ ghost use Rattle.std.specs.List.{list_all};
 ghost use Rattle.bhs_command_line.specs.CommandLine.{number_within, entry_in, entries_in};
 
 use crate::orders::{Entries, Entry};
-use bhs_text::is_team;
-use bhs_text::Text;
+use bhs_text::{Text, is_team};
 use std::alloc::{AllocError, Global};
 
 /// The number from `least` to `most` that a word spells in decimal digits. Zeros may stand in front.

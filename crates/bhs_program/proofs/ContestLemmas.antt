@@ -1,6 +1,7 @@
 -- Contests: as many matches end as there were, why one has no table, and the line that says that the program listens.
 use Rattle.std.proofs.Common.{◌≡◌, refl, sym, subst, ◌∙◌, arith, ℕ, ◌+◌, List, [], ◌∷◌, length, map, Bool, true, IfOk}
-use Rattle.std.proofs.Common.{OnErr, Result, Ok, Err}
+use Rattle.std.proofs.Common.{OnErr, Result, Ok, Err, ◌++◌, ap, append_assoc}
+use Rattle.std.proofs.lemmas.List.{length-map, map-append}
 use Rattle.bhs_match.specs.Matches.{Play}
 use Rattle.bhs_lineup.specs.declared.lineups.Ready.{Ready}
 use Rattle.bhs_lineup.specs.declared.lineups.Lineup.{Lineup}
@@ -22,6 +23,19 @@ as_many place [] (one ∷ settled) fared = absurd fared
 as_many place (ready ∷ matches) [] fared = absurd fared
 as_many place (ready ∷ matches) (one ∷ settled) (first, others) =
     omega (arith, as_many (place + 1) matches settled others)
+
+-- one match more that settled
+pub one_more_settled : (all rest others : List (Result Play Unsettled)) (before : List Play) (one : Play)
+    → all ≡ map Ok before ++ rest → rest ≡ Ok one ∷ others → all ≡ map Ok (before ++ one ∷ []) ++ others
+one_more_settled all rest others before one is next =
+    is ∙ ap (λ (xs : List (Result Play Unsettled)). map Ok before ++ xs) next
+    ∙ sym (append_assoc (map Ok before) (Ok one ∷ []) others)
+    ∙ ap (λ (xs : List (Result Play Unsettled)). xs ++ others) (sym (map-append Ok before (one ∷ [])))
+
+-- as many matches settled as there are, if all did
+pub all_counted : (settled : List (Result Play Unsettled)) (plays : List Play) → settled ≡ map Ok plays
+    → length settled ≡ length plays
+all_counted settled plays are = ap length are ∙ length-map plays Ok
 
 -- the line that says that the program listens
 module _ {O : Type 0} (takes : O → List ℕ → Taken → O → Type 0) (flushes : O → Bool → O → Type 0) (port : ℕ)

@@ -61,7 +61,7 @@ module _ {P O : Type 0} (files : P → List ℕ → Taken → P → Type 0) (tak
   of_files settled code (unfiled_one fault is) = inr (inr (fault, is))
 
   of_table : (teams : List (List ℕ)) (settled : List (Result Play Unsettled)) (output output' : O) (code : ℕ)
-      → Tables files takes flushes teams settled output output' code → IsStatus code
+      → Tables takes flushes teams settled output output' code → IsStatus code
   of_table teams settled output output' code (tabled plays are table) =
       of_text takes flushes output output' code _ table
   of_table teams settled output output' code (untabled fault why is kept) = inr (inr (fault, is))

@@ -48,9 +48,7 @@ pub data Files {P : Type 0} (files : P → List ℕ → Taken → P → Type 0) 
   -- one was not written
   unfiled_one : (fault : Fault) → code ≡ status fault → Files files settled code
 
--- the calls of the files that are written, and of the output
-module _ {P O : Type 0} (files : P → List ℕ → Taken → P → Type 0) (takes : O → List ℕ → Taken → O → Type 0)
-    (flushes : O → Bool → O → Type 0) where
+module _ {O : Type 0} (takes : O → List ℕ → Taken → O → Type 0) (flushes : O → Bool → O → Type 0) where
   -- what was printed of the matches of these teams
   pub data Tables (teams : List (List ℕ)) (settled : List (Result Play Unsettled)) (output output' : O) (code : ℕ) :
       Type 0 where
@@ -62,13 +60,16 @@ module _ {P O : Type 0} (files : P → List ℕ → Taken → P → Type 0) (tak
     untabled : (fault : Fault) → IsUntabled settled fault → code ≡ status fault → output' ≡ output
         → Tables teams settled output output' code
 
+-- the calls of the files that are written, and of the output
+module _ {P O : Type 0} (files : P → List ℕ → Taken → P → Type 0) (takes : O → List ℕ → Taken → O → Type 0)
+    (flushes : O → Bool → O → Type 0) where
   -- the matches of these teams fared so: replays were to be written, and then a table was to be printed
   pub record Ends (teams : List (List ℕ)) (settled : List (Result Play Unsettled)) (output output' : O) (code : ℕ) :
       Type 0 where
     pub filed : ℕ
     pub printed : ℕ
     pub writes : Files files settled filed
-    pub tables : Tables teams settled output output' printed
+    pub tables : Tables takes flushes teams settled output output' printed
     pub coded : code ≡ first_status filed printed
 
   -- what came of a contest of these matches

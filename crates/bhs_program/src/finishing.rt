@@ -4,7 +4,7 @@ ghost use Rattle.std.specs.Prelude.{◌≡◌, ◌⊎◌, IfOk, IfErr, Ok, lengt
 ghost use Rattle.bhs_stream.specs.Streams.{known_takes};
 ghost use Rattle.bhs_orders.specs.Fault.{IsOfFault};
 ghost use Rattle.bhs_orders.specs.declared.statuses.TheConstants.{DONE};
-ghost use Rattle.bhs_program.specs.Contests.{Ends, Files, HasReplay, IsUntabled};
+ghost use Rattle.bhs_program.specs.Contests.{Ends, Files, HasReplay, IsUntabled, Tables};
 
 use bhs_host::standings;
 use bhs_match::Sealed;
@@ -38,13 +38,27 @@ pub(crate) fn finish<R: Files + Threads + Sync, W: Output, E: Write>(
     ensures { Ends (known_takes R.File.contents) W.takes W.flushes finished.teams.items finished.settled.items
         writer.old writer.new result }
 {
+    let filed = write_settled(alloc, rt, prefix, &finished.settled, errors);
+    let printed = show_table(alloc, rt, finished, writer, errors);
+    first_status(filed, printed)
+}
+
+// Shows the table of the matches, if all settled; else the first that did not is reported.
+fn show_table<R: Threads + Sync, W: Output, E: Write>(
+    alloc: Global,
+    rt: &R,
+    finished: Finished,
+    writer: &mut W,
+    errors: &mut E,
+) -> u8
+    requires { length finished.teams.items ≡ length finished.settled.items }
+    ensures { Tables W.takes W.flushes finished.teams.items finished.settled.items writer.old writer.new result }
+{
     let Finished { teams, settled } = finished;
-    let filed = write_settled(alloc, rt, prefix, &settled, errors);
-    let printed = match all_sealed(alloc, settled) {
+    match all_sealed(alloc, settled) {
         Ok(sealed) => show_made(standings(rt, alloc, &teams, &sealed), writer, errors),
         Err(fault) => report("serve", fault, errors),
-    };
-    first_status(filed, printed)
+    }
 }
 
 // Writes the replay of each match that settled under the match's number. One that cannot be written is reported, and

@@ -1,9 +1,19 @@
 -- A list of matches that are settled grows at its end.
-use Rattle.std.proofs.Common.{◌≡◌, ◌∙◌, sym, append_assoc, suc, List, [], ◌∷◌, ◌++◌, length, ap, refl, Result}
+use Rattle.std.proofs.Common.{◌≡◌, ◌∙◌, sym, append_assoc, List, Vec, IfOk, [], ◌∷◌, ◌++◌, ap, Result, Ok, Err}
 use Rattle.bhs_match.specs.Matches.{Play}
+use Rattle.std.specs.Prelude.{IfErr}
+use Rattle.std.specs.declared.alloc.Global.{Global}
 use Rattle.bhs_lock.specs.Cells.{Given}
+use Rattle.bhs_lock.specs.Passes.{Passed}
+use Rattle.bhs_lock.specs.Disputes.{AreInAccord, HasRefused}
 use Rattle.bhs_lock.specs.declared.settling.Unsettled.{Unsettled}
 use Rattle.bhs_server.specs.Settling.{HaveFared, HasFared}
+
+-- how a match fared, by what its settlement answered
+pub fared : (given : Given) (passes : Vec Passed Global) (one : Result Play Unsettled)
+    → IfOk one (λ play. AreInAccord given play passes.items) → IfErr one (HasRefused given passes) → HasFared given one
+fared given passes (Ok play) settled refused = (passes.items, settled)
+fared given passes (Err unsettled) settled refused = (passes, refused)
 
 -- one more match that is settled
 HaveFared-snoc : (cells : List Given) (settled : List (Result Play Unsettled)) (given : Given)

@@ -48,7 +48,7 @@ impl<R: Threads + Wait + Clock + Sync, P: Pace + Sync, G: Gate + Sync, W: Watch 
 > {
     /// Plays all matches to their ends, and serves sessions within limits: what came of the sessions.
     pub(crate) fn visits(&self, dealers: Vec<Dealer>) -> Result<Vec<Visit>, Memory>
-        ensures { IfOk result (λ visits. vec_len visits ≡ self.limits.sessions) }
+        ensures { IfOk result (λ visits. vec_len visits ≡ self.now.limits.sessions) }
     {
         let sessions = self.limits.sessions;
         let handles = thread::scope(

@@ -84,19 +84,21 @@ pub fn run_server<
         dealers,
         keys,
     } = contest;
-    let running = Running {
-        rt,
-        alloc,
-        listener,
-        cells: &cells,
-        keys: &keys,
-        limits,
-        pace,
-        gate,
-        watch,
-        ending: Ending::new(alloc, cells.len(), limits.sessions)?,
+    let visits = {
+        let running = Running {
+            rt,
+            alloc,
+            listener,
+            cells: &cells,
+            keys: &keys,
+            limits,
+            pace,
+            gate,
+            watch,
+            ending: Ending::new(alloc, cells.len(), limits.sessions)?,
+        };
+        running.visits(dealers)?
     };
-    let visits = running.visits(dealers)?;
     let returned = by_match(alloc, cells.len(), visits)?;
     Ok(Served {
         settled: settle_all(alloc, cells, returned.passes)?,

@@ -1,5 +1,5 @@
 use Rattle.std.proofs.Common.{◌≡◌, ◌+◌, length}
-use Rattle.bhs_server.proofs.serving.joined.Given as goal
+use Rattle.bhs_server.proofs.running.joined.Given as goal
 
 abbrev pub invariant-loop-handle : goal.invariant-loop-handle
 invariant-loop-handle g l =

@@ -1,0 +1,114 @@
+"""Writes a page of each match of a contest, and a page that lists them with their verdicts.
+
+    python3 -m lab pages TOURNAMENT PREFIX --out FOLDER [--program PATH]
+
+TOURNAMENT is the file that was served, and PREFIX what its --replay named: the replay of match M is PREFIXM.jsonl. The
+folder gets index.html, which has the table of the contest with links, and beside it the page and the replay of each
+match. All of it opens without a network. A match without a replay, as after a server that was killed, is listed so.
+"""
+import argparse
+import html
+import pathlib
+import re
+import shutil
+import tomllib
+from typing import List, NamedTuple, Optional
+
+from lab.engines import add_program, asked, program_at
+from lab.networks import NoNetwork
+from lab.page import part, write_page
+
+VERDICT = re.compile(r"(.*) moves (\d+) lost (\d+)")
+RANKS = ("solved", "guess", "unfinished", "silent", "wrong")
+
+
+class Judged(NamedTuple):
+    """The verdict on a match."""
+    outcome: str
+    moves: int
+    lost: int
+
+
+class Shown(NamedTuple):
+    """A match as the list shows it."""
+    number: int
+    team: str
+    network: str
+    verdict: Optional[Judged]
+
+
+def matches_of(tournament: pathlib.Path) -> List[Shown]:
+    """The matches of a tournament's file, not judged yet."""
+    try:
+        found = tomllib.loads(tournament.read_text(encoding="utf-8"))["match"]
+        return [Shown(number, one["team"], one["network"], None) for number, one in enumerate(found)]
+    except (tomllib.TOMLDecodeError, KeyError, TypeError) as fault:
+        raise NoNetwork(f"{tournament}: this is not the file of a tournament ({fault}): see `arena check`") from None
+
+
+def judged(program: str, replay: pathlib.Path) -> Judged:
+    outcome, moves, lost = VERDICT.fullmatch(asked(program, "judge", str(replay)).strip()).groups()
+    return Judged(outcome, int(moves), int(lost))
+
+
+def rank(shown: Shown) -> tuple:
+    """Who comes first: as in the arena's table. Matches without a replay come last."""
+    if shown.verdict is None:
+        return (len(RANKS), 0, 0, shown.team)
+    return (RANKS.index(shown.verdict.outcome.split()[0]), shown.verdict.moves, shown.verdict.lost, shown.team)
+
+
+def row_of(place: int, shown: Shown) -> str:
+    """The row of a match in the list."""
+    cells = [str(place), html.escape(shown.team), str(shown.number), html.escape(shown.network)]
+    if shown.verdict is None:
+        return f"<tr>{''.join(f'<td>{cell}</td>' for cell in cells)}<td colspan=\"5\">no replay</td></tr>"
+    name = f"match{shown.number}"
+    cells += [shown.verdict.outcome, str(shown.verdict.moves), str(shown.verdict.lost),
+              f'<a href="{name}.html">watch it</a>', f'<a href="{name}.jsonl">replay</a>']
+    kind = "" if shown.verdict.outcome == "solved" else ' class="failed"'
+    return f"<tr{kind}>{''.join(f'<td>{cell}</td>' for cell in cells)}</tr>"
+
+
+def page_of(title: str, matches: List[Shown]) -> str:
+    """The page that lists the matches."""
+    ranked = sorted(matches, key=rank)
+    solved = sum(one.verdict is not None and one.verdict.outcome == "solved" for one in matches)
+    parts = {
+        "{{title}}": html.escape(title),
+        "{{style}}": part("report.css"),
+        "{{about}}": f"{len(matches)} matches, {solved} solved.",
+        "{{rows}}": "".join(row_of(place, one) for place, one in enumerate(ranked, 1)),
+    }
+    return re.sub("|".join(parts), lambda found: parts[found[0]], part("contest.html"))
+
+
+def write_pages(program: str, tournament: pathlib.Path, prefix: str, folder: pathlib.Path) -> pathlib.Path:
+    """Writes the pages of a contest; gives the page that lists the others."""
+    folder.mkdir(parents=True, exist_ok=True)
+    matches = []
+    for shown in matches_of(tournament):
+        replay = pathlib.Path(f"{prefix}{shown.number}.jsonl")
+        if replay.exists():
+            shown = shown._replace(verdict=judged(program, replay))
+            write_page(program, replay, folder / f"match{shown.number}.html")
+            kept = folder / f"match{shown.number}.jsonl"
+            if kept.resolve() != replay.resolve():
+                shutil.copyfile(replay, kept)
+        matches.append(shown)
+    index = folder / "index.html"
+    index.write_text(page_of(tournament.stem, matches), encoding="utf-8")
+    return index
+
+
+def add_words(parser: argparse.ArgumentParser) -> None:
+    """The words of the command `pages`."""
+    parser.add_argument("tournament", metavar="TOURNAMENT", type=pathlib.Path, help="the file that was served")
+    parser.add_argument("prefix", metavar="PREFIX", help="what --replay named: the replay of match M is PREFIXM.jsonl")
+    parser.add_argument("--out", metavar="FOLDER", type=pathlib.Path, required=True, help="write the pages there")
+    add_program(parser)
+
+
+def run(words: argparse.Namespace) -> int:
+    print(write_pages(program_at(words.program), words.tournament, words.prefix, words.out))
+    return 0

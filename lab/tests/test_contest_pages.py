@@ -1,0 +1,61 @@
+"""The page that lists the matches of a contest."""
+import pathlib
+import tempfile
+import unittest
+from unittest import mock
+
+from lab import contest_pages
+from lab.contest_pages import Judged, Shown, matches_of, page_of, write_pages
+from lab.networks import NoNetwork
+
+TOURNAMENT = """version = 2
+[[match]]
+team = "red"
+network = "ring.toml"
+[[match]]
+team = "blue"
+network = "<b>.toml"
+"""
+
+
+class Lists(unittest.TestCase):
+    def test_matches_stand_in_the_order_of_the_table(self) -> None:
+        verdicts = [Judged("wrong", 1, 0), Judged("solved", 9, 1), Judged("guess 4", 2, 0), Judged("solved", 9, 0), None]
+        page = page_of("cup", [Shown(number, f"t{number}", "n", one) for number, one in enumerate(verdicts)])
+        places = [page.index(f"<td>t{number}</td>") for number in (3, 1, 2, 0, 4)]
+        self.assertEqual(places, sorted(places))
+        self.assertIn("5 matches, 2 solved", page)
+        self.assertIn('<a href="match3.html">', page)
+        self.assertNotIn("match4.html", page)
+
+    def test_texts_of_the_file_are_escaped(self) -> None:
+        page = page_of("<i>", [Shown(0, "a", "<b>.toml", None)])
+        self.assertIn("&lt;b&gt;.toml", page)
+        self.assertNotIn("<i>", page)
+
+
+class Writes(unittest.TestCase):
+    def setUp(self) -> None:
+        self.folder = pathlib.Path(self.enterContext(tempfile.TemporaryDirectory()))
+        self.file = self.folder / "cup.toml"
+        self.file.write_text(TOURNAMENT)
+
+    def test_a_match_has_a_page_if_it_has_a_replay(self) -> None:
+        (self.folder / "m1.jsonl").write_text("{}\n")
+        with mock.patch.object(contest_pages, "asked", return_value="guess 2 moves 7 lost 1\n"), \
+                mock.patch.object(contest_pages, "write_page", lambda program, replay, page: page.write_text("page")):
+            index = write_pages("arena", self.file, str(self.folder / "m"), self.folder / "out")
+        self.assertEqual(sorted(path.name for path in index.parent.iterdir()),
+                         ["index.html", "match1.html", "match1.jsonl"])
+        self.assertIn("<td>guess 2</td><td>7</td><td>1</td>", index.read_text())
+        self.assertIn("no replay", index.read_text())
+
+    def test_a_file_that_is_no_tournament_is_told(self) -> None:
+        for text in ("", "match = 1", "[[match]]\nteam = 1", "x"):
+            self.file.write_text(text)
+            with self.assertRaisesRegex(NoNetwork, "cup.toml: this is not the file of a tournament"):
+                matches_of(self.file)
+
+
+if __name__ == "__main__":
+    unittest.main()
