@@ -46,52 +46,6 @@ impl<R: Threads + Wait + Clock + Sync, P: Pace + Sync, G: Gate + Sync, W: Watch 
     G,
     W,
 > {
-    /// Plays all matches to their ends, and serves sessions within limits: what came of the sessions.
-    pub(crate) fn visits(&self, dealers: Vec<Dealer>) -> Result<Vec<Visit>, Memory>
-        ensures { IfOk result (λ visits. vec_len visits ≡ self.now.limits.sessions) }
-    {
-        let sessions = self.limits.sessions;
-        let handles = thread::scope(
-            thread::scope_env(),
-            self.rt,
-            |scope| -> Result<Vec<Result<JoinHandle<Visit>, Ended>>, Memory>
-                ensures { IfOk result (λ handles. vec_len handles ≡ sessions) }
-            {
-                let mut handles = Vec::with_capacity(self.alloc, sessions as usize)?;
-                if scope.spawn(move || self.end()).is_err() {
-                    return Err(Memory);
-                }
-                if scope.spawn(move || self.look()).is_err() {
-                    self.ending.give_up(self.rt);
-                    return Err(Memory);
-                }
-                for (game, (cell, mut dealer)) in self.cells.iter().zip(dealers).enumerate() {
-                    let game = u32::try_from(game).unwrap_or(u32::MAX);
-                    if scope
-                        .spawn(move || self.play(game, cell, &mut dealer))
-                        .is_err()
-                    {
-                        cell.close(self.rt);
-                        self.ending.match_closed(self.rt);
-                    }
-                }
-                for session in 0..sessions {
-                    let Some((stream, peer)) = self.accepted() else {
-                        handles.push(Err(Ended::ReadFault))?;
-                        continue;
-                    };
-                    let started = scope.spawn(move || self.serve(session, stream, peer));
-                    if started.is_err() {
-                        self.ending.session_ended(self.rt);
-                    }
-                    handles.push(started.map_err(|_| Ended::Memory))?;
-                }
-                Ok(handles)
-            },
-        )?;
-        joined(self.rt, self.alloc, handles)
-    }
-
     // Ends the contest once its matches are closed.
     fn end(&self) {
         self.ending.end(self.rt, self.listener, self.limits.grace);
@@ -103,11 +57,23 @@ impl<R: Threads + Wait + Clock + Sync, P: Pace + Sync, G: Gate + Sync, W: Watch 
     }
 
     // Plays a match to its end.
-    fn play(&self, game: u32, cell: &Cell, dealer: &mut Dealer) {
+    fn play(&self, game: usize, dealer: &mut Dealer) {
+        let Some(cell) = self.cells.get(game) else {
+            return;
+        };
+        let number = u32::try_from(game).unwrap_or(u32::MAX);
         gather(self.rt, cell, self.limits.gather);
-        let turns = deal(self.rt, self.pace, self.limits.early, game, cell, dealer);
-        self.watch.closed(game, turns, cell);
+        let turns = deal(self.rt, self.pace, self.limits.early, number, cell, dealer);
+        self.watch.closed(number, turns, cell);
         self.ending.match_closed(self.rt);
+    }
+
+    // Closes a match whose thread could not be started.
+    fn close(&self, game: usize) {
+        if let Some(cell) = self.cells.get(game) {
+            cell.close(self.rt);
+            self.ending.match_closed(self.rt);
+        }
     }
 
     // The next connection, or None once the contest is over.
@@ -171,6 +137,55 @@ impl<R: Threads + Wait + Clock + Sync, P: Pace + Sync, G: Gate + Sync, W: Watch 
         };
         Ok(Visit { ended, played })
     }
+}
+
+/// Plays all matches to their ends, and serves sessions within limits: what came of the sessions.
+pub(crate) fn all_visits<
+    R: Threads + Wait + Clock + Sync,
+    P: Pace + Sync,
+    G: Gate + Sync,
+    W: Watch + Sync,
+>(running: &Running<'_, R, P, G, W>, dealers: Vec<Dealer>) -> Result<Vec<Visit>, Memory>
+    ensures { IfOk result (λ visits. vec_len visits ≡ running.now.limits.sessions) }
+{
+    let sessions = running.limits.sessions;
+    let handles = thread::scope(
+        thread::scope_env(),
+        running.rt,
+        |scope| -> Result<Vec<Result<JoinHandle<Visit>, Ended>>, Memory>
+            ensures { IfOk result (λ handles. vec_len handles ≡ sessions) }
+        {
+            let mut handles = Vec::with_capacity(running.alloc, sessions as usize)?;
+            if scope.spawn(move || running.end()).is_err() {
+                return Err(Memory);
+            }
+            if scope.spawn(move || running.look()).is_err() {
+                running.ending.give_up(running.rt);
+                return Err(Memory);
+            }
+            for (game, mut dealer) in dealers.into_iter().enumerate() {
+                if scope
+                    .spawn(move || running.play(game, &mut dealer))
+                    .is_err()
+                {
+                    running.close(game);
+                }
+            }
+            for session in 0..sessions {
+                let Some((stream, peer)) = running.accepted() else {
+                    handles.push(Err(Ended::ReadFault))?;
+                    continue;
+                };
+                let started = scope.spawn(move || running.serve(session, stream, peer));
+                if started.is_err() {
+                    running.ending.session_ended(running.rt);
+                }
+                handles.push(started.map_err(|_| Ended::Memory))?;
+            }
+            Ok(handles)
+        },
+    )?;
+    joined(running.rt, running.alloc, handles)
 }
 
 // What came of the sessions, once their threads have ended.

@@ -5,7 +5,7 @@ ghost use Rattle.bhs_server.specs.Settling.{HaveFared};
 
 use crate::ending::Ending;
 use crate::pacing::Pace;
-use crate::running::Running;
+use crate::running::{Running, all_visits};
 use crate::settling::{Settled, by_match, settle_all};
 use crate::watching::Watch;
 use bhs_deal::Dealer;
@@ -97,7 +97,7 @@ pub fn run_server<
             watch,
             ending: Ending::new(alloc, cells.len(), limits.sessions)?,
         };
-        running.visits(dealers)?
+        all_visits(&running, dealers)?
     };
     let returned = by_match(alloc, cells.len(), visits)?;
     Ok(Served {

@@ -1,5 +1,5 @@
 use Rattle.std.proofs.Common.{◌≡◌, length, []}
-use Rattle.bhs_server.proofs.running.fn.Running.visits.scope.Given as goal
+use Rattle.bhs_server.proofs.running.fn.all_visits.scope.Given as goal
 
 abbrev pub invariant-loop-game : goal.invariant-loop-game
 invariant-loop-game g l = l.handles.items ≡ []
