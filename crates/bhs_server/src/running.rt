@@ -148,19 +148,21 @@ pub(crate) fn all_visits<
 >(running: &Running<'_, R, P, G, W>, dealers: Vec<Dealer>) -> Result<Vec<Visit>, Memory>
     ensures { IfOk result (λ visits. vec_len visits ≡ running.now.limits.sessions) }
 {
-    let sessions = running.limits.sessions;
+    let rt = running.rt;
+    let alloc = running.alloc;
+    let Limits { sessions, .. } = running.limits;
     let handles = thread::scope(
         thread::scope_env(),
-        running.rt,
+        rt,
         |scope| -> Result<Vec<Result<JoinHandle<Visit>, Ended>>, Memory>
             ensures { IfOk result (λ handles. vec_len handles ≡ sessions) }
         {
-            let mut handles = Vec::with_capacity(running.alloc, sessions as usize)?;
+            let mut handles = Vec::with_capacity(alloc, sessions as usize)?;
             if scope.spawn(move || running.end()).is_err() {
                 return Err(Memory);
             }
             if scope.spawn(move || running.look()).is_err() {
-                running.ending.give_up(running.rt);
+                running.ending.give_up(rt);
                 return Err(Memory);
             }
             for (game, mut dealer) in dealers.into_iter().enumerate() {
@@ -178,14 +180,14 @@ pub(crate) fn all_visits<
                 };
                 let started = scope.spawn(move || running.serve(session, stream, peer));
                 if started.is_err() {
-                    running.ending.session_ended(running.rt);
+                    running.ending.session_ended(rt);
                 }
                 handles.push(started.map_err(|_| Ended::Memory))?;
             }
             Ok(handles)
         },
     )?;
-    joined(running.rt, running.alloc, handles)
+    joined(rt, alloc, handles)
 }
 
 // What came of the sessions, once their threads have ended.
