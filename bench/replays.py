@@ -1,10 +1,10 @@
 #!/usr/bin/env python3
-"""Times the built program on the largest replays.
+"""Times the built program on the largest replays, alone or beside another build.
 
     ./arena --help            # builds the program, if it is not built yet
-    python3 bench/replays.py [PROGRAM]
+    python3 bench/replays.py [PROGRAM [OTHER]] [--rounds N]
 
-Writes replays of matches that have ended, each once whole and once at a tenth of its commands:
+Writes replays of matches that have ended:
 
 - moves: the largest log that the limits allow, 128,129 events: 64 agents that walk until their quotas are used up;
 - whiteboards: 64 agents that write texts as long as a whiteboard holds, and look at them, until their quotas are used
@@ -12,18 +12,28 @@ Writes replays of matches that have ended, each once whole and once at a tenth o
 - long lines: writes as long as a line may be, which are refused and kept in the log. A match may have ten times as
   many.
 
-On each it runs `judge`, `table`, `explain` and `twin`, three times each, and prints the median time, the peak memory of
-that run and the size of the replay; then how the whole replay compares with its tenth: a program that is linear
-takes about ten times as long. What `judge` says is compared with what the replay was made to give. Nothing is written
-outside a temporary folder, which takes up to 1 GB.
+On each it runs `judge`, `table`, `explain` and `twin`. What `judge` says is compared with what the replay was made to
+give, and the exit status is 1 where it is something else. Nothing is written outside a temporary folder, which takes
+up to 1 GB.
+
+With one program, the one that was built here where none is named, each replay is written whole and at a tenth of its
+commands. For each command it prints the median time of three runs, the peak memory of that run and the size of the
+replay; then how the whole replay compares with its tenth: a program that is linear takes about ten times as long.
+
+With two programs both run on each whole replay in turn, 7 times. For each command it prints the median time of both,
+the least time that a processor took for them, which other work on the machine changes less, and the time of PROGRAM
+divided by that of OTHER. Both must print the same bytes; where they do not, that is told, and the exit status is 1.
 """
+import argparse
 import pathlib
+import statistics
 import subprocess
 import sys
 import tempfile
-from typing import Any, Callable, Dict, Iterator, List, NamedTuple, Optional, TextIO, Tuple
+from typing import Any, Callable, Dict, Iterator, List, NamedTuple, Optional, Sequence, TextIO, Tuple
 
-from inputs import MAX_AGENTS, MAX_BOARD, MAX_QUOTA, median_run, torus_links
+from compare import compared
+from inputs import MAX_AGENTS, MAX_BOARD, MAX_QUOTA, Run, median_run, run, torus_links
 
 TOP = pathlib.Path(__file__).resolve().parent.parent
 sys.path.insert(0, str(TOP))
@@ -37,7 +47,7 @@ EAST, SOUTH = 0, 2
 FROM_WEST = 1
 NEVER_REACHED = NODES - 1
 MAX_LINE = 65_536
-RUNS = 3
+RUNS, ROUNDS = 3, 7
 
 Event = Dict[str, Any]
 
@@ -135,35 +145,45 @@ def write_replay(out: TextIO, hole: int, events: Iterator[Event]) -> int:
     return count + 1
 
 
+def commands_on(name: str) -> List[List[str]]:
+    """The words of each command on a replay."""
+    return [["judge", name], ["table", f"team={name}"], ["explain", name, "0"], ["twin", name, str(NEVER_REACHED)]]
+
+
 def measured(program: str, name: str, folder: pathlib.Path) -> List[Tuple[str, float, int]]:
     """For each command its word, median time and peak memory."""
     figures = []
-    twin = ["twin", name, str(NEVER_REACHED)]
-    for words in (["judge", name], ["table", f"team={name}"], ["explain", name, "0"], twin):
+    for words in commands_on(name):
         seconds, _, peak = median_run(RUNS, program, words, folder / "empty", folder)
         figures.append((words[0], seconds, peak))
     return figures
 
 
-def judged(program: str, name: str, folder: pathlib.Path) -> str:
+def is_judged(program: str, kind: Kind, commands: int, name: str, folder: pathlib.Path) -> bool:
+    """Whether `judge` says what the replay was made to give. Where it does not, that is told."""
+    verdict = f"silent moves {kind.moves(commands)} lost {kind.lost}"
     ran = subprocess.run([program, "judge", name], cwd=folder, stdout=subprocess.PIPE, check=True, text=True)
-    return ran.stdout.strip()
+    if ran.stdout.strip() != verdict:
+        print(f"{kind.title}: judge should say: {verdict}")
+    return ran.stdout.strip() == verdict
 
 
-def compare(program: str, kind: Kind, folder: pathlib.Path) -> bool:
+def written(kind: Kind, commands: int, path: pathlib.Path) -> int:
+    """Writes a replay of this many commands of an agent, and says how large it is: gives the number of its events."""
+    with open(path, "w", encoding="utf-8") as out:
+        count = write_replay(out, kind.hole(commands), kind.events(commands))
+    print(f"{kind.title}: {count} events, {path.stat().st_size} bytes", flush=True)
+    return count
+
+
+def alone(program: str, kind: Kind, folder: pathlib.Path) -> bool:
     """Times one kind, whole and at a tenth; answers whether `judge` said what it should."""
     right, whole = True, []
     for part in (1, 10):
         commands = kind.commands // part
         name = f"replay{part}.jsonl"
-        with open(folder / name, "w", encoding="utf-8") as out:
-            count = write_replay(out, kind.hole(commands), kind.events(commands))
-        size = (folder / name).stat().st_size
-        print(f"{kind.title}: {count} events, {size} bytes", flush=True)
-        verdict = f"silent moves {kind.moves(commands)} lost {kind.lost}"
-        if judged(program, name, folder) != verdict:
-            print(f"{kind.title}: judge should say: {verdict}")
-            right = False
+        count = written(kind, commands, folder / name)
+        right = is_judged(program, kind, commands, name, folder) and right
         figures = measured(program, name, folder)
         for word, seconds, peak in figures:
             print(f"  {word}: {seconds:.3f} s, {seconds / count * 1e6:.2f} us an event, peak {peak} KiB", flush=True)
@@ -176,17 +196,62 @@ def compare(program: str, kind: Kind, folder: pathlib.Path) -> bool:
     return right
 
 
+def print_the_same(programs: Sequence[str], words: Sequence[str], folder: pathlib.Path) -> bool:
+    """Whether the programs print the same bytes. They go to files, since they may be many."""
+    paths = [folder / f"printed{place}" for place in range(len(programs))]
+    for program, path in zip(programs, paths):
+        with open(path, "wb") as out:
+            subprocess.run([program, *words], stdout=out, cwd=folder, check=True)
+    same = subprocess.run(["cmp", *map(str, paths)], stdout=subprocess.DEVNULL, check=False).returncode == 0
+    for path in paths:
+        path.unlink()
+    if not same:
+        print(f"  {words[0]}: the programs do not print the same")
+    return same
+
+
+def line_of(word: str, runs: Sequence[Sequence[Run]]) -> str:
+    """What is printed of a command: its runs are pairs, one of each program."""
+    times = compared(statistics.median, [[it.seconds for it in both] for both in runs])
+    processors = compared(min, [[it.processor for it in both] for both in runs])
+    peaks = [statistics.median(it.peak for it in each) for each in zip(*runs)]
+    return f"  {word}: {times}; processor {processors}; peak {peaks[0]} KiB, {peaks[1]} KiB"
+
+
+def beside(programs: Sequence[str], kind: Kind, rounds: int, folder: pathlib.Path) -> bool:
+    """Times two programs on one kind, in turn; answers whether they print the same, and `judge` what it should."""
+    name = "replay.jsonl"
+    written(kind, kind.commands, folder / name)
+    right = all([is_judged(program, kind, kind.commands, name, folder) for program in programs])
+    for words in commands_on(name):
+        runs = [[run(program, words, folder / "empty", folder) for program in programs] for _ in range(rounds)]
+        print(line_of(words[0], runs), flush=True)
+        right = print_the_same(programs, words, folder) and right
+    (folder / name).unlink()
+    return right
+
+
+def given_words(words: Optional[Sequence[str]] = None) -> argparse.Namespace:
+    parser = argparse.ArgumentParser(description=__doc__, formatter_class=argparse.RawDescriptionHelpFormatter)
+    parser.add_argument("program", nargs="?", type=pathlib.Path, default=PROGRAM, help="a built program")
+    parser.add_argument("other", nargs="?", type=pathlib.Path, help="another build of it")
+    parser.add_argument("--rounds", type=int, default=ROUNDS, metavar="N", help="how often both programs run in turn")
+    return parser.parse_args(words)
+
+
 def main() -> int:
-    words = sys.argv[1:]
-    if len(words) > 1 or any(word in ("-h", "--help") for word in words):
-        sys.exit(__doc__.strip())
-    program = pathlib.Path(words[0]).resolve() if words else PROGRAM
-    if not program.exists():
-        raise SystemExit("the program is not built: run ./arena --help once")
+    given = given_words()
+    programs = [path.resolve() for path in (given.program, given.other) if path]
+    for path in programs:
+        if not path.exists():
+            raise SystemExit(f"there is no program {path}: ./arena --help builds it")
     with tempfile.TemporaryDirectory() as name:
         folder = pathlib.Path(name)
         (folder / "empty").write_text("")
-        results = [compare(str(program), kind, folder) for kind in KINDS]
+        if given.other:
+            results = [beside([*map(str, programs)], kind, given.rounds, folder) for kind in KINDS]
+        else:
+            results = [alone(str(programs[0]), kind, folder) for kind in KINDS]
     return 0 if all(results) else 1
 
 

@@ -1,5 +1,9 @@
 """The replays that the benchmarks write."""
+import contextlib
 import io
+import pathlib
+import stat
+import tempfile
 import unittest
 from typing import Iterator
 
@@ -34,6 +38,45 @@ class LargeReplays(unittest.TestCase):
         write = next(event for event in lines if event["do"] == "write")
         sent = {name: write[name] for name in ("do", "expect", "put")}
         self.assertEqual(len(replays.spelled(sent)), replays.MAX_LINE)
+
+
+class TwoPrograms(unittest.TestCase):
+    """How two programs are compared."""
+
+    KIND = replays.Kind("none", lambda commands: iter(()), 1, lambda _: 1, lambda _: 0, 0)
+
+    def setUp(self) -> None:
+        self.folder = pathlib.Path(self.enterContext(tempfile.TemporaryDirectory()))
+        (self.folder / "empty").write_text("")
+
+    def program(self, name: str, twin: str) -> str:
+        made = self.folder / name
+        made.write_text(f'#!/bin/sh\nif [ "$1" = twin ]; then {twin}; else echo silent moves 0 lost 0; fi\n')
+        made.chmod(made.stat().st_mode | stat.S_IXUSR)
+        return str(made)
+
+    def compared(self, twin: str) -> "tuple[bool, str]":
+        programs = [self.program("one", "echo twin"), self.program("two", twin)]
+        told = io.StringIO()
+        with contextlib.redirect_stdout(told):
+            right = replays.beside(programs, self.KIND, 2, self.folder)
+        return right, told.getvalue()
+
+    def test_programs_that_print_the_same(self) -> None:
+        right, told = self.compared("echo twin")
+        self.assertTrue(right)
+        for word in ("judge", "table", "explain", "twin"):
+            self.assertRegex(told, rf"  {word}: .* ms, .* ms, ratio .*; processor .*, ratio .*; peak .* KiB, .* KiB")
+
+    def test_programs_that_do_not(self) -> None:
+        right, told = self.compared("echo other")
+        self.assertFalse(right)
+        self.assertIn("  twin: the programs do not print the same\n", told)
+
+    def test_words(self) -> None:
+        given = replays.given_words(["one", "two", "--rounds", "5"])
+        self.assertEqual((str(given.program), str(given.other), given.rounds), ("one", "two", 5))
+        self.assertEqual(replays.given_words([]).program, replays.PROGRAM)
 
 
 if __name__ == "__main__":

@@ -20,7 +20,7 @@ use Rattle.bhs_model.proofs.LegalLemmas.{either}
 use Rattle.bhs_replay.specs.Played.{CommandIsText, EventIsText}
 use Rattle.bhs_replay.specs.Spelling.{ReplyFits}
 use Rattle.bhs_replay.proofs.FittingPasts.{ViewFits, GlanceFits, SightFits, WriteFits, WorldFits, StateFits, next_fits}
-use Rattle.bhs_replay.proofs.LineUtf8.{ReplyIsText}
+use Rattle.bhs_replay.specs.Played.{ReplyIsText}
 
 -- ---- what a whiteboard shows
 

@@ -1,3 +1,4 @@
+pub mod ComparingLemmas
 pub mod Each
 pub mod EventData
 pub mod EventTexts

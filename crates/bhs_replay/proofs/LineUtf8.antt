@@ -18,14 +18,8 @@ use Rattle.bhs_wire.specs.Reply.{quoted_text, label, line}
 use Rattle.bhs_wire.specs.ReplyTokens.{LabelFits}
 use Rattle.bhs_wire.specs.Why.{word}
 use Rattle.bhs_replay.specs.EventLine.{said, answered, reply_part, event_line}
-use Rattle.bhs_replay.specs.Played.{CommandIsText, EventIsText}
+use Rattle.bhs_replay.specs.Played.{CommandIsText, EventIsText, ReplyIsText}
 use Rattle.bhs_replay.specs.Spelling.{CommandFits, EventFits, ReplyFits}
-
--- the text of the whiteboard that a reply shows is UTF-8
-abbrev pub ReplyIsText : Option Reply → Type 0
-ReplyIsText (Some (Here ports came board)) = IsUtf8 board
-ReplyIsText (Some (Changed board)) = IsUtf8 board
-ReplyIsText reply = ⊤
 
 after_ascii : (front rest : List ℕ) → are_ascii front ≡ true → IsUtf8 rest → IsUtf8 (front ++ rest)
 after_ascii front rest is valid = IsUtf8-append front rest (IsUtf8-are_ascii front is) valid

@@ -1,5 +1,10 @@
 -- What the next line leads to, from where a reader stands.
-use Rattle.std.proofs.Common.{◌≡◌, ◌⊎◌, inl, inr, ℕ, List, Bool, true, false, Option, Some, None, sym, subst}
+use Rattle.std.proofs.Common.{◌≡◌, ◌⊎◌, inl, inr, ℕ, List, Bool, true, false, Option, Some, None, option_map, refl}
+use Rattle.std.proofs.Common.{sym, ◌∙◌, subst}
+use Rattle.bhs_net.specs.Network.{Network}
+use Rattle.bhs_model.specs.declared.setups.Setup.{Setup}
+use Rattle.bhs_model.specs.declared.events.Event.{Event}
+use Rattle.bhs_model.specs.declared.replies.Reply.{Reply}
 use Rattle.bhs_model.specs.declared.marks.Kept.{Kept}
 use Rattle.bhs_model.specs.Marks.{events_of}
 use Rattle.bhs_match.specs.Matches.{Play}
@@ -7,7 +12,9 @@ use Rattle.bhs_replay.specs.declared.faults.ReplayFault.{ReplayFault}
 use Rattle.bhs_replay.specs.declared.faults.ReplayFault.TheVariants as fault
 use Rattle.bhs_replay.specs.declared.reader.Playing.{Playing}
 use Rattle.bhs_replay.specs.Opening.{OpensAs}
-use Rattle.bhs_replay.specs.Stages.{Stage, Goes, Wrong, after_line, Follows, opens, no_head, goes, goes_past}
+use Rattle.bhs_replay.specs.Spelling.{spelled}
+use Rattle.bhs_replay.specs.Stages.{Stage, Goes, Wrong, after_line, after_other, after_spelled, Follows, opens, no_head}
+use Rattle.bhs_replay.specs.Stages.{goes, goes_past}
 use Rattle.bhs_replay.specs.Reading.{stage_of}
 use Rattle.bhs_replay.specs.Readers.{stage_by}
 
@@ -37,3 +44,24 @@ module _ (line : List ℕ) where
   pub opens_none : (playing : Option Playing) → playing ≡ None → OpensAs line None
       → Follows (stage_by playing) line (Wrong fault.Head)
   opens_none playing is none = subst (λ p. Follows (stage_by p) line (Wrong fault.Head)) (sym is) (no_head line none)
+
+-- ---- a line that spells no event
+
+abbrev event_of : Option (Event × Option Reply) → Option Event
+event_of found = option_map (λ (one : Event × Option Reply). one.0) found
+
+module _ (net : Network) (setup : Setup) (events : List Event) (line : List ℕ) where
+  other : (found : Option (Event × Option Reply)) → None ≡ event_of found
+      → after_other net setup events line ≡ after_spelled net setup events line found
+  other None none = refl
+  other (Some found) none = absurd (cc)
+
+  pub other_line : (event : Option Event) → event ≡ None → event ≡ event_of (spelled line)
+      → after_other net setup events line ≡ after_line net setup events line
+  other_line event none is = other (spelled line) (sym none ∙ is)
+
+  pub other_fault : (event : Option Event) → event ≡ None → event ≡ event_of (spelled line) → (found : ReplayFault)
+      → (found ≡ fault.Memory) ⊎ (Wrong found ≡ after_other net setup events line)
+      → (found ≡ fault.Memory) ⊎ (Wrong found ≡ after_line net setup events line)
+  other_fault event none is found (inl memory) = inl memory
+  other_fault event none is found (inr wrong) = inr (wrong ∙ other_line event none is)

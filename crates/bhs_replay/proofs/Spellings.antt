@@ -1,7 +1,8 @@
 -- A line spells an event and a reply exactly where it is their line.
 use Rattle.std.proofs.Common.{◌≡◌, ℕ, ◌<◌, ◌^◌, Bool, true, false, cond, if◌then◌else◌, ◌&&◌, List, bytes_eq, Option}
 use Rattle.std.proofs.Common.{Some, None, option_and_then, unwrap_or, nat_lt, refl, sym, subst, ap, ◌∙◌}
-use Rattle.std.proofs.lemmas.Bool.{lt-ltb}
+use Rattle.std.proofs.lemmas.Bool.{lt-ltb, and_parts}
+use Rattle.std.specs.Bool.{OnTrue}
 use Rattle.std.proofs.lemmas.Slice.Eq.{bytes_eq-Decides}
 use Rattle.std.specs.Str.{IsUtf8, is_utf8}
 use Rattle.std.proofs.lemmas.Str.{is_utf8-from_IsUtf8, IsUtf8-from_is_utf8}
@@ -93,6 +94,17 @@ spelled-event_line event reply fits answer stands text =
       stands,
       same_bytes (event_line event reply),
     )
+
+-- a line that is compared with theirs, and is the same, spells them
+pub spelled-same : (text : List ℕ) (event : Event) (reply : Option Reply) → EventFits event → ReplyFits reply
+    → IsUtf8 (event_line event reply) → (is : Bool)
+    → is ≡ (may_stand event reply && bytes_eq text (event_line event reply))
+    → OnTrue is (spelled text ≡ Some (event, reply))
+spelled-same text event reply fits answer valid true is =
+    let both = and_parts (may_stand event reply) (bytes_eq text (event_line event reply)) (sym is) in
+    ap spelled ((bytes_eq-Decides text (event_line event reply)).0 both.1)
+    ∙ spelled-event_line event reply fits answer both.0 valid
+spelled-same text event reply fits answer valid false is = tt
 
 -- ---- what the reading of a line gave
 

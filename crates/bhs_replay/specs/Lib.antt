@@ -1,3 +1,4 @@
+pub mod Comparing
 pub mod EventLine
 pub mod EventTokens
 pub mod Head

@@ -1,5 +1,5 @@
 -- A match that was played to its end.
-use Rattle.std.specs.Prelude.{◌≡◌, ⊤, true, List}
+use Rattle.std.specs.Prelude.{◌≡◌, ⊤, true, List, Option, Some}
 use Rattle.std.specs.List.{All}
 use Rattle.std.specs.Str.{IsUtf8}
 use Rattle.bhs_net.specs.Network.{Network, IsNetwork}
@@ -7,6 +7,8 @@ use Rattle.bhs_model.specs.declared.commands.Command.{Command}
 use Rattle.bhs_model.specs.declared.commands.Command.TheVariants.{Write}
 use Rattle.bhs_model.specs.declared.events.Event.{Event}
 use Rattle.bhs_model.specs.declared.events.Event.TheVariants.{Tell}
+use Rattle.bhs_model.specs.declared.replies.Reply.{Reply}
+use Rattle.bhs_model.specs.declared.replies.Reply.TheVariants.{Here, Changed}
 use Rattle.bhs_model.specs.declared.setups.Setup.{Setup}
 use Rattle.bhs_model.specs.Kept.{kept}
 use Rattle.bhs_model.specs.Runs.{run}
@@ -22,6 +24,12 @@ CommandIsText command = ⊤
 abbrev pub EventIsText : Event → Type 0
 EventIsText (Tell agent command) = CommandIsText command
 EventIsText event = ⊤
+
+-- the text of the whiteboard that a reply shows is UTF-8
+abbrev pub ReplyIsText : Option Reply → Type 0
+ReplyIsText (Some (Here ports came board)) = IsUtf8 board
+ReplyIsText (Some (Changed board)) = IsUtf8 board
+ReplyIsText reply = ⊤
 
 -- an event that the code's type Event can hold: its numbers have 16 bits, and its texts are UTF-8
 abbrev pub IsTyped : Event → Type 0

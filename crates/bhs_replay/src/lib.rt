@@ -1,6 +1,7 @@
 //! Replays: a match that has ended as a text that anyone can read again.
 #![tactic(auto)]
 
+mod comparing;
 mod events;
 mod faults;
 mod head_parts;
@@ -12,6 +13,8 @@ mod opening;
 mod read;
 mod reader;
 mod reading;
+mod same_lines;
+mod sights;
 mod steps;
 mod writing;
 

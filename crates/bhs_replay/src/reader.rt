@@ -56,13 +56,16 @@ impl Reader {
         self.hold(after)
     }
 
-    // Takes the end of a line, up to its line feed.
+    // Takes the end of a line, up to its line feed. A line that comes whole is not copied.
     fn take_line(&mut self, end: &[u8]) -> Result<(), ReplayFault>
         ensures ok { OnOk result (Follows (stage_in self.old) (self.old.line.items ++ end.now) (stage_in self.new)) }
         ensures clear { OnOk result (self.new.line.items ≡ []) }
         ensures err { IfErr result (λ fault. (fault ≡ Memory)
             ⊎ Follows (stage_in self.old) (self.old.line.items ++ end.now) (Wrong fault)) }
     {
+        if self.line.is_empty() {
+            return play(self.alloc, &mut self.playing, end);
+        }
         self.line.extend_from_slice(end)?;
         play(self.alloc, &mut self.playing, &self.line)?;
         self.line.clear();

@@ -1,21 +1,23 @@
 //! The lines behind the head of a replay.
 
-ghost use Rattle.std.specs.Prelude.{◌≡◌, ◌<◌, ◌⊎◌, ◌+◌, true, false, bytes_eq, length, IfOk, IfErr, OnOk};
+ghost use Rattle.std.specs.Prelude.{◌≡◌, ◌<◌, ◌⊎◌, ◌+◌, true, false, bytes_eq, length, option_map, IfOk, IfErr, OnOk};
 ghost use Rattle.std.specs.List.{list_all};
 ghost use Rattle.bhs_model.specs.Marks.{events_of, read_if};
 ghost use Rattle.bhs_replay.specs.declared.faults.ReplayFault.TheVariants.{Memory as NoMemory};
 ghost use Rattle.bhs_replay.specs.Stages.{Wrong, after_line, after_event, after_other, is_plain, starts_plain};
 ghost use Rattle.bhs_replay.specs.Stages.{is_digit, is_end_line};
+ghost use Rattle.bhs_wire.specs.LentReply.{reply_of};
 ghost use Rattle.bhs_replay.specs.EventLine.{event_line};
 ghost use Rattle.bhs_replay.specs.Reading.{stage_of};
 
 use crate::faults::ReplayFault;
-use crate::lines::line_of;
-use crate::reading::read_event;
+use crate::reading::event_of;
+use crate::same_lines::is_line_of;
 use crate::writing::end_line;
 use bhs_match::Match;
-use bhs_model::{Event, Kept};
+use bhs_model::{Event, Kept, Mark};
 use bhs_net::Memory;
+use bhs_wire::LentReply;
 use std::alloc::Global;
 
 /// Plays a line, and tells whether it is the end line.
@@ -25,9 +27,9 @@ pub(crate) fn play_line(alloc: Global, game: &mut Match, line: &[u8]) -> Result<
     ensures err { IfErr result (λ fault. (fault ≡ NoMemory)
         ⊎ (Wrong fault ≡ after_line game.old.net game.old.setup (events_of game.old.log) line.now)) }
 {
-    match read_event(alloc, line)? {
-        Some((event, _)) => {
-            play_event(alloc, game, line, event)?;
+    match event_of(alloc, line)? {
+        Some(event) => {
+            play_event(game, line, event)?;
             Ok(false)
         }
         None => {
@@ -38,11 +40,11 @@ pub(crate) fn play_line(alloc: Global, game: &mut Match, line: &[u8]) -> Result<
 }
 
 // Plays the event that a line spells, and compares the line with the one that the match writes.
-fn play_event(alloc: Global, game: &mut Match, line: &[u8], event: Event) -> Result<(), ReplayFault>
+fn play_event(game: &mut Match, line: &[u8], event: Event) -> Result<(), ReplayFault>
     ensures ok { OnOk result (stage_of game.new false
         ≡ after_event game.old.net game.old.setup (events_of game.old.log) line.now event) }
-    ensures err { IfErr result (λ fault. (fault ≡ NoMemory)
-        ⊎ (Wrong fault ≡ after_event game.old.net game.old.setup (events_of game.old.log) line.now event)) }
+    ensures err { IfErr result (λ fault. Wrong fault
+        ≡ after_event game.old.net game.old.setup (events_of game.old.log) line.now event) }
 {
     let before = game.log().len();
     if game.closed() {
@@ -52,23 +54,27 @@ fn play_event(alloc: Global, game: &mut Match, line: &[u8], event: Event) -> Res
     if answer.place.is_none() {
         return Err(ReplayFault::Event { line: before + 2 });
     }
-    if is_line_in(alloc, game, &game.log()[before], line)? {
+    if is_line_in(game, &game.log()[before], line) {
         return Ok(());
     }
     Err(ReplayFault::Differs { line: before + 2 })
 }
 
 // Whether the match writes this line for an event of its log.
-fn is_line_in(alloc: Global, game: &Match, one: &Kept, line: &[u8]) -> Result<bool, Memory>
-    ensures { IfOk result
-        (λ is. is ≡ bytes_eq line.now (event_line one.now.event (read_if game.now.log one.now.mark))) }
+fn is_line_in(game: &Match, one: &Kept, line: &[u8]) -> bool
+    ensures { result ≡ bytes_eq line.now (event_line one.now.event (read_if game.now.log one.now.mark)) }
 {
-    let reply = match &one.mark {
-        Some(mark) => Some(game.reply(mark)?),
+    is_line_of(line, &one.event, reply_in(game, &one.mark))
+}
+
+// The reply that a mark of the match's log stands for.
+fn reply_in<'g>(game: &'g Match, mark: &Option<Mark>) -> Option<LentReply<'g>>
+    ensures { option_map reply_of result ≡ read_if game.now.log mark.now }
+{
+    match mark {
+        Some(mark) => Some(LentReply::of_mark(*mark, game.text(mark))),
         None => None,
-    };
-    let text = line_of(alloc, &one.event, &reply)?;
-    Ok(line == text.as_bytes())
+    }
 }
 
 // Judges a line that spells no event: it must be the end line, behind a close.

@@ -1,0 +1,88 @@
+"""The replays that tools/bent_replays.py makes, and how it compares two programs."""
+import collections
+import pathlib
+import random
+import stat
+import tempfile
+import unittest
+from unittest import mock
+
+import bent_replays
+from lab.model import played
+
+REPLAY = b'{"nodes":3}\n{"agent":0,"do":"look","reply":{"no":"away"}}\n{"do":"close","reply":null}\n{"end":2}\n'
+PROGRAM = """#!/bin/sh
+case "$1" in
+judge) echo "$2"; wc -c < "$2" >&2;;
+*) {other};;
+esac
+"""
+
+
+class Bends(unittest.TestCase):
+    def test_drawn_replays_are_replays(self) -> None:
+        for seed in range(20):
+            text = bent_replays.drawn_replay(random.Random(seed)).decode()
+            self.assertEqual(played(text).replay(), text)
+
+    def test_each_bend_changes_most_texts(self) -> None:
+        long = bent_replays.drawn_replay(random.Random(7))
+        for bend in bent_replays.BENDS:
+            found = [bend(long, random.Random(seed)) != long for seed in range(40)]
+            self.assertGreater(sum(found), 10, bend)
+
+    def test_bends_by_hand(self) -> None:
+        chance = random.Random(0)
+        self.assertIn(bent_replays.zero_in_front(b'{"end":2}', chance), (b'{"end":02}',))
+        self.assertEqual(bent_replays.replaced(b"none", rb"\d", chance, lambda _: b"x"), b"none")
+        lines = REPLAY.split(b"\n")
+        bent_replays.drop(lines, 1, chance)
+        self.assertEqual(lines[1], b'{"do":"close","reply":null}')
+        with mock.patch.object(bent_replays, "REPLIES", (b"null",)):
+            found = collections.Counter(
+                bent_replays.on_lines(bent_replays.other_reply)(REPLAY, random.Random(seed)) for seed in range(60))
+        self.assertIn(REPLAY.replace(b'{"no":"away"}', b"null"), found)
+
+    def test_the_same_seed_makes_the_same_replays(self) -> None:
+        made = [bent_replays.bent(number, 3, [REPLAY]) for number in range(30)]
+        self.assertEqual(made, [bent_replays.bent(number, 3, [REPLAY]) for number in range(30)])
+        self.assertNotEqual(made, [bent_replays.bent(number, 4, [REPLAY]) for number in range(30)])
+
+
+class Programs(unittest.TestCase):
+    def setUp(self) -> None:
+        folder = tempfile.TemporaryDirectory()
+        self.addCleanup(folder.cleanup)
+        self.folder = pathlib.Path(folder.name)
+
+    def program(self, name: str, other: str) -> str:
+        made = self.folder / name
+        made.write_text(PROGRAM.replace("{other}", other))
+        made.chmod(made.stat().st_mode | stat.S_IXUSR)
+        return str(made)
+
+    def differing(self, other: str) -> collections.Counter:
+        kept = self.folder / "kept"
+        kept.mkdir(exist_ok=True)
+        one, two = self.program("one", "exit 3"), self.program("two", other)
+        given = bent_replays.words([one, two, "--replays", "4", "--keep", str(kept)])
+        return collections.Counter(name for found in bent_replays.all_compared(given, self.folder)
+                                   for name in found.differing)
+
+    def test_the_same_programs(self) -> None:
+        self.assertEqual(self.differing("exit 3"), {})
+        self.assertEqual(list((self.folder / "kept").iterdir()), [])
+
+    def test_another_status_and_other_bytes(self) -> None:
+        self.assertEqual(self.differing("exit 4"), {"explain": 4, "twin": 4})
+        self.assertEqual(len(list((self.folder / "kept").iterdir())), 4)
+        self.assertEqual(self.differing("echo; exit 3"), {"explain": 4, "twin": 4})
+        self.assertEqual(self.differing("echo >&2; exit 3"), {"explain": 4, "twin": 4})
+
+    def test_faults_have_no_numbers(self) -> None:
+        self.assertEqual(bent_replays.fault_of(bent_replays.Said(3, b"", b"note\n/tmp/a: event 13\n")), "event N")
+        self.assertEqual(bent_replays.fault_of(bent_replays.Said(0, b"", b"note\n")), "none")
+
+
+if __name__ == "__main__":
+    unittest.main()
