@@ -18,7 +18,7 @@ import tempfile
 from typing import Callable, Iterable, Iterator, List, Sequence, Tuple
 
 import rehearse
-from inputs import MAX_SCRIPT, key, network, printed_by, run, torus, tournament
+from inputs import MAX_SCRIPT, Run, key, network, printed_by, run, torus, tournament
 
 ROUNDS = 21
 BOARD = 1000
@@ -134,6 +134,14 @@ def compared(chosen: Callable[[Sequence[float]], float], seconds: List[List[floa
     return f"{one * 1000:.2f} ms, {two * 1000:.2f} ms, ratio {one / two:.2f}"
 
 
+def line_of(title: str, runs: List[List[Run]]) -> str:
+    """What is printed of an input, by the runs of both programs. bench/figures.py reads it."""
+    times = compared(statistics.median, [[it.seconds for it in both] for both in runs])
+    processors = compared(min, [[it.processor for it in both] for both in runs])
+    one, two = (statistics.median(it.peak for it in each) for each in zip(*runs))
+    return f"{title}: {times}; processor {processors}; peak {one} KiB, {two} KiB"
+
+
 def main() -> int:
     keeps = sys.argv[1:2] == ["--keep"]
     named = sys.argv[2 if keeps else 1:]
@@ -145,10 +153,7 @@ def main() -> int:
         folder = pathlib.Path(name)
         for title, words, source in made(folder):
             runs = [[run(program, words, source, folder, keeps) for program in programs] for _ in range(ROUNDS)]
-            peaks = [statistics.median(it.peak for it in each) for each in zip(*runs)]
-            times = compared(statistics.median, [[it.seconds for it in both] for both in runs])
-            processors = compared(min, [[it.processor for it in both] for both in runs])
-            print(f"{title}: {times}; processor {processors}; peak {peaks[0]} KiB, {peaks[1]} KiB", flush=True)
+            print(line_of(title, runs), flush=True)
             if len({printed_by(program, words, source, folder) for program in programs}) > 1:
                 differs = True
                 print(f"{title}: the programs do not print the same")

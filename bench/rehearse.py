@@ -2,7 +2,7 @@
 """Times the built program on long rehearsals.
 
     ./arena --help            # builds the program, if it is not built yet
-    python3 bench/rehearse.py
+    python3 bench/rehearse.py [PROGRAM]
 
 Makes a tournament of 64 matches of 16 agents each on a torus of 25 nodes, and two scripts of commands and draws by a
 seeded generator: one as long as a script may be, and one of a tenth of that. Plays both, five times each, and prints
@@ -11,6 +11,7 @@ script without a line, which is what a start costs. Nothing is written outside a
 """
 import pathlib
 import random
+import sys
 import tempfile
 from typing import Tuple
 
@@ -58,10 +59,19 @@ def script(length: int) -> Tuple[str, int]:
             return "\n".join(lines) + "\n", len(lines)
 
 
+def line_of(lines: int, size: int, seconds: float, peak: int) -> str:
+    """What is printed of a script. bench/figures.py reads it."""
+    return f"{lines} lines, {size} bytes: {seconds:.3f} s, {lines / seconds:.0f} lines per second, peak {peak} KiB"
+
+
 def main() -> None:
-    if not PROGRAM.exists():
+    words = sys.argv[1:]
+    if len(words) > 1 or any(word.startswith("-") for word in words):
+        sys.exit(__doc__.strip())
+    built = pathlib.Path(words[0]).resolve() if words else PROGRAM
+    if not built.exists():
         raise SystemExit("the program is not built: run ./arena --help once")
-    program = str(PROGRAM)
+    program = str(built)
     with tempfile.TemporaryDirectory() as name:
         folder = pathlib.Path(name)
         (folder / "torus.toml").write_text(torus(SIDE, SIDE))
@@ -75,8 +85,7 @@ def main() -> None:
             source.write_text(text)
             seconds, _, peak = median_run(RUNS, program, words, source, folder)
             figures.append((lines, seconds, peak))
-            print(f"{lines} lines, {len(text)} bytes: {seconds:.3f} s, {lines / seconds:.0f} lines per second, "
-                  f"peak {peak} KiB")
+            print(line_of(lines, len(text), seconds, peak), flush=True)
         (most, slow, high), (few, fast, low) = figures
         print(f"ratios: lines {most / few:.1f}, seconds {slow / fast:.1f}, peak memory {high / low:.1f}")
         for words in (["rehearse"], ["rehearse", "long.toml"]):

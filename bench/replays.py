@@ -168,6 +168,11 @@ def is_judged(program: str, kind: Kind, commands: int, name: str, folder: pathli
     return ran.stdout.strip() == verdict
 
 
+def line_of(word: str, seconds: float, count: int, peak: int) -> str:
+    """What is printed of a command on a replay with this number of events. bench/figures.py reads it."""
+    return f"  {word}: {seconds:.3f} s, {seconds / count * 1e6:.2f} us an event, peak {peak} KiB"
+
+
 def written(kind: Kind, commands: int, path: pathlib.Path) -> int:
     """Writes a replay of this many commands of an agent, and says how large it is: gives the number of its events."""
     with open(path, "w", encoding="utf-8") as out:
@@ -186,7 +191,7 @@ def alone(program: str, kind: Kind, folder: pathlib.Path) -> bool:
         right = is_judged(program, kind, commands, name, folder) and right
         figures = measured(program, name, folder)
         for word, seconds, peak in figures:
-            print(f"  {word}: {seconds:.3f} s, {seconds / count * 1e6:.2f} us an event, peak {peak} KiB", flush=True)
+            print(line_of(word, seconds, count, peak), flush=True)
         if part == 1:
             whole = figures
         else:

@@ -1,0 +1,307 @@
+#!/usr/bin/env python3
+"""Runs the benchmarks and writes their figures to bench/FIGURES.md.
+
+    python3 bench/figures.py [--only NAME ..] [--program PATH] [--other PATH] [--benchmark PATH] [--out FILE]
+
+Each benchmark has a section of the page: what was measured, beside what, and the commit, day, build and machine. A run
+replaces the sections of the benchmarks that it ran and leaves the others as they are. The table at the head of the page
+is made of the sections. Standard error tells which benchmark is running; the exit status is 1 if one failed.
+
+names:
+    gate        processor seconds of the gate by crate and stage, which proves everything anew
+    steps       events of a match
+    submit      commands under locks
+    stages      the stages of a client's line
+    rehearse    long scripts
+    compare     scripts and checks beside another build, which --other names
+    replays     the largest replays
+    serve       a contest over TCP beside echo servers in C
+    lab         steps and states of the lab
+
+Without --only all of them run, which takes about an hour, most of it for the gate. `steps`, `submit` and `stages` need
+the proved program bhs_bench. The others, except `gate`, run on the proved arena if it is built, else on a build without
+a proof, and the page says on which. Nothing else should run on the machine meanwhile.
+"""
+import argparse
+import datetime
+import os
+import pathlib
+import re
+import shlex
+import subprocess
+import sys
+import time
+from typing import Callable, Dict, Iterable, List, NamedTuple, Optional, Sequence
+
+TOP = pathlib.Path(__file__).resolve().parent.parent
+sys.path.insert(0, str(TOP))
+
+from lab import built  # noqa: E402
+
+PAGE = TOP / "bench" / "FIGURES.md"
+BENCHMARK = TOP / "crates" / "bhs_bench" / "out" / "bhs_bench"
+HEAD = """# Figures
+
+What was measured, on which machine and commit, and beside what. `python3 bench/figures.py` runs the benchmarks and
+writes this page; `--only NAME` measures one section anew. The other sections were measured by the commands that they
+name, and written by hand in the same form. Times depend on the machine and on what else it does: compare figures of one
+section only.
+
+"""
+SECTION = re.compile(r"<!-- figures ([\w-]+) -->\n(.*?)<!-- end of \1 -->\n", re.DOTALL)
+TITLE = re.compile(r"## (.+)\n\n")
+# the day is missing where it was not written down
+MEASURED = re.compile(r"^Measured at (`\w+`[\w ]*)(?:, (\d{4}-\d\d-\d\d))?; (.+?); (.+?)\.$", re.MULTILINE)
+
+Cells = Sequence[str]
+
+
+class Setting(NamedTuple):
+    """What the benchmarks run on."""
+
+    program: pathlib.Path
+    other: Optional[pathlib.Path]
+    benchmark: pathlib.Path
+    place: str  # commit and day
+    machine: str
+
+    @property
+    def build(self) -> str:
+        return "a build without a proof" if built.is_unproved(self.program) else "the proved program"
+
+
+class Benchmark(NamedTuple):
+    """A benchmark: the title of its section, its command, and the text that its output gives. `needs` says what is
+    missing, if anything is; `build` names the build, if it is not the one of the setting."""
+
+    title: str
+    words: Callable[[Setting], List[str]]
+    text: Callable[[str], str]
+    needs: Callable[[Setting], str] = lambda setting: ""
+    build: str = ""
+
+
+def table(head: Cells, rows: Iterable[Cells]) -> str:
+    """A table in Markdown."""
+    lines = [head, ["---"] * len(head), *rows]
+    return "".join(f"| {' | '.join(cells)} |\n" for cells in lines)
+
+
+def found_in(pattern: str, printed: str) -> List[Cells]:
+    """The groups of each line that has this form."""
+    found = re.findall(f"^{pattern}$", printed, re.MULTILINE)
+    if not found:
+        raise ValueError(f"no line reads {pattern}")
+    return [list(cells) for cells in found]
+
+
+def gate_text(printed: str) -> str:
+    """The table of tools/prove/gate_times, which stands behind the lines of the gate."""
+    _, _, last = printed.partition("\nProcessor seconds by crate and stage; ")
+    said, _, rows = last.partition(":\n\n")
+    if not rows:
+        raise ValueError("there is no table of the gate")
+    return f"Processor seconds of the prover; {said}.\n\n{rows.strip()}\n"
+
+
+def steps_text(printed: str) -> str:
+    figures = dict(found_in(r"([a-z ]+) ([\d.]+)", printed))
+    names = ("events", "seconds", "events in a second")
+    return table(names, [[figures[name] for name in names]])
+
+
+def submit_text(printed: str) -> str:
+    rows = found_in(r"lock (\w+) threads (\d+) matches (\d+) commands (\d+) kept \d+ in a second (\d+)", printed)
+    return table(("lock", "threads", "matches", "commands", "commands a second"), rows)
+
+
+def stages_text(printed: str) -> str:
+    rows = found_in(r"(\w+ \w+) (\d+) nanoseconds (\d+)", printed)
+    return table(("stage", "how many", "nanoseconds each"), rows)
+
+
+def rehearse_text(printed: str) -> str:
+    scripts = found_in(r"(\d+) lines, (\d+) bytes: ([\d.]+) s, (\d+) lines per second, peak (\d+) KiB", printed)
+    starts = found_in(r"start, (.+): ([\d.]+) ms", printed)
+    return (table(("lines", "bytes", "seconds", "lines a second", "peak, KiB"), scripts) + "\n"
+            + table(("start without a line of", "milliseconds"), ([f"`{words}`", ms] for words, ms in starts)))
+
+
+def compare_text(printed: str) -> str:
+    pair = r"([\d.]+) ms, ([\d.]+) ms, ratio ([\d.]+)"
+    rows = found_in(rf"(.+): {pair}; processor {pair}; peak ([\d.]+) KiB, ([\d.]+) KiB", printed)
+    return table(("input", "ms", "other, ms", "ratio", "processor ms", "other, ms", "ratio", "peak, KiB", "other, KiB"),
+                 rows)
+
+
+def replays_text(printed: str) -> str:
+    """A row for each command on each whole replay, with how many times longer it takes than on a tenth of it."""
+    rows: List[List[str]] = []
+    for part in re.split(r"^(?=\S)", printed, flags=re.MULTILINE):
+        kind = re.match(r"(.+): (\d+) events, (\d+) bytes\n", part)
+        if not kind:
+            continue
+        timed = re.findall(r"^  (\w+): ([\d.]+) s, [\d.]+ us an event, peak (\d+) KiB$", part, re.MULTILINE)
+        tenth = re.findall(r"^  \w+: the whole takes ([\d.]+) times as long", part, re.MULTILINE)
+        if not tenth:
+            rows += ([*kind.groups(), f"`{word}`", seconds, peak] for word, seconds, peak in timed)
+        else:
+            for row, times in zip(rows[-len(tenth):], tenth):
+                row.append(times)
+    if not rows or any(len(row) != 7 for row in rows):
+        raise ValueError("a replay has no figures")
+    return table(("replay", "events", "bytes", "command", "seconds", "peak, KiB", "times a tenth of it"), rows)
+
+
+def serve_text(printed: str) -> str:
+    """Two tables, of commands one at a time and of many at once, and the lines below them."""
+    lines = [line.split() for line in printed.splitlines() if re.match(r"(looks|moves|writes) ", line)]
+    one = [cells[:1] + cells[2:] for cells in lines if cells[1] == "one"]
+    many = [cells[:1] + cells[2:] for cells in lines if cells[1] == "many"]
+    if not one or not many:
+        raise ValueError("the table of loads is missing")
+    head = ("commands", "sessions", "sent", "a second", "echo", "ratio")
+    more = re.findall(r"^(?:\w+: peak|.+ wanted: ).*$", printed, re.MULTILINE)
+    return ("One command at a time; answer times in microseconds:\n\n"
+            + table((*head, "median", "99th percentile", "median, echo", "99th percentile, echo"), one)
+            + "\nMany commands at once, beside an echo that answers many by one write, and one that writes each:\n\n"
+            + table((*head, "echo that writes each", "ratio"), many)
+            + "\n" + "".join(f"- {line}\n" for line in more))
+
+
+def lab_text(printed: str) -> str:
+    rows = found_in(r"(.+), (.+): (\d+) steps a second", printed)
+    states = found_in(r"explore: (\d+) states a second()", printed)[0][0]
+    return table(("engine", "agents", "steps a second"), rows) + f"\n`explore` visited {states} states a second.\n"
+
+
+def of_python(path: str, *words: str) -> List[str]:
+    return [sys.executable, str(TOP / path), *words]
+
+
+def without_benchmark(setting: Setting) -> str:
+    return "" if setting.benchmark.exists() else f"{setting.benchmark} is not built"
+
+
+def without_other(setting: Setting) -> str:
+    return "" if setting.other else "name another build by --other"
+
+
+BENCHMARKS: Dict[str, Benchmark] = {
+    "gate": Benchmark("The gate", lambda at: of_python("tools/gate_times"), gate_text, build="the proofs"),
+    "steps": Benchmark("Steps", lambda at: [str(at.benchmark), "step", "2000000", "time"], steps_text,
+                       without_benchmark, "the proved program"),
+    "submit": Benchmark("Commands under locks", lambda at: [str(at.benchmark), "submit", "20", "time"], submit_text,
+                        without_benchmark, "the proved program"),
+    "stages": Benchmark("Stages of a line", lambda at: [str(at.benchmark), "stages", "200000", "time"], stages_text,
+                        without_benchmark, "the proved program"),
+    "rehearse": Benchmark("Rehearsals", lambda at: of_python("bench/rehearse.py", str(at.program)), rehearse_text),
+    "compare": Benchmark("Speed beside another build",
+                         lambda at: of_python("bench/compare.py", str(at.program), str(at.other)), compare_text,
+                         without_other),
+    "replays": Benchmark("Replays", lambda at: of_python("bench/replays.py", str(at.program)), replays_text),
+    "serve": Benchmark("The server's speed", lambda at: of_python("bench/serve.py"), serve_text),
+    "lab": Benchmark("The lab", lambda at: [sys.executable, "-m", "lab", "speed", "--program", str(at.program)],
+                     lab_text),
+}
+
+
+def shown(words: Sequence[str]) -> str:
+    """A command as one types it at the top of the repository."""
+    return shlex.join("python3" if word == sys.executable else word.replace(f"{TOP}/", "") for word in words)
+
+
+def section(name: str, printed: str, setting: Setting) -> str:
+    """The section of a benchmark, made of what the benchmark printed."""
+    benchmark = BENCHMARKS[name]
+    return (f"<!-- figures {name} -->\n## {benchmark.title}\n\n"
+            f"Measured at {setting.place}; {benchmark.build or setting.build}; {setting.machine}.\n\n"
+            f"    {shown(benchmark.words(setting))}\n\n{benchmark.text(printed)}<!-- end of {name} -->\n")
+
+
+def page(sections: Dict[str, str]) -> str:
+    """The whole page: a table of the sections, and then these, in the order of BENCHMARKS and others behind them."""
+    names = [*(name for name in BENCHMARKS if name in sections), *(name for name in sections if name not in BENCHMARKS)]
+    rows = []
+    for name in names:
+        title, measured = TITLE.search(sections[name]), MEASURED.findall(sections[name])
+        rows += [[title[1] if title else name, *cells] for cells in measured]
+    return HEAD + table(("figures", "commit", "day", "build", "machine"), rows) + "\n" + "\n".join(
+        sections[name] for name in names)
+
+
+def sections_of(text: str) -> Dict[str, str]:
+    return {found[1]: found[0] for found in SECTION.finditer(text)}
+
+
+def say(text: str) -> None:
+    print(text, file=sys.stderr, flush=True)
+
+
+def measured(name: str, setting: Setting) -> Optional[str]:
+    """Runs a benchmark, and gives its section, or nothing if it failed."""
+    words = BENCHMARKS[name].words(setting)
+    say(f"{name}: {shown(words)}")
+    begun = time.monotonic()
+    ran = subprocess.run(words, cwd=TOP, stdout=subprocess.PIPE, text=True,
+                         env={**os.environ, "ARENA": shlex.quote(str(setting.program))})
+    if ran.returncode != 0:
+        say(f"{name}: failed with status {ran.returncode}; its section stays as it was\n{ran.stdout.rstrip()}")
+        return None
+    try:
+        found = section(name, ran.stdout, setting)
+    except (ValueError, KeyError) as fault:
+        say(f"{name}: its output is not understood: {fault}")
+        return None
+    say(f"{name}: done in {time.monotonic() - begun:.0f} s")
+    return found
+
+
+def place() -> str:
+    """The commit, whether the tree has changed since, and the day."""
+    def git(*words: str) -> str:
+        return subprocess.run(["git", *words], cwd=TOP, capture_output=True, text=True, check=True).stdout.strip()
+    changed = " with changes" if git("status", "--porcelain", "--untracked-files=no") else ""
+    return f"`{git('rev-parse', '--short', 'HEAD')}`{changed}, {datetime.date.today()}"
+
+
+def machine() -> str:
+    model = re.search(r"^model name\s*: (.+)$", pathlib.Path("/proc/cpuinfo").read_text(), re.MULTILINE)
+    processors = f"{len(os.sched_getaffinity(0))} processors"
+    return f"{processors}, {model[1].rstrip('.')}" if model else processors
+
+
+def asked(words: Sequence[str]) -> argparse.Namespace:
+    parser = argparse.ArgumentParser(description=__doc__, formatter_class=argparse.RawDescriptionHelpFormatter)
+    parser.add_argument("--only", metavar="NAME", choices=list(BENCHMARKS), action="append", help="run this benchmark")
+    parser.add_argument("--program", metavar="PATH", type=pathlib.Path, help="the arena that is measured")
+    parser.add_argument("--other", metavar="PATH", type=pathlib.Path, help="the build beside which `compare` measures")
+    parser.add_argument("--benchmark", metavar="PATH", type=pathlib.Path, default=BENCHMARK,
+                        help="the program bhs_bench")
+    parser.add_argument("--out", metavar="FILE", type=pathlib.Path, default=PAGE, help="the page to write")
+    return parser.parse_args(words)
+
+
+def main(words: Sequence[str]) -> int:
+    given = asked(words)
+    program = (given.program or built.any_program()).resolve()
+    setting = Setting(program, given.other and given.other.resolve(), given.benchmark.resolve(), place(), machine())
+    status = 0
+    for name in given.only or BENCHMARKS:
+        missing = BENCHMARKS[name].needs(setting)
+        if missing:
+            say(f"{name}: not measured: {missing}")
+            status |= bool(given.only)
+            continue
+        found = measured(name, setting)
+        if not found:
+            status = 1
+            continue
+        # after each benchmark, so that an interrupt loses one at most
+        text = given.out.read_text(encoding="utf-8") if given.out.exists() else ""
+        given.out.write_text(page({**sections_of(text), name: found}), encoding="utf-8")
+    return status
+
+
+if __name__ == "__main__":
+    sys.exit(main(sys.argv[1:]))
