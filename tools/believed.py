@@ -8,7 +8,7 @@ these use, and so on, are all that its statement means, beside the types of the 
 library. A variable with the name of a definition of its file counts as that definition, so the numbers are rather too
 large. For each headline a line of a table gives how many definitions it reaches, in how many files, and how many lines
 they have, comments and blank lines aside. With --names each file and its definitions are named too.
-docs/PROOFS.md has the table, and a unit test compares them.
+docs/TRUST.md has the table, and a unit test compares them.
 """
 import functools
 import pathlib
