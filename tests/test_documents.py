@@ -1,0 +1,49 @@
+"""The documents name what is there: the functions and files of the traces, links, and files."""
+import pathlib
+import re
+import unittest
+from typing import Iterator, Tuple
+
+from tests import TOP
+
+ARCHITECTURE = TOP / "docs" / "ARCHITECTURE.md"
+TRACES = ("## One line of a client", "## A tournament, from its file")
+ROW = re.compile(r"\| .*?\| (`[^|]+`) \| `(bhs_[\w/.]+)` \|")
+LINK = re.compile(r"\]\(([^)#\s]+)\)")
+
+
+def documents() -> Iterator[pathlib.Path]:
+    for pattern in ("*.md", "docs/*.md", "lab/*.md", "examples/*.md", "bench/*.md", "tools/*.md"):
+        yield from sorted(TOP.glob(pattern))
+
+
+def traced() -> Iterator[Tuple[str, str]]:
+    """Each function of the traces, with the file that has it."""
+    text = ARCHITECTURE.read_text(encoding="utf-8")
+    for head in TRACES:
+        section = text.partition(head)[2].partition("\n## ")[0]
+        for functions, file in ROW.findall(section):
+            for name in re.findall(r"`(\w+)`", functions):
+                yield name, file
+
+
+class Traces(unittest.TestCase):
+    def test_each_function_stands_in_its_file(self) -> None:
+        found = list(traced())
+        self.assertGreater(len(found), 40)
+        for name, file in found:
+            with self.subTest(name, file=file):
+                self.assertRegex((TOP / "crates" / file).read_text(encoding="utf-8"), rf"\bfn {name}\b")
+
+
+class Links(unittest.TestCase):
+    def test_links_lead_to_files(self) -> None:
+        for path in documents():
+            for target in LINK.findall(path.read_text(encoding="utf-8")):
+                if "://" not in target:
+                    with self.subTest(path.name, target=target):
+                        self.assertTrue((path.parent / target).exists())
+
+
+if __name__ == "__main__":
+    unittest.main()
