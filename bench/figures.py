@@ -30,8 +30,9 @@ import re
 import shlex
 import subprocess
 import sys
+import tempfile
 import time
-from typing import Callable, Dict, Iterable, List, NamedTuple, Optional, Sequence
+from typing import Callable, Dict, Iterable, List, NamedTuple, Optional, Sequence, Tuple
 
 TOP = pathlib.Path(__file__).resolve().parent.parent
 sys.path.insert(0, str(TOP))
@@ -40,6 +41,8 @@ from lab import built  # noqa: E402
 
 PAGE = TOP / "bench" / "FIGURES.md"
 BENCHMARK = TOP / "crates" / "bhs_bench" / "out" / "bhs_bench"
+# only Debian's Python has Debian's packages, which the lab needs
+DEBIANS_PYTHON = "/usr/bin/python3"
 HEAD = """# Figures
 
 What was measured, on which machine and commit, and beside what. `python3 bench/figures.py` runs the benchmarks and
@@ -201,7 +204,7 @@ BENCHMARKS: Dict[str, Benchmark] = {
                          without_other),
     "replays": Benchmark("Replays", lambda at: of_python("bench/replays.py", str(at.program)), replays_text),
     "serve": Benchmark("The server's speed", lambda at: of_python("bench/serve.py"), serve_text),
-    "lab": Benchmark("The lab", lambda at: [sys.executable, "-m", "lab", "speed", "--program", str(at.program)],
+    "lab": Benchmark("The lab", lambda at: [DEBIANS_PYTHON, "-m", "lab", "speed", "--program", str(at.program)],
                      lab_text),
 }
 
@@ -238,18 +241,29 @@ def say(text: str) -> None:
     print(text, file=sys.stderr, flush=True)
 
 
+def run(words: Sequence[str], setting: Setting) -> Tuple[int, str]:
+    """Runs a command, and gives its status and what it printed. Its standard error is passed on, except that a build
+    without a proof says so at each start."""
+    with tempfile.TemporaryFile("w+") as printed:
+        with subprocess.Popen(words, cwd=TOP, stdout=printed, stderr=subprocess.PIPE, text=True,
+                              env={**os.environ, "ARENA": shlex.quote(str(setting.program))}) as child:
+            for line in child.stderr:
+                sys.stderr.write(built.without_warning(line))
+        printed.seek(0)
+        return child.returncode, printed.read()
+
+
 def measured(name: str, setting: Setting) -> Optional[str]:
     """Runs a benchmark, and gives its section, or nothing if it failed."""
     words = BENCHMARKS[name].words(setting)
     say(f"{name}: {shown(words)}")
     begun = time.monotonic()
-    ran = subprocess.run(words, cwd=TOP, stdout=subprocess.PIPE, text=True,
-                         env={**os.environ, "ARENA": shlex.quote(str(setting.program))})
-    if ran.returncode != 0:
-        say(f"{name}: failed with status {ran.returncode}; its section stays as it was\n{ran.stdout.rstrip()}")
+    status, printed = run(words, setting)
+    if status != 0:
+        say(f"{name}: failed with status {status}; its section stays as it was\n{printed.rstrip()}")
         return None
     try:
-        found = section(name, ran.stdout, setting)
+        found = section(name, printed, setting)
     except (ValueError, KeyError) as fault:
         say(f"{name}: its output is not understood: {fault}")
         return None
@@ -267,7 +281,8 @@ def place() -> str:
 
 def machine() -> str:
     model = re.search(r"^model name\s*: (.+)$", pathlib.Path("/proc/cpuinfo").read_text(), re.MULTILINE)
-    processors = f"{len(os.sched_getaffinity(0))} processors"
+    count = len(os.sched_getaffinity(0))
+    processors = "1 processor" if count == 1 else f"{count} processors"
     return f"{processors}, {model[1].rstrip('.')}" if model else processors
 
 
