@@ -191,7 +191,7 @@ def without_other(setting: Setting) -> str:
 
 
 BENCHMARKS: Dict[str, Benchmark] = {
-    "gate": Benchmark("The gate", lambda at: of_python("tools/gate_times"), gate_text, build="the proofs"),
+    "gate": Benchmark("The gate", lambda at: of_python("tools/prove/gate_times"), gate_text, build="the proofs"),
     "steps": Benchmark("Steps", lambda at: [str(at.benchmark), "step", "2000000", "time"], steps_text,
                        without_benchmark, "the proved program"),
     "submit": Benchmark("Commands under locks", lambda at: [str(at.benchmark), "submit", "20", "time"], submit_text,

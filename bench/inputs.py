@@ -8,6 +8,7 @@ import tempfile
 import time
 from typing import Iterable, List, NamedTuple, Sequence, Tuple
 
+MIB = 1024 * 1024
 MAX_SCRIPT = 1_048_576
 MAX_QUOTA = 1000
 MAX_AGENTS = 64

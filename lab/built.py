@@ -1,6 +1,6 @@
 """Which program plays, for the lab and examples/contest.py: that of a release, or the proved one if it is built of the
-sources as they are, or else one without a proof, which is compiled in a minute or two (tools/unproved.py). It runs on
-Python 3.8, as the contest does."""
+sources as they are, or else one without a proof, which is compiled in a minute or two (tools/prove/unproved.py). It
+runs on Python 3.8, as the contest does."""
 import functools
 import pathlib
 import subprocess
@@ -28,7 +28,7 @@ def is_unproved(program: pathlib.Path) -> bool:
 
 def is_proved() -> bool:
     """Whether the proved program is built of the sources as they are."""
-    return PROVED.exists() and subprocess.run([str(TOP / "tools" / "is_proved")]).returncode == 0
+    return PROVED.exists() and subprocess.run([str(TOP / "tools" / "prove" / "is_proved")]).returncode == 0
 
 
 def proved_program() -> pathlib.Path:
@@ -51,7 +51,7 @@ def any_program() -> pathlib.Path:
         return RELEASED
     if is_proved():
         return PROVED
-    sys.path.insert(0, str(TOP / "tools"))
+    sys.path.insert(0, str(TOP / "tools" / "prove"))
     try:
         import unproved
     except ModuleNotFoundError:

@@ -3,5 +3,5 @@ import pathlib
 import sys
 
 TOP = pathlib.Path(__file__).resolve().parent.parent
-for folder in ("tools", "bench", "examples", "examples/agents"):
+for folder in ("tools", "tools/prove", "tools/play", "tools/hostile", "bench", "examples", "examples/agents"):
     sys.path.insert(0, str(TOP / folder))

@@ -1,19 +1,16 @@
 """The published count of what a reader must believe is that of the definitions as they stand."""
-import pathlib
-import sys
 import unittest
 
-sys.path.insert(0, str(pathlib.Path(__file__).resolve().parent.parent / "tools"))
+import believed
+from tests import TOP
 
-import believed  # noqa: E402
-
-TRUST = pathlib.Path(__file__).resolve().parent.parent / "docs" / "TRUST.md"
+TRUST = TOP / "docs" / "TRUST.md"
 
 
 class Believed(unittest.TestCase):
     def test_the_table_of_the_document_is_that_of_the_definitions(self) -> None:
         self.assertIn(believed.table(), TRUST.read_text(encoding="utf-8"),
-                      "put the table that tools/believed.py prints into docs/TRUST.md")
+                      "put the table that tools/prove/believed.py prints into docs/TRUST.md")
 
     def test_a_headline_reaches_what_it_uses_and_no_more(self) -> None:
         found = believed.reached(("bhs_model", "Laws", "EqualPasts"))

@@ -1,4 +1,4 @@
-"""The replays that tools/bent_replays.py makes, and how it compares two programs."""
+"""The replays that tools/hostile/bent_replays.py makes, and how it compares two programs."""
 import collections
 import pathlib
 import random

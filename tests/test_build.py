@@ -2,7 +2,6 @@
 import contextlib
 import io
 import pathlib
-import subprocess
 import sys
 import tempfile
 import unittest
@@ -140,7 +139,7 @@ class Build(unittest.TestCase):
 
 class GateTimes(unittest.TestCase):
     def test_it_keeps_what_the_proofs_took(self) -> None:
-        times = module(TOP / "tools" / "gate_times")
+        times = module(TOP / "tools" / "prove" / "gate_times")
         path = pathlib.Path(self.enterContext(tempfile.TemporaryDirectory())) / "seconds"
         path.write_text("# shares\nold 3\n")
         times.keep({(1, ("low", "proof")): 2.6, (2, ("low", "proof")): 1.0, (3, ("low", "edits")): 9,
@@ -148,7 +147,7 @@ class GateTimes(unittest.TestCase):
         self.assertEqual(path.read_text(), "# shares\nhigh 5\nlow 4\n")
 
     def test_its_help_names_what_it_takes(self) -> None:
-        self.assertIn("--keep", module(TOP / "tools" / "gate_times").__doc__)
+        self.assertIn("--keep", module(TOP / "tools" / "prove" / "gate_times").__doc__)
 
 
 if __name__ == "__main__":

@@ -10,6 +10,10 @@ ARCHITECTURE = TOP / "docs" / "ARCHITECTURE.md"
 TRACES = ("## One line of a client", "## A tournament, from its file")
 ROW = re.compile(r"\| .*?\| (`[^|]+`) \| `(bhs_[\w/.]+)` \|")
 LINK = re.compile(r"\]\(([^)#\s]+)\)")
+# a path from the top of the repository that has an ending, or leads into tools/
+PATH = re.compile(r"(?<![\w./])((?:bench|docs|examples|experiments|lab|tests)/[\w/.-]*\.\w+|tools/[\w/.-]*\w)")
+# what is made, not kept, and what the changelog says of the past
+MADE = ("tests/out/", "CHANGELOG.md")
 
 
 def documents() -> Iterator[pathlib.Path]:
@@ -43,6 +47,15 @@ class Links(unittest.TestCase):
                 if "://" not in target:
                     with self.subTest(path.name, target=target):
                         self.assertTrue((path.parent / target).exists())
+
+    def test_paths_name_files(self) -> None:
+        for path in documents():
+            if path.name in MADE:
+                continue
+            for found in PATH.findall(path.read_text(encoding="utf-8")):
+                if not found.startswith(MADE):
+                    with self.subTest(path.name, path=found):
+                        self.assertTrue((TOP / found).exists())
 
 
 if __name__ == "__main__":

@@ -1,4 +1,4 @@
-"""How tools/edits.py reads edits, finds the function that one changes, and takes the prover's answers."""
+"""How tools/prove/edits.py reads edits, finds the function that one changes, and takes the prover's answers."""
 import contextlib
 import io
 import os

@@ -1,4 +1,4 @@
-"""How tools/library_tests.py makes a crate of the files of tests/library, and counts what its tests say."""
+"""How tools/play/library_tests.py makes a crate of the files of tests/library, and counts what its tests say."""
 import contextlib
 import io
 import pathlib

@@ -1,4 +1,4 @@
-"""The rules of networks as tools/network_faults.py has them, on lists worked out by hand."""
+"""The rules of networks as tools/play/network_faults.py has them, on lists worked out by hand."""
 import collections
 import unittest
 

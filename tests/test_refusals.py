@@ -1,20 +1,16 @@
-"""Tests of tools/refusals.py and of its library, with programs in C that stand in."""
+"""Tests of tools/hostile/refusals.py and of its library, with programs in C that stand in."""
 import contextlib
 import io
 import pathlib
 import shutil
 import subprocess
-import sys
 import tempfile
 import unittest
 import unittest.mock
 
-TOP = pathlib.Path(__file__).resolve().parent.parent
-sys.path.insert(0, str(TOP / "tools"))
-
-import failing_machine  # noqa: E402
-import refusals  # noqa: E402
-from failing_machine import COMMANDS, Lab, Run  # noqa: E402
+import commands
+import refusals
+from commands import COMMANDS, Lab, Run
 
 # asks for memory five times, reads a line and writes it, and says which request was refused
 CALLS = """
@@ -215,7 +211,7 @@ class CommandTest(InFolder):
         self.assertIn("check, memory of 1: 1 otherwise", self.said)
 
     def test_a_hang_is_otherwise(self):
-        with unittest.mock.patch.object(failing_machine, "PATIENCE", 5):
+        with unittest.mock.patch.object(commands, "PATIENCE", 5):
             self.assertEqual(self.faults_of("-DHANGS"), ["check, memory 1: status -1, `it did not end`"])
 
     def test_what_is_lost_is_otherwise(self):

@@ -19,7 +19,7 @@ KNOWN_MAP = AgentWords(INSIDE, str(AGENTS / "known_map.py"))
 
 
 def program() -> str:
-    """The built program: ARENA_PROGRAM names it, as tools/lab_tests.py does."""
+    """The built program: ARENA_PROGRAM names it, as tools/play/lab_tests.py does."""
     return program_at(os.environ.get("ARENA_PROGRAM"))
 
 

@@ -1,4 +1,4 @@
-//! Requests for memory that are refused. Here each is granted; `tools/refusals.py` runs these tests again, each time
+//! Requests for memory that are refused. Here each is granted; `tools/hostile/refusals.py` runs these tests again, each time
 //! with another request refused. Two marks stand round each call that is tested: where a request between them is
 //! refused, the test passes. Before and behind them it may want memory.
 

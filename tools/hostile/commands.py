@@ -1,0 +1,106 @@
+"""The commands of the program on the examples, and what came of running them: what failing_machine.py and refusals.py
+share."""
+import os
+import pathlib
+import shutil
+import subprocess
+import sys
+from typing import Any, Callable, Counter, List, NamedTuple, Optional, Sequence, Set
+
+TOP = pathlib.Path(__file__).resolve().parents[2]
+sys.path[:0] = [str(TOP / "tools" / "play"), str(TOP / "examples")]
+
+from contest import free_port  # noqa: E402
+from program_rows import DONE, FAILED_STREAM, REFUSED_TEXT  # noqa: E402
+
+__all__ = ["COMMANDS", "Command", "DONE", "FAILED_STREAM", "Lab", "NO_MEMORY", "PATIENCE", "REFUSED_TEXT", "Run", "TOP",
+           "ended", "free_port"]
+
+NO_MEMORY = 5
+# seconds within which a run must end
+PATIENCE = 60
+
+
+class Command(NamedTuple):
+    """The words of a command, with what stands on its standard input, and the file that it reads first."""
+    name: str
+    words: Sequence[str]
+    script: str
+    reads: Optional[str]
+
+
+COMMANDS = [
+    Command("check", ["check", "examples/first.toml"], "", "examples/first.toml"),
+    Command("rehearse", ["rehearse", "examples/first.toml", "--replay", "kept"], "examples/first.script",
+            "examples/first.toml"),
+    Command("interactive", ["rehearse", "examples/first.toml", "--interactive", "--replay", "kept"],
+            "examples/first.script", "examples/first.toml"),
+    Command("built-in", ["rehearse"], "examples/triangle.script", None),
+    Command("judge", ["judge", "examples/first0.jsonl"], "", "examples/first0.jsonl"),
+    Command("table", ["table", "red=examples/first0.jsonl", "blue=examples/guess0.jsonl"], "",
+            "examples/first0.jsonl"),
+    Command("explain", ["explain", "examples/first0.jsonl", "1"], "", "examples/first0.jsonl"),
+    Command("twin", ["twin", "examples/guess0.jsonl", "1"], "", "examples/guess0.jsonl"),
+]
+
+
+class Run(NamedTuple):
+    """What came of a run."""
+    status: int
+    printed: bytes
+    told: str
+
+
+def ended(child: subprocess.Popen) -> Run:
+    """What came of a child that must end by itself."""
+    try:
+        printed, told = child.communicate(timeout=PATIENCE)
+    except subprocess.TimeoutExpired:
+        child.kill()
+        child.communicate()
+        return Run(-1, b"", "it did not end")
+    return Run(child.returncode, printed or b"", (told or b"").decode(errors="replace"))
+
+
+class Lab:
+    """The program in a folder of its own, with the examples, and what was found."""
+
+    def __init__(self, program: str, folder: pathlib.Path) -> None:
+        self.program = str(pathlib.Path(program).resolve())
+        self.folder = folder
+        self.runs = 0
+        self.faults: List[str] = []
+        shutil.copytree(TOP / "examples", folder / "examples")
+        self.whole = {command.name: self.run(command) for command in COMMANDS}
+
+    def run(self, command: Command, limit: Optional[Callable[[], None]] = None, **streams: Any) -> Run:
+        """Runs a command, with a limit that is set before it begins, and other streams where some are given."""
+        self.runs += 1
+        script = self.folder / command.script if command.script else os.devnull
+        with open(script, "rb") as given:
+            plain = {"stdin": given, "stdout": subprocess.PIPE, "stderr": subprocess.PIPE}
+            child = subprocess.Popen([self.program, *command.words], cwd=self.folder, preexec_fn=limit,
+                                     **{**plain, **streams})
+            return ended(child)
+
+    def expect(self, what: str, command: Command, found: Run, allowed: Set[str], status: int, seen: Counter) -> None:
+        """Counts a run that ended as it should: as with nothing missing, or by one of these faults with this status."""
+        whole = self.whole[command.name]
+        if found == whole:
+            seen["as ever"] += 1
+        elif found.told in {f"{line}\n" for line in allowed} and found.status == status:
+            seen[found.told.strip().rpartition(": ")[2]] += 1
+            if not whole.printed.startswith(found.printed):
+                self.faults.append(f"{what}, {command.name}: another text was printed")
+        else:
+            self.faults.append(f"{what}, {command.name}: status {found.status}, `{found.told.strip()[:100]}`")
+
+    def conclude(self) -> int:
+        """Prints what ended otherwise, and how many runs did; gives the exit status."""
+        for fault in self.faults:
+            print(f"FAILED {fault}")
+        print(f"{self.runs} runs, {len(self.faults)} ended otherwise")
+        return 1 if self.faults else 0
+
+    def report(self, what: str, seen: Counter) -> None:
+        print(f"{what}: " + ", ".join(f"{count} {name}" for name, count in sorted(seen.items())), flush=True)

@@ -1,0 +1,167 @@
+#!/usr/bin/env python3
+"""Kills servers at drawn moments, and looks for what they have left.
+
+    tools/hostile/killed_servers.py PROGRAM [--kills N] [--seed S]
+
+PROGRAM is the built program. Each time `serve` is started on two matches in a temporary folder; an agent of each looks
+again and again, and the server is killed by SIGKILL. Every other contest is so short that the kill may come while the
+replays are written. Then of each match:
+
+- Where a file has the name of the replay, it is one whole replay.
+- Else `arena recover` makes a replay of the part.
+- It has each event that an agent was answered more than two seconds before the kill.
+
+By default there are 100 kills, several at the same time, which take a minute or two. For each kill that leaves less a
+line is printed; the last line reads `N passed, M failed`.
+"""
+import argparse
+import concurrent.futures
+import contextlib
+import json
+import pathlib
+import random
+import socket
+import subprocess
+import sys
+import tempfile
+import threading
+import time
+from typing import Dict, List, NamedTuple, Optional
+
+TOP = pathlib.Path(__file__).resolve().parents[2]
+sys.path[:0] = [str(TOP / "tools" / "play"), str(TOP / "examples")]
+
+from contest import free_port  # noqa: E402
+from program_cases import SEED, TRIANGLE  # noqa: E402
+
+MATCH = """
+[[match]]
+team = "{team}"
+network = "tri.toml"
+home = 0
+holes = [2]
+quota = 1000
+board = 8
+keys = ["{team}-0"]
+"""
+TEAMS = ["red", "blue"]
+# seconds: how old an event is that must be there, and how long a short and a long contest are killed in at most
+OLD, SHORT, LONG = 2.0, 0.6, 4.0
+SHORT_TURNS, LONG_TURNS, PAUSE = 50, 1_000_000, 5
+WORKERS = 8
+PATIENCE = 30
+
+
+class Wrong(Exception):
+    """A server has left less than it should have."""
+
+
+class Kill(NamedTuple):
+    """When a server is killed, in seconds after it listens, and how many turns its matches have."""
+    after: float
+    turns: int
+
+
+class Player(threading.Thread):
+    """An agent that enters and looks, and when it was answered."""
+
+    def __init__(self, port: int, team: str) -> None:
+        super().__init__(daemon=True)
+        self.port = port
+        self.team = team
+        self.answered: List[float] = []
+
+    def run(self) -> None:
+        with contextlib.suppress(OSError), socket.create_connection(("127.0.0.1", self.port)) as client:
+            answers = client.makefile("rb")
+            line = b'{"do":"enter","key":"%b-0"}\n' % self.team.encode()
+            while True:
+                client.sendall(line)
+                if not answers.readline().startswith(b'{"board"'):
+                    return
+                self.answered.append(time.monotonic())
+                line = b'{"do":"look"}\n'
+                time.sleep(0.004)
+
+
+def replay_of(program: str, folder: pathlib.Path, number: int) -> str:
+    """The replay that the server has left of a match, or that is made of its part."""
+    replay = folder / f"match{number}.jsonl"
+    if not replay.exists():
+        made = subprocess.run([program, "recover", f"{replay}.part"], capture_output=True, timeout=PATIENCE)
+        if made.returncode:
+            raise Wrong(f"recover of match {number}: {made.stderr!r}")
+        replay.write_bytes(made.stdout)
+    judged = subprocess.run([program, "judge", str(replay)], capture_output=True, timeout=PATIENCE)
+    if judged.returncode:
+        raise Wrong(f"match {number}: {judged.stderr!r}")
+    return replay.read_text(encoding="utf-8")
+
+
+def told_events(replay: str) -> int:
+    """How many commands stand in a replay."""
+    events: List[Dict[str, object]] = [json.loads(line) for line in replay.splitlines()[1:]]
+    return sum("agent" in event and event.get("do") not in (None, "deliver") for event in events)
+
+
+def try_kill(program: str, kill: Kill, folder: pathlib.Path) -> None:
+    """Serves a contest in this folder, kills the server, and looks at what it has left."""
+    (folder / "tri.toml").write_text(TRIANGLE)
+    (folder / "cup.toml").write_text(SEED + "".join(MATCH.format(team=team) for team in TEAMS))
+    port = free_port()
+    words = ["serve", "cup.toml", "--port", port, "--sessions", 100, "--turns", kill.turns, "--pause", PAUSE,
+             "--grace", 0, "--replay", "match"]
+    with subprocess.Popen([program, *map(str, words)], cwd=folder, stdout=subprocess.PIPE,
+                          stderr=subprocess.DEVNULL) as server:
+        if server.stdout.readline() != f"listening {port}\n".encode():
+            raise Wrong("the server did not start")
+        players = [Player(port, team) for team in TEAMS]
+        for player in players:
+            player.start()
+        time.sleep(kill.after)
+        server.kill()
+        end = time.monotonic()
+    for number, player in enumerate(players):
+        player.join(PATIENCE)
+        found = told_events(replay_of(program, folder, number))
+        old = sum(moment < end - OLD for moment in player.answered)
+        if found < old:
+            raise Wrong(f"match {number} has {found} commands, and {old} were answered {OLD} s before")
+
+
+def fault_of(program: str, kill: Kill) -> Optional[str]:
+    with tempfile.TemporaryDirectory() as folder:
+        try:
+            try_kill(program, kill, pathlib.Path(folder))
+        except (Wrong, OSError, ValueError, subprocess.TimeoutExpired) as error:
+            return str(error)
+    return None
+
+
+def kills(count: int, seed: int) -> List[Kill]:
+    """Kills that are drawn from a seed: short and long contests in turn."""
+    chance = random.Random(seed)
+    return [Kill(chance.uniform(0, LONG), LONG_TURNS) if number % 2 else Kill(chance.uniform(0, SHORT), SHORT_TURNS)
+            for number in range(count)]
+
+
+def main() -> int:
+    parser = argparse.ArgumentParser(description=__doc__, formatter_class=argparse.RawDescriptionHelpFormatter)
+    parser.add_argument("program", metavar="PROGRAM", type=pathlib.Path)
+    parser.add_argument("--kills", metavar="N", type=int, default=100)
+    parser.add_argument("--seed", metavar="S", type=int, default=1)
+    given = parser.parse_args()
+    program = str(given.program.resolve())
+    drawn = kills(given.kills, given.seed)
+    with concurrent.futures.ThreadPoolExecutor(WORKERS) as pool:
+        faults = list(pool.map(lambda kill: fault_of(program, kill), drawn))
+    for kill, fault in zip(drawn, faults):
+        if fault:
+            print(f"killed after {kill.after:.3f} s of {kill.turns} turns: {fault}")
+    failed = len([fault for fault in faults if fault])
+    print(f"{len(faults) - failed} passed, {failed} failed")
+    return 1 if failed else 0
+
+
+if __name__ == "__main__":
+    sys.exit(main())

@@ -1,0 +1,370 @@
+"""Cases that play contests over TCP whose clients keep to no rule: no client can withhold the results."""
+import contextlib
+import pathlib
+import re
+import resource
+import signal
+import socket
+import subprocess
+import sys
+import time
+from typing import Callable, Iterator, List, NamedTuple, Optional, Sequence
+
+TOP = pathlib.Path(__file__).resolve().parents[2]
+sys.path[:0] = [str(TOP / "tools" / "hostile"), str(TOP / "examples")]
+
+from contest import free_port  # noqa: E402
+from killed_servers import Wrong as Lost, kills, try_kill  # noqa: E402
+from program_cases import MATCH, SEED, TABLE_HEAD, TRIANGLE, case, writes  # noqa: E402
+from program_rows import DONE, FAILED_STREAM, PATIENCE, REFUSED_TEXT, Run, Stage, Wrong, expect  # noqa: E402
+from session_lines import HERE, LEAVE, LOOKS  # noqa: E402
+
+TWO_TEAMS = SEED + MATCH.format(network="tri.toml", key="r") + MATCH.format(network="tri.toml", key="b").replace(
+    '"red"', '"blue"')
+# seconds: what the matches last, what sessions have left then, and within which the server is to have ended
+LASTS, GRACE, SOON = 0.2, 0.5, 2.0
+MANY = 40
+
+
+def enter(key: str) -> bytes:
+    return b'{"do":"enter","key":"%b"}\n' % key.encode()
+
+
+class Server(NamedTuple):
+    """A server that listens, and since when."""
+    child: subprocess.Popen
+    port: int
+    begin: float
+
+    def connect(self, lines: bytes = b"") -> socket.socket:
+        """A client that says this."""
+        client = socket.create_connection(("127.0.0.1", self.port), timeout=PATIENCE)
+        client.sendall(lines)
+        return client
+
+    def hears(self, lines: bytes) -> bytes:
+        """All that a client hears that says this and ends its input."""
+        with self.connect(lines) as client:
+            client.shutdown(socket.SHUT_WR)
+            with client.makefile("rb") as answers:
+                return answers.read()
+
+    def ended(self, first: bytes = b"") -> Run:
+        """How it ended, all that it said being put behind this."""
+        printed, told = self.child.communicate(timeout=PATIENCE)
+        return Run(self.child.returncode, first + printed, told)
+
+
+@contextlib.contextmanager
+def served(stage: Stage, *more: str, turns: int = 20, pause: int = 10, sessions: int = 1000, grace: float = GRACE,
+           limit: Optional[Callable[[], None]] = None) -> Iterator[Server]:
+    """A server of two teams on the triangle, by these options. What is to limit it is called as it starts."""
+    writes(stage, cup=TWO_TEAMS, tri=TRIANGLE)
+    port = free_port()
+    given = ["serve", "cup.toml", "--port", port, "--sessions", sessions, "--turns", turns, "--pause", pause,
+             "--replay", "match", "--grace", int(grace * 1000), *more]
+    with subprocess.Popen([stage.program, *map(str, given)], cwd=stage.folder, stdout=subprocess.PIPE,
+                          stderr=subprocess.PIPE, preexec_fn=limit) as child:
+        try:
+            if child.stdout.readline() != f"listening {port}\n".encode():
+                raise Wrong(f"the server did not start: {child.communicate()[1]!r}")
+            yield Server(child, port, time.monotonic())
+        finally:
+            child.kill()
+
+
+def table(*rows: str) -> bytes:
+    return "".join(f"{row}\n" for row in (TABLE_HEAD, *rows)).encode()
+
+
+# One agent of blue accuses the black hole, and red does nothing.
+BLUE_GUESSES = table("  1 blue             guess 1         0    0", "  2 red              silent          0    0")
+
+Attack = Callable[[Server], List[socket.socket]]
+
+
+def holds_up(stage: Stage, attack: Attack) -> None:
+    """The server ends soon although these clients hold on to their connections, and the results are there."""
+    with served(stage) as server, contextlib.ExitStack() as held:
+        heard = server.hears(enter("ba") + b'{"do":"accuse","port":1}\n')
+        for client in attack(server):
+            held.enter_context(client)
+        run = server.ended()
+        took = time.monotonic() - server.begin
+    expect(run, BLUE_GUESSES)
+    if not heard.startswith(HERE):
+        raise Wrong(f"blue heard {heard!r}")
+    if took > SOON:
+        raise Wrong(f"the server took {took:.1f} s")
+    expect(stage.run(["judge", "match1.jsonl"]), b"guess 1 moves 0 lost 0\n")
+    expect(stage.run(["judge", "match0.jsonl"]), b"silent moves 0 lost 0\n")
+
+
+@case("a contest to which fewer connections come than it takes ends by itself")
+def too_few(stage: Stage) -> None:
+    holds_up(stage, lambda server: [])
+
+
+@case("clients that say nothing hold up no contest")
+def silent(stage: Stage) -> None:
+    holds_up(stage, lambda server: [server.connect() for _ in range(MANY)])
+
+
+@case("a client that has entered and says no more holds up no contest")
+def entered(stage: Stage) -> None:
+    holds_up(stage, lambda server: [server.connect(enter("ra"))])
+
+
+def deaf_client(server: Server) -> List[socket.socket]:
+    """It looks again and again, reads nothing, and is soon taken no more lines of."""
+    client = socket.socket()
+    client.setsockopt(socket.SOL_SOCKET, socket.SO_RCVBUF, 4096)
+    client.connect(("127.0.0.1", server.port))
+    client.sendall(enter("ra"))
+    client.settimeout(0.2)
+    with contextlib.suppress(OSError):
+        while True:
+            client.sendall(LOOKS)
+    return [client]
+
+
+@case("a client that reads no answers holds up no contest")
+def deaf(stage: Stage) -> None:
+    holds_up(stage, deaf_client)
+
+
+@case("a contest to which nobody comes ends by itself")
+def nobody(stage: Stage) -> None:
+    with served(stage, sessions=1) as server:
+        expect(server.ended(), table("  1 blue             silent          0    0",
+                                     "  2 red              silent          0    0"))
+        took = time.monotonic() - server.begin
+    if took > SOON:
+        raise Wrong(f"the server took {took:.1f} s")
+
+
+@case("a contest whose sessions have all ended waits for nobody")
+def all_ended(stage: Stage) -> None:
+    with served(stage, sessions=1, grace=PATIENCE * 2) as server:
+        server.hears(enter("ba") + b'{"do":"accuse","port":1}\n')
+        expect(server.ended(), BLUE_GUESSES)
+
+
+def waits_long(stage: Stage, waits: Sequence[float]) -> None:
+    """A client that takes its last line within the grace period is answered."""
+    with served(stage, grace=PATIENCE) as server:
+        with server.connect(enter("ra")) as client, client.makefile("rb") as answers:
+            answers.readline()
+            for wait in waits:
+                time.sleep(wait)
+            client.sendall(b'{"do":"look"}\n')
+            last = answers.readline()
+        server.child.kill()
+    if last != b'{"ok":"over"}\n':
+        raise Wrong(f"a client heard {last!r} after the close")
+
+
+@case("a session goes on within the grace period")
+def last_line(stage: Stage) -> None:
+    waits_long(stage, [LASTS * 3])
+
+
+# Beginnings and ends by the agents.
+
+LONG = 100_000
+
+
+@case("with --early a contest ends once each agent has ended or is lost")
+def early(stage: Stage) -> None:
+    with served(stage, "--early", turns=LONG, sessions=4) as server:
+        server.hears(enter("ba") + b'{"do":"accuse","port":1}\n')
+        server.hears(enter("bb") + LEAVE)
+        server.hears(enter("ra") + LEAVE)
+        with server.connect(enter("rb") + b'{"do":"depart","port":1}\n') as lost, lost.makefile("rb") as answers:
+            heard = [answers.readline() for _ in range(3)]
+        expect(server.ended(), table("  1 blue             guess 1         0    0",
+                                     "  2 red              silent          1    1"))
+    if heard != [HERE, b'{"ok":"gone"}\n', b'{"ok":"over"}\n']:
+        raise Wrong(f"the lost agent heard {heard!r}")
+
+
+@case("with --early a contest goes on while an agent may still act")
+def not_early(stage: Stage) -> None:
+    with served(stage, "--early", turns=LONG) as server:
+        for key in ("ba", "bb", "ra"):
+            server.hears(enter(key) + LEAVE)
+        time.sleep(SOON / 2)
+        if server.child.poll() is not None:
+            raise Wrong("the contest has ended")
+
+
+@case("with --gather the turns begin once all agents have entered")
+def gather(stage: Stage) -> None:
+    with served(stage, "--gather", str(1000 * PATIENCE), turns=20) as server:
+        time.sleep(LASTS * 3)
+        for key in ("ba", "bb", "ra"):
+            server.hears(enter(key) + LEAVE)
+        if server.hears(enter("rb") + LEAVE) != HERE + b'{"ok":"bye"}\n':
+            raise Wrong("the match was over before all agents had entered")
+        begin = time.monotonic()
+        run = server.ended()
+        took = time.monotonic() - begin
+    expect(run, table("  1 blue             silent          0    0", "  2 red              silent          0    0"))
+    if took > SOON:
+        raise Wrong(f"the server took {took:.1f} s")
+
+
+@case("with --gather the turns begin when its milliseconds have passed, at the latest")
+def gather_ends(stage: Stage) -> None:
+    with served(stage, "--gather", "400", turns=1, grace=0) as server:
+        server.ended()
+        took = time.monotonic() - server.begin
+    if not 0.4 <= took <= SOON:
+        raise Wrong(f"the server took {took:.1f} s")
+
+
+# Files.
+
+def names(stage: Stage) -> List[str]:
+    return sorted(path.name for path in stage.folder.iterdir() if path.name.startswith("match"))
+
+
+@case("files of an earlier contest get other names, and parts are gone at the end")
+def old_files(stage: Stage) -> None:
+    for name in ("match0.jsonl", "match1.jsonl.part"):
+        (stage.folder / name).write_text(name)
+    with served(stage, turns=0, grace=0) as server:
+        begun = names(stage)
+        server.ended()
+    if begun != ["match0.jsonl.old", "match0.jsonl.part", "match1.jsonl.part", "match1.jsonl.part.old"]:
+        raise Wrong(f"at the beginning there are {begun}")
+    if names(stage) != ["match0.jsonl", "match0.jsonl.old", "match1.jsonl", "match1.jsonl.part.old"]:
+        raise Wrong(f"at the end there are {names(stage)}")
+    if (stage.folder / "match0.jsonl.old").read_text() != "match0.jsonl":
+        raise Wrong("the earlier replay is another")
+
+
+@case("a folder that is missing is told before the server says that it listens")
+def no_folder(stage: Stage) -> None:
+    writes(stage, cup=TWO_TEAMS, tri=TRIANGLE)
+    words = ["serve", "cup.toml", "--port", str(free_port()), "--sessions", "1", "--turns", "1", "--pause", "1",
+             "--replay", "none/match"]
+    expect(stage.run(words), b"", b"none/match0.jsonl.part: write\n", FAILED_STREAM)
+
+
+@case("a server on a port that is in use leaves the files of the first alone")
+def two_servers(stage: Stage) -> None:
+    with served(stage, turns=LONG) as server:
+        words = ["serve", "cup.toml", "--port", str(server.port), "--sessions", "1", "--turns", "1", "--pause", "1",
+                 "--replay", "match"]
+        expect(stage.run(words), b"", b"serve: listen\n", FAILED_STREAM)
+        if names(stage) != ["match0.jsonl.part", "match1.jsonl.part"]:
+            raise Wrong(f"there are {names(stage)}")
+
+
+def wait_for(holds: Callable[[], bool]) -> bool:
+    """Whether it holds before patience ends."""
+    end = time.monotonic() + PATIENCE
+    while not holds():
+        if time.monotonic() > end:
+            return False
+        time.sleep(0.02)
+    return True
+
+
+CLOSE = b'{"do":"close","reply":null}\n'
+
+
+@case("the replay of a match whose server was killed is recovered")
+def killed(stage: Stage) -> None:
+    with served(stage, turns=LONG) as server:
+        server.hears(enter("ba") + b'{"do":"accuse","port":1}\n')
+        part = stage.folder / "match1.jsonl.part"
+        if not wait_for(lambda: part.read_bytes().count(b"\n") == 3):
+            raise Wrong(f"the part is {part.read_bytes()!r}")
+        server.child.kill()
+    whole = part.read_bytes()
+    part.write_bytes(whole + b'{"event":"tell","ag')
+    run = stage.run(["recover", part.name])
+    head, first, second = whole.splitlines(keepends=True)
+    closed = head + first + second + CLOSE + b'{"end":3}\n'
+    expect(run, closed)
+    (stage.folder / "match1.jsonl").write_bytes(run.printed)
+    expect(stage.run(["judge", "match1.jsonl"]), b"guess 1 moves 0 lost 0\n")
+    if not stage.run(["recover", "match0.jsonl.part"]).printed.endswith(b"}\n" + CLOSE + b'{"end":1}\n'):
+        raise Wrong("the match in which nothing happened is not recovered")
+
+
+@case("a text that is no part is not recovered")
+def no_part(stage: Stage) -> None:
+    for text, told in ((b"", b"head"), (b'{"version"', b"head"), (b"{}\n", b"head")):
+        (stage.folder / "p").write_bytes(text)
+        expect(stage.run(["recover", "p"]), b"", b"p: " + told + b"\n", REFUSED_TEXT)
+
+
+SESSION_0_ENDED = "serve: session 0 played match 1 agent 0: its agent accused"
+
+
+@case("with --log it is told who comes, who plays, and how sessions and matches end")
+def log(stage: Stage) -> None:
+    with served(stage, "--log", sessions=2) as server:
+        server.hears(enter("ba") + b'{"do":"accuse","port":1}\n')
+        server.hears(enter("zz"))
+        told = server.ended().told.decode().splitlines()
+    found = sorted(re.sub(r"from 127\.0\.0\.1:\d+$", "from PEER", line) for line in told)
+    if found != ["serve: match 0 closed: turns 20 events 1, silent moves 0 lost 0",
+                 "serve: match 1 closed: turns 20 events 3, guess 1 moves 0 lost 0",
+                 "serve: session 0 from PEER", SESSION_0_ENDED, "serve: session 0 plays match 1 agent 0",
+                 "serve: session 1 from PEER", "serve: session 1 played nobody: it was denied"]:
+        raise Wrong(f"told was {found}")
+    if told.index("serve: session 0 plays match 1 agent 0") > told.index(SESSION_0_ENDED):
+        raise Wrong(f"a session is told to play once it has ended: {told}")
+
+
+@case("a contest is served on an address of IPv6, and a word that is not an address is refused")
+def address(stage: Stage) -> None:
+    writes(stage, cup=TWO_TEAMS, tri=TRIANGLE)
+    words = ["serve", "cup.toml", "--port", str(free_port()), "--sessions", "1", "--turns", "1", "--pause", "1",
+             "--replay", "match", "--grace", "0", "--address"]
+    expect(stage.run([*words, "localhost"]), b"", b"serve: listen\n", FAILED_STREAM)
+    run = stage.run([*words, "::1"])
+    if run.status != DONE:
+        raise Wrong(f"the server ended with {run}")
+
+
+ROOM = 900
+
+
+def full_disk() -> None:
+    """Has each file of a program that is started take no more than this number of bytes: writes beyond them fail."""
+    signal.signal(signal.SIGXFSZ, signal.SIG_IGN)
+    resource.setrlimit(resource.RLIMIT_FSIZE, (ROOM, ROOM))
+
+
+@case("a part and a replay for which there is no room are told, and the others are there")
+def no_room(stage: Stage) -> None:
+    with served(stage, grace=0, limit=full_disk) as server:
+        server.hears(enter("ba") + b'{"do":"look"}\n' * 9 + LEAVE)
+        run = server.ended()
+    part = stage.folder / "match1.jsonl.part"
+    events = part.read_bytes().count(b"\n") - 1
+    told = "serve: the part of match 1 ends after 0 events: write\nmatch1.jsonl: write\n"
+    expect(run, table("  1 blue             silent          0    0", "  2 red              silent          0    0"),
+           told.encode(), FAILED_STREAM)
+    if names(stage) != ["match0.jsonl", "match1.jsonl.part"] or not 0 < events < 11:
+        raise Wrong(f"there are {names(stage)}, with {events} events")
+    expect(stage.run(["judge", "match0.jsonl"]), b"silent moves 0 lost 0\n")
+    recovered = stage.run(["recover", part.name]).printed
+    if not recovered.endswith(CLOSE + b'{"end":%d}\n' % (events + 1)):
+        raise Wrong(f"recovered is {recovered!r}")
+
+
+@case("servers that are killed leave what happened")
+def killed_servers(stage: Stage) -> None:
+    for number, kill in enumerate(kills(4, seed=0)):
+        folder = stage.folder / str(number)
+        folder.mkdir()
+        try:
+            try_kill(stage.program, kill, folder)
+        except Lost as error:
+            raise Wrong(f"killed after {kill.after:.3f} s: {error}") from error

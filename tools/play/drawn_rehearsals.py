@@ -1,0 +1,287 @@
+"""Rehearsals in Python, after docs/FORMATS.md and apart from the proved code: connections, keys and queues of several
+matches over the model of the lab, which take bytes as they come, and scripts that are drawn from a seed. Nothing is
+proved of it."""
+import collections
+import pathlib
+import random
+import sys
+from typing import Counter, Deque, Dict, List, NamedTuple, Optional, Sequence, Tuple
+
+sys.path.insert(0, str(pathlib.Path(__file__).resolve().parents[2]))
+
+from lab.model import AWAY, BAD, BYE, NOTED, OVER, Match, Object, Place, Setup, command_of, spelled  # noqa: E402
+
+CONNECTIONS = 256
+MAX_LINE = 65_536
+BLANK = b" \t\r"
+# the end of a connection's input, among its lines
+END = None
+
+Seat = Tuple[int, int]
+Sent = List[Tuple[int, Object]]
+
+
+class Ready(NamedTuple):
+    """A match, its held links, and the keys of its agents."""
+    match: Match
+    held: Sequence[Place]
+    keys: Sequence[str]
+
+
+def read(line: bytes) -> Object:
+    """The command of a line; an enter has its key."""
+    if len(line) > MAX_LINE:
+        return BAD
+    try:
+        return command_of(line.decode())
+    except UnicodeDecodeError:
+        return BAD
+
+
+class Connection:
+    """What came on a connection and was not taken, and whom it plays."""
+
+    def __init__(self) -> None:
+        self.unfinished = b""
+        self.items: Deque[Optional[bytes]] = collections.deque()
+        self.seat: Optional[Seat] = None
+        self.has_ended = False
+        self.is_done = False
+
+    def receive(self, data: bytes) -> None:
+        *lines, self.unfinished = (self.unfinished + data).split(b"\n")
+        self.items.extend(line for line in lines if len(line) > MAX_LINE or line.strip(BLANK))
+
+
+class Rehearsal:
+    """Each call gives what is sent, by connection. It counts what it was asked and what came of that."""
+
+    def __init__(self, ready: Sequence[Ready]) -> None:
+        self.ready = ready
+        self.seats = {key: (game, agent) for game, one in enumerate(ready) for agent, key in enumerate(one.keys)}
+        self.connections = [Connection() for _ in range(CONNECTIONS)]
+        self.seen: Counter[str] = collections.Counter()
+
+    def feed(self, conn: int, data: bytes) -> Sent:
+        if not self.connections[conn].has_ended:
+            self.connections[conn].receive(data)
+        return self.taken(conn)
+
+    def end(self, conn: int) -> Sent:
+        connection = self.connections[conn]
+        if not connection.has_ended:
+            connection.has_ended = True
+            connection.items.append(END)
+        return self.taken(conn)
+
+    def draw(self, game: int, word: int) -> Sent:
+        match, held, _ = self.ready[game]
+        self.seen[f"pool of {len(match.pool)}"] += 1
+        if match.closed or not match.pool:
+            return []
+        number = match.pool[word % len(match.pool)]
+        agent = match.agents[number]
+        if (agent.node, agent.port) in held:
+            self.seen["held"] += 1
+            return []
+        reply = match.deliver(number)
+        self.seen["arrival" if reply else "destroyed"] += 1
+        conn = self.conn_of((game, number))
+        return [(conn, reply), *self.taken(conn)] if reply and conn is not None else []
+
+    def close(self, game: int) -> Sent:
+        match = self.ready[game].match
+        if match.closed:
+            return []
+        match.close()
+        waiting = [conn for conn, one in enumerate(self.connections) if self.waits(one) and one.seat[0] == game]
+        for conn in waiting:
+            self.connections[conn].is_done = True
+        self.seen["over"] += len(waiting)
+        return [(conn, OVER) for conn in waiting]
+
+    def conn_of(self, seat: Seat) -> Optional[int]:
+        return next((conn for conn, one in enumerate(self.connections) if one.seat == seat), None)
+
+    def waits(self, connection: Connection) -> bool:
+        """Whether its agent is on a link."""
+        if connection.seat is None or connection.is_done:
+            return False
+        game, agent = connection.seat
+        return self.ready[game].match.agents[agent].standing == AWAY
+
+    def taken(self, conn: int) -> Sent:
+        """Takes lines while nothing keeps the connection from it."""
+        connection, sent = self.connections[conn], []
+        while connection.items and not connection.is_done and not self.waits(connection):
+            reply = self.take(connection, connection.items.popleft())
+            if reply:
+                sent.append((conn, reply))
+        return sent
+
+    def take(self, connection: Connection, line: Optional[bytes]) -> Optional[Object]:
+        if line is END:
+            connection.is_done = True
+            if connection.seat:
+                self.tell(connection.seat, {"do": "leave"})
+                self.seen["end of an agent"] += 1
+            return None
+        command = read(line)
+        if connection.seat is None:
+            return self.first(connection, command)
+        return self.answered(connection, {name: command[name] for name in command if name != "key"})
+
+    def first(self, connection: Connection, command: Object) -> Object:
+        """A first line lets an agent in, or the connection is denied."""
+        seat = self.seats.get(command.get("key", "")) if command["do"] == "enter" else None
+        denial = "enter" if command["do"] != "enter" else "key" if seat is None else \
+            "taken" if self.conn_of(seat) is not None else None
+        if denial:
+            connection.is_done = True
+            self.seen[f"denied: {denial}"] += 1
+            return {"no": denial}
+        connection.seat = seat
+        return self.answered(connection, {"do": "enter"})
+
+    def answered(self, connection: Connection, command: Object) -> Object:
+        reply = self.tell(connection.seat, command)
+        connection.is_done = reply in (BYE, NOTED, OVER)
+        self.seen[reply.get("ok") or f"no {reply['no']}"] += 1
+        return reply
+
+    def tell(self, seat: Seat, command: Object) -> Object:
+        game, agent = seat
+        return self.ready[game].match.tell(agent, command)
+
+
+class Drawn(NamedTuple):
+    """A tournament's files by their names, a script, what each of its lines prints, and what was seen in it."""
+    files: Dict[str, str]
+    script: List[str]
+    printed: List[str]
+    seen: Counter[str]
+
+
+def linked(nodes: int, chance: random.Random) -> List[Tuple[int, int, int, int]]:
+    """A ring with chords, and ports by chance."""
+    pairs = {(min(v, w), max(v, w)) for v, w in ((v, (v + 1) % nodes) for v in range(nodes))}
+    pairs |= {tuple(sorted(chance.sample(range(nodes), 2))) for _ in range(chance.randrange(nodes))}
+    ends: Dict[int, List[int]] = {v: [] for v in range(nodes)}
+    for pair in pairs:
+        for end in pair:
+            ends[end].append(1)
+    free = {v: chance.sample(range(len(ends[v])), len(ends[v])) for v in ends}
+    return [(v, free[v].pop(), w, free[w].pop()) for v, w in sorted(pairs)]
+
+
+def ready_by_chance(game: int, agents: int, chance: random.Random) -> Ready:
+    nodes = chance.randint(3, 12)
+    links = linked(nodes, chance)
+    ends = [(v, p) for v, p, _, _ in links] + [(w, q) for _, _, w, q in links]
+    home = chance.randrange(nodes)
+    holes = chance.sample([v for v in range(nodes) if v != home], chance.randrange(3))
+    dark = [chance.choice(links)[:2]] if chance.random() < 0.4 else []
+    setup = Setup(nodes, links, home, holes, agents, chance.randint(1, 40), chance.randrange(9), dark)
+    held = chance.sample(ends, chance.randrange(3))
+    return Ready(Match(setup), held, [f"k{game}-{agent}" for agent in range(agents)])
+
+
+def files_of(ready: Sequence[Ready]) -> Dict[str, str]:
+    """The tournament and its networks."""
+    files, rows = {}, [f'version = 2\nseed = "{"0" * 64}"\n']
+    for game, (match, held, keys) in enumerate(ready):
+        setup = match.setup
+        links = [list(link) for link in setup.links]
+        files[f"n{game}.toml"] = f"version = 1\nnodes = {setup.nodes}\nlinks = {links}\n"
+        rows.append(f'[[match]]\nteam = "t{game}"\nnetwork = "n{game}.toml"\nhome = {setup.home}\n'
+                    f"holes = {setup.holes}\ndark = {[list(end) for end in setup.dark]}\nquota = {setup.quota}\n"
+                    f"board = {setup.board}\nkeys = {list(keys)}\nheld = {[list(end) for end in held]}\n")
+    return {**files, "cup.toml": "".join(rows)}
+
+
+class Player:
+    """Makes a script, instruction by instruction, and has what each prints."""
+
+    def __init__(self, ready: Sequence[Ready], chance: random.Random) -> None:
+        self.rehearsal = Rehearsal(ready)
+        self.chance = chance
+        self.script: List[str] = []
+        self.printed: List[str] = []
+
+    def note(self, line: str, sent: Sent) -> None:
+        self.script.append(line)
+        self.printed.append("".join(f"{conn} {spelled(reply)}\n" for conn, reply in sorted(sent, key=lambda it: it[0])))
+
+    def say(self, conn: int, line: bytes) -> None:
+        """A connection sends a line, whole or in pieces."""
+        cut = self.chance.randrange(len(line) + 1) if self.chance.random() < 0.2 else None
+        if cut is None and b"\xff" not in line:
+            self.note(f"{conn} {line.decode()}", self.rehearsal.feed(conn, line + b"\n"))
+            return
+        for piece in (line[:cut or 0], line[cut or 0:] + b"\n"):
+            if piece:
+                self.note(f"hex {conn} {piece.hex()}", self.rehearsal.feed(conn, piece))
+
+    def draw(self, game: int) -> None:
+        word = self.chance.getrandbits(32)
+        self.note(f"draw {game} {word}", self.rehearsal.draw(game, word))
+
+    def end(self, conn: int) -> None:
+        self.note(f"end {conn}", self.rehearsal.end(conn))
+
+    def close(self, game: int) -> None:
+        self.note(f"close {game}", self.rehearsal.close(game))
+
+    def any_line(self) -> bytes:
+        """A line of a client, mostly one that moves it."""
+        chance = self.chance
+        board = ["", "a", "bé", "123456789"]
+        lines = [{"do": "look"}, {"do": "enter", "key": chance.choice(list(self.rehearsal.seats))},
+                 {"do": "write", "expect": chance.choice(board), "put": chance.choice(board)}, {"do": "leave"},
+                 {"do": "accuse", "port": chance.randrange(4)}, {"do": "enter", "key": "nobody"}, {"do": "jump"}]
+        weights = [4, 1, 6, 0.2, 0.2, 0.2, 1]
+        if chance.random() < 0.5:
+            return spelled({"do": "depart", "port": chance.randrange(4)}).encode()
+        if chance.random() < 0.05:
+            return chance.choice([b"", b" \t\r", b"\xff", b"{", b"[]"])
+        return spelled(chance.choices(lines, weights)[0]).encode()
+
+    def all_depart(self) -> None:
+        """All agents enter, and all but some go."""
+        keys = list(self.rehearsal.seats)
+        for conn, key in enumerate(keys):
+            self.say(conn, spelled({"do": "enter", "key": key}).encode())
+        for conn in range(len(keys)):
+            match = self.rehearsal.ready[self.rehearsal.seats[keys[conn]][0]].match
+            port = self.chance.randrange(len(match.far[match.setup.home]))
+            self.say(conn, spelled({"do": "depart", "port": port}).encode())
+
+    def anything(self, last: int) -> None:
+        """An instruction by chance; connections up to this one are used."""
+        games, number = len(self.rehearsal.ready), self.chance.random()
+        if number < 0.4:
+            self.draw(self.chance.randrange(games))
+        elif number < 0.405:
+            self.end(self.chance.randrange(last + 1))
+        elif number < 0.41:
+            self.close(self.chance.randrange(games))
+        else:
+            self.say(self.chance.randrange(last + 1), self.any_line())
+
+
+def drawn(agents: int) -> Drawn:
+    """A rehearsal of two matches, one of this number of agents and one of 65 less that."""
+    chance = random.Random(agents)
+    ready = [ready_by_chance(0, agents, chance), ready_by_chance(1, 65 - agents, chance)]
+    files = files_of(ready)
+    player = Player(ready, chance)
+    player.all_depart()
+    for turn in range(4 * 65):
+        player.draw(turn % 2)
+    for _ in range(300):
+        player.anything(70)
+    for game in range(2):
+        player.close(game)
+    for conn in range(0, 70, 7):
+        player.say(conn, b'{"do":"look"}')
+    return Drawn(files, player.script, player.printed, player.rehearsal.seen)

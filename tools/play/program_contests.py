@@ -1,0 +1,240 @@
+"""A contest of two matches that is played on the program over TCP, and what must be true of it.
+
+Both matches have one seed. In each, several agents are on links at the same time, one of them on a link that is held,
+and one is destroyed. Which turn a delivery was made at depends on the clock, but not who arrives: each turn takes the
+next word of its match's stream, and the word picks out of the pool. So the log of a match is compared with those words,
+whenever its clients may have come.
+"""
+import contextlib
+import pathlib
+import socket
+import subprocess
+import sys
+import threading
+from typing import Iterator, List, NamedTuple, Optional, Sequence, Set, Tuple
+
+from chacha8_words import word
+from program_cases import case
+from program_rows import PATIENCE, Run, Stage, Wrong, expect
+
+TOP = pathlib.Path(__file__).resolve().parents[2]
+sys.path[:0] = [str(TOP), str(TOP / "examples")]
+
+from contest import free_port  # noqa: E402
+from lab.model import AWAY, OVER, Match, Object, Place, begun, judge, objects_of, spelled  # noqa: E402
+from lab.server import table  # noqa: E402
+
+SEED = bytes(range(32))
+TURNS, PAUSE = 400, 5
+# a contest in which the wrong words could have made the deliveries too, as on a machine that is too slow, says nothing
+# and is played again
+TRIES = 3
+
+
+class Side(NamedTuple):
+    """A match on a ring, on which node 0 is the home base and port 0 leads to the next node: how many nodes; the black
+    hole; the link that is held, as its departure; and what its agents do, each by the steps of a word."""
+    team: str
+    nodes: int
+    hole: int
+    held: Place
+    agents: Sequence[str]
+
+    def key(self, agent: int) -> str:
+        return f"{self.team}-{agent}"
+
+    def network(self) -> str:
+        links = [[node, 0, (node + 1) % self.nodes, 1] for node in range(self.nodes)]
+        return f"version = 1\nnodes = {self.nodes}\nlinks = {links}\n"
+
+    def fixture(self) -> str:
+        keys = ", ".join(f'"{self.key(agent)}"' for agent in range(len(self.agents)))
+        return (f'\n[[match]]\nteam = "{self.team}"\nnetwork = "{self.team}.toml"\nhome = 0\nholes = [{self.hole}]\n'
+                f"quota = 20\nboard = 8\nkeys = [{keys}]\nheld = [{list(self.held)}]\n")
+
+
+# 0 and 1 are departures by that port, a is an accusation of the link of port 0, l is leave. The last agent is the one
+# that is held, and the one before it is destroyed.
+SIDES = [
+    Side("red", 6, 3, (0, 1), ["00a", *["0011l", "01010l", "0l"] * 3, "000", "1"]),
+    Side("blue", 5, 2, (0, 0), [*["1100l", "10101l", "1l"] * 3, "111", "0"]),
+]
+STEPS = {"0": '{"do":"depart","port":0}', "1": '{"do":"depart","port":1}', "a": '{"do":"accuse","port":0}',
+         "l": '{"do":"leave"}'}
+
+
+# What the words say of a replay.
+
+def delivered(match: Match, held: Set[Place], number: int) -> Optional[int]:
+    """The agent whose Deliver is kept where a turn has this word, if there is one."""
+    if not match.pool:
+        return None
+    picked = match.pool[number % len(match.pool)]
+    agent = match.agents[picked]
+    place = (agent.node, agent.port)
+    return None if place in held or (agent.lost and match.doomed(*place)) else picked
+
+
+def may_be(match: Match, held: Set[Place], words: Sequence[int], turns: Set[int]) -> Set[int]:
+    """The numbers of turns that may have been taken before the next event, by those before the last one."""
+    found, new = set(turns), set(turns)
+    while new:
+        new = {turn + 1 for turn in new if turn < len(words) and delivered(match, held, words[turn]) is None} - found
+        found |= new
+    return found
+
+
+def made_by(replay: str, held: Set[Place], words: Sequence[int]) -> bool:
+    """Whether turns with these words, all of them and in their order, can have made the deliveries of a replay, and no
+    others."""
+    head, *events = objects_of(replay)
+    match, turns = begun(head), {0}
+    for event in events:
+        turns = may_be(match, held, words, turns)
+        if event["do"] == "deliver":
+            turns = {turn + 1 for turn in turns
+                     if turn < len(words) and delivered(match, held, words[turn]) == event["agent"]}
+        match.play(event)
+    return len(words) in turns
+
+
+def words_of(stream: int) -> List[int]:
+    return [word(SEED, stream, place) for place in range(TURNS)]
+
+
+# The contest.
+
+class Heard(NamedTuple):
+    """What came of a contest: the run, what the clients of each match heard, and the replays."""
+    run: Run
+    heard: List[List[str]]
+    replays: List[str]
+
+
+@contextlib.contextmanager
+def server(stage: Stage, words: Sequence[str]) -> Iterator[Tuple[subprocess.Popen, bytes]]:
+    """A server, and its first line. It is killed where it does not end in time."""
+    with subprocess.Popen([stage.program, *words], cwd=stage.folder, stdout=subprocess.PIPE,
+                          stderr=subprocess.PIPE) as child:
+        end = threading.Timer(PATIENCE, child.kill)
+        end.start()
+        try:
+            yield child, child.stdout.readline()
+        finally:
+            end.cancel()
+            child.kill()
+
+
+def client(port: int, key: str, steps: str) -> socket.socket:
+    """A client that has entered and said all that it will say, and has ended its input."""
+    lines = [f'{{"do":"enter","key":"{key}"}}', *(STEPS[step] for step in steps)]
+    made = socket.create_connection(("127.0.0.1", port), timeout=PATIENCE)
+    made.sendall("".join(f"{line}\n" for line in lines).encode())
+    made.shutdown(socket.SHUT_WR)
+    return made
+
+
+def all_heard(made: socket.socket) -> str:
+    with made, made.makefile("rb") as answers:
+        return answers.read().decode()
+
+
+def played(stage: Stage, port: int) -> Tuple[Run, List[List[str]]]:
+    """Serves the contest to its agents, which all come at once."""
+    sessions = sum(len(side.agents) for side in SIDES)
+    words = ["serve", "cup.toml", "--port", str(port), "--sessions", str(sessions), "--turns", str(TURNS), "--pause",
+             str(PAUSE), "--replay", "hosted"]
+    with server(stage, words) as (child, first):
+        if first != f"listening {port}\n".encode():
+            return Run(child.wait(), first, child.stderr.read()), []
+        clients = [[client(port, side.key(agent), steps) for agent, steps in enumerate(side.agents)] for side in SIDES]
+        heard = [[all_heard(one) for one in of_side] for of_side in clients]
+        printed, told = child.communicate()
+    return Run(child.returncode, printed, told), heard
+
+
+def contest(stage: Stage) -> Heard:
+    for side in SIDES:
+        (stage.folder / f"{side.team}.toml").write_text(side.network())
+    fixtures = "".join(side.fixture() for side in SIDES)
+    (stage.folder / "cup.toml").write_text(f'version = 2\nseed = "{SEED.hex()}"\n{fixtures}')
+    for old in stage.folder.glob("*.jsonl"):
+        old.unlink()
+    run, heard = played(stage, free_port())
+    expect(run, run.printed)
+    names = sorted(path.name for path in stage.folder.glob("*.jsonl"))
+    if names != [f"hosted{number}.jsonl" for number in range(len(SIDES))]:
+        raise Wrong(f"the replays are {names}")
+    return Heard(run, heard, [(stage.folder / name).read_text() for name in names])
+
+
+# What must be true of it.
+
+def match_of(side: Side, replay: str) -> Match:
+    """The match of a replay, which is that of its side, with the replies of the rules."""
+    head, *events = objects_of(replay)
+    match = begun(head)
+    setup = match.setup
+    if (setup.nodes, setup.holes, setup.agents) != (side.nodes, [side.hole], len(side.agents)):
+        raise Wrong(f"the replay of {side.team} is of another match: {spelled(head)}")
+    for event in events:
+        match.play(event)
+    if match.replay() != replay:
+        raise Wrong(f"the replay of {side.team} is another when it is played anew")
+    return match
+
+
+def told_to(match: Match, agent: int) -> str:
+    """What the client of an agent hears: the replies to it in the log, and that the match is over, if it waits then."""
+    replies: List[Object] = [event["reply"] for event in match.log if event.get("agent") == agent and event["reply"]]
+    if match.agents[agent].standing == AWAY:
+        replies.append(OVER)
+    return "".join(f"{spelled(reply)}\n" for reply in replies)
+
+
+def check_side(number: int, side: Side, replay: str, heard: Sequence[str]) -> Match:
+    """The match of a side, with what its clients heard and who arrived in it."""
+    match = match_of(side, replay)
+    if not made_by(replay, {side.held}, words_of(number)):
+        raise Wrong(f"the words of stream {number} do not make the deliveries of {side.team}")
+    lost, held = len(side.agents) - 2, len(side.agents) - 1
+    if any(event["do"] == "deliver" and event["agent"] == held for event in match.log):
+        raise Wrong(f"{side.key(held)} was delivered over the link that is held")
+    if not match.agents[lost].lost:
+        raise Wrong(f"{side.key(lost)} was not destroyed")
+    waiting = {agent for agent, one in enumerate(match.agents) if one.standing == AWAY}
+    if waiting != {lost, held}:
+        raise Wrong(f"in the match of {side.team} agents {sorted(waiting)} are on links at the end")
+    for agent, text in enumerate(heard):
+        if text != told_to(match, agent):
+            raise Wrong(f"{side.key(agent)} heard {text!r}, and its replay has {told_to(match, agent)!r}")
+    return match
+
+
+def is_telling(replays: Sequence[str]) -> bool:
+    """Whether other words do not make the deliveries: those of another match's stream, and equal ones."""
+    others = [[words_of(1 - number), [0] * TURNS] for number in range(len(SIDES))]
+    return not any(made_by(replay, {side.held}, words)
+                   for side, replay, wrong in zip(SIDES, replays, others) for words in wrong)
+
+
+def check_table(stage: Stage, printed: bytes, matches: Sequence[Match]) -> None:
+    """The table has the verdict on each match beside its team, and so has its replay."""
+    verdicts = [judge(match) for match in matches]
+    if [verdict.outcome for verdict in verdicts] != ["guess 4", "silent"]:
+        raise Wrong(f"the verdicts are {verdicts}")
+    for number, (outcome, moves, lost) in enumerate(verdicts):
+        expect(stage.run(["judge", f"hosted{number}.jsonl"]), f"{outcome} moves {moves} lost {lost}\n".encode())
+    rows = [(side.team, verdict) for side, verdict in zip(SIDES, verdicts)]
+    expect(Run(0, printed, b""), table(rows).encode())
+
+
+@case("who arrives in a contest is who the words of the match's stream pick, and nobody over a held link")
+def words_are_dealt(stage: Stage) -> None:
+    for _ in range(TRIES):
+        found = contest(stage)
+        matches = [check_side(number, *each) for number, each in enumerate(zip(SIDES, found.replays, found.heard))]
+        check_table(stage, found.run.printed, matches)
+        if is_telling(found.replays):
+            return
+    raise Wrong("other words make the deliveries, too: the machine is too slow")

@@ -1,0 +1,75 @@
+#!/usr/bin/env python3
+"""Plays the program: the rows of text of tests/program, and cases that are made by rules.
+
+    tools/play/program_tests.py PROGRAM [FOLDER]
+
+PROGRAM is the built program. With a folder only the rows of its files are played: those of tests/benchmark go with the
+benchmark. program_rows.py says how rows are read and played; the other cases are in program_cases.py,
+interactive_cases.py, contest_cases.py, traced_files.py, program_contests.py and program_rehearsals.py. Each row and
+each case is played in a fresh temporary folder; nothing in the repository is overwritten. For each that fails a line
+names the file and the title, what was wanted and what came. The last line reads `N passed, M failed`, and the exit
+status is 1 if one failed.
+"""
+import concurrent.futures
+import functools
+import pathlib
+import sys
+from typing import Iterator, NamedTuple, Sequence
+
+import contest_cases  # noqa: F401  adds its cases
+import interactive_cases  # noqa: F401  adds its cases
+import program_contests  # noqa: F401  adds its cases
+import program_rehearsals  # noqa: F401  adds its cases
+import traced_files  # noqa: F401  adds its case
+from program_cases import CASES, Trial
+from program_rows import fault_of, play, rows_of
+
+ROWS = pathlib.Path(__file__).resolve().parents[2] / "tests" / "program"
+WORKERS = 4
+
+
+class Test(NamedTuple):
+    """What is tried, and where it stands."""
+    place: str
+    title: str
+    trial: Trial
+
+
+def tests_of(folder: pathlib.Path) -> Iterator[Test]:
+    """The rows of the files of a folder."""
+    for path in sorted(folder.glob("*.rows")):
+        try:
+            rows = rows_of(path.read_text(encoding="utf-8"))
+        except ValueError as error:
+            sys.exit(f"{path}: {error}")
+        for row in rows:
+            yield Test(path.name, row.title, functools.partial(play, row))
+
+
+def cases() -> Iterator[Test]:
+    for title, trial in CASES.items():
+        yield Test("program_cases.py", title, trial)
+
+
+def try_all(program: str, tests: Sequence[Test]) -> int:
+    """Tries the program, prints what failed and how many did, and gives that number."""
+    with concurrent.futures.ThreadPoolExecutor(WORKERS) as pool:
+        faults = list(pool.map(lambda test: fault_of(program, test.trial), tests))
+    for test, fault in zip(tests, faults):
+        if fault:
+            print(f"FAILED {test.place}: {test.title}: {fault}")
+    failed = len([fault for fault in faults if fault])
+    print(f"{len(faults) - failed} passed, {failed} failed", flush=True)
+    return failed
+
+
+def main() -> int:
+    if len(sys.argv) not in (2, 3):
+        sys.exit(__doc__.strip())
+    program, *folders = sys.argv[1:]
+    tests = tests_of(pathlib.Path(folders[0])) if folders else (*tests_of(ROWS), *cases())
+    return 1 if try_all(program, list(tests)) else 0
+
+
+if __name__ == "__main__":
+    sys.exit(main())

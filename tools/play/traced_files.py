@@ -1,0 +1,73 @@
+"""A case that looks at the calls by which a server writes its files: no contract speaks of the names of files."""
+import pathlib
+import re
+import subprocess
+import sys
+from typing import Dict, Iterator, List, Tuple
+
+sys.path.insert(0, str(pathlib.Path(__file__).resolve().parents[2] / "examples"))
+
+from contest import free_port  # noqa: E402
+from packages import install  # noqa: E402
+from program_cases import MATCH, SEED, TRIANGLE, case, writes  # noqa: E402
+from program_rows import DONE, PATIENCE, Stage, Wrong  # noqa: E402
+
+CALLS = "write,writev,pwrite64,fsync,fdatasync,rename,renameat,renameat2,unlink,unlinkat"
+# `12 fsync(7</folder/name>) = 0` and `12 rename("name", "other") = 0`, 12 being the thread; a call that another thread
+# interrupts stands in two lines
+CALL = re.compile(r"\d+ +(\w+)\((.*)\) += (-?\d+)")
+BEGUN = re.compile(r"(\d+) +(\w+\(.*) <unfinished \.\.\.>")
+RESUMED = re.compile(r"(\d+) +<\.\.\. \w+ resumed>(.*)")
+NAMED = re.compile(r'"([^"]*)"|\d+<([^>]*)>')
+# what each call is for, by its name
+STEPS = {"write": "write", "writev": "write", "pwrite64": "write", "fsync": "sync", "fdatasync": "sync",
+         "rename": "rename", "renameat": "rename", "renameat2": "rename", "unlink": "remove", "unlinkat": "remove"}
+
+Step = Tuple[str, ...]
+
+
+def whole_calls(trace: str) -> Iterator[str]:
+    """The lines of a trace, a call in each."""
+    begun: Dict[str, str] = {}
+    for line in trace.splitlines():
+        first, last = BEGUN.match(line), RESUMED.match(line)
+        if first:
+            begun[first[1]] = f"{first[1]} {first[2]}"
+        elif last:
+            yield begun.pop(last[1], "") + last[2]
+        else:
+            yield line
+
+
+def steps_in(trace: str, folder: str) -> List[Step]:
+    """The calls in a trace that succeeded, each with the names of its files, as they are from this folder. Of writes
+    in a row to one file there is one."""
+    steps: List[Step] = []
+    for line in whole_calls(trace):
+        found = CALL.match(line)
+        if not found or int(found[3]) < 0:
+            continue
+        names = [quoted or of_number for quoted, of_number in NAMED.findall(found[2])]
+        kind = STEPS[found[1]]
+        files = names if kind in ("rename", "remove") else names[:1]
+        step = (kind, *(name.replace(f"{folder}/", "").replace(folder, ".") for name in files))
+        if steps[-1:] != [step]:
+            steps.append(step)
+    return steps
+
+
+@case("a replay gets its name once its text is on the disk, and its part goes after that")
+def put_in_place(stage: Stage) -> None:
+    install(["strace"])
+    writes(stage, cup=SEED + MATCH.format(network="tri.toml", key="r"), tri=TRIANGLE)
+    given = ["serve", "cup.toml", "--port", free_port(), "--sessions", 1, "--turns", 1, "--pause", 1, "--grace", 0,
+             "--replay", "match"]
+    words = ["strace", "-f", "-y", "-o", "trace", "-e", f"trace={CALLS}", stage.program, *map(str, given)]
+    ran = subprocess.run(words, cwd=stage.folder, capture_output=True, timeout=PATIENCE)
+    if ran.returncode != DONE:
+        raise Wrong(f"the server ended with {ran.returncode}: {ran.stderr!r}")
+    steps = steps_in((stage.folder / "trace").read_text(), str(stage.folder))
+    wanted = [("write", "match0.jsonl.new"), ("sync", "match0.jsonl.new"), ("rename", "match0.jsonl.new", "match0.jsonl"),
+              ("sync", "."), ("remove", "match0.jsonl.part")]
+    if [step for step in steps if step in wanted or "match0.jsonl" in step] != wanted:
+        raise Wrong(f"the calls were {steps}")

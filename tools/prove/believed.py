@@ -1,0 +1,139 @@
+#!/usr/bin/env python3
+"""Counts what a reader must believe: the definitions that the headlines reach, and their lines.
+
+    tools/prove/believed.py [--names]
+
+A headline is a definition of some specs/ that the contract of a law states. The definitions that it uses, those that
+these use, and so on, are all that its statement means, beside the types of the code and the words of the prover's
+library. A variable with the name of a definition of its file counts as that definition, so the numbers are rather too
+large. For each headline a line of a table gives how many definitions it reaches, in how many files, and how many lines
+they have, comments and blank lines aside. With --names each file and its definitions are named too.
+docs/TRUST.md has the table, and a unit test compares them.
+"""
+import functools
+import pathlib
+import re
+import sys
+from typing import Dict, Iterable, Iterator, List, NamedTuple, Set, Tuple
+
+CRATES = pathlib.Path(__file__).resolve().parents[2] / "crates"
+HEADLINES = {
+    "a session of a contest: `equal_pasts_are_sent_equal_bytes` of `bhs_server`":
+        ("bhs_server", "ContestMet", "EqualPastsAreSentEqualBytes"),
+    "calls of rehearsals: `equal_pasts_are_answered_alike` of `bhs_rehearsal`":
+        ("bhs_rehearsal", "Calls", "EqualPastsAreAnsweredAlike"),
+    "scripts of rehearsals: `equal_pasts_are_sent_equal_bytes` of `bhs_rehearsal`":
+        ("bhs_rehearsal", "Headline", "EqualPastsAreSentEqualBytes"),
+    "replies to agents: `equal_pasts` of `bhs_model`": ("bhs_model", "Laws", "EqualPasts"),
+}
+WORD = re.compile(r"[^\W\d][\w'-]*(?:\.[^\W\d][\w'-]*)*")
+BEGINS = re.compile(r"(\s*)(?:abbrev |pub |data |record )+([^\W\d][\w'-]*)")
+DATA = re.compile(r"\s*(?:pub )?data ")
+CONSTRUCTOR = re.compile(r"\s+(?:pub )?([^\W\d][\w'-]*) :")
+IMPORT = re.compile(r"use Rattle\.(\w+)\.specs\.([\w.-]+?)\.\{(.*)\}")
+
+Place = Tuple[str, str, str]  # a crate, a module of its specs, a name
+
+
+class Definition(NamedTuple):
+    lines: List[str]
+    words: Set[str]
+
+
+class Module(NamedTuple):
+    definitions: Dict[str, Definition]
+    owners: Dict[str, str]  # of each name the definition that it belongs to, as a constructor does
+    imports: Dict[str, Place]
+
+
+def without_comment(line: str) -> str:
+    return re.sub(r"(^|\s)--( .*)?$", "", line).rstrip()
+
+
+def imports_in(text: str) -> Dict[str, Place]:
+    """Of each name that a module imports from a crate of this repository, where it stands."""
+    found = {}
+    for crate, module, names in IMPORT.findall(text):
+        for name in names.split(", "):
+            old, _, new = name.partition(" as ")
+            found[new or old] = (crate, module, old)
+    return found
+
+
+def blocks(lines: Iterable[str]) -> Iterator[Tuple[str, List[str]]]:
+    """The definitions, each with its lines; those inside `module _ ..` have its head in front."""
+    head: List[str] = []
+    name, block = "", []
+    for line in lines:
+        begins = BEGINS.match(line)
+        if line.startswith("module _") or begins and len(begins[1]) <= (2 if head else 0):
+            if name:
+                yield name, block
+            name, block = (begins[2], [*head, line]) if begins else ("", [])
+            if not begins:
+                head = [line]
+            elif not begins[1]:
+                head, block = [], [line]
+        elif name:
+            block.append(line)
+        elif head:
+            head.append(line)
+    if name:
+        yield name, block
+
+
+@functools.lru_cache(maxsize=None)
+def read(crate: str, module: str) -> Module:
+    """A file of the specs of a crate."""
+    text = (CRATES / crate / "specs" / f"{module.replace('.', '/')}.antt").read_text(encoding="utf-8")
+    lines = [line for line in map(without_comment, text.splitlines()) if line and not line.startswith("use ")]
+    definitions, owners = {}, {}
+    for name, block in blocks(lines):
+        definitions[name] = Definition(block, set(WORD.findall("\n".join(block))))
+        owners[name] = name
+        for line in block[1:] if any(DATA.match(line) for line in block) else ():
+            constructor = CONSTRUCTOR.match(line)
+            if constructor:
+                owners.setdefault(constructor[1], name)
+    return Module(definitions, owners, imports_in(text))
+
+
+def reached(headline: Place) -> Dict[Tuple[str, str], Set[str]]:
+    """The definitions that a headline reaches, by module."""
+    found: Dict[Tuple[str, str], Set[str]] = {}
+    left = [headline]
+    while left:
+        crate, path, name = left.pop()
+        if path.startswith("declared.") or not (CRATES / crate).is_dir():
+            continue  # a type of the code, or a word of the library
+        module = read(crate, path)
+        owner = module.owners.get(name)
+        if owner is None or owner in found.setdefault((crate, path), set()):
+            continue
+        found[crate, path].add(owner)
+        for word in module.definitions[owner].words:
+            first = word.split(".")[0]
+            left.append(module.imports.get(first, (crate, path, first)))
+    return {place: names for place, names in found.items() if names}
+
+
+def lines_of(place: Tuple[str, str], names: Set[str]) -> int:
+    definitions = read(*place).definitions
+    return sum(len(definitions[name].lines) for name in names)
+
+
+def table(names_too: bool = False) -> str:
+    rows = ["| headline | definitions | files | lines |", "|---|---|---|---|"]
+    for title, headline in HEADLINES.items():
+        found = reached(headline)
+        lines = sum(lines_of(place, names) for place, names in found.items())
+        rows.append(f"| {title} | {sum(map(len, found.values()))} | {len(found)} | {lines} |")
+        if names_too:
+            rows += [f"    {place[0]}/{place[1]}: {', '.join(sorted(names))}" for place, names in sorted(found.items())]
+    return "\n".join(rows) + "\n"
+
+
+if __name__ == "__main__":
+    if sys.argv[1:] not in ([], ["--names"]):
+        sys.exit(__doc__.strip())
+    print(table(bool(sys.argv[1:])), end="")

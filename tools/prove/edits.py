@@ -1,0 +1,272 @@
+#!/usr/bin/env python3
+"""Tries edits of the code that the prover must refuse, each on a copy of its crate.
+
+    tools/prove/edits.py [--all] [CRATE..]
+
+The gate tries crates/NAME/must-fail/*.edit. With --all those of crates/NAME/more-edits/ are tried too, which say the
+same of more functions: run it for each crate that you change. An edit has lines `file: PATH`, and then pairs of lines
+`old: TEXT` and `new: TEXT`, where TEXT stands once in that file.
+
+Of an edited crate the function that is edited is checked, against its contract and those of what it calls, or what a
+line `only: PATH` names. Edits of different functions are tried in one check, and an edit that is not refused there by
+its own function is tried by itself. Where that much is still proved, or no function is edited, the whole crate is
+checked. Each edit has a line, and the last line reads `N passed, M failed`. The libraries below a crate must be built,
+as tools/build and the gate leave them.
+"""
+import concurrent.futures
+import pathlib
+import re
+import shutil
+import subprocess
+import sys
+import tempfile
+from typing import Dict, Iterator, List, NamedTuple, Optional, Sequence, Tuple
+
+sys.path.insert(0, str(pathlib.Path(__file__).resolve().parent))
+
+from prover import CRATES, PARTS, Libraries, below, libraries_of, may_be_used, words_of, workers  # noqa: E402
+
+# what a check of a crate that is proved ends with, and one that is not
+PROVED, NOT_PROVED = "logic=proved", "logic=not-proved"
+SOME_PROVED = re.compile(r"only=(\d+) proved=(\d+)")
+# names that a text of the code or of a definition lacks: the edit was not tried
+UNREAD = re.compile(r"(\./)?(src|specs)/\S+ error: .*(is not in scope|has no field|is missing|expected the end)")
+FUNCTION = re.compile(r"( *)(pub(\([a-z]+\))? )?(const )?fn (\w+)")
+HEAD = re.compile(r"impl(?:<.*?>)? (?:([\w:]+)(?:<(.*?)>)? for )?(\w+)")
+
+
+class BadEdit(Exception):
+    """The edit can't be tried."""
+
+
+class Edit(NamedTuple):
+    """What an edit changes, as files, texts in them and other texts, and the function that it changes, if it changes
+    one."""
+    name: str
+    changes: List[Tuple[str, str, str]]
+    function: Optional[str]
+
+    def change(self, folder: pathlib.Path, texts: Dict[str, str]) -> None:
+        """Makes the changes in these texts, which stand in place of files of a folder."""
+        for file, old, new in self.changes:
+            text = texts.get(file) or (folder / file).read_text()
+            if text.count(old) != 1:
+                raise BadEdit(f"an old text stands {text.count(old)} times in {file}, and not once: {old}")
+            texts[file] = text.replace(old, new)
+
+
+# The function that a line stands in.
+
+def module_of(path: str) -> List[str]:
+    """The module that a file of src/ is."""
+    parts = list(pathlib.PurePath(path).with_suffix("").parts[1:])
+    return [] if parts in (["lib"], ["main"]) else parts
+
+
+def type_of(head: str) -> Optional[str]:
+    """How the prover names an `impl`: by its type, or by the type, the trait and the trait's type."""
+    found = HEAD.match(head)
+    if not found:
+        return None
+    trait, of, name = found.groups()
+    if trait is None:
+        return name
+    return name + trait.rpartition("::")[2] + re.sub(r"<.*|\W", "", of or "")
+
+
+def function_at(path: str, text: str, place: int) -> Optional[str]:
+    """The function whose body has a place of a file, by the path that the prover knows."""
+    name, depth = None, 0
+    for line in reversed(text[:place].split("\n")):
+        found = FUNCTION.match(line)
+        if found and name is None:
+            name, depth = found[5], len(found[1])
+        elif name is not None and line.startswith("impl") and depth:
+            return "::".join([*module_of(path), *filter(None, [type_of(line)]), name])
+        elif line.startswith("}") and name is None:
+            return None
+        if name is not None and depth == 0:
+            return "::".join([*module_of(path), name])
+    return None
+
+
+def read_edit(path: pathlib.Path, folder: pathlib.Path) -> Edit:
+    """An edit of a crate, which can be made there."""
+    file, old, only, changes = "", "", None, []
+    for line in path.read_text().split("\n"):
+        word, _, text = line.partition(": ")
+        if word == "file":
+            file = text.strip()
+        elif word == "only":
+            only = text.strip()
+        elif word == "old":
+            old = text
+        elif word == "new" or line == "new:":
+            if not old:
+                raise BadEdit("a line `new: TEXT` has no line `old: TEXT` before it")
+            changes.append((file, old, text))
+    if not changes:
+        raise BadEdit("it has no pair of lines `old: TEXT` and `new: TEXT`")
+    edit = Edit(path.stem, changes, only)
+    edit.change(folder, {})
+    file, old, _ = changes[0]
+    text = (folder / file).read_text()
+    return edit._replace(function=only or function_at(file, text, text.index(old)))
+
+
+# Checks.
+
+class Prover(NamedTuple):
+    """How a crate is checked: the words of the check, and where it keeps its work."""
+    name: str
+    words: Sequence[str]
+    kept: str
+
+    def lines(self, edits: Sequence[Edit], functions: Sequence[str]) -> List[str]:
+        """The lines of a check of these functions, or of all, in a copy of the crate with these edits."""
+        texts: Dict[str, str] = {}
+        for edit in edits:
+            edit.change(CRATES / self.name, texts)
+        with tempfile.TemporaryDirectory(prefix="edit-") as room:
+            for part in PARTS:
+                if (CRATES / self.name / part).is_dir():
+                    shutil.copytree(CRATES / self.name / part, f"{room}/{part}")
+            for path, text in texts.items():
+                pathlib.Path(room, path).write_text(text)
+            only = [word for function in functions for word in ("--only", function)]
+            ran = subprocess.run([*self.words, "--incremental", self.kept, *only], cwd=room, stdin=subprocess.DEVNULL,
+                                 stdout=subprocess.PIPE, stderr=subprocess.STDOUT, text=True, errors="replace")
+        lines = ran.stdout.rstrip("\n").split("\n")
+        unread = next((line for line in lines if UNREAD.match(line)), None)
+        if unread:
+            raise BadEdit(f"the edited text can't be read: {unread}")
+        return lines
+
+
+def first_told(lines: Sequence[str]) -> str:
+    """The first line on what is not proved, with its place if it has one. Remarks are no reason."""
+    begins = (r"(note: )?\S+:\d+:\d+: (?!note: |warning: )", r"fn \S+: (no proof|not proved)")
+    return next((line for begin in begins for line in lines if re.match(begin, line)), "")
+
+
+def together(edits: Sequence[Edit], folder: pathlib.Path) -> Tuple[List[Edit], List[Edit]]:
+    """Edits of different functions that can be made at once, and the others."""
+    texts: Dict[str, str] = {}
+    chosen: List[Edit] = []
+    for edit in edits:
+        tried = dict(texts)
+        try:
+            edit.change(folder, tried)
+        except BadEdit:
+            continue
+        if edit.function and edit.function not in [it.function for it in chosen]:
+            chosen.append(edit)
+            texts = tried
+    return chosen, [it for it in edits if it not in chosen]
+
+
+def own_error(lines: Sequence[str], function: str) -> str:
+    """The first error in a function's own proof files, but for one that says no more than that another proof is not
+    admitted."""
+    begin = re.compile(rf"(\./)?proofs/{function.replace('::', '/')}/\w+\.antt:\d+:\d+: error: (?!.*not admitted)")
+    return next((line for line in lines if begin.match(line)), "")
+
+
+def refused_together(prover: Prover, edits: Sequence[Edit]) -> Dict[str, str]:
+    """What the prover says against those edits that their own functions refuse, where all are made at once."""
+    if len(edits) < 2:
+        return {}
+    try:
+        lines = prover.lines(edits, [it.function for it in edits if it.function])
+    except BadEdit:
+        return {}
+    if not SOME_PROVED.match(lines[-1]):
+        return {}
+    refused = {}
+    for edit in edits:
+        begin = f"fn {prover.name}::{edit.function}: "
+        told = next((line[len(begin):] for line in lines if line.startswith(begin)), "")
+        own = own_error(lines, edit.function or "")
+        if told.startswith(("no proof", "not proved")) and ("did not prove" in told or "it calls" not in told or own):
+            refused[edit.name] = f"{edit.function}: {own or told}"
+    return refused
+
+
+def refusal(prover: Prover, edit: Edit) -> Optional[str]:
+    """What the prover says against an edit, or None where the crate is still proved."""
+    if edit.function:
+        lines = prover.lines([edit], [edit.function])
+        counts = SOME_PROVED.match(lines[-1])
+        if counts and int(counts[2]) < int(counts[1]):
+            return f"{edit.function}: {first_told(lines)}"
+    lines = prover.lines([edit], [])
+    if lines[-1].startswith(NOT_PROVED):
+        return f"the whole crate: {first_told(lines)}"
+    if lines[-1].startswith(PROVED):
+        return None
+    raise BadEdit(f"it did not come to a proof: {first_told(lines) or lines[-1]}")
+
+
+def answers_of(prover: Prover, edits: Sequence[Edit]) -> Iterator[Tuple[str, Optional[str], str]]:
+    """The name of each edit of a crate, what the prover says against it, and the line that is printed."""
+    left = list(edits)
+    while left:
+        chosen, left = together(left, CRATES / prover.name)
+        chosen, left = (chosen, left) if chosen else (left, [])
+        refused = refused_together(prover, chosen)
+        for edit in chosen:
+            try:
+                told = refused.get(edit.name) or refusal(prover, edit)
+                text = f"refused: {told[:200]}" if told else "NOT REFUSED: the crate is still proved"
+            except (BadEdit, OSError) as fault:
+                told, text = None, f"BAD EDIT: {fault}"
+            yield edit.name, told, text
+
+
+def tried(libraries: Libraries, name: str, paths: Sequence[pathlib.Path]) -> Iterator[bool]:
+    """Tries the edits of a crate, each check over what earlier ones kept, and prints a line for each edit."""
+    edits = []
+    for path in paths:
+        try:
+            edits.append(read_edit(path, CRATES / name))
+        except (BadEdit, OSError) as fault:
+            print(f"edit {name}/{path.stem}: BAD EDIT: {fault}", flush=True)
+            yield False
+    with tempfile.TemporaryDirectory(prefix="edits-") as kept:
+        for edit, told, text in answers_of(Prover(name, words_of(libraries, "check", name), kept), edits):
+            print(f"edit {name}/{edit}: {text}", flush=True)
+            yield told is not None
+
+
+def edits_of(name: str, folders: Sequence[str]) -> List[pathlib.Path]:
+    return sorted(it for folder in folders for it in (CRATES / name / folder).glob("*.edit"))
+
+
+def main(words: List[str]) -> int:
+    if "-h" in words or "--help" in words:
+        print(__doc__.strip())
+        return 0
+    libraries = libraries_of()
+    names = [word for word in words if word != "--all"]
+    strange = [name for name in names if name not in libraries]
+    if strange:
+        print(f"tools/prove/edits.py: no crate {strange[0]} stands in crates.txt", file=sys.stderr)
+        return 2
+    folders = ["must-fail", "more-edits"] if "--all" in words else ["must-fail"]
+    edits = {name: edits_of(name, folders) for name in names or libraries}
+    for name in libraries:
+        is_needed = any(name in below(libraries, it) for it, found in edits.items() if found)
+        if is_needed and not may_be_used(libraries, name):
+            print(f"tools/prove/edits.py: {name} is not built, or older than its sources: run tools/build",
+                  file=sys.stderr)
+            return 1
+    with concurrent.futures.ThreadPoolExecutor(workers()) as pool:
+        # those with the most edits first, since a crate's are tried in turn
+        longest = sorted((it for it in edits.items() if it[1]), key=lambda it: -len(it[1]))
+        answers = [it for found in pool.map(lambda it: list(tried(libraries, *it)), longest) for it in found]
+    print(f"{sum(answers)} passed, {len(answers) - sum(answers)} failed", flush=True)
+    return 0 if all(answers) else 1
+
+
+if __name__ == "__main__":
+    sys.exit(main(sys.argv[1:]))
