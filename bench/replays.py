@@ -168,7 +168,7 @@ def is_judged(program: str, kind: Kind, commands: int, name: str, folder: pathli
     return ran.stdout.strip() == verdict
 
 
-def line_of(word: str, seconds: float, count: int, peak: int) -> str:
+def figure_line(word: str, seconds: float, count: int, peak: int) -> str:
     """What is printed of a command on a replay with this number of events. bench/figures.py reads it."""
     return f"  {word}: {seconds:.3f} s, {seconds / count * 1e6:.2f} us an event, peak {peak} KiB"
 
@@ -191,7 +191,7 @@ def alone(program: str, kind: Kind, folder: pathlib.Path) -> bool:
         right = is_judged(program, kind, commands, name, folder) and right
         figures = measured(program, name, folder)
         for word, seconds, peak in figures:
-            print(line_of(word, seconds, count, peak), flush=True)
+            print(figure_line(word, seconds, count, peak), flush=True)
         if part == 1:
             whole = figures
         else:

@@ -69,9 +69,9 @@ class Texts(unittest.TestCase):
         self.assertTrue(text.endswith("| check: sparse | 2.00 | 4.00 | 0.50 | 1.00 | 2.00 | 0.50 | 40 | 50 |\n"))
 
     def test_replays(self) -> None:
-        lines = ["moves: 100 events, 2000 bytes", replays.line_of("judge", 0.48, 100, 13),
-                 replays.line_of("twin", 0.52, 100, 25), "moves: 10 events, 200 bytes",
-                 replays.line_of("judge", 0.05, 10, 12), replays.line_of("twin", 0.05, 10, 12),
+        lines = ["moves: 100 events, 2000 bytes", replays.figure_line("judge", 0.48, 100, 13),
+                 replays.figure_line("twin", 0.52, 100, 25), "moves: 10 events, 200 bytes",
+                 replays.figure_line("judge", 0.05, 10, 12), replays.figure_line("twin", 0.05, 10, 12),
                  "  judge: the whole takes 9.6 times as long, 1.1 times the memory",
                  "  twin: the whole takes 10.4 times as long, 2.1 times the memory"]
         self.assertEqual(figures.replays_text("\n".join(lines)).splitlines()[2:], [

@@ -12,6 +12,7 @@ mod serving;
 mod settling;
 mod visits;
 mod watching;
+mod welcoming;
 
 pub use connections::SessionHooks;
 pub use dealing::deal;

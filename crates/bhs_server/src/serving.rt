@@ -3,7 +3,6 @@
 ghost use Rattle.std.specs.Prelude.{◌≡◌, IfOk, vec_len};
 ghost use Rattle.bhs_server.specs.Settling.{HaveFared};
 
-use crate::ending::Ending;
 use crate::pacing::Pace;
 use crate::running::{Running, all_visits};
 use crate::settling::{Settled, by_match, settle_all};
@@ -84,8 +83,8 @@ pub fn run_server<
         dealers,
         keys,
     } = contest;
-    let visits = {
-        let running = Running {
+    let visits = all_visits(
+        Running {
             rt,
             alloc,
             listener,
@@ -95,10 +94,9 @@ pub fn run_server<
             pace,
             gate,
             watch,
-            ending: Ending::new(alloc, cells.len(), limits.sessions)?,
-        };
-        all_visits(&running, dealers)?
-    };
+        },
+        dealers,
+    )?;
     let returned = by_match(alloc, cells.len(), visits)?;
     Ok(Served {
         settled: settle_all(alloc, cells, returned.passes)?,
