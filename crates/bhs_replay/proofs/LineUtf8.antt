@@ -1,7 +1,6 @@
 -- The line of an event and its reply is UTF-8, if their numbers have 16 bits and their texts are UTF-8.
 use Rattle.std.proofs.Common.{◌≡◌, ℕ, ◌<◌, ◌^◌, true, IsUtf8, List, ◌++◌, codes, decimal, Option, Some, None, refl}
 use Rattle.std.proofs.Common.{arith}
-use Rattle.std.specs.Prelude.{⊤}
 use Rattle.std.proofs.lemmas.Str.{IsUtf8-append, IsUtf8-from_ascii}
 use Rattle.std.proofs.lemmas.Fmt.{IsAscii-decimal}
 use Rattle.json.proofs.Printed.Utf8.{are_ascii, IsUtf8-are_ascii, IsUtf8-quoted}

@@ -1,6 +1,6 @@
 -- A match that is closed where its lines stop.
 use Rattle.std.proofs.Common.{◌≡◌, Bool, true, false, not, Option, List, [], ◌∷◌, ◌++◌}
-use Rattle.std.proofs.Common.{if◌then◌else◌, refl, sym, ap, ◌∙◌}
+use Rattle.std.proofs.Common.{if◌then◌else◌, sym, ap, ◌∙◌}
 use Rattle.std.proofs.Common.{subst, ap₂, Result, Ok, Err}
 use Rattle.std.proofs.lemmas.Bool.{cond-true, cond-false, not-false, true≢false}
 use Rattle.bhs_model.specs.declared.events.Event.{Event}

@@ -11,7 +11,7 @@ use Rattle.bhs_match.specs.Matches.{Play}
 use Rattle.bhs_stream.specs.Streams.{Chunk, End}
 use Rattle.bhs_stream.specs.Reading.{Closes}
 use Rattle.bhs_replay.specs.Reading.{IsSound}
-use Rattle.bhs_replay.specs.Stages.{Stage, Opens, Goes, Ends, Wrong, Leads, Comes, ended}
+use Rattle.bhs_replay.specs.Stages.{Stage, Goes, Ends, Leads, Comes, ended}
 
 -- the events of a match that is closed after these, if it was not
 abbrev pub closed_events : Network → Setup → List Event → List Event
