@@ -75,7 +75,7 @@ class Setting(NamedTuple):
 
 class Benchmark(NamedTuple):
     """A benchmark: the title of its section, its command, and the text that its output gives. `needs` says what is
-    missing, if anything is; `build` names the build, if it is not the one of the setting."""
+    missing, if anything is; `build` names the build, if it is not that of the setting."""
 
     title: str
     words: Callable[[Setting], List[str]]

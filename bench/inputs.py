@@ -119,5 +119,5 @@ def peak_of_child(child: subprocess.Popen) -> int:
 
 
 def median_run(rounds: int, program: str, words: Sequence[str], source: pathlib.Path, folder: pathlib.Path) -> Run:
-    """The run of so many whose seconds are the median."""
+    """Of this many runs, that with the median time."""
     return sorted(run(program, words, source, folder) for _ in range(rounds))[rounds // 2]

@@ -29,8 +29,8 @@ SEED = 20_261_122
 
 
 def script(length: int) -> Tuple[str, int]:
-    """A script of at most so many bytes, and its number of lines: every connection enters, and then commands and draws
-    come by chance."""
+    """A script of at most this many bytes, and its number of lines: every connection enters, and then commands and
+    draws come by chance."""
     chance = random.Random(SEED)
     lines = []
     size = 0

@@ -49,7 +49,7 @@ ACTIVE = [1, 16, 256]
 ROUNDS = 3
 # a quota is 1000, and what comes before the clock starts uses some of it
 MOST_COMMANDS = 990
-# how many commands are measured: so many for each of up to four active sessions; moves are bounded by turns
+# how many commands are measured for each of up to four active sessions; moves are bounded by turns
 TOTALS = {"one": 20_000, "many": 200_000}
 MOVES = 600
 # writers first walk to whiteboards of their own
@@ -58,7 +58,7 @@ BOARDS = 4
 PAUSES = {"looks": 1000, "writes": 20, "moves": 1}
 MATCH_SECONDS = 600
 LIMIT = 60
-# a run that cannot measure so many loads gives up
+# a run gives up once it could not measure this many loads
 MOST_FAILED = 3
 WANTED = {"one": 0.5, "many": 0.2}
 
@@ -215,7 +215,7 @@ def judged(load: Load, found: Dict[str, Figures]) -> Optional[str]:
 
 
 def memory(bench: Bench, count: int) -> List[str]:
-    """The peak memory of both servers with so many sessions open."""
+    """The peak memory of both servers with this many sessions open."""
     load, lines = Load("looks", "hold", 1, count, 1), []
     arena_port, echo_port = free_port(), free_port()
     commands = [("arena", bench.words_of_arena(arena_port, load), arena_port),

@@ -32,7 +32,7 @@ def words(tournament: pathlib.Path, port: int, sessions: int, turns: int, pause:
 
 
 def prepare(files: int) -> None:
-    """Lets this program and those that it starts have so many files open. Has it clean up also where it is told to
+    """Lets this program and those that it starts have this many files open. Has it clean up even if it is told to
     end."""
     soft, hard = resource.getrlimit(resource.RLIMIT_NOFILE)
     if hard != resource.RLIM_INFINITY and hard < files:

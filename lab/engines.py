@@ -68,8 +68,8 @@ def is_unproved(program: str) -> bool:
 def add_program(parser: argparse.ArgumentParser) -> None:
     """The options that name the program."""
     named = parser.add_mutually_exclusive_group()
-    named.add_argument("--program", metavar="PATH", help="the program; where none is named the proved one if it is "
-                       "built, else one without a proof, which is compiled in a minute or two and says so")
+    named.add_argument("--program", metavar="PATH", help="the program; by default the proved one if it is built, "
+                       "else one without a proof, which is compiled in a minute or two and says so")
     named.add_argument("--proved", dest="program", action="store_const", const=ASK_FOR_PROOF,
                        help="the proved program, which is proved and built first if needed, in many minutes")
 

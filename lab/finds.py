@@ -20,7 +20,7 @@ SCHEDULE, SCRIPT, REPLAY, PAGE = "schedule.txt", "script.txt", "match0.jsonl", "
 
 
 def engine_of(schedule: Schedule, program: Optional[str]) -> Engine:
-    """The program as an engine, or the Python model where none is given."""
+    """The program as an engine, or the Python model if no program is given."""
     if program:
         return Program(schedule.fixture, program)
     return Rehearsal(schedule.fixture)

@@ -1,4 +1,4 @@
-"""Debian's packages that parts of the lab need, and a clear line where one is missing."""
+"""Debian's packages that parts of the lab need, and a clear line if one is missing."""
 import importlib
 from types import ModuleType
 

@@ -87,7 +87,7 @@ def line_of(name: str, hunted: Caught, explored: Caught) -> str:
 
 def add_words(parser: argparse.ArgumentParser) -> None:
     """The words of the command `mutants`."""
-    parser.add_argument("names", metavar="NAME", nargs="*", help="which of them; all, where none is named")
+    parser.add_argument("names", metavar="NAME", nargs="*", help="which of them; all by default")
     add_program(parser)
 
 

@@ -169,7 +169,7 @@ def play(engine: Engine, team: Team, scheduler: Scheduler, fixture: Fixture) -> 
             except Ended:
                 break
             if choice not in choices:
-                raise Impossible(f"the scheduler chooses {choice!r}, which is none of the choices")
+                raise Impossible(f"the scheduler chooses {choice!r}, which is not among the choices")
             run.happen(choice)
         run.close()
         replay = engine.replay()

@@ -4,8 +4,8 @@
  *     ./load PORT KIND MODE ACTIVE COMMANDS THREADS < KEYS
  *
  * KIND is looks, moves or writes, and MODE one, many or hold. Standard input has a line `KEY STEPS` for each session.
- * First all sessions connect and enter, and their agents go so many steps by port 0; for writes each then puts the
- * first of two texts on its whiteboard, where it does not stand there already. Then the clock starts. ACTIVE sessions
+ * First all sessions connect and enter, and their agents go STEPS steps by port 0; for writes each then puts the
+ * first of two texts on its whiteboard, unless it stands there already. Then the clock starts. ACTIVE sessions
  * at a time send COMMANDS commands each; when one is done, another begins that stands ACTIVE lines further down. In the
  * mode `one` a session waits for the answer before it sends the next command; in the mode `many` it sends all of them
  * as fast as the socket takes them, and reads the answers as they come. Every byte that comes is compared with what

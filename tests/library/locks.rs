@@ -76,7 +76,7 @@ fn outcome(cell: Cell, passes: Vec<Pass>) -> (usize, Option<Dispute>, usize, usi
     }
 }
 
-/// What settled, with a log of so many events.
+/// What settled, with a log of this many events.
 const fn settled(events: usize) -> (usize, Option<Dispute>, usize, usize) {
     (events, None, 0, 0)
 }
@@ -127,7 +127,7 @@ fn entered<R: Abort + Wait>(rt: &R, alloc: Global) -> Result<(Cell, Vec<Pass>), 
     Ok((shared, passes))
 }
 
-/// What comes of a match on which both agents entered, where so many of their passes are handed in.
+/// What comes of a match on which both agents entered, if this many of their passes are handed in.
 fn handed_in<R: Abort + Wait>(
     rt: &R,
     alloc: Global,
@@ -289,7 +289,7 @@ fn matches_share_no_lock(rt: HostRuntime) -> Result<(), Fail> {
     Ok(())
 }
 
-/// A pass after so many commands: an Enter, then Writes and Looks in turn.
+/// A pass after this many commands: an Enter, then Writes and Looks in turn.
 fn played<R: Wait>(rt: &R, alloc: Global, cell: &Cell, mut pass: Pass, commands: u32) -> Pass {
     tell(rt, cell, &mut pass, Command::Enter);
     for place in 1..commands {

@@ -1,5 +1,5 @@
-//! Requests for memory that are refused. Here each is granted; `tools/hostile/refusals.py` runs these tests again, each time
-//! with another request refused. Two marks stand round each call that is tested: where a request between them is
+//! Requests for memory that are refused. Here each is granted; `tools/hostile/refusals.py` runs these tests again, each
+//! time with another request refused. Two marks stand round each call that is tested: if a request between them is
 //! refused, the test passes. Before and behind them it may want memory.
 
 mod again;
@@ -15,7 +15,7 @@ use bhs_model::{Command, Text};
 use std::alloc::{AllocError, Global};
 use std::test::Fail;
 
-/// To the harness a request for so many bytes is none: it says that the call that is tested begins, or has ended.
+/// To the harness a request for this many bytes is a mark: the call that is tested begins, or has ended.
 const MARK: usize = 1_048_573;
 
 fn mark(alloc: Global) -> Result<(), Fail> {

@@ -1,4 +1,4 @@
-//! Replays read and written again, and texts that are none.
+//! Replays read and written again, and texts that are no replays.
 
 use super::streams::{Narrow, Pieces};
 use bhs_match::Sealed;

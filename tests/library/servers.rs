@@ -27,7 +27,7 @@ fn listener<R: Net<Listener = TcpListener, Stream = TcpStream>>(rt: &R) -> io::R
     TcpListener::bind(rt, SocketAddr::from((Ipv4Addr::LOCALHOST, 0)))
 }
 
-/// For so many sessions, which may last two seconds once all matches are closed.
+/// For this many sessions, which may last two seconds once all matches are closed.
 fn limits(sessions: u32) -> Limits {
     Limits {
         sessions,
@@ -37,7 +37,7 @@ fn limits(sessions: u32) -> Limits {
     }
 }
 
-/// What a server serves of a contest by so many sessions, and what its clients do meanwhile.
+/// What a server serves of a contest by this many sessions, and what its clients do meanwhile.
 fn served_beside<R, G, T>(
     rt: &R,
     alloc: Global,

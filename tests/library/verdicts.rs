@@ -5,7 +5,7 @@ use bhs_referee::{Outcome, judge};
 use std::alloc::Global;
 use std::test::Fail;
 
-/// What is played: on so many nodes, with these black holes and dark links, the words of a row.
+/// What is played: the number of nodes, the black holes, the dark links, and the words of a row.
 type Game = (u16, &'static [u16], &'static [(u16, u16)], &'static str);
 
 /// Matches, with the outcome, the moves, and how many agents were lost.

@@ -13,7 +13,7 @@ const SEARCH: &str = "0e 1e 1d0 1v 1w 0l 0d0 0v 1d0";
 /// The same without the way to node 1.
 const LOOK: &str = "0e 1e 1d0 1v 1w 0l";
 
-/// Whether the cut of an agent in a row is these places, after so many looks.
+/// Whether the cut of an agent in a row is these places, after this many looks.
 fn saw(alloc: Global, row: &str, agent: u16, places: &[u32], looks: u32) -> Result<bool, Fail> {
     let sealed = played(alloc, 3, &[2], &[], row)?;
     let found = cut_and_looks(alloc, &sealed, agent)?;

@@ -21,7 +21,7 @@ fn dark(alloc: Global, ends: &[(u16, u16)]) -> Result<Setup, Fail> {
     })
 }
 
-/// A setup of so many agents with this quota and whiteboard, from this home.
+/// A setup of this many agents with this quota and whiteboard, from this home.
 fn sized(alloc: Global, home: u16, agents: u16, quota: u16, board: u16) -> Result<Setup, Fail> {
     Ok(Setup {
         home,

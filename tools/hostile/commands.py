@@ -74,7 +74,7 @@ class Lab:
         self.whole = {command.name: self.run(command) for command in COMMANDS}
 
     def run(self, command: Command, limit: Optional[Callable[[], None]] = None, **streams: Any) -> Run:
-        """Runs a command, with a limit that is set before it begins, and other streams where some are given."""
+        """Runs a command, with a limit that is set before it begins, and other streams if some are given."""
         self.runs += 1
         script = self.folder / command.script if command.script else os.devnull
         with open(script, "rb") as given:

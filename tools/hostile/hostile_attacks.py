@@ -77,7 +77,7 @@ def enter_line(who: str) -> bytes:
 
 
 def hear(client: socket.socket, expected: bytes, limit: float = PROMPT) -> None:
-    """Reads as much as is expected, which is to come within so many seconds."""
+    """Reads as much as is expected, which is to come within this many seconds."""
     heard, begin = b"", time.monotonic()
     try:
         while len(heard) < len(expected):
@@ -107,7 +107,7 @@ def hear_end(client: socket.socket) -> None:
 
 
 def wait_for_lines(client: socket.socket, count: int) -> None:
-    """Waits until so many lines have come, and leaves them unread."""
+    """Waits until this many lines have come, and leaves them unread."""
     end = time.monotonic() + PROMPT
     while client.recv(SMALL_BUFFER, socket.MSG_PEEK).count(b"\n") < count:
         if time.monotonic() > end:
@@ -148,7 +148,7 @@ class Siege:
         return self.sizes.sessions - self.sessions
 
     def connect(self, buffer: int = 0) -> socket.socket:
-        """A new session; it has a small buffer for what it is sent where one is named."""
+        """A new session; with a size it has a small buffer for what it is sent."""
         client = socket.socket()
         if buffer:
             client.setsockopt(socket.SOL_SOCKET, socket.SO_RCVBUF, buffer)
@@ -240,7 +240,7 @@ def resets(siege: Siege) -> str:
 
 
 def connect_silently(siege: Siege, count: int) -> str:
-    """They come in bursts, as the system queues only so many."""
+    """They come in bursts, since the system queues only a few."""
     for number in range(count):
         if number % BURST == 0:
             time.sleep(0.01)

@@ -1,12 +1,12 @@
 #!/usr/bin/env python3
-"""Gives `arena judge` replays that are none, and looks at its fault, its time and its memory.
+"""Gives `arena judge` texts that are no replays, and looks at its fault, its time and its memory.
 
     tools/hostile/hostile_replays.py [PROGRAM] [--size BYTES]
 
-PROGRAM is the built program, ./arena where none is named. Each text has BYTES bytes, 1 GiB where none are named, and
-comes through a pipe, so no file is written. For each a line is printed: the fault and the status, the seconds, the peak
-memory, and both again for a text of a quarter of the size. The exit status is 1 where a fault is another than it should
-be, where time grows much faster than the text, or where memory is more than three times the longest line and 4 MiB.
+PROGRAM is the built program, by default ./arena. Each text has BYTES bytes, by default 1 GiB, and comes through a pipe,
+so no file is written. A line for each has the fault and the status, the seconds, the peak memory, and both again for a
+text of a quarter of the size. The exit status is 1 if a fault is wrong, if time grows much faster than the text, or if
+memory is more than three times the longest line and 4 MiB.
 
 A replay's lines have no limit of length, so the program holds one line, and while that grows its first half once more.
 """

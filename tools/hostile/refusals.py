@@ -155,7 +155,7 @@ def kind_of(mode: str) -> str:
 
 
 def places(number: int, most: int) -> Sequence[int]:
-    """The places 1 to a number, or so many of them, evenly spread, the first and the last among them."""
+    """The places 1 to a number, or at most this many of them, evenly spread, the first and the last among them."""
     if not most or number <= most:
         return range(1, number + 1)
     return [1 + index * (number - 1) // (most - 1) for index in range(most)]

@@ -88,7 +88,7 @@ def run(words: List[str], folder: pathlib.Path) -> Tuple[int, int]:
 
 
 def run_unproved(room: pathlib.Path, program: str) -> Tuple[int, int]:
-    """Compiles and runs the tests, leaves the program where one is named, and counts."""
+    """Compiles and runs the tests, leaves the program in a file if one is named, and counts."""
     folder = room / NAME
     libraries = make(folder)
     kept = room / "kept"

@@ -5,9 +5,9 @@
 
 Makes N lists of links by a seeded generator, 10,000 where no number is given. Half of them make a network. Of the
 others most are broken in one to three places, and some join two networks at a node or not at all. Runs `PROGRAM check`
-on each, and so OTHER, another build, where one is named, and compares the fault line and the status. The tournament is
+on each, and OTHER, another build, if it is named, and compares the fault line and the status. The tournament is
 of version 1, so that older builds take it too. Prints how many lists had each fault, and a line for each difference.
-The exit status is 1 where there is one.
+The exit status is 1 if there is one.
 """
 import argparse
 import collections

@@ -66,7 +66,7 @@ def writes(stage: Stage, **texts: str) -> None:
 # Quotas and pieces.
 
 def spends(stage: Stage, first: Sequence[Tuple[str, str]], looks: int) -> None:
-    """An agent enters, is answered so, looks so many times, and has then spent its quota."""
+    """An agent enters, is answered so, looks this many times, and has then spent its quota."""
     told = [(ENTER, HERE), *first, *[(LOOK, HERE)] * looks, (LOOK, '0 {"no":"spent"}\n'),
             ('{"do":"leave"}', '0 {"ok":"bye"}\n'), (LOOK, "")]
     rehearses(stage, "".join(f"0 {line}\n" for line, _ in told), "".join(answer for _, answer in told))
@@ -89,7 +89,7 @@ def quota_and_port(stage: Stage) -> None:
     spends(stage, [('{"do":"depart","port":2}', '0 {"no":"port"}\n')], 9)
 
 
-@case("lines that are none are of a quota")
+@case("wrong lines use up a quota")
 def quota_and_lines(stage: Stage) -> None:
     spends(stage, [('{"do":"jump"}', BAD), ("x" * (MAX_LINE + 1), BAD)], 8)
 
@@ -160,13 +160,13 @@ def long_lines(stage: Stage) -> None:
     rehearses(stage, "".join(f"0 {line}\n" for line in lines), (HERE + BAD) * 3)
 
 
-@case("a script has so many bytes")
+@case("a script of the greatest length, and one byte more")
 def longest_script(stage: Stage) -> None:
     rehearses(stage, "\n" * MAX_TEXT, "")
     rehearses(stage, "\n" * (MAX_TEXT + 1), "", "script: text\n", REFUSED_TEXT)
 
 
-@case("a file has so many bytes")
+@case("a file of the greatest length, and one byte more")
 def longest_file(stage: Stage) -> None:
     for more, fault in ((0, "version"), (1, "text")):
         writes(stage, long="#" * (MAX_TEXT + more))
@@ -263,7 +263,7 @@ def full_output(stage: Stage) -> None:
         fails_on(stage, output.fileno())
 
 
-# Runs a command whose files may have so many bytes. A write beyond them fails, since Python ignores the signal of it.
+# Runs a command whose files may have this many bytes. A write beyond them fails, since Python ignores the signal of it.
 NARROW = """import os, resource, sys
 resource.setrlimit(resource.RLIMIT_FSIZE, (int(sys.argv[1]),) * 2)
 os.execv(sys.argv[2], sys.argv[2:])"""

@@ -68,7 +68,7 @@ class Stage:
         self.folder = folder
 
     def run(self, words: Sequence[Word], script: bytes = b"", front: Sequence[str] = (), **streams: Any) -> Run:
-        """Runs the program on a script, by a command in front of it and with other streams where some are given."""
+        """Runs the program on a script, by a command in front of it and with other streams if some are given."""
         plain = {"stdout": subprocess.PIPE, "stderr": subprocess.PIPE}
         try:
             ran = subprocess.run([*front, self.program, *words], cwd=self.folder, input=script, timeout=PATIENCE,

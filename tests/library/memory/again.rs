@@ -52,7 +52,7 @@ const ACCUSED: &str = "{\"agents\":2,\"board\":8,\"dark\":[],\"holes\":[2],\
 {\"end\":3}
 ";
 
-/// What a call answers, which is made once more where memory ran out in it. Any other fault is one of the test.
+/// What a call answers, which is made once more if memory ran out in it. Any other fault is one of the test.
 fn again<T: Drop, F: Drop>(
     alloc: Global,
     is_memory: impl Fn(&F) -> bool,
@@ -123,7 +123,7 @@ fn cell(alloc: Global) -> Result<Cell, Memory> {
     Cell::new(alloc, 0, game, held)
 }
 
-/// What an agent is answered to a command. Where memory runs out its pass stays as it was, and the command is told
+/// What an agent is answered to a command. If memory runs out its pass stays as it was, and the command is told
 /// again.
 fn told<R: Wait + Abort>(
     rt: &R,

@@ -10,7 +10,7 @@ use std::test::Fail;
 
 const KEPT: &[u8] = b"what was there";
 
-/// A text without room to which a call adds, once more where memory ran out in it.
+/// A text without room to which a call adds, once more if memory ran out in it.
 fn added(
     alloc: Global,
     mut call: impl FnMut(&mut Vec<u8>) -> Result<(), Memory>,

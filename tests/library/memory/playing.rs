@@ -25,7 +25,7 @@ fn events(alloc: Global) -> Result<Vec<Event>, Fail> {
     ]?)
 }
 
-/// The first request after the match is made is the one of the last lines.
+/// The first request after the match is made is that of the last lines.
 #[test]
 fn playing_takes_no_memory(rt: HostRuntime) -> Result<(), Fail> {
     let alloc = rt.alloc();

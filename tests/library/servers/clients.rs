@@ -67,7 +67,7 @@ impl<'a, R: Net<Listener = TcpListener, Stream = TcpStream> + Clock> Client<'a, 
         io::read_to_string(self.alloc, &stream)
     }
 
-    /// Waits until so many bytes can be read, of at most 256. It is a fault if they do not come.
+    /// Waits until this many bytes can be read, of at most 256. It is a fault if they do not come.
     pub(super) fn waits_for(&self, stream: &TcpStream, bytes: usize) -> io::Result<()> {
         let mut buffer = [0; 256];
         for _ in 0..10_000 {

@@ -8,7 +8,7 @@ use std::test::Fail;
 use std::thread;
 use std::time::{Clock, Duration};
 
-/// So many matches on the triangle, with black hole 2. The key of an agent is `k`, the number of its match, a hyphen
+/// This many matches on the triangle, with black hole 2. The key of an agent is `k`, the number of its match, a hyphen
 /// and its number.
 pub(super) fn contest(alloc: Global, games: u32, agents: u16) -> Result<Contest, Fail> {
     let mut cells = Vec::new(alloc);
@@ -28,7 +28,7 @@ pub(super) fn contest(alloc: Global, games: u32, agents: u16) -> Result<Contest,
     })
 }
 
-/// Takes turns once so many clients have come far enough, and closes the matches once more of them have.
+/// Takes turns once enough clients have come far enough, and closes the matches once more of them have.
 #[derive(Drop)]
 pub(super) struct Patience<'a, C> {
     clock: &'a C,
