@@ -16,7 +16,7 @@ On each it runs `judge`, `table`, `explain` and `twin`. What `judge` says is com
 give, and the exit status is 1 where it is something else. Nothing is written outside a temporary folder, which takes
 up to 1 GB.
 
-With one program, the one that was built here where none is named, each replay is written whole and at a tenth of its
+With one program, the one that was built here if none is named, each replay is written whole and at a tenth of its
 commands. For each command it prints the median time of three runs, the peak memory of that run and the size of the
 replay; then how the whole replay compares with its tenth: a program that is linear takes about ten times as long.
 

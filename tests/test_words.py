@@ -1,15 +1,12 @@
 """Sentences that a colleague would not say: documents, help, doc comments and comments have none of these phrases.
 
-A line for each that is found names the file and the line. tests/words_allowed.txt has those of sources under crates/
-that are still there: a file may have a phrase as often as it stands there, and a source that loses one may be struck
-from the list. `python3 -m tests.test_words` prints all that is found.
+A line for each that is found names the file and the line. `python3 -m tests.test_words` prints all that is found.
 """
-import collections
 import pathlib
 import re
 import subprocess
 import unittest
-from typing import Counter, Dict, Iterator, NamedTuple
+from typing import Dict, Iterator, NamedTuple
 
 from tests import TOP
 
@@ -35,7 +32,6 @@ PHRASES: Dict[str, str] = {
 ENDINGS = (".md", ".py", ".rt", ".antt", ".rs", ".c", ".h", ".sh", ".toml", ".rows")
 PROGRAMS = ("arena", "tools/gate", "tools/build", "tools/release", "tools/prove/gate_times", "tools/prove/is_proved")
 SELF = "tests/test_words.py"
-ALLOWED = TOP / "tests" / "words_allowed.txt"
 # a phrase goes on in the next line of a comment
 GAP = r"(?:[ \t]+|[ \t]*\n[ \t]*(?://[/!]?|--|#|\*)?[ \t]*)"
 
@@ -87,12 +83,6 @@ def all_found() -> Iterator[Found]:
         yield from found_in(name, text_of(name))
 
 
-def allowed() -> Counter[str]:
-    """How often each file may have each phrase, by the lines of the list."""
-    return collections.Counter(line for line in ALLOWED.read_text(encoding="utf-8").splitlines()
-                               if line and not line.startswith("#"))
-
-
 class Words(unittest.TestCase):
     def test_a_phrase_is_found_over_lines(self) -> None:
         text = "// It takes so\n// many turns,\n/// of which  there are\n/// ten.\n-- exactly\n-- where it ends\n"
@@ -101,18 +91,8 @@ class Words(unittest.TestCase):
         self.assertEqual(list(found_in("a.md", "So\n\nmany rivers. Whereas memory ran out, nonethat.")), [])
 
     def test_nobody_writes_them(self) -> None:
-        left = allowed()
-        strange = []
-        for one in all_found():
-            row = f"{one.file}: {one.phrase}"
-            left[row] -= 1
-            if left[row] < 0:
-                strange.append(str(one))
+        strange = list(map(str, all_found()))
         self.assertEqual(strange, [], "\n" + "\n".join(strange))
-
-    def test_only_sources_of_crates_are_allowed_any(self) -> None:
-        for row in allowed():
-            self.assertTrue(row.startswith("crates/"), row)
 
 
 if __name__ == "__main__":

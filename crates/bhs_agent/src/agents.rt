@@ -60,7 +60,7 @@ impl Agent {
         }
     }
 
-    /// The label, at the node where it is, of the link by which it came; None where it entered there.
+    /// The label, at the node where it is, of the link by which it came; None if it entered there.
     pub fn came(&self) -> Option<u16>
         ensures { result ≡ label_of self.now.position }
     {

@@ -5,7 +5,7 @@
 pub enum Standing {
     /// It has not entered.
     Outside,
-    /// It is at a node, and came by the link with this label there; None where it entered there.
+    /// It is at a node, and came by the link with this label there; None if it entered there.
     Present { node: u16, came: Option<u16> },
     /// It is on the link that leaves the node by the port, destroyed or not.
     Away { node: u16, port: u16 },

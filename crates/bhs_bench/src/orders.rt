@@ -15,7 +15,7 @@ own. The matches under locks are then settled. The first command of an agent let
 one writes, one is refused, and two look.
 
 stages does N times over, one after the other, what becomes of the line of a client: it reads four lines, a look, a
-departure, a Write and a line that is none; it plays four events, as step does; it writes the replies to four such
+departure, a Write and a line that is no command; it plays four events, as step does; it writes the replies to four such
 lines; and it prints these replies as those of a rehearsed connection. A line says how many lines or events there were.
 
   time   also prints the seconds that this took, and the events or commands in a second; of a stage, the nanoseconds
@@ -27,11 +27,11 @@ lines; and it prints these replies as those of a rehearsed connection. A line sa
 pub enum Order {
     /// Shows the usage.
     Help,
-    /// Plays so many events; `is_timed` says whether the time is printed.
+    /// Plays this number of events; `is_timed` says whether the time is printed.
     Step { events: u64, is_timed: bool },
-    /// Tells commands, so many times over; `is_timed` says whether the time is printed.
+    /// Tells commands, this number of times; `is_timed` says whether the time is printed.
     Submit { rounds: u64, is_timed: bool },
-    /// Does each stage of a line so many times over; `is_timed` says whether the time is printed.
+    /// Does each stage of a line this number of times; `is_timed` says whether the time is printed.
     Stages { rounds: u64, is_timed: bool },
 }
 

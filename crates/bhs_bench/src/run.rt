@@ -13,19 +13,19 @@ use std::sync::Wait;
 use std::thread::Threads;
 use std::time::{Clock, Duration, Instant};
 
-/// The exit status where all was done.
+/// The exit status if all was done.
 pub const DONE: u8 = 0;
 
-/// The exit status where the command line was refused.
+/// The exit status if the command line was refused.
 pub const REFUSED_WORDS: u8 = 2;
 
-/// The exit status where the match of the benchmark was refused.
+/// The exit status if the match of the benchmark was refused.
 pub const REFUSED_MATCH: u8 = 3;
 
-/// The exit status where memory ran out.
+/// The exit status if memory ran out.
 pub const NO_MEMORY: u8 = 5;
 
-/// The exit status where writing failed, or the clock.
+/// The exit status if writing failed, or the clock.
 pub const FAILED_STREAM: u8 = 6;
 
 /// Does what the words after the program's name order, and answers the exit status. What is asked for goes to
@@ -75,7 +75,7 @@ fn step<C: Clock, W: Write>(
     Ok(())
 }
 
-// What so many events count, and how long they take.
+// What this number of events count, and how long they take.
 fn played<C: Clock>(
     alloc: Global,
     clock: &C,

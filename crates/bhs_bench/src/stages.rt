@@ -50,7 +50,7 @@ const PRINTED: [&[u8]; 4] = [
 /// How many lines, or events, a round has.
 pub const EACH_ROUND: u64 = 4;
 
-/// How long a stage takes, so many times over.
+/// How long a stage takes, done this number of times.
 pub fn lasted<C: Clock>(
     alloc: Global,
     clock: &C,

@@ -31,9 +31,9 @@ fn commands() -> u64 {
 pub enum Sharing {
     /// One thread tells them to one match that is under no lock.
     Unlocked,
-    /// So many threads share one match.
+    /// Threads share one match.
     One { threads: u16 },
-    /// Each of so many threads has a match of its own.
+    /// Each thread has a match of its own.
     Many { threads: u16 },
 }
 
@@ -99,7 +99,7 @@ pub fn run_once<R: Threads + Wait + Clock + Sync>(
     }
 }
 
-// A match of so many agents on the torus, where no node destroys.
+// A match of this number of agents on the torus, in which no node destroys.
 fn game(alloc: Global, agents: u16) -> Result<Match, BenchFault>
     ensures { IfOk result (λ play. play.log ≡ []) }
 {
@@ -151,7 +151,7 @@ fn tell_all(alloc: Global, hall: &mut Hall, passes: &mut [Pass]) -> Result<(), M
     Ok(())
 }
 
-// Each of so many matches is shared by so many threads. The agents are dealt out evenly.
+// Each of these matches is shared by this number of threads. The agents are dealt out evenly.
 fn told_under_locks<R: Threads + Wait + Clock + Sync>(
     rt: &R,
     alloc: Global,
@@ -181,7 +181,7 @@ fn cells(alloc: Global, matches: u16, agents: u16) -> Result<Vec<Cell>, BenchFau
     Ok(cells)
 }
 
-// The passes of all cells, in shares of so many.
+// The passes of all cells, in shares of this size.
 fn shares<R: Wait>(
     rt: &R,
     alloc: Global,

@@ -52,8 +52,8 @@ pub fn torus(alloc: Global) -> Result<Net, BenchFault> {
     Ok(Net::try_new(alloc, NODES, links(alloc)?.as_slice())?)
 }
 
-/// A match of so many agents on the torus. No node destroys and no link is dark, so that each agent plays until its
-/// quota is spent.
+/// A match of this number of agents on the torus. No node destroys and no link is dark, so that each agent plays until
+/// its quota is spent.
 pub fn setup(alloc: Global, agents: u16) -> Setup {
     Setup {
         home: 0,

@@ -78,7 +78,7 @@ impl Workload {
         })
     }
 
-    /// Plays so many events, on one match after the other.
+    /// Plays this number of events, on one match after the other.
     pub fn play_events(&mut self, alloc: Global, events: u64) -> Result<(), BenchFault> {
         for _ in 0..events {
             self.step(alloc)?;

@@ -154,7 +154,7 @@ entry_in word =
     if nat_lt (position_or_len is_equals word) (length word) && is_team (before_first is_equals word)
     then Some (record { team = before_first is_equals word; replay = after_first is_equals word }) else None
 
--- the entries that words say; None where one of them says none
+-- the entries that words say; None if one of them says none
 abbrev pub entries_in : List Text → Option (List Entry)
 entries_in [] = Some []
 entries_in (word ∷ words) =
@@ -238,7 +238,7 @@ order_by (name, rows) =
     then option_map (Serve (text_in (codes "tournament") rows)) (hosting_by rows)
     else None)))))))
 
--- the order that the words give, and None where they give none
+-- the order that the words give, and None if they give none
 abbrev pub order_in : List Text → Option Order
 order_in words =
     if is_empty (faults words) then option_and_then order_by (command_in words) else None

@@ -31,7 +31,7 @@ pub(crate) fn command_line<'a>(alloc: Global) -> Result<Command<'a>, AllocError>
     with_command(line, serve_command(alloc))
 }
 
-// One command more, where memory lasted for both. It takes results, so that its callers have no `?` while they hold a
+// One command more, if memory lasted for both. It takes results, so that its callers have no `?` while they hold a
 // command: each such one takes long to prove.
 fn with_command<'a>(
     line: Result<Command<'a>, AllocError>,
@@ -234,7 +234,7 @@ fn command<'a>(
         .after_long_help(example)
 }
 
-// One argument more, where memory lasted so far. It takes a result as `with_command` does.
+// One argument more, if memory lasted so far. It takes a result as `with_command` does.
 fn with<'a>(
     command: Result<Command<'a>, AllocError>,
     arg: Arg<'a>,

@@ -12,7 +12,7 @@ use bhs_text::Text;
 use clap::ArgMatches;
 use std::alloc::{AllocError, Global};
 
-/// The order, or None where a word is none that its command takes.
+/// The order, or None if its command does not take one of the words.
 pub(crate) fn order_given(
     alloc: Global,
     matches: &ArgMatches<'_>,

@@ -46,7 +46,7 @@ pub(crate) fn entry_in(alloc: Global, word: &str) -> Result<Option<Entry>, Alloc
     }))
 }
 
-/// The entries that words say; None where one of them says none.
+/// The entries that words say; None if one of them says none.
 pub(crate) fn entries_in(alloc: Global, words: &[&str]) -> Result<Option<Entries>, AllocError>
     ensures { IfOk result (λ entries. entries ≡ entries_in (map (λ word. word.now) words.now)) }
 {

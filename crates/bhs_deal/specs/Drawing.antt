@@ -30,7 +30,7 @@ event_of Nobody = None
 event_of Stays = None
 event_of (Delivered agent) = Some (Deliver agent)
 
--- What is drawn is what the draw of the definitions makes happen: an agent is delivered exactly where that draw is
+-- What is drawn is what the draw of the definitions makes happen: an agent is delivered exactly if that draw is
 -- the event that delivers it.
 abbrev pub DrawsAreThoseOfTheModel : Type 0
 DrawsAreThoseOfTheModel = (held : Held) (state : State) (word : ℕ) → draw held state word

@@ -15,6 +15,6 @@ held_in pairs node port = list_any (names node port) pairs
 abbrev pub is_port_of : Network → ℕ × ℕ → Bool
 is_port_of net pair = nat_lt pair.1 (degree_of net pair.0)
 
--- the place of the first pair that is none
+-- the place of the first pair that names no port
 abbrev pub first_strange : Network → List (ℕ × ℕ) → Option ℕ
 first_strange net pairs = position (λ pair. not (is_port_of net pair)) pairs

@@ -25,7 +25,7 @@ pub fn words_are_those_of_chacha8()
     ensures { AreTheWordsOfChaCha8 }
 {}
 
-/// A draw delivers an agent exactly where the draw of the definitions is that agent's delivery.
+/// A draw delivers an agent exactly if the draw of the definitions is that agent's delivery.
 pub fn draws_are_those_of_the_model()
     ensures { DrawsAreThoseOfTheModel }
 {}

@@ -1,4 +1,4 @@
--- What each key of the two files may hold: the value that the data stands for, or None where it has another shape.
+-- What each key of the two files may hold: the value that the data stands for, or None if it has another shape.
 use Rattle.std.specs.Prelude.{ℕ, pos, Bool, ◌&&◌, ◌==◌, ◌+◌, ◌∷◌, not, nat_eq, nat_le, if◌then◌else◌, List, []}
 use Rattle.std.specs.Prelude.{length, codes, Option, Some, None, option_map, option_and_then}
 use Rattle.std.specs.List.{list_all}

@@ -148,7 +148,7 @@ pub fn keys(alloc: Global, game: Option<u32>, table: &Table) -> Result<Vec<Text>
     shaped(game, FileKey::Keys, shapes::keys(alloc, value)?)
 }
 
-/// The links that a key lists; none where the table lacks the key.
+/// The links that a key lists; none if the table lacks the key.
 pub fn ends(
     alloc: Global,
     game: Option<u32>,

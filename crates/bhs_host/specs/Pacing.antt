@@ -8,6 +8,6 @@ pub record Beat : Type 0 where
   pub turns : ℕ
   pub pause : ℕ
 
--- what comes after so many turns, of which there are to be this many: a turn, or the close
+-- what comes after a turn, if a match has this number of turns: a turn, or the close
 abbrev pub step_after : (turns turn : ℕ) → Step
 step_after turns turn = if nat_lt turn turns then Turn else Close

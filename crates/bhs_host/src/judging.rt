@@ -17,7 +17,8 @@ use std::thread::Threads;
 // How many matches are judged at the same time.
 const AT_ONCE: usize = 64;
 
-/// The verdicts on these matches, in order. Each match is judged on a thread of its own, so many at the same time.
+/// The verdicts on these matches, in order. Each match is judged on a thread of its own, `AT_ONCE` of them at the same
+/// time.
 pub(crate) fn verdicts_of<R: Threads + Sync>(
     rt: &R,
     alloc: Global,
@@ -63,7 +64,7 @@ fn judged_at_once<R: Threads + Sync>(
 }
 
 // Judges a few matches, each on a thread of its own, which shows the verdict. A note for each match that has seen it;
-// None where there was no memory to show it.
+// None if there was no memory to show it.
 fn notes_of<R: Threads + Sync>(
     rt: &R,
     alloc: Global,

@@ -26,7 +26,7 @@ impl<'a, C> Model for Steady<'a, C> {
 }
 
 impl<'a, C> Steady<'a, C> {
-    /// Takes so many turns in each match, and pauses so many milliseconds before each.
+    /// Takes this number of turns in each match, and pauses before each for this number of milliseconds.
     pub fn new(clock: &'a C, turns: u32, pause: u32) -> Steady<'a, C>
         ensures { result ≡ record { turns = turns; pause = pause } }
     {
@@ -50,7 +50,7 @@ impl<C: Clock> Pace for Steady<'_, C> {
     }
 }
 
-// What comes after so many turns, of which there are to be this many.
+// What comes after a turn, if a match has this number of turns.
 fn step_after(turns: u32, turn: u32) -> Step
     ensures { result ≡ step_after turns turn }
 {

@@ -49,7 +49,7 @@ impl Keys {
         Ok(true)
     }
 
-    /// The numbers of the match and of the agent that the key lets in; None where no agent has the key.
+    /// The numbers of the match and of the agent that the key lets in; None if no agent has the key.
     pub fn find(&self, key: &str) -> Option<(u32, u16)>
         ensures { result ≡ seat_at key.now self.now }
     {

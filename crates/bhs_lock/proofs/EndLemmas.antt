@@ -28,7 +28,7 @@ by_gone : (b : Bool) → is_end (if b then Gone else No Port) ≡ has_ended (if 
 by_gone true = refl
 by_gone false = refl
 
--- a command that may be said ends its agent exactly where it is answered Noted or Bye
+-- a command that may be said ends its agent exactly if it is answered Noted or Bye
 pub ends_standing : (limit : ℕ) (now : Standing) (room : Bool) (ports : ℕ) (command : Command) (glance : Glance)
     → accepts now room command ≡ true →
     (has_ended now || is_end (answer limit now ports command glance)) ≡ has_ended (standing_after now ports command)

@@ -23,7 +23,7 @@ use Rattle.bhs_lock.proofs.CompareLemmas.{taken, whole_parted}
 use Rattle.bhs_lock.proofs.FoundLemmas.{AgreesAt, AnyDiffers, IsFound, still_agrees, same_agrees, found_agrees}
 use Rattle.bhs_lock.proofs.FoundLemmas.{found_more}
 
--- of each agent so many commands stand in the first events of a log
+-- the number of commands of each agent in the first events of a log
 abbrev pub Counts : (log : List Kept) (heard : List ℕ) (place : ℕ) → Type 0
 Counts log heard place = (agent : ℕ) → get_or heard agent 0 ≡ length (heard_from log agent 0 (take place log))
 

@@ -40,6 +40,6 @@ IsGivenIf None pass said pass' = (said ≡ Over) × (pass' ≡ pass)
 IsGivenIf (Some receipt) pass said pass' = (said ≡ receipt.reply)
     × (pass' ≡ record pass { arrivals = pass.arrivals ++ receipt ∷ [] })
 
--- the pass gains the next arrival that it has not; where there is none, nothing changes
+-- the pass gains the next arrival that it has not; if there is none, nothing changes
 abbrev pub IsGiven : Play → Passed → Reply → Passed → Type 0
 IsGiven play pass said pass' = IsGivenIf (arrival_of play pass.agent (length pass.arrivals)) pass said pass'

@@ -5,7 +5,7 @@ use Rattle.bhs_model.specs.Views.{Standing, Outside, Present, Away, Ended, stand
 use Rattle.bhs_match.specs.Matches.{Play, state_of}
 use Rattle.bhs_lock.specs.Tallies.{heard_count}
 
--- an agent in this standing, which used so many commands of its quota, was heard so often
+-- how often an agent in this standing was heard, if it has used this number of commands of its quota
 abbrev pub Fits : (quota : ℕ) → Standing → (used heard : ℕ) → Type 0
 Fits quota Outside used heard = (heard ≡ 0) × (used ≡ 0)
 Fits quota Present used heard = (heard ≡ used + 1) × (used ≤ quota)

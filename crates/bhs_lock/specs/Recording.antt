@@ -26,7 +26,7 @@ abbrev pub spent_by : (quota heard : ℕ) → Command → Option Why
 spent_by quota heard Leave = None
 spent_by quota heard command = if heard - 1 == quota then Some Spent else None
 
--- why a command is not heard, by the numbers of its agent and the quota; None where it is
+-- why a command is not heard, by the numbers of its agent and the quota; None if it is
 abbrev pub refusal_by : (quota : ℕ) → Tally → Command → Option Why
 refusal_by quota tally Enter = if tally.commands == 0 then None else Some Twice
 refusal_by quota tally command =

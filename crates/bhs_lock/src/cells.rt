@@ -89,7 +89,7 @@ impl Cell {
         &self.setup
     }
 
-    /// The pass of an agent in this match, once; None for a number that is no agent's, and for an agent whose pass was
+    /// The pass of an agent in this match, once; None for a number without an agent, and for an agent whose pass was
     /// claimed before.
     pub fn claim<R: Wait>(&self, rt: &R, agent: u16) -> Option<Pass>
         ensures fresh { IfSome result (IsFresh agent) }
@@ -101,7 +101,7 @@ impl Cell {
             .take(self.game, self.setup.quota, agent)
     }
 
-    /// Tells a command for the agent of a pass, under the match's lock. The answer has a place in the log exactly where
+    /// Tells a command for the agent of a pass, under the match's lock. The answer has a place in the log exactly if
     /// the command was heard, and the pass gains its receipt then; else the pass is as it was. A pass that does not
     /// agree with what stands under the lock is answered as no agent's.
     pub fn submit<R: Wait, G: Gate>(

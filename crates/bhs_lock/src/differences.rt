@@ -60,7 +60,7 @@ pub(crate) fn missing(agents: u16, left: &[Option<Pass>], passes: &[Pass]) -> Op
 }
 
 /// The least agent and index at which the receipts of a pass, or none for an agent without a pass, are not the agent's
-/// heard commands in the log of a match; None where each pass has the agent's heard commands, each once, in order, with
+/// heard commands in the log of a match; None if each pass has the agent's heard commands, each once, in order, with
 /// places and replies, and an agent without a pass has none. Takes no memory; goes over the log once.
 pub(crate) fn first_difference(play: &Match, passes: &[Pass]) -> Option<Place>
     ensures { IsLeast (commands_of play.now passes.now) result }
@@ -115,7 +115,7 @@ fn is_said(
 }
 
 /// The least agent and index at which an arrival of a pass is not the agent's arrival of that index in the log of a
-/// match; None where the arrivals of each pass are the agent's first ones, with places and replies. Takes no memory.
+/// match; None if the arrivals of each pass are the agent's first ones, with places and replies. Takes no memory.
 pub(crate) fn first_stray(play: &Match, passes: &[Pass]) -> Option<Place>
     ensures { IsLeast (arrivals_of play.now passes.now) result }
 {

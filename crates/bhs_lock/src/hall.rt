@@ -79,7 +79,7 @@ impl Hall {
         &self.play
     }
 
-    /// The match for reading alone, where it has ended. Takes no memory.
+    /// The match for reading alone, if it has ended. Takes no memory.
     pub(crate) fn into_sealed(self) -> Sealed
         requires { (state_of self.play).closed ≡ true }
         ensures { result ≡ self.play }
@@ -116,7 +116,7 @@ impl Hall {
         // What the pass itself says of it.
         ensures submitted { IfOk result (λ answer. IsSubmitted pass.old command answer.place answer.reply pass.new) }
 
-        // Where memory runs out, nothing changes.
+        // If memory runs out, nothing changes.
         ensures failed { OnErr result ((self.new ≡ self.old) × (pass.new ≡ pass.old)) }
     {
         if !self.agrees(pass) {

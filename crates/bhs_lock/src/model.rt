@@ -10,7 +10,7 @@ pub struct Receipt {
     pub reply: Reply,
 }
 
-/// What a command is answered, and its place in the log; None where it is not heard.
+/// What a command is answered, and its place in the log; None if it is not heard.
 #[derive(Debug, Drop)]
 pub struct Answer {
     pub place: Option<u32>,

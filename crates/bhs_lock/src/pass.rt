@@ -146,7 +146,7 @@ impl Pass {
         }
     }
 
-    /// Tells a match a command of the pass's agent. Memory is taken before anything changes, and only where the reply
+    /// Tells a match a command of the pass's agent. Memory is taken before anything changes, and only if the reply
     /// will speak of a whiteboard.
     pub(crate) fn submit_to(&mut self, play: &mut Match, command: Command) -> Result<Step, Memory>
         requires { is_below self.old.receipts (length play.old.log) ≡ true }
@@ -183,7 +183,7 @@ impl Pass {
 }
 
 impl Pass {
-    /// Takes over the agent's next arrival, which is answered, or answers that the match is over where there is none.
+    /// Takes over the agent's next arrival, which is answered, or answers that the match is over if there is none.
     pub(crate) fn hear_news(&mut self, play: &Match) -> Result<Reply, Memory>
         ensures given { IfOk result (λ said. IsGiven play.now self.old said self.new) }
         ensures news { IfOk result (λ said. IsNews self.old said self.new) }

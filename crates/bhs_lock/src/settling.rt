@@ -37,10 +37,10 @@ pub struct Unsettled {
     pub passes: Vec<Pass>,
 }
 
-/// The match of a cell that no thread shares any more, for reading alone, where the passes agree with it: each claimed
+/// The match of a cell that no thread shares any more, for reading alone, if the passes agree with it: each claimed
 /// pass is among them, and each has the heard commands of its agent and its first arrivals, with places and replies.
-/// Else the first dispute, in the order of `Dispute`, of the least agent and there of the least index; the parts come
-/// back. Takes no memory. Any pass may be handed in.
+/// Otherwise the first dispute, in the order of `Dispute`, of the least agent and there of the least index; the parts
+/// come back. Takes no memory. Any pass may be handed in.
 pub fn settle(cell: Cell, passes: Vec<Pass>) -> Result<Sealed, Unsettled>
     ensures settled { IfOk result (λ sealed. AreInAccord cell sealed passes.items) }
     ensures refused { IfErr result (λ unsettled. HasRefused cell passes unsettled) }
@@ -49,8 +49,8 @@ pub fn settle(cell: Cell, passes: Vec<Pass>) -> Result<Sealed, Unsettled>
 }
 
 impl Parts {
-    /// The match for reading alone, where the passes agree with it and with the parts; else the first dispute, and the
-    /// parts. Takes no memory.
+    /// The match for reading alone, if the passes agree with it and with the parts; otherwise the first dispute, and
+    /// the parts. Takes no memory.
     pub fn settle(self, passes: Vec<Pass>) -> Result<Sealed, Unsettled>
         ensures settled { IfOk result (λ sealed. (sealed ≡ self.hall.play) × IsSettled (account_of self passes.items)) }
         ensures refused { IfErr result (λ unsettled. IsRefused self passes unsettled) }

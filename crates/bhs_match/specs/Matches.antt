@@ -30,7 +30,7 @@ world_in play = world_of play.net play.setup
 abbrev pub state_of : Play → State
 state_of play = run (world_in play) (events_of play.log)
 
--- the most events that a log holds: of each agent so many commands and as many arrivals as its quota, an Enter
+-- the most events that a log holds: for each agent as many commands and arrivals as its quota, an Enter
 -- and a Leave; and a Close
 abbrev pub most_kept : (agents quota : ℕ) → ℕ
 most_kept agents quota = agents * (2 * quota + 2) + 1

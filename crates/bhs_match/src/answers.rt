@@ -5,8 +5,8 @@ use bhs_model::Mark;
 /// What came of an event.
 #[derive(Clone, Copy, Debug, PartialEq, Eq)]
 pub struct Answer {
-    /// Where the event stands in the log; None where it is not kept.
+    /// Where the event stands in the log; None if it is not kept.
     pub place: Option<u32>,
-    /// The reply, to be read in the log; None where nobody is answered.
+    /// The reply, to be read in the log; None if nobody is answered.
     pub mark: Option<Mark>,
 }

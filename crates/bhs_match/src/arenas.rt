@@ -41,7 +41,7 @@ impl Arena {
         Arena { games }
     }
 
-    /// Plays an event in one match. NoGame is told where there is no match of this number, and changes nothing. Takes
+    /// Plays an event in one match. NoGame is told if there is no match of this number, and changes nothing. Takes
     /// no memory.
     pub fn apply(&mut self, game: u32, event: Event) -> Result<Answer, ArenaFault>
         ensures played { IfOk result (λ answer. IsPlayedIn self.old game event answer self.new) }

@@ -64,7 +64,7 @@ impl Model for Match {
 
 impl Match {
     /// A match with an empty log, set up by the normal form of the setup. The first fault of the setup is told; Memory
-    /// is told only where memory was refused. All memory that the match needs is taken here.
+    /// is told only if memory was refused. All memory that the match needs is taken here.
     pub fn new(alloc: Global, net: Net, setup: Setup) -> Result<Match, SetupFault>
         ensures fit { OnOk result ((first_fault net setup ≡ None) × IsWithinLimits net setup) }
         ensures given { IfOk result (λ game. game ≡ record { net = net; setup = normal net setup; log = [] }) }
@@ -139,7 +139,7 @@ impl Match {
         &self.log
     }
 
-    /// The places, in the log, of the agent's arrivals, in order; none for a number that is no agent's.
+    /// The places, in the log, of the agent's arrivals, in order; none for a number without an agent.
     pub fn news(&self, agent: u16) -> &[u32]
         ensures places { result.now ≡ arrivals agent self.now.log }
         ensures bound { length result.now ≤ self.now.setup.quota }
@@ -156,7 +156,7 @@ impl Match {
     }
 
     /// What the agent sees of a whiteboard: of the one where it is; of the one at the home base before it enters, and
-    /// so for a number that is no agent's; the empty text on a link and after its end.
+    /// so for a number without an agent; the empty text on a link and after its end.
     pub fn seen(&self, agent: u16) -> &str
         ensures { result.now ≡ shown_at (world_in self.now) (state_of self.now) ((state_of self.now).position agent) }
     {
@@ -175,7 +175,7 @@ impl Match {
         self.world.shows(agent, command)
     }
 
-    /// Whether the agent is on a link, destroyed or not. A number that is no agent's is on none.
+    /// Whether the agent is on a link, destroyed or not. A number without an agent is on no link.
     pub fn is_away(&self, agent: u16) -> bool
         ensures { result ≡ is_bound ((state_of self.now).position agent) }
     {
@@ -290,7 +290,7 @@ impl Match {
         self.world.setup()
     }
 
-    /// The match for reading alone, where it has ended; else the match as it was. Takes no memory.
+    /// The match for reading alone, if it has ended; else the match as it was. Takes no memory.
     pub fn sealed(self) -> Result<Sealed, Match>
         ensures { result ≡ (if (state_of self).closed then Ok self else Err self) }
     {

@@ -56,7 +56,7 @@ pub(crate) fn no_news(alloc: Global, agents: u16, room: u16) -> Result<Vec<News>
     Ok(news)
 }
 
-/// The places of an agent's arrivals; none for a number that is no agent's.
+/// The places of an agent's arrivals; none for a number without an agent.
 pub(crate) fn places(news: &[News], agent: u16) -> &[u32]
     ensures { result.now ≡ (news_at news.now agent).places }
 {

@@ -24,7 +24,7 @@ pub(crate) fn link_by(world: &World, event: &Event) -> Option<(u16, u16)>
     }
 }
 
-/// The departure node and port of the link that an agent is on; none for a number that is no agent's.
+/// The departure node and port of the link that an agent is on; none for a number without an agent.
 pub(crate) fn link(world: &World, agent: u16) -> Option<(u16, u16)>
     ensures { result ≡ link_at world.now agent }
 {

@@ -26,7 +26,7 @@ abbrev pub is_held : Held → Position → Bool
 is_held held (Bound node port) = held node port
 is_held held position = false
 
--- the event by which the picked agent's link lets it arrive; none where it is held
+-- the event by which the picked agent's link lets it arrive; none if it is held
 abbrev pub delivery_to : Held → State → Option ℕ → Option Event
 delivery_to held state None = None
 delivery_to held state (Some agent) =

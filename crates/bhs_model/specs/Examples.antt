@@ -137,7 +137,7 @@ AWriteExpectsWhatItReplaces =
     ∷ [])
     ≡ entered ∷ entered ∷ Some Written ∷ Some (Changed (codes "a")) ∷ []
 
--- A whiteboard, and an answer that shows it, name the last Write there that put its text: none that failed, and also
+-- A whiteboard, and an answer that shows it, name the last Write there that put its text: not one that failed, but also
 -- one that put the empty text.
 abbrev pub writes : List Event
 writes =
@@ -318,7 +318,7 @@ abbrev pub AnArrivalGivesItAway : Type 0
 AnArrivalGivesItAway =
     reveals triangle other_hole (run triangle (Tell 0 Enter ∷ Tell 0 (Depart 0) ∷ [])) (Deliver 0) ≡ true
 
--- a number that is no agent's; outside; entering twice; after the end; after the close, where the number
+-- a number without an agent; outside; entering twice; after the end; after the close, where the number
 -- still comes first
 abbrev pub RefusalsInOrder : Type 0
 RefusalsInOrder =

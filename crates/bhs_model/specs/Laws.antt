@@ -83,7 +83,7 @@ abbrev pub TwinsLookAlike : Type 0
 TwinsLookAlike = (world : World) (events : List Event) (other : World) (others : List Event) →
     Twins world events other others → LookAlike world events other others
 
--- A set of places is closed exactly where, with each of its places, it has each earlier one that this
+-- A set of places is closed exactly if, with each of its places, it has each earlier one that this
 -- place needs.
 abbrev pub HasWhatIsAsked : List Footprint → List Bool → Type 0
 HasWhatIsAsked footprints places = (early late : ℕ) (one other : Footprint) → early < late →

@@ -38,7 +38,7 @@ written_from world state place written (event ∷ events) =
 abbrev pub unwritten : ℕ → Option ℕ
 unwritten node = None
 
--- the place of the last of these events that is a Write at the node and is answered Written; None where there is none
+-- the place of the last of these events that is a Write at the node and is answered Written; None if there is none
 abbrev pub written : World → List Event → (node : ℕ) → Option ℕ
 written world events = written_from world initial 0 unwritten events
 

@@ -7,7 +7,7 @@ use Rattle.std.specs.declared.alloc.Global.{Global}
 abbrev pub marks_of : List (Vec Bool Global) → List (List Bool)
 marks_of rows = map (λ row. row.items) rows
 
--- the marks of a node: none where it is no node
+-- the marks of a node: none if it does not exist
 abbrev pub row_at : List (List Bool) → (node : ℕ) → List Bool
 row_at marks node = slice_index_or marks node []
 

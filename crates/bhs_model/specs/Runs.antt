@@ -17,7 +17,7 @@ use Rattle.bhs_model.specs.Worlds.{World, doomed}
 pub data Position : Type 0 where
   -- not in the network yet
   Before : Position
-  -- at a node, come by the link with this label there; None where it entered there
+  -- at a node, come by the link with this label there; None if it entered there
   At : (node : ℕ) → (came : Option ℕ) → Position
   -- on the link that leaves the node by the port
   Bound : (node port : ℕ) → Position
@@ -157,7 +157,7 @@ reply_in_play world state agent command =
     then rep world.board ((next world state (Tell agent command)).past agent)
     else Some (No (refusal (standing (state.past agent)) command))
 
--- the reply to a command: first comes a number that is no agent's, and then the close
+-- the reply to a command: first comes a number without an agent, and then the close
 abbrev pub reply_to_command : World → State → (agent : ℕ) → Command → Option Reply
 reply_to_command world state agent command =
     if nat_lt agent world.agents

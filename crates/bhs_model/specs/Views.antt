@@ -20,7 +20,7 @@ mutual
     Saw : Sight → Glance
 
   -- a node as an agent sees it: how many ports it has, the label of the link by which the agent came
-  -- (None where it entered there), and what the whiteboard shows
+  -- (None if it entered there), and what the whiteboard shows
   pub data Sight : Type 0 where
     Seen : ℕ → Option ℕ → LastWrite → Sight
 
@@ -52,7 +52,7 @@ ports (Told view command Nothing) = ports view
 ports (Told view command (Saw sight)) = ports_seen sight
 ports (Arrived view sight) = ports_seen sight
 
--- the standing after a heard command, at a node with so many ports
+-- the standing after a heard command, at a node with this number of ports
 abbrev pub standing_after : Standing → ℕ → Command → Standing
 standing_after standing ports Enter = Present
 standing_after standing ports Leave = Ended

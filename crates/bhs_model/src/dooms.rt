@@ -52,7 +52,7 @@ impl Dooms {
         self.nodes[usize::from(node)] = true;
     }
 
-    /// Adds a dark link, by one of its ends. Where memory is refused, nothing else destroys than before.
+    /// Adds a dark link, by one of its ends. If memory is refused, nothing else destroys than before.
     pub fn add_link(&mut self, net: &Net, node: u16, port: u16) -> Result<(), AllocError>
         requires port { port < degree_of net.now node }
         requires signs { (holes : List ℕ) × (dark : List (ℕ × ℕ)) × AreSignsOf net.now holes dark self.old }

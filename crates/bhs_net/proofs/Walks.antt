@@ -73,7 +73,7 @@ module _ (net : Network) (labelled : IsPortLabelled net) where
   joined cut start a b p q = IsPath-append (Without cut (Leads net)) a start b
       (IsPath-back (Without cut (Leads net)) (Without-back cut) start a p) q
 
-  -- a path keeps off what is no node
+  -- a path keeps off numbers without a node
   pub keeps_off : (cut : ℕ) → nodes_of net ≤ cut → (a b : ℕ) → IsPath (Leads net) a b
       → IsPath (Without cut (Leads net)) a b
   keeps_off cut h = IsPath-along (Leads net) (Without cut (Leads net)) (λ a b leads.

@@ -8,7 +8,7 @@ use Rattle.bhs_net.specs.Links.{link_at, SameNodes, SharesEnd, IsListed, AreLink
 use Rattle.bhs_net.specs.Paths.{IsPath, Without}
 use Rattle.bhs_net.specs.Network.{Network, nodes_of, IsPortLabelled, HasLinks}
 
--- an end of the link is no node
+-- an end of the link is at a node that does not exist
 abbrev pub IsStray : ℕ → List Link → ℕ → Type 0
 IsStray nodes links place = (place < length links)
     × ((nodes ≤ (link_at links place).v) ⊎ (nodes ≤ (link_at links place).w))
@@ -81,7 +81,7 @@ abbrev pub IsBefore : NetFault → NetFault → Type 0
 IsBefore early late = (number_of early < number_of late)
     ⊎ ((number_of early ≡ number_of late) × (place_of early < place_of late))
 
--- the list has this fault, and none that is told before it
+-- the list has this fault, and no fault that is told before it
 pub record IsFirstFault (nodes : ℕ) (links : List Link) (fault : NetFault) : Type 0 where
   pub holds : Holds nodes links fault
   pub none_before : (early : NetFault) → IsBefore early fault → ¬ Holds nodes links early

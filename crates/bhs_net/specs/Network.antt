@@ -17,7 +17,7 @@ network_of rows = map (λ row. row.items) rows
 abbrev pub nodes_of : Network → ℕ
 nodes_of net = length net
 
--- the far ends of the node's ports: none where it is no node
+-- the far ends of the node's ports: none if the node does not exist
 abbrev pub row_of : Network → ℕ → List End
 row_of net node = slice_index_or net node []
 
@@ -78,7 +78,7 @@ pub record HasLinks (net : Network) (links : List Link) : Type 0 where
   pub once : (early late : ℕ) → early < late → late < length links
       → ¬ SharesEnd (link_at links early) (link_at links late)
 
--- the links make this network: it has so many nodes and just these links
+-- the links make this network: it has this number of nodes and just these links
 pub record Makes (nodes : ℕ) (links : List Link) (net : Network) : Type 0 where
   pub size : nodes_of net ≡ nodes
   pub network : IsNetwork net

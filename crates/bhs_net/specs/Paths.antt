@@ -1,6 +1,6 @@
 use Rattle.std.specs.Prelude.{◌≡◌, ◌≢◌, ℕ, zero, suc}
 
--- a path of so many steps leads from the one node to the other, where `Step` says which node a step leads to from
+-- a path of this number of steps leads from the one node to the other; `Step` says which node a step leads to from
 -- which; a path may pass a node more than once
 abbrev pub Path : (ℕ → ℕ → Type 0) → ℕ → ℕ → ℕ → Type 0
 Path Step node other zero = node ≡ other

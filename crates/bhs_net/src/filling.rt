@@ -156,7 +156,7 @@ fn all_lead_apart(rows: &[Vec<End>]) -> bool
     true
 }
 
-/// The rows of the network that the links make; None where they have one of the first six faults, which is not proved.
+/// The rows of the network that the links make; None if they have one of the first six faults, which is not proved.
 pub fn filled(
     alloc: Global,
     nodes: u16,

@@ -2,7 +2,7 @@
 
 ghost use Rattle.bhs_net.specs.Laws.{NoNetworkWithFault, OneNetwork};
 
-/// Links that have a fault make no network: so a list is refused with a fault only where it makes none.
+/// Links that have a fault make no network: so a list is refused with a fault only if it makes none.
 pub fn no_network_with_fault()
     ensures { NoNetworkWithFault }
 {}

@@ -1,7 +1,7 @@
 //! From a list of links to rows of far ends. The rows of links that have no fault are filled at once. Others take one
 //! pass over the links for each fault, since a fault that is told first may stand later in the list; there the ends
 //! stand in a map by node and port, so that nothing is as large as the largest port. With n links the cost is O(n),
-//! or O(n log n) where there is a fault, and O(n) memory.
+//! or O(n log n) if there is a fault, and O(n) memory.
 
 ghost use Rattle.std.specs.Prelude.{◌≡◌, ℕ, ◌<◌, ◌≤◌, ◌⊎◌, length, OnOk, IfOk, IfErr, min};
 ghost use Rattle.std.specs.Option.{option_map_or};
@@ -154,7 +154,7 @@ fn check_gaps(links: &[Link], rows: &[Vec<End>]) -> Result<(), NetFault>
     }
 }
 
-/// The rows of the network that the links make, where none of the first six faults holds.
+/// The rows of the network that the links make, if none of the first six faults holds.
 pub fn listed(alloc: Global, nodes: u16, links: &[Link]) -> Result<Vec<Vec<End>>, NetFault>
     ensures ok { IfOk result (λ rows. Lists nodes links.now (network_of rows.items)) }
     ensures err { IfErr result (Refuses nodes links.now) }

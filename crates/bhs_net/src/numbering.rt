@@ -101,7 +101,7 @@ fn depth_first(rows: &[Vec<End>]) -> Search {
     search
 }
 
-/// An order of the nodes, which is one as above where there is one; that is not proved. Each node is put beside the one
+/// An order of the nodes, which is one as above if there is one; that is not proved. Each node is put beside the one
 /// from which it was found, before or behind it.
 pub fn order_of(rows: &[Vec<End>]) -> Order {
     let search = depth_first(rows);

@@ -43,7 +43,7 @@ module _ {P I O : Type 0} (files : P → List ℕ → Taken → P → Type 0) (g
     tournament_refused : (fault : Fault) → code ≡ status fault → Rests input input' output output'
         → InteractsNamed prefix input input' output output' code
 
-  -- a rehearsal of the tournament that is named, or of the built-in one where none is named
+  -- a rehearsal of the tournament that is named, or of the built-in one if none is named
   abbrev pub InteractsEither : (tournament prefix : Option (List ℕ)) → (input input' : I) → (output output' : O) → ℕ
       → Type 0
   InteractsEither None prefix input input' output output' code =

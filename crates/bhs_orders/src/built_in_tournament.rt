@@ -34,7 +34,7 @@ keys = [\"ka\", \"kb\"]
 held = []
 ";
 
-/// The tournament that is rehearsed where none is named.
+/// The tournament that is rehearsed if none is named.
 pub fn built_in(alloc: Global) -> Result<Lineup, Memory>
     ensures made { IfOk result (λ lineup. contest lineup ≡ texts.built_in) }
     ensures fresh { IfOk result (λ lineup. AreFresh lineup.ready.items) }

@@ -19,7 +19,7 @@ use std::io::Write;
 use std::rt::Files;
 
 /// Reads a replay, and prints the causal past of an agent of its match: a line for each place, with its number and its
-/// line of the replay. A number that is no agent's has an empty past. A fault goes to `errors` and ends it. The answer
+/// line of the replay. A number without an agent has an empty past. A fault goes to `errors` and ends it. The answer
 /// is the exit status.
 pub fn print_past<F: Files, W: Output, E: Write>(
     alloc: Global,

@@ -42,7 +42,7 @@ pub enum Fault {
     /// The match has no such twin.
     #[error("{0}")]
     Twin(TwinFault),
-    /// No client can connect: the port is in use, or is none that the program may have.
+    /// No client can connect: the port is in use, or the program may not have it.
     #[error("listen")]
     Listen,
     /// The match of this number is not what its sessions were answered.

@@ -93,7 +93,7 @@ pub fn write_sealed<F: Files, E: Write>(
     status
 }
 
-/// The exit status of two things that were both tried: that of the first that failed, and `DONE` where none did.
+/// The exit status of two things that were both tried: that of the first that failed, and `DONE` if none did.
 pub fn first_status(first: u8, second: u8) -> u8
     ensures { result ≡ first_status first second }
 {

@@ -1,19 +1,19 @@
 //! The exit statuses of the program.
 
-/// The exit status where all was done.
+/// The exit status if all was done.
 pub const DONE: u8 = 0;
 
-/// The exit status where the command line was refused.
+/// The exit status if the command line was refused.
 pub const REFUSED_WORDS: u8 = 2;
 
-/// The exit status where a script or a file was refused.
+/// The exit status if a script or a file was refused.
 pub const REFUSED_TEXT: u8 = 3;
 
-/// The exit status where the events of a replay are those of no match, or a match has no such twin.
+/// The exit status if the events of a replay are those of no match, or a match has no such twin.
 pub const REFUSED_MATCH: u8 = 4;
 
-/// The exit status where memory ran out.
+/// The exit status if memory ran out.
 pub const NO_MEMORY: u8 = 5;
 
-/// The exit status where reading or writing failed, or needed too many turns.
+/// The exit status if reading or writing failed, or needed too many turns.
 pub const FAILED_STREAM: u8 = 6;

@@ -20,9 +20,9 @@ use std::alloc::Global;
 use std::io::Write;
 use std::rt::Files;
 
-/// Rehearses the tournament of a file, or the built-in one where no file is named, by the script of `reader`, and then
-/// writes the replays, where there is a prefix for their names. Faults go to `errors`. The answer is the exit status:
-/// where replays could not be written, that of the first.
+/// Rehearses the tournament of a file, or the built-in one if no file is named, by the script of `reader`, and then
+/// writes the replays, if there is a prefix for their names. Faults go to `errors`. The answer is the exit status:
+/// if replays could not be written, that of the first.
 pub fn rehearse_named<F: Files, R: Input, W: Output, E: Write>(
     alloc: Global,
     files: &F,
@@ -48,7 +48,7 @@ pub fn rehearse_named<F: Files, R: Input, W: Output, E: Write>(
     }
 }
 
-// Rehearses, writes the replays where there is a prefix, and reports the fault that ended it.
+// Rehearses, writes the replays if there is a prefix, and reports the fault that ended it.
 fn rehearse_whole<F: Files, R: Input, W: Output, E: Write>(
     alloc: Global,
     files: &F,

@@ -29,7 +29,7 @@ module _ {P I O : Type 0} (files : P → List ℕ → Taken → P → Type 0) (g
   abbrev pub TellsByLine : (IsReport : List ℕ → Type 0) → (output output' : O) → ℕ → Type 0
   TellsByLine = Reports (PrintsByLine takes flushes)
 
-  -- how an order is carried out, where there is memory to begin
+  -- how an order is carried out, if there is memory to begin
   abbrev pub Does : Order → (input input' : I) → (output output' : O) → ℕ → Type 0
   Does (order.Rehearse tournament prefix) input input' output output' code =
       RehearsesEither files gives takes flushes tournament prefix input input' output output' code

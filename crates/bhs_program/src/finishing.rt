@@ -24,7 +24,7 @@ pub(crate) struct Finished {
     pub(crate) settled: Vec<Settled>,
 }
 
-/// Writes the replay of each match that settled. If all did, their table is shown; else the first that did not is
+/// Writes the replay of each match that settled. If all did, their table is shown; otherwise the first that did not is
 /// reported.
 pub(crate) fn finish<R: Files + Threads + Sync, W: Output, E: Write>(
     alloc: Global,
@@ -43,7 +43,7 @@ pub(crate) fn finish<R: Files + Threads + Sync, W: Output, E: Write>(
     first_status(filed, printed)
 }
 
-// Shows the table of the matches, if all settled; else the first that did not is reported.
+// Shows the table of the matches, if all settled; otherwise the first that did not is reported.
 fn show_table<R: Threads + Sync, W: Output, E: Write>(
     alloc: Global,
     rt: &R,
@@ -98,7 +98,7 @@ fn write_one<F: Files, E: Write>(
     }
 }
 
-// The matches, if all settled; else the first that did not.
+// The matches, if all settled; otherwise the first that did not.
 fn all_sealed(alloc: Global, settled: Vec<Settled>) -> Result<Vec<Sealed>, Fault>
     ensures all { IfOk result (λ sealed. settled.items ≡ map Ok sealed.items) }
     ensures fault { IfErr result (IsUntabled settled.items) }

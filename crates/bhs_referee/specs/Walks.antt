@@ -14,7 +14,7 @@ use Rattle.bhs_model.specs.declared.limits.TheConstants.{MAX_AGENTS}
 use Rattle.bhs_referee.specs.declared.walks.Walk.{Walk}
 use Rattle.bhs_referee.specs.Findings.{Findings}
 
--- the link that an agent accused; a number that is no agent's accused none
+-- the link that an agent accused; a number without an agent accused none
 abbrev pub accused_at : List (Option (ℕ × ℕ)) → ℕ → Option (ℕ × ℕ)
 accused_at accused agent = slice_index_or accused agent None
 

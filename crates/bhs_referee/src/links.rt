@@ -9,7 +9,7 @@ ghost use Rattle.bhs_referee.specs.Verdicts.{is_same_link, is_over_dark, is_righ
 use bhs_model::Setup;
 use bhs_net::Net;
 
-/// The far end of a link; (0, 0) where there is no such port.
+/// The far end of a link; (0, 0) if there is no such port.
 pub fn far(net: &Net, link: (u16, u16)) -> (u16, u16)
     ensures { result ≡ far_of net.now link.0 link.1 }
 {

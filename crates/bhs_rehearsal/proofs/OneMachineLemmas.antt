@@ -1,4 +1,4 @@
--- A phase awaits news exactly where the agent is on a link, and so the machine of a session takes what a rehearsal
+-- A phase awaits news exactly if the agent is on a link, and so the machine of a session takes what a rehearsal
 -- takes.
 use Rattle.std.proofs.Common.{◌≡◌, ◌∙◌, ℕ, ◌⊎◌, inl, inr, Bool, true, false, cond, not, ◌&&◌, nat_lt, bytes_eq, nat_le}
 use Rattle.std.proofs.Common.{length, Option, Some, None, List, [], ◌∷◌, ◌++◌, refl, sym, ap, ap₂, subst, append-nil}
@@ -104,7 +104,7 @@ heard_ties world state view (At node came) limit room command may_it fits at =
 heard_ties world state view (Bound node port) limit room command may_it fits at = absurd (cc)
 heard_ties world state view After limit room command may_it fits at = unheard _ Ended room command _ fits may_it refl
 
--- a command of an agent that is on no link: it is answered, and it is on a link then exactly where the phase awaits
+-- a command of an agent that is on no link: it is answered, and it is on a link then exactly if the phase awaits
 pub record Ties (game : Game) (agent : ℕ) (command : Command) : Type 0 where
   pub reply : Reply
   pub replied_is : reply_to game (Tell agent command) ≡ Some reply

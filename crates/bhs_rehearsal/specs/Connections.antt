@@ -16,9 +16,9 @@ pub data Item : Type 0 where
   Ends : Item
 
 pub record Connection : Type 0 where
-  -- the numbers of the match and of the agent that it plays; None where it was not let in
+  -- the numbers of the match and of the agent that it plays; None if it was not let in
   pub seat : Option (ℕ × ℕ)
-  -- its unfinished line; None where it is too long
+  -- its unfinished line; None if it is too long
   pub unfinished : Option (List ℕ)
   -- the items that were not taken
   pub queue : List Item

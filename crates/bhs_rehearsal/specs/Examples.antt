@@ -59,7 +59,7 @@ depart_by_0 = codes "{\"do\":\"depart\",\"port\":0}"
 abbrev pub depart_by_1 : List ℕ
 depart_by_1 = codes "{\"do\":\"depart\",\"port\":1}"
 
--- no node has so many ports
+-- no node has this number of ports
 abbrev pub depart_by_2 : List ℕ
 depart_by_2 = codes "{\"do\":\"depart\",\"port\":2}"
 
@@ -240,7 +240,7 @@ TheOtherMatchIsNotHeard = bytes_to 0 (sends side_by_side in_both) ≡ bytes_to 0
 
 -- ---- what is not there
 
--- for match 1 and connection 2, where there is one match and there are two connections
+-- for match 1 and connection 2, if there is one match and there are two connections
 abbrev pub for_nobody : List Instruction
 for_nobody = Draws 1 0 ∷ Closes 1 ∷ says 2 enter_ka ∷ EndsInput 2 ∷ []
 

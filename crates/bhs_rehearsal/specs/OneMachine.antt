@@ -1,5 +1,5 @@
 -- The connections of a rehearsal act as sessions do: their items are taken by the machine of a session, and a
--- connection waits where its phase awaits news, which is exactly where its agent is on a link.
+-- connection waits where its phase awaits news, which is exactly if its agent is on a link.
 use Rattle.std.specs.Prelude.{ℕ, ◌≡◌, false, if◌then◌else◌, Option, Some, None, List, [], ◌∷◌, ◌++◌}
 use Rattle.bhs_model.specs.declared.commands.Command.TheVariants.{Leave}
 use Rattle.bhs_model.specs.declared.events.Event.TheVariants.{Tell, Deliver}
@@ -54,13 +54,13 @@ runs phase game agent items = rests phase game []
 abbrev pub phase_in : Game → (agent : ℕ) → Phase
 phase_in game agent = if is_away game agent then Awaits else Ready
 
--- what a rehearsal takes is what the machine takes, and the machine is done exactly where the connection is
+-- what a rehearsal takes is what the machine takes, and the machine is done exactly if the connection is
 pub record Agree (agent : ℕ) (taken : Taken) (ran : Ran) : Type 0 where
   pub game : ran.game ≡ taken.game
   pub text : ran.text ≡ taken.text
   pub left : ran.left ≡ taken.left
   pub done : is_finished ran.phase ≡ taken.is_done
-  -- the phase awaits news exactly where the agent is on a link
+  -- the phase awaits news exactly if the agent is on a link
   pub phase : taken.is_done ≡ false → ran.phase ≡ phase_in ran.game agent
 
 abbrev pub ItemsAreTakenByTheMachine : Type 0

@@ -145,7 +145,7 @@ pub record Stepped : Type 0 where
   pub stage : Stage
   pub outs : List (ℕ × List ℕ)
 
--- nothing is sent where there is no text
+-- nothing is sent if there is no text
 abbrev pub sent_to : (conn : ℕ) → (text : List ℕ) → List (ℕ × List ℕ)
 sent_to conn [] = []
 sent_to conn (byte ∷ text) = (conn, byte ∷ text) ∷ []

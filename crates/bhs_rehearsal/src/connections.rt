@@ -171,7 +171,7 @@ impl<'s> Connection<'s> {
     }
 }
 
-// Lines are left where a call failed.
+// Lines are left if a call failed.
 fn empty(found: &mut VecDeque<Raw<'_>>)
     ensures { found.new.items ≡ [] }
 {

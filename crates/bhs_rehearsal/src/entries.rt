@@ -25,7 +25,7 @@ pub(crate) enum Entry {
     Goes,
 }
 
-// What the first item of a connection comes to, where there are so many matches.
+// What the first item of a connection comes to, with this number of matches.
 pub(crate) fn first_entry(
     line_reader: &mut LineReader,
     games: usize,

@@ -23,7 +23,7 @@ impl Model for Holders {
 }
 
 impl Holders {
-    // Nobody plays in so many matches.
+    // Nobody plays in this number of matches.
     pub(crate) fn new(alloc: Global, games: usize) -> Result<Holders, Memory>
         ensures { IfOk result (λ holders. holders ≡ replicate games []) }
     {

@@ -136,7 +136,7 @@ impl<'s> Rehearsal<'s> {
         Ok(self.sent_to(conn, text))
     }
 
-    // Nothing is sent where there is no text.
+    // Nothing is sent if there is no text.
     fn sent_to(&mut self, conn: u16, bytes: Vec<u8>) -> Option<Out>
         ensures sent { sent_once result ≡ sent_to conn bytes.items }
         ensures same { self.new ≡ self.old }

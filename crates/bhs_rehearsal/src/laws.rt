@@ -65,7 +65,7 @@ pub fn matches_keep_to_themselves()
 {}
 
 /// Each connection acts as a session does. Its items are taken by the machine of a session, and it waits where its
-/// phase awaits news: exactly where its agent is on a link.
+/// phase awaits news: exactly if its agent is on a link.
 pub fn acts_as_a_session()
     ensures first { HeardFirst }
     ensures items { ItemsAreTakenByTheMachine }
@@ -73,7 +73,7 @@ pub fn acts_as_a_session()
     ensures closes { ClosesEndTheWait }
 {}
 
-/// After each instruction every connection has taken what it can: where items are left, its agent is on a link.
+/// After each instruction every connection has taken what it can: if items are left, its agent is on a link.
 pub fn stages_settle()
     ensures step { SettledStagesSettle }
     ensures script { ScriptsSettle }

@@ -66,8 +66,8 @@ impl<'s> Model for Rehearsal<'s> {
 }
 
 impl<'s> Rehearsal<'s> {
-    /// A rehearsal of these matches, with so many connections that were fed nothing. A key of a match that is not
-    /// in the list lets nobody in.
+    /// A rehearsal of these matches, with this number of connections that were fed nothing. A key of a match that is
+    /// not in the list lets nobody in.
     pub fn new(alloc: Global, lineup: Lineup, conns: u16) -> Result<Rehearsal<'s>, Memory>
         ensures { IfOk result (λ rehearsal. rehearsal ≡ made_of lineup conns) }
     {
@@ -86,7 +86,7 @@ impl<'s> Rehearsal<'s> {
         })
     }
 
-    /// Feeds bytes to a connection. `Conn` where there is no such connection.
+    /// Feeds bytes to a connection. `Conn` if there is no such connection.
     pub fn feed(&mut self, conn: u16, bytes: &'s [u8]) -> Result<Option<Out>, RehearsalFault>
         ensures { Follows sent_once self.old (Feeds conn bytes.now) result self.new }
     {
@@ -115,7 +115,7 @@ impl<'s> Rehearsal<'s> {
         self.settled(outs)
     }
 
-    /// Ends the input of a connection. `Conn` where there is no such connection.
+    /// Ends the input of a connection. `Conn` if there is no such connection.
     pub fn end(&mut self, conn: u16) -> Result<Option<Out>, RehearsalFault>
         ensures { Follows sent_once self.old (EndsInput conn) result self.new }
     {
@@ -129,7 +129,7 @@ impl<'s> Rehearsal<'s> {
         self.settled(outs)
     }
 
-    /// Draws a word in a match. `NoGame` where there is no such match.
+    /// Draws a word in a match. `NoGame` if there is no such match.
     pub fn draw(&mut self, game: u32, word: u32) -> Result<Option<Out>, RehearsalFault>
         ensures { Follows sent_once self.old (Draws game word) result self.new }
     {
@@ -143,7 +143,7 @@ impl<'s> Rehearsal<'s> {
         self.settled(outs)
     }
 
-    /// Ends a match. Only the first time does something. `NoGame` where there is no such match.
+    /// Ends a match. Only the first time does something. `NoGame` if there is no such match.
     pub fn close(&mut self, game: u32) -> Result<Vec<Out>, RehearsalFault>
         ensures { Follows sent_all self.old (Closes game) result self.new }
     {
@@ -196,7 +196,7 @@ impl<'s> Rehearsal<'s> {
         text
     }
 
-    // What a call gives. Where memory ran out the rehearsal has failed.
+    // What a call gives. If memory ran out, the rehearsal has failed.
     fn settled<T: Drop>(&mut self, outs: Result<T, Memory>) -> Result<T, RehearsalFault>
         ensures { IsConcluded self.old outs result self.new }
     {

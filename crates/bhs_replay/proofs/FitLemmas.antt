@@ -16,7 +16,7 @@ use Rattle.bhs_world.specs.Faults.{IsWithinLimits}
 use Rattle.bhs_replay.specs.Head.{link_from}
 use Rattle.bhs_replay.proofs.HeadReads.{AllOf, IsSmall, IsSmallEnd, IsSmallLink, HeadFits}
 
--- ---- so many different numbers below a limit are at most so many
+-- ---- there are at most as many different numbers below a limit as the limit says
 
 abbrev IsBelow : (count limit : ℕ) → (ℕ → ℕ) → Type 0
 IsBelow count limit f = (i : ℕ) → i < count → f i < limit

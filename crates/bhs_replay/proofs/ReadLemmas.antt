@@ -76,7 +76,7 @@ short_by (Some playing) found proper ended =
 
 -- ---- reads
 
--- by so many reads a reader came to stand here
+-- by this number of reads a reader came to stand here
 pub record SoFar {I : Type 0} (gives : I → Chunk → I → Type 0) (start : I) (reads : ℕ) (here : I)
     (reader : Reader) : Type 0 where
   pub bytes : List ℕ

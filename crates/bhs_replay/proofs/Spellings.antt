@@ -1,4 +1,4 @@
--- A line spells an event and a reply exactly where it is their line.
+-- A line spells an event and a reply exactly if it is their line.
 use Rattle.std.proofs.Common.{◌≡◌, ℕ, ◌<◌, ◌^◌, Bool, true, false, cond, if◌then◌else◌, ◌&&◌, List, bytes_eq, Option}
 use Rattle.std.proofs.Common.{Some, None, option_and_then, unwrap_or, nat_lt, refl, sym, subst, ap, ◌∙◌}
 use Rattle.std.proofs.lemmas.Bool.{lt-ltb, and_parts}

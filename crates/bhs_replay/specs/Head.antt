@@ -34,7 +34,7 @@ link_data link = listed (whole link.v ∷ whole link.p ∷ whole link.w ∷ whol
 abbrev pub end_data : ℕ × ℕ → Data
 end_data end = listed (whole end.0 ∷ whole end.1 ∷ [])
 
--- the black hole of version 1, or null where there is none
+-- the black hole of version 1, or null if there is none
 abbrev pub hole_data : List ℕ → Data
 hole_data [] = null
 hole_data (hole ∷ more) = whole hole

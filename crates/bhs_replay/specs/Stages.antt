@@ -61,7 +61,7 @@ pub data Stage : Type 0 where
 abbrev pub next_number : List Event → ℕ
 next_number events = length events + 2
 
--- a line that spells an event. Its reply is another than that of the match where the line is not the line of that.
+-- a line that spells an event. Its reply is another than that of the match if the line is not the line of that.
 abbrev pub after_event : Network → Setup → List Event → (line : List ℕ) → Event → Stage
 after_event net setup events line event =
     let world = world_of net setup in

@@ -9,7 +9,7 @@ ghost use Rattle.bhs_replay.specs.Comparing.{is_left};
 
 use itoa::Buffer;
 
-/// What stands behind this part; None where the line begins with something else.
+/// What stands behind this part; None if the line begins with something else.
 #[inline]
 pub(crate) fn after<'l>(line: &'l [u8], part: &[u8]) -> Option<&'l [u8]>
     ensures { (more : List ℕ) → bytes_eq line.now (part.now ++ more)
@@ -88,7 +88,7 @@ fn after_byte<'l>(line: &'l [u8], byte: u8) -> Option<&'l [u8]>
     }
 }
 
-// The letter of a byte's short escape, or 0 where it has none.
+// The letter of a byte's short escape, or 0 if it has none.
 fn escape_letter(byte: u8) -> u8
     ensures { result ≡ escape_letter byte }
 {

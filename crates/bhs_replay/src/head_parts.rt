@@ -24,7 +24,7 @@ pub(crate) struct Says {
     pub setup: Setup,
 }
 
-/// What a line says, given without its line feed; None where it can be no head. Its spelling is not judged here.
+/// What a line says, given without its line feed; None if it can be no head. Its spelling is not judged here.
 pub(crate) fn head_says(alloc: Global, line: &[u8]) -> Result<Option<Says>, Memory>
     ensures { IfOk result (λ found. option_map seen found ≡ head_says line.now) }
 {

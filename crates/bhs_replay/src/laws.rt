@@ -15,7 +15,7 @@ ghost use Rattle.bhs_replay.specs.Spelling.{spelled, may_stand, EventFits, Reply
 use crate::heads::Version;
 use bhs_model::{Event, Reply, Setup};
 
-/// A line spells an event and a reply exactly where it is their line, so no line is that of two.
+/// A line spells an event and a reply exactly if it is their line, so no line is that of two.
 pub fn one_spelling()
     ensures reads { (event : Event) (reply : Option Reply) → EventFits event → ReplyFits reply
         → may_stand event reply ≡ true → IsUtf8 (event_line event reply)

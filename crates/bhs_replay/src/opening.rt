@@ -14,7 +14,7 @@ use bhs_net::{Memory, Net, NetFault};
 use bhs_world::SetupFault;
 use std::alloc::Global;
 
-/// The match that a line opens, with an empty log; None where the line is no head.
+/// The match that a line opens, with an empty log; None if the line is no head.
 pub(crate) fn opened(alloc: Global, line: &[u8]) -> Result<Option<Match>, Memory>
     ensures { IfOk result (OpensAs line.now) }
 {
@@ -24,7 +24,7 @@ pub(crate) fn opened(alloc: Global, line: &[u8]) -> Result<Option<Match>, Memory
     }
 }
 
-// The match that a line opens, where it says this.
+// The match that a line opens, if it says this.
 fn opened_by(alloc: Global, line: &[u8], says: Says) -> Result<Option<Match>, Memory>
     requires { Some (seen says) ≡ head_says line.now }
     ensures { IfOk result (OpensAs line.now) }

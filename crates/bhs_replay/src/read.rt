@@ -14,7 +14,7 @@ use std::alloc::Global;
 /// Reads the replay of a match, line by line, by at most `turns` reads. It holds the match and one line.
 ///
 /// The clauses follow the reads one by one: the text is judged as it comes, and the first fault in its order ends the
-/// reading. `Read` comes only after a read that failed, and `Turns` only where one more read than `turns` was needed;
+/// reading. `Read` comes only after a read that failed, and `Turns` only if one more read than `turns` was needed;
 /// before either, nothing was wrong.
 pub fn read_replay<R: Input>(
     alloc: Global,

@@ -21,7 +21,7 @@ use std::alloc::Global;
 /// An event and its reply, as a line spells them.
 pub type Spelled = (Event, Option<Reply>);
 
-/// The event that a line spells, given without its line feed; None where it is the line of none.
+/// The event that a line spells, given without its line feed; None if it is the line of none.
 ///
 /// Most lines say at first sight what they spell, and a comparison shows that they do. What is not seen at first sight
 /// is read as JSON: texts with escapes, and what is the line of no event.
@@ -62,7 +62,7 @@ fn spells(line: &[u8], event: &Event, reply: Option<LentReply<'_>>) -> bool
     is_spelled(line, event, reply)
 }
 
-/// The event and the reply that a line spells, given without its line feed; None where it is the line of none.
+/// The event and the reply that a line spells, given without its line feed; None if it is the line of none.
 pub fn read_event(alloc: Global, line: &[u8]) -> Result<Option<Spelled>, Memory>
     ensures { IfOk result (λ found. found ≡ spelled line.now) }
 {

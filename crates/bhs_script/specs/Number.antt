@@ -2,7 +2,7 @@
 use Rattle.std.specs.Prelude.{ℕ, ◌+◌, ◌-◌, ◌*◌, ◌^◌, ◌==◌, nat_lt, List, [], ◌∷◌, Option, None, Some, if◌then◌else◌}
 use Rattle.std.specs.Char.{is_ascii_digit}
 
--- the number that decimal digits spell behind those that spell n; None where one of them is no digit
+-- the number that decimal digits spell behind those that spell n; None if one of them is no digit
 abbrev pub read_on : ℕ → List ℕ → Option ℕ
 read_on n [] = Some n
 read_on n (digit ∷ digits) = if is_ascii_digit digit then read_on (10 * n + (digit - 48)) digits else None

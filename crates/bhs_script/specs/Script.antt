@@ -26,7 +26,7 @@ lines_of (byte ∷ bytes) = if is_line_feed byte then [] ∷ lines_of bytes else
 abbrev pub is_space : ℕ → Bool
 is_space byte = byte == 32
 
--- what stands before the first space, and behind it; None where there is no space
+-- what stands before the first space, and behind it; None if there is no space
 abbrev pub parted : List ℕ → Option (List ℕ × List ℕ)
 parted text = option_map (λ end. (take end text, drop (end + 1) text)) (position is_space text)
 
@@ -90,7 +90,7 @@ instruction_by games word rest =
     else (if bytes_eq word (codes "close") then closes games rest
     else feeds_line word rest)))
 
--- the instruction of a line, in a rehearsal of so many matches; None where it is no line of a script
+-- the instruction of a line, in a rehearsal of this number of matches; None if it is not a line of a script
 abbrev pub instruction_in : (games : ℕ) → List ℕ → Option Instruction
 instruction_in games line = do
   parts ← parted line

@@ -179,7 +179,7 @@ fn number_below(bound: usize, text: &[u8]) -> Option<u32>
     number_of(text).filter(|number| (*number as usize) < bound)
 }
 
-/// The instructions of a script in a rehearsal of so many matches, or its first line that is none of a script.
+/// The instructions of a script in a rehearsal of this number of matches, or its first line that is wrong.
 pub fn instructions_in<'s>(
     alloc: Global,
     games: usize,

@@ -91,7 +91,7 @@ abbrev pub phase_from : Phase → List Exchange → Phase
 phase_from phase [] = phase
 phase_from phase (one ∷ others) = phase_from (phase_after one) others
 
--- A command is taken where the session takes lines. It is not heard exactly where the pass's own numbers refuse it; one
+-- A command is taken where the session takes lines. It is not heard exactly if the pass's own numbers refuse it; one
 -- that is heard stands in the log above the last arrival. An arrival comes where it is awaited, behind a Gone.
 abbrev pub IsInTurn : (quota : ℕ) → Phase → (receipts arrivals : List Receipt) → Exchange → Type 0
 IsInTurn quota phase receipts arrivals (Took command receipt) =

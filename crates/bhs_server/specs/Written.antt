@@ -46,7 +46,7 @@ Ends endings.Memory phase parting left last = Unit {0}
 
 -- Of a session that took these commands, wrote this and ended so, by this pass: what it wrote is the text of what it
 -- said and was answered, which is made of the receipts and arrivals of the pass, and behind it at most that the match
--- is over; or a front of that, where a write failed or memory ran out. A Leave that an ending told has its receipt
+-- is over; or a front of that, if a write failed or memory ran out. A Leave that an ending told has its receipt
 -- last.
 pub record IsWrittenBy (pass : Passed) (commands : List Command) (written : List ℕ) (ended : Ended) : Type 0 where
   pub all : List Exchange
@@ -78,7 +78,7 @@ IsWrittenFor cells (Some played) commands written ended =
     IsOfCell cells played.game played.pass × IsWrittenBy played.pass commands written ended
 IsWrittenFor cells None commands written ended = IsOutside written ended
 
--- whether a session ended between two lines, where it may have told a Leave
+-- whether a session ended between two lines, if it may have told a Leave
 abbrev pub is_between : Ended → Bool
 is_between endings.InputEnded = true
 is_between endings.ReadFault = true
@@ -95,7 +95,7 @@ pub record IsAttended {I O : Type 0} (gives : I → Chunk → I → Type 0) (tak
   pub serves : Serves gives takes Calls input_old input_new output_old output_new
       (record { keys = keys; cells = cells; played = None }) last turns (Finished ended)
   pub written : IsWrittenFor cells played (map command_of serves.taken) serves.written ended
-  -- the lines that were read and not taken: none where the session ended between two lines
+  -- the lines that were read and not taken: none if the session ended between two lines
   pub more : List Line
   pub in_order : lines serves.read ≡ serves.taken ++ more
   pub none_more : is_between ended ≡ true → more ≡ []

@@ -7,7 +7,7 @@ ghost use Rattle.bhs_server.specs.ContestExample.{TheHeadlineSpeaksOfTheOther, T
 ghost use Rattle.bhs_server.specs.ContestMet.{EqualPastsAreSentEqualBytes, SentAsMet};
 
 /// A session whose pass settled with its match wrote the bytes of what its agent met in the log, and behind them at
-/// most one line; or a front of that, where a write failed or memory ran out.
+/// most one line; or a front of that, if a write failed or memory ran out.
 pub fn sent_as_met()
     ensures { SentAsMet }
 {}

@@ -11,6 +11,6 @@ pub enum Step {
 
 /// When the dealers of a server take their turns. It may pause before it answers.
 pub trait Pace {
-    /// What the dealer of match `game` does after so many turns.
+    /// What the dealer of match `game` does after this number of turns.
     fn next(&self, game: u32, turn: u32) -> Step;
 }

@@ -44,7 +44,7 @@ pub(crate) fn all_visits<
     G: Gate + Sync,
     W: Watch + Sync,
 >(running: Running<'_, R, P, G, W>, dealers: Vec<Dealer>) -> Result<Vec<Visit>, Memory>
-    ensures { IfOk result (λ visits. vec_len visits ≡ running.limits.sessions) }
+    ensures { IfOk result (λ visits. vec_len visits ≡ running.entry.limits.sessions) }
 {
     let Running {
         rt,

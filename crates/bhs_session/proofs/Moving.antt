@@ -83,7 +83,7 @@ module _ {O P : Type 0} (takes : O → List ℕ → Taken → O → Type 0) (cal
   Ends-trans b c port1 port2 taken1 taken2 phase1 next (Err stop) first second =
       (second.0, (second.1.0, Moves-trans b c port1 port2 taken1 second.1.0 phase1 (phase_of stop) first second.1.1))
 
--- the line of an answer that is no other's news
+-- the line of an answer that is not the news of another
 module _ {O P T : Type 0} (takes : O → List ℕ → Taken → O → Type 0) (calls : P → Asked → Heard → P → Type 0) (b : O)
     (p : Point O P) (reply : Reply) where
   pub Ends-news : (result : Result T Stop) → p.phase ≡ Owes (text_of reply) (answered_by false reply)

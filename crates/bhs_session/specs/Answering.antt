@@ -21,7 +21,7 @@ use Rattle.bhs_session.specs.Met.{bytes, AreDue}
 
 -- ---- the port
 
--- a command is heard exactly where the past and the quota allow it
+-- a command is heard exactly if the past and the quota allow it
 abbrev pub IsJudged : (quota : ℕ) → View → Meeting → Type 0
 IsJudged quota past (Hears command glance) = hears quota past command ≡ true
 IsJudged quota past (Refuses command) = hears quota past command ≡ false
@@ -61,7 +61,7 @@ pub record AnswersByPasts {P : Type 0} (calls : P → Asked → Heard → P → 
 abbrev pub IsLastLine : List ℕ → Type 0
 IsLastLine last = (last ≡ []) ⊎ ((last ≡ text_of Over) ⊎ ((denial : Denial) × (last ≡ denial_text denial)))
 
--- what is not written of the bytes: all that is owed; any rest where a write failed or memory ran out; else nothing
+-- what is not written of the bytes: all that is owed; any rest if a write failed or memory ran out; else nothing
 abbrev pub MayLack : Ended → List ℕ → Type 0
 MayLack WriteFault unwritten = Unit {0}
 MayLack Memory unwritten = Unit {0}
@@ -80,7 +80,7 @@ IsLeft (Finished ended) left = (left ≡ []) ⊎ ((command : Command) × (left �
 IsLeft phase left = left ≡ []
 
 -- A session in this phase that took these lines has written the bytes of what its agent met, whose past this is, or a
--- front of them where a write failed or memory ran out.
+-- front of them if a write failed or memory ran out.
 pub record WritesAsMet (quota limit : ℕ) (past : View) (written : List ℕ) (taken : List Line) (phase : Phase) :
     Type 0 where
   pub met : List Meeting

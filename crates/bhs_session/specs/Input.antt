@@ -16,7 +16,7 @@ pub record Brings {I : Type 0} (gives : I → Chunk → I → Type 0) (old new :
   pub found_lines : lines (stream ++ piece) ≡ lines stream ++ found
   pub held_rest : held ≡ held_of (stream ++ piece)
 
--- why a read brings no lines; where memory runs out a piece was read
+-- why a read brings no lines; if memory runs out, a piece was read
 abbrev pub BringsNone : {I : Type 0} → (I → Chunk → I → Type 0) → (old new : I) → Ended → Type 0
 BringsNone gives old new InputEnded = gives old End new
 BringsNone gives old new ReadFault = gives old Fails new

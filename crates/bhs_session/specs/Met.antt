@@ -66,7 +66,7 @@ takes_commands Away = false
 takes_commands Ended = false
 takes_commands standing = true
 
--- a command is heard exactly where the past and the quota allow it, and only an agent on a link arrives
+-- a command is heard exactly if the past and the quota allow it, and only an agent on a link arrives
 abbrev pub IsDue : (quota : ℕ) → View → Meeting → Type 0
 IsDue quota view (Hears command glance) = (takes_commands (standing view) ≡ true) × (hears quota view command ≡ true)
 IsDue quota view (Refuses command) = (takes_commands (standing view) ≡ true) × (hears quota view command ≡ false)

@@ -81,7 +81,7 @@ after_enter (Answers reply) = Finished endings.Memory
 
 -- ---- what stops a session from outside
 
--- its agent leaves first exactly where it has entered and no answer has ended the session
+-- its agent leaves first exactly if it has entered and no answer has ended the session
 abbrev pub stopped : Phase → Ended → Phase
 stopped Fresh cause = Finished cause
 stopped Ready cause = Leaves cause
@@ -93,7 +93,7 @@ stopped (Finished ended) cause = Finished cause
 -- ---- writing
 
 -- In this phase these bytes are written, the output going from one state to the next, and this phase follows: the
--- whole text, less of it where a write failed or took nothing, or none where there is no memory for it.
+-- whole text, less of it if a write failed or took nothing, or none if there is no memory for it.
 pub data Sends {O : Type 0} (takes : O → List ℕ → Taken → O → Type 0) (old : O) : Phase → List ℕ → O → Phase →
     Type 0 where
   all : (text : List ℕ) (next : Phase) (new : O) → PutsAll takes old text new →

@@ -19,7 +19,7 @@ use std::alloc::Global;
 // The bytes that the line of a reply takes at most besides its whiteboard.
 const ROOM: usize = 128;
 
-// Writes the line of an answer. It stops the session where the answer ends it, or a fault does.
+// Writes the line of an answer. It stops the session if the answer ends it, or a fault does.
 pub(crate) fn write_reply<W: Output>(
     last: &mut LastLine,
     writer: &mut W,

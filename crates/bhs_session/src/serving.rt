@@ -23,7 +23,7 @@ use std::alloc::Global;
 /// answers is not written. A line is written by as many writes as it takes.
 ///
 /// `ReadFault` comes only after a read that failed, `WriteFault` only after a write that failed or took nothing,
-/// `InputEnded` only after a read that gave nothing, and `Turns` only where one more read was needed.
+/// `InputEnded` only after a read that gave nothing, and `Turns` only if one more read was needed.
 pub fn serve<R: Input, W: Output, P: Port>(
     alloc: Global,
     reader: &mut R,

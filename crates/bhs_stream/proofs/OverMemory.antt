@@ -31,7 +31,7 @@ module _ {R : Type 0} (remaining : R → Option (List ℕ)) where
     closes.last.1,
   )
 
--- so many reads give so many bytes
+-- this number of reads gives this number of bytes
 pub GivenBy-from_gathers : {I : Type 0} (gives : I → Chunk → I → Type 0) (old new : I) (reads : ℕ) (bytes : List ℕ)
     → Gathers gives old reads bytes new → GivenBy reads bytes
 GivenBy-from_gathers gives old new reads bytes begins = (omega arith, omega arith)

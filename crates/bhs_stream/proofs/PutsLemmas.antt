@@ -5,7 +5,7 @@ use Rattle.std.proofs.Math.Seq.{drop-append-le, drop-append-add}
 use Rattle.bhs_stream.specs.Streams.{Taken}
 use Rattle.bhs_stream.specs.Sending.{IsOffered, Puts, begins, goes_on, PutsAll, PutsPart}
 
--- bytes were left where some are offered
+-- bytes were left if some are offered
 pub offered-short : (bytes : List ℕ) (sent : ℕ) (offered : List ℕ) → IsOffered bytes sent offered → sent < length bytes
 offered-short bytes sent offered is_offered =
     let left = length-drop sent bytes in

@@ -16,7 +16,7 @@ pub record AppendsPart (old new : Option (List ℕ)) (bytes : List ℕ) : Type 0
 
 -- ---- read
 
--- so many reads can have given the bytes: each gives at least one byte, and at most a full buffer
+-- this number of reads can have given the bytes: each gives at least one byte, and at most a full buffer
 abbrev pub GivenBy : ℕ → List ℕ → Type 0
 GivenBy reads bytes = (reads ≤ length bytes) × (length bytes ≤ reads * BUFFER)
 

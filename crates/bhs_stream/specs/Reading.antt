@@ -9,7 +9,7 @@ use Rattle.bhs_stream.specs.Streams.{Chunk, Bytes, Fails}
 abbrev pub IsPiece : List ℕ → Type 0
 IsPiece piece = (0 < length piece) × (length piece ≤ BUFFER)
 
--- by so many reads, each of which brought bytes, these bytes came, and the input is in this state
+-- by this number of reads, each of which brought bytes, these bytes came, and the input is in this state
 pub data Gathers {I : Type 0} (gives : I → Chunk → I → Type 0) (start : I) : (reads : ℕ) → List ℕ → I → Type 0 where
   begins : Gathers gives start 0 [] start
   goes_on : (reads : ℕ) (bytes piece : List ℕ) (here next : I) → Gathers gives start reads bytes here → IsPiece piece

@@ -8,7 +8,7 @@ pub record IsOffered (bytes : List ℕ) (sent : ℕ) (offered : List ℕ) : Type
   pub front : drop sent bytes ≡ offered ++ rest
   pub some : 0 < length offered
 
--- by writes of what was left, each of which took at least one byte, so many of the bytes went out
+-- by writes of what was left, each of which took at least one byte, this number of bytes went out
 pub data Puts {O : Type 0} (takes : O → List ℕ → Taken → O → Type 0) (start : O) (bytes : List ℕ) : (sent : ℕ)
     → O → Type 0 where
   begins : Puts takes start bytes 0 start

@@ -24,7 +24,7 @@ chunk_of (Err error) buffer = Fails
 
 -- what a write answers
 pub data Taken : Type 0 where
-  -- it took so many bytes; none is 0
+  -- it took this number of bytes, which may be 0
   Takes : (count : ℕ) → Taken
   -- the write failed
   Refuses : Taken

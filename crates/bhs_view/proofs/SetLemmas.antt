@@ -8,7 +8,7 @@ use Rattle.std.proofs.lemmas.Bool.Decides.{eqb_tells}
 use Rattle.std.proofs.lemmas.List.{length-set, take_more, get_or-replicate, length-replicate}
 use Rattle.bhs_view.specs.Places.{set_from}
 
--- a set has just these places, out of so many
+-- a set has just these places, out of this number
 pub record IsSetOf (set : List Bool) (places : List ℕ) (many : ℕ) : Type 0 where
   pub count : length set ≡ many
   pub marks : (place : ℕ) → place < many → slice_index_or set place false ≡ list_any (nat_eq place) places

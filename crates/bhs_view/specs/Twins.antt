@@ -47,7 +47,7 @@ first_accused_from world state (event ∷ events) =
     option_or (hole_accused world state event) (first_accused_from world (next world state event) events)
 
 -- the black hole that gives way: the first that is accused by a link that is not dark; without such an accusation the
--- least; none where there is none
+-- least; none if there is none
 abbrev pub replaced : World → List Event → Option ℕ
 replaced world events =
     option_or (first_accused_from world initial events) (find (is_hole world.holes) (range_with_len 0 world.net.nodes))
@@ -90,8 +90,8 @@ first_arrival_from world node state place (event ∷ events) =
 abbrev pub first_arrival : World → (node : ℕ) → List Event → Option ℕ
 first_arrival world node events = first_arrival_from world node initial 0 events
 
--- why a match has no twin with a black hole at this node: it is no node, or the home base, or a black hole already, or
--- an agent arrived there
+-- why a match has no twin with a black hole at this node: the node does not exist, or is the home base, or a black hole
+-- already, or an agent arrived there
 abbrev pub twin_fault : Play → (node : ℕ) → Option TwinFault
 twin_fault play node =
     if not (nat_lt node (nodes_of play.net)) then Some Node

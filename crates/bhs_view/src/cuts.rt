@@ -26,7 +26,7 @@ pub fn cut_of(alloc: Global, sealed: &Sealed, agent: u16) -> Result<Vec<u32>, Me
 }
 
 /// The places of the agent's causal past, and how many places of the log the walk back looked at: each once, and none
-/// for a number that is no agent's.
+/// for a number without an agent.
 pub fn cut_and_looks(alloc: Global, sealed: &Sealed, agent: u16) -> Result<(Vec<u32>, u32), Memory>
     ensures cut { IfOk result (λ found. found.0.items
         ≡ places_of (cut agent (footprints (world_in sealed.now) (events_of sealed.now.log)))) }

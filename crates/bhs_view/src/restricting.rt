@@ -53,7 +53,7 @@ pub fn restrict(alloc: Global, sealed: &Sealed, places: &[u32]) -> Result<Sealed
     Ok(replay(game, sealed.log(), &set)?)
 }
 
-// The places as a set, where they ascend and are closed; else the first fault.
+// The places as a set, if they ascend and are closed; otherwise the first fault.
 fn closed_set(alloc: Global, sealed: &Sealed, places: &[u32]) -> Result<Vec<bool>, RestrictFault>
     ensures set { IfOk result (λ set. set.items ≡ set_in sealed.now places.now) }
     ensures network { OnOk result (IsNetwork sealed.now.net) }
@@ -78,7 +78,7 @@ fn closed_set(alloc: Global, sealed: &Sealed, places: &[u32]) -> Result<Vec<bool
     Ok(set)
 }
 
-// The index of the first place that is not above the one before it, or is past so many.
+// The index of the first place that is not above the one before it, or is past the end.
 fn misplaced(places: &[u32], count: usize) -> Option<usize>
     ensures { result ≡ misplaced count places.now }
 {
@@ -93,7 +93,7 @@ fn misplaced(places: &[u32], count: usize) -> Option<usize>
     None
 }
 
-// The places as a set of so many.
+// The places as a set, out of this number.
 fn set_of(alloc: Global, places: &[u32], count: usize) -> Result<Vec<bool>, Memory>
     ensures length { IfOk result (λ set. length set.items ≡ count) }
     ensures marks { IfOk result (λ set. (place : ℕ) → place < count → slice_index_or set.items place false

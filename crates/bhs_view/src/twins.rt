@@ -51,7 +51,7 @@ impl From<Memory> for TwinFault {
 }
 
 /// The match with a black hole at this node, in which no agent saw anything else. The black hole that was first accused
-/// by a link that is not dark gives way; without such an accusation the least, and none where there is none. Each
+/// by a link that is not dark gives way; without such an accusation the least, and none if there is none. Each
 /// Deliver that finds its agent bound for that one is left out.
 pub fn twin_of(alloc: Global, sealed: &Sealed, node: u16) -> Result<Sealed, TwinFault>
     ensures twin { IfOk result (λ twin. IsTwin sealed.now node twin) }

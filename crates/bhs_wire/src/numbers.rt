@@ -9,7 +9,7 @@ ghost use Rattle.bhs_wire.specs.First.{if_port};
 use fast_float::Numeral;
 use json::Invalid;
 
-// The whole number that the digits write, where it has 64 bits; None where they write another number. A
+// The whole number that the digits write, if it has 64 bits; None if they write another number. A
 // number out of a float's range is no JSON here.
 pub(crate) fn whole_number(digits: &str) -> Result<Option<u64>, Invalid>
     ensures { MatchResult result (λ whole. option_map as_u64 (number_of digits.now) ≡ Some whole)
@@ -64,7 +64,7 @@ fn nearest(negative: bool, numeral: &Numeral<'_>) -> Result<Option<u64>, Invalid
     }
 }
 
-// The number of a port, where a whole number is one.
+// The number of a port, if a whole number is one.
 pub(crate) fn port_of(whole: Option<u64>) -> Option<u16>
     ensures { result ≡ option_and_then if_port whole }
 {

@@ -41,7 +41,7 @@ impl Raw<'_> {
     }
 }
 
-/// The bytes before the first line feed, and those after it; None where there is no line feed.
+/// The bytes before the first line feed, and those after it; None if there is no line feed.
 pub fn split_line(bytes: &[u8]) -> Option<(&[u8], &[u8])>
     ensures { MatchOption result (list_any is_line_feed bytes.now ≡ false)
         (λ parts. (bytes.now ≡ parts.0.now ++ 10 ∷ parts.1.now) × (list_any is_line_feed parts.0.now ≡ false)) }
@@ -117,7 +117,7 @@ fn push_line<'p>(
     Ok(())
 }
 
-// A line in two parts. It is copied only where there is a first one.
+// A line in two parts. It is copied only if there is a first one.
 fn joined<'p>(alloc: Global, front: &[u8], end: &'p [u8]) -> Result<CowSlice<'p, u8>, Memory>
     requires { length front.now + length end.now ≤ MAX_LINE }
     ensures { IfOk result (λ line. cow_slice_items line ≡ front.now ++ end.now) }

@@ -137,7 +137,7 @@ next_node net node port end before = record {
   order = elim before.order [ inl less ↦ inl (omega arith) | inr less ↦ inl (let one = less.0 in omega arith) ];
 }
 
--- links that fit after those before, and leave so many before the next
+-- links that fit after those before, and leave this number before the next
 record AreFit (net : Network) (node port : ℕ) (before ends rest : List (ℕ × ℕ)) : Type 0 where
   pub fit : are_links_fit net before (ends ++ rest) ≡ are_links_fit net (before ++ ends) rest
   pub all : AllByRecursion (IsBefore net node port) (before ++ ends)

@@ -43,7 +43,7 @@ are_links_fit net before [] = true
 are_links_fit net before (end ∷ ends) =
     (is_port_of net end && not (is_dark (far_of net) before end.0 end.1)) && are_links_fit net (before ++ end ∷ []) ends
 
--- the first fault of a setup on this network; None where it is within the limits
+-- the first fault of a setup on this network; None if it is within the limits
 abbrev pub first_fault : Network → Setup → Option SetupFault
 first_fault net setup =
     if not (nat_lt setup.home (nodes_of net)) then Some Home

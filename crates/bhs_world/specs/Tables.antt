@@ -29,7 +29,7 @@ pub record Table : Type 0 where
   pub boards : List Whiteboard
   pub closed : Bool
 
--- the agent of a number; a number that is no agent's is as one that has not entered
+-- the agent of a number; a number without an agent is as one that has not entered
 abbrev pub agent_at : List Course → ℕ → Course
 agent_at agents agent = slice_index_or agents agent newcomer
 
@@ -91,7 +91,7 @@ is_of_board_if None = false
 abbrev pub keeps_next : World → List Kept → Event → Bool
 keeps_next world log event = keeps world (run world (events_of log)) (lost world (events_of log)) event
 
--- the log after an event, with what was answered, which stands in it where the event is kept
+-- the log after an event, with what was answered, which stands in it if the event is kept
 abbrev pub log_after : World → List Kept → Event → Option Mark → List Kept
 log_after world log event mark = if keeps_next world log event then log
     ++ record { event = event; mark = mark } ∷ [] else log

@@ -60,7 +60,7 @@ fn mark_links(dooms: &mut Dooms, net: &Net, setup: &Setup) -> Result<bool, Alloc
     Ok(true)
 }
 
-/// What destroys, where the setup is within the limits; else its first fault. Memory is told only where memory was
+/// What destroys, if the setup is within the limits; else its first fault. Memory is told only if memory was
 /// refused.
 pub(crate) fn judged(alloc: Global, net: &Net, setup: &Setup) -> Result<Dooms, SetupFault>
     ensures fit { OnOk result ((first_fault net.now setup.now ≡ None) × IsWithinLimits net.now setup.now) }

@@ -64,7 +64,7 @@ impl Model for World {
 
 impl World {
     /// A world at the start of a match, set up by the normal form of the setup. The first fault of the setup is told;
-    /// Memory is told only where memory was refused.
+    /// Memory is told only if memory was refused.
     pub fn new(alloc: Global, net: Net, setup: Setup) -> Result<World, SetupFault>
         ensures fit { OnOk result ((first_fault net setup ≡ None) × IsWithinLimits net setup) }
         ensures given { IfOk result (λ world. (world.net ≡ net) × (world.setup ≡ normal net setup)) }
@@ -110,7 +110,7 @@ impl World {
         &self.agents[usize::from(agent)]
     }
 
-    /// The place, in the log, of the Write whose text the whiteboard of the node shows; None where no Write was
+    /// The place, in the log, of the Write whose text the whiteboard of the node shows; None if no Write was
     /// answered Written there.
     pub fn last(&self, node: u16) -> Option<u32>
         requires { node < nodes_of self.now.net }
@@ -150,7 +150,7 @@ impl World {
     }
 
     /// Plays an event, and answers the mark of its reply, which is read in the log with the event and this mark
-    /// at its end, where the event is kept. `log` is what the world stands for. Takes no memory; it takes as long
+    /// at its end, if the event is kept. `log` is what the world stands for. Takes no memory; it takes as long
     /// as comparing the texts of one Write.
     pub fn step(&mut self, log: &[Kept], event: &Event) -> Option<Mark>
         requires stands { StandsFor self.old log.now }
