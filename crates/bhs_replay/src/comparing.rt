@@ -1,6 +1,6 @@
 //! What stands behind a part of a line. Nothing here takes memory.
 
-ghost use Rattle.std.specs.Prelude.{◌≡◌, ◌<◌, ℕ, List, ◌++◌, bytes_eq, decimal, option_map};
+ghost use Rattle.std.specs.Prelude.{◌≡◌, ◌<◌, ℕ, List, ◌∷◌, ◌++◌, bytes_eq, decimal, option_map};
 ghost use Rattle.std.specs.Bool.{OnTrue};
 ghost use Rattle.std.specs.Char.{digit_char};
 ghost use Rattle.json.specs.Print.{escape, escape_byte, escape_letter};
@@ -84,8 +84,18 @@ fn after_byte<'l>(line: &'l [u8], byte: u8) -> Option<&'l [u8]>
             ],
         )
     } else {
-        after(line, &[byte])
+        after_one(line, byte)
     }
+}
+
+// What stands behind this byte.
+#[inline]
+fn after_one<'l>(line: &'l [u8], byte: u8) -> Option<&'l [u8]>
+    ensures { (more : List ℕ) → bytes_eq line.now (byte ∷ more)
+        ≡ is_left more (option_map (λ rest. rest.now) result) }
+{
+    let (first, rest) = line.split_first()?;
+    if *first == byte { Some(rest) } else { None }
 }
 
 // The letter of a byte's short escape, or 0 if it has none.
