@@ -6,6 +6,7 @@ import signal
 import sys
 from typing import List, NamedTuple, Optional
 
+from lab.cells import NoCell
 from lab.engines import Differs, NoProgram, Refused
 from lab.grid import NoSweep
 from lab.missing import Missing
@@ -13,9 +14,11 @@ from lab.networks import NoNetwork
 from lab.pasts import NoFunction
 from lab.schedulers import Impossible
 from lab.schedules import NoSchedule
+from lab.spread import NoCluster
 from lab.agent_files import NoAgent
 
-FAULTS = (Differs, Impossible, Missing, NoAgent, NoFunction, NoNetwork, NoProgram, NoSchedule, NoSweep)
+FAULTS = (Differs, Impossible, Missing, NoAgent, NoCell, NoCluster, NoFunction, NoNetwork, NoProgram, NoSchedule,
+          NoSweep)
 
 
 class Command(NamedTuple):
@@ -38,6 +41,7 @@ COMMANDS = {
     "network": Command("lab.network", "write a network file"),
     "tournament": Command("lab.tournament", "write a tournament of teams, networks and black holes, with their keys"),
     "sweep": Command("lab.sweep", "play teams over a grid of networks and schedules, and write a report"),
+    "grade": Command("lab.grade", "grade the programs of a course: a league table, and a page for each team"),
     "page": Command("lab.page", "write a page on which one watches a match that has ended"),
     "pages": Command("lab.contest_pages", "write a page of each match of a contest, and one that lists them"),
 }

@@ -26,11 +26,13 @@
 Each [[team]] has a `name`, `agents`, a number or "degree" for one more than the network's greatest degree (2), and
 either `agent` or `command`, the words that --agent or --command takes.
 """
+import argparse
+import functools
 import math
 import pathlib
 import random
 import tomllib
-from typing import Any, Callable, Dict, Iterator, List, NamedTuple, Optional, Union
+from typing import Any, Callable, Dict, Iterable, Iterator, List, NamedTuple, Optional, Union
 
 from lab import networks
 from lab.agent_files import AGENTS, TOP, digests
@@ -131,20 +133,36 @@ def read(path: pathlib.Path) -> Grid:
         raise NoSweep(f"{path}: {fault}") from None
 
 
+@functools.lru_cache(maxsize=4)
 def grid_of(text: str) -> Grid:
     """The grid that a sweep's text says."""
+    found = table_of(text)
+    check_keys(found, KEYS, "it")
+    return grid_in(found)
+
+
+def table_of(text: str) -> Dict[str, Any]:
+    """The keys of a file, and what they say."""
     try:
-        found = tomllib.loads(text)
+        return tomllib.loads(text)
     except tomllib.TOMLDecodeError as fault:
         raise NoSweep(f"it is no TOML: {fault}") from None
-    unknown = sorted(set(found) - KEYS)
+
+
+def check_keys(table: Dict[str, Any], keys: Iterable[str], name: str) -> None:
+    """Refuses a table that has other keys than these."""
+    unknown = sorted(set(table) - set(keys))
     if unknown:
-        raise NoSweep(f"it has no key {unknown[0]}; its keys are {', '.join(sorted(KEYS))}")
+        raise NoSweep(f"{name} has no key {unknown[0]}; its keys are {', '.join(sorted(keys))}")
+
+
+def grid_in(found: Dict[str, Any], folder: pathlib.Path = pathlib.Path()) -> Grid:
+    """The grid that these keys say. Files of networks are looked for in the folder."""
     title = taken(found, "title", is_text, "a text")
     names = taken(found, "networks", is_texts, "a list of names, such as [\"ring:8\"]")
-    ports = ports_seed(found["ports"]) if "ports" in found else None
+    ports = ports_in(found)
     grid = Grid(
-        title, names, {name: numbered(name, ports) for name in names},
+        title, names, {name: numbered(name, ports, folder) for name in names},
         taken(found, "home", is_number, "a node", 0), taken(found, "holes", is_holes, HOLES_ARE, BY_SEED),
         taken(found, "schedulers", is_texts, "a list of names, such as [\"fair\"]", ["fair"]),
         taken(found, "seeds", is_count, "a whole number from 1", 1),
@@ -159,8 +177,21 @@ def grid_of(text: str) -> Grid:
 HOLES_ARE = f'"{BY_SEED}", "{ALL}", how many to draw, or a list of nodes'
 
 
-def numbered(name: str, ports: Optional[int]) -> Network:
-    network = networks.named(name)
+def ports_in(found: Dict[str, Any]) -> Optional[int]:
+    """The seed by which ports are numbered anew, if there is one."""
+    said = taken(found, "ports", lambda it: it is None or is_text(it), PORTS_ARE, None)
+    try:
+        return None if said is None else ports_seed(said)
+    except argparse.ArgumentTypeError:
+        raise NoSweep(f"ports must be {PORTS_ARE}, and not {said}") from None
+
+
+PORTS_ARE = '"shuffled:SEED" with a whole number, such as "shuffled:3"'
+
+
+def numbered(name: str, ports: Optional[int], folder: pathlib.Path) -> Network:
+    """The network of a name or a file, with its ports numbered anew if there is a seed."""
+    network = networks.named(name if ":" in name else str(folder / name))
     return network if ports is None else networks.shuffled(network, ports)
 
 
@@ -180,9 +211,7 @@ def check_nodes(grid: Grid) -> None:
 
 def team_of(row: Dict[str, Any]) -> TeamRow:
     """The team of a [[team]] table."""
-    unknown = sorted(set(row) - TEAM_KEYS)
-    if unknown:
-        raise NoSweep(f"a team has no key {unknown[0]}; its keys are {', '.join(sorted(TEAM_KEYS))}")
+    check_keys(row, TEAM_KEYS, "a team")
     kinds = [kind for kind in (INSIDE, OUTSIDE) if kind in row]
     if len(kinds) != 1:
         raise NoSweep(f"each team needs either {INSIDE} or {OUTSIDE}, the words that play an agent")

@@ -13,9 +13,10 @@ import socket
 import subprocess
 import tempfile
 import time
-from typing import List, Mapping, Optional, Sequence
+from typing import Any, List, Mapping, Optional, Protocol, Sequence, Tuple
 
 from lab.agent_files import NoAgent
+from lab.fixtures import Fixture
 from lab.model import MAX_LINE
 from lab.players import DENIALS, DONE, LAST_LINES, TRAVELS, WAITS
 
@@ -28,10 +29,52 @@ GRACE = 0.5
 SLICE = 0.02
 
 
+# what is said of programs that let the lab wait: how their matches go on depends on the machine
+SENT_NOTHING, READ_NOTHING = "has sent no line within", "has not read what it was told within"
+
+
+class Ground(Protocol):
+    """Where a program runs. Its facts are what stands there for words of a command, by name."""
+
+    @property
+    def facts(self) -> Mapping[str, str]: ...
+
+    def start(self, words: Sequence[str], errors: Any) -> Tuple["subprocess.Popen[bytes]", socket.socket]:
+        """Starts a program; gives it, and the listener to which it is to connect, whose port stands for `{port}`."""
+
+    def told(self, text: str) -> str:
+        """What a program has said, without what is another on each run."""
+
+    def end(self) -> None:
+        """Ends what the program has left."""
+
+
+class Here:
+    """A program runs as who starts the lab, in the same folder."""
+
+    facts: Mapping[str, str] = {}
+
+    def start(self, words: Sequence[str], errors: Any) -> Tuple["subprocess.Popen[bytes]", socket.socket]:
+        listener = socket.create_server((HOST, 0))
+        command = [word.replace("{port}", str(listener.getsockname()[1])) for word in words]
+        try:
+            return subprocess.Popen(command, stdin=subprocess.DEVNULL, stdout=subprocess.DEVNULL, stderr=errors,
+                                    start_new_session=True), listener
+        except OSError:
+            listener.close()
+            raise
+
+    def told(self, text: str) -> str:
+        return text
+
+    def end(self) -> None:
+        pass
+
+
 class Player:
     """One program, its connection, and what it has sent and was not taken yet."""
 
-    def __init__(self, team: "Team", number: int, words: str) -> None:
+    def __init__(self, team: "Team", number: int, words: str, ground: Ground) -> None:
         self.number = number
         self.words = words
         self.state = WAITS
@@ -42,18 +85,15 @@ class Player:
         self._has_ended = False
         self._connection: Optional[socket.socket] = None
         self._child: Optional[subprocess.Popen] = None
-        self._listener = socket.create_server((HOST, 0))
+        self._listener: Optional[socket.socket] = None
+        self._ground = ground
         self._errors = tempfile.TemporaryFile()
 
     def start(self) -> None:
         """Starts the program. It is the first of a group of its own, so that all that it starts can be ended."""
-        facts = {"host": HOST, "port": self._listener.getsockname()[1], "key": self._team.keys[self.number]}
+        words = command_of(self.words, self._team.fixture, self.number, self._ground.facts)
         try:
-            command = [word.format(**facts) for word in shlex.split(self.words)]
-            self._child = subprocess.Popen(command, stdin=subprocess.DEVNULL, stdout=subprocess.DEVNULL,
-                                           stderr=self._errors, start_new_session=True)
-        except (KeyError, IndexError, ValueError):
-            raise NoAgent(f"{self.words}: in a command stand {{host}}, {{port}} and {{key}}") from None
+            self._child, self._listener = self._ground.start(words, self._errors)
         except OSError as fault:
             raise NoAgent(f"{self.words}: {fault.strerror}") from None
 
@@ -68,7 +108,7 @@ class Player:
                 self._read(until)
             self._look_for_strangers()
         except socket.timeout:
-            self._end(f"has sent no line within {self._team.seconds:g} s")
+            self._end(f"{SENT_NOTHING} {self._team.seconds:g} s")
         except OSError:
             # the program has reset its connection
             self._has_ended = True
@@ -85,7 +125,7 @@ class Player:
             self._connection.settimeout(self._team.seconds)
             self._connection.sendall(line.encode() + b"\n")
         except socket.timeout:
-            self._end(f"has not read what it was told within {self._team.seconds:g} s")
+            self._end(f"{READ_NOTHING} {self._team.seconds:g} s")
         except OSError:
             self._has_ended = True
         self.settle()
@@ -103,6 +143,7 @@ class Player:
                 it.close()
         if self._child is not None:
             self._kill()
+        self._ground.end()
 
     def is_alive(self) -> bool:
         return self._child is not None and self._child.poll() is None
@@ -165,7 +206,7 @@ class Player:
         self._errors.seek(0)
         lines = self._errors.read()[-PIECE:].decode(errors="replace").split("\n")
         said = [line.strip() for line in lines if line.strip()]
-        return f": {said[-1][:200]}" if said else ""
+        return f": {self._ground.told(said[-1])[:200]}" if said else ""
 
     def _end(self, fault: str) -> None:
         """Ends the program's play; its agent leaves the match where it is in it."""
@@ -182,13 +223,30 @@ class Player:
         self._child.wait()
 
 
+def command_of(words: str, fixture: Fixture, number: int, others: Mapping[str, str]) -> List[str]:
+    """The words of a command that starts an agent's program, but for the port, which is not known yet."""
+    setup = fixture.setup
+    facts = {"host": HOST, "port": "{port}", "key": fixture.keys[number], "nodes": setup.nodes,
+             "links": len(setup.links), "home": setup.home, **others}
+    try:
+        command = [word.format(**facts) for word in shlex.split(words)]
+    except (KeyError, IndexError, ValueError):
+        command = []
+    if not command:
+        names = [f"{{{name}}}" for name in facts]
+        raise NoAgent(f"{words}: in a command stand {', '.join(names[:-1])} and {names[-1]}")
+    return command
+
+
 class Team:
     """The programs of a match, each with a limit of seconds for each of its lines."""
 
-    def __init__(self, keys: Sequence[str], commands: Mapping[int, str], seconds: float) -> None:
-        self.keys = list(keys)
+    def __init__(self, fixture: Fixture, commands: Mapping[int, str], seconds: float,
+                 grounds: Optional[Sequence[Ground]] = None) -> None:
+        self.fixture = fixture
         self.seconds = seconds
-        self.players: List[Player] = [Player(self, number, words) for number, words in commands.items()]
+        self.players: List[Player] = [Player(self, number, words, grounds[number] if grounds else Here())
+                                      for number, words in commands.items()]
 
     def start(self) -> None:
         """Starts all programs, and waits for their first lines."""

@@ -6,40 +6,38 @@ The folder gets `runs.csv`, with a row for each run, `summary.csv`, `report.html
 the runs with the most moves, each with its schedule, its replay and its page. If you interrupt the command, run it
 again: it goes on behind the last row. The same file gives the same rows, however many --workers there are.
 
+With --cluster the runs are spread over the workers of a Dask scheduler (Debian's python3-distributed), on this machine
+or others: `dask scheduler`, then `dask worker ADDRESS` for each, then `--cluster ADDRESS`. The rows are the same.
+
 A row has the verdict of the proved program on the replay, and the replay's SHA-256. With `--engine model` the Python
 model plays and judges, which is faster and proves nothing; the rows are the same. If you name a program with it by
 --program, the program plays the runs that are kept once more, and their replays must be the same.
 """
 import argparse
-import concurrent.futures
 import csv
 import hashlib
 import io
 import json
 import os
 import pathlib
-import signal
 import tempfile
 from typing import Any, Dict, Iterable, Iterator, List, NamedTuple, Optional, Tuple
 
 from lab import grid, report
-from lab.agent_files import NoAgent
-from lab.engines import Differs, NoProgram, Refused, judged, program_at
+from lab.agent_files import digests
+from lab.engines import Differs, judged, program_at
 from lab.finds import engine_of, write_find
 from lab.grid import Case, Grid, NoSweep
-from lab.missing import Missing
-from lab.networks import NoNetwork
 from lab.play import Played, play
 from lab.progress import along
 from lab.run import PROGRAM, add_engine, maker_of
-from lab.schedulers import Impossible
 from lab.schedules import Schedule, schedule_of
+from lab.spread import Result, over_cluster, over_processes
 from lab.teams import Together
 
 COLUMNS = ("run", "network", "nodes", "links", "home", "hole", "team", "agents", "scheduler", "seed", "outcome",
            "moves", "lost", "commands", "events", "replay", "fault")
 RUNS, SUMMARY, REPORT, MADE, WORST = "runs.csv", "summary.csv", "report.html", "made.json", "worst"
-FAULTS = (Differs, Impossible, Missing, NoAgent, NoNetwork, NoProgram, Refused, OSError)
 # an agent may wait for a processor that has much other work: a row is not to depend on that
 LIMIT = 60
 
@@ -50,12 +48,13 @@ class Work(NamedTuple):
     text: str
     program: Optional[str]
 
+    def play(self, case: Case) -> List[str]:
+        """The row of a run."""
+        return row_of(self, grid.grid_of(self.text), case)
 
-class Result(NamedTuple):
-    """What came of a run: its row, or why there is none."""
-
-    row: List[str]
-    fault: str
+    def digests(self) -> Dict[str, str]:
+        """The SHA-256 of each file that rows depend on."""
+        return {**grid.grid_of(self.text).files(), **(digests([self.program]) if self.program else {})}
 
 
 def played_case(work: Work, spec: Grid, case: Case) -> Tuple[Schedule, Played]:
@@ -71,48 +70,23 @@ def played_case(work: Work, spec: Grid, case: Case) -> Tuple[Schedule, Played]:
 def row_of(work: Work, spec: Grid, case: Case) -> List[str]:
     """The row of a run."""
     schedule, played = played_case(work, spec, case)
+    return row_for(case, schedule, played, work.program)
+
+
+def row_for(case: Case, schedule: Schedule, played: Played, program: Optional[str]) -> List[str]:
+    """The row of a run that was played. The program judges it, if there is one."""
     setup, match = schedule.fixture.setup, played.match
     verdict = played.verdict()
-    if work.program:
+    if program:
         with tempfile.NamedTemporaryFile(suffix=".jsonl") as file:
             file.write(played.replay)
             file.flush()
-            verdict = judged(work.program, pathlib.Path(file.name))
+            verdict = judged(program, pathlib.Path(file.name))
     commands = sum(agent.used for agent in match.agents)
     found = (case.number, case.network, setup.nodes, len(setup.links), setup.home, case.hole, case.team.name,
              setup.agents, case.scheduler, case.seed, verdict.outcome, verdict.moves, verdict.lost, commands,
              len(match.log), hashlib.sha256(played.replay).hexdigest(), " ".join("; ".join(played.faults).split()))
     return [str(value) for value in found]
-
-
-class Worker:
-    """Plays runs in a process of its own."""
-
-    work: Work
-    spec: Grid
-
-    @classmethod
-    def begin(cls, work: Work) -> None:
-        # whoever interrupts the command interrupts it alone; it ends its workers
-        signal.signal(signal.SIGINT, signal.SIG_IGN)
-        signal.signal(signal.SIGTERM, signal.SIG_DFL)
-        cls.work, cls.spec = work, grid.grid_of(work.text)
-
-    @classmethod
-    def play(cls, case: Case) -> Result:
-        try:
-            return Result(row_of(cls.work, cls.spec, case), "")
-        except FAULTS as fault:
-            return Result([], f"run {case.number}: {fault}")
-
-
-def results(work: Work, cases: List[Case], workers: int) -> Iterator[Result]:
-    """The results of all runs, in order."""
-    pool = concurrent.futures.ProcessPoolExecutor(workers, initializer=Worker.begin, initargs=(work,))
-    try:
-        yield from pool.map(Worker.play, cases, chunksize=4)
-    finally:
-        pool.shutdown(wait=True, cancel_futures=True)
 
 
 def line_of(row: Iterable[str]) -> str:
@@ -164,38 +138,56 @@ def add_words(parser: argparse.ArgumentParser) -> None:
     group = parser.add_argument_group("the file", grid.__doc__)
     group.add_argument("file", metavar="FILE", type=pathlib.Path, help="the sweep")
     parser.add_argument("--out", metavar="FOLDER", type=pathlib.Path, required=True, help="write everything there")
+    add_workers(parser)
+    parser.add_argument("--cluster", metavar="ADDRESS", help="let the workers of a Dask scheduler play, such as "
+                        "tcp://192.0.2.7:8786; each needs this folder at the same path")
+    add_engine(parser)
+
+
+def add_workers(parser: argparse.ArgumentParser) -> None:
+    """The option that says how many processes play."""
     parser.add_argument("--workers", metavar="N", type=int, default=os.cpu_count() or 1, help="how many processes play "
                         "(as many as there are processors)")
-    add_engine(parser)
 
 
 def run(words: argparse.Namespace) -> int:
     spec, text = grid.read(words.file), words.file.read_text(encoding="utf-8")
-    if words.workers < 1:
-        raise NoSweep("at least one worker is needed: name a whole number from 1 by --workers")
+    check_workers(words)
     work = Work(text, program_at(words.program) if words.engine == PROGRAM else None)
     for name in spec.schedulers:
         maker_of(name)
     cases = list(spec.cases())
     done = prepared(words.out, made_of(spec, text, words.engine))
     try:
-        play_cases(work, cases[done:], words)
+        write_rows(results(work, cases[done:], words), len(cases) - done, words.out)
     except KeyboardInterrupt:
         print(f"interrupted; {done_in(words.out / RUNS)} of {len(cases)} runs are done: the same command goes on there")
         return 130
     return told(work, spec, cases, words)
 
 
-def play_cases(work: Work, cases: List[Case], words: argparse.Namespace) -> None:
-    """Plays runs, and writes their rows as they come."""
-    if not cases:
-        return
-    with (words.out / RUNS).open("a", encoding="utf-8", newline="") as file:
-        for result in along(results(work, cases, words.workers), len(cases), "run"):
+def write_rows(results: Iterable[Result], total: int, folder: pathlib.Path) -> None:
+    """Writes the rows of runs as they come."""
+    with (folder / RUNS).open("a", encoding="utf-8", newline="") as file:
+        for result in along(results, total, "run"):
             if result.fault:
                 raise NoSweep(result.fault)
-            file.write(line_of(result.row))
+            file.write(line_of(result.found))
             file.flush()
+
+
+def check_workers(words: argparse.Namespace) -> None:
+    if words.workers < 1:
+        raise NoSweep("at least one worker is needed: name a whole number from 1 by --workers")
+
+
+def results(work: Work, cases: List[Case], words: argparse.Namespace) -> Iterator[Result]:
+    """The results of runs, by processes or by a cluster."""
+    if not cases:
+        return iter([])
+    if words.cluster:
+        return over_cluster(work, cases, words.cluster)
+    return over_processes(work, cases, words.workers)
 
 
 def told(work: Work, spec: Grid, cases: List[Case], words: argparse.Namespace) -> int:

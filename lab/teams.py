@@ -31,7 +31,7 @@ class Together:
                   if agent.kind == INSIDE}
         outside = {number: agent.words for number, agent in enumerate(agents) if agent.kind == OUTSIDE}
         self._teams: List[Team] = [Inside(fixture.keys, inside, seconds)] if inside else []
-        self._teams += [Outside(fixture.keys, outside, seconds)] if outside else []
+        self._teams += [Outside(fixture, outside, seconds)] if outside else []
         players = [player for team in self._teams for player in team.players]
         self.players = sorted(players, key=lambda player: player.number)
 
@@ -76,7 +76,8 @@ def add_words(parser: argparse.ArgumentParser) -> None:
     team.add_argument("--agent", metavar="WORDS", action=Kinds, dest="team", help="an agent in Python inside the lab: "
                       "FILE.py[:FUNCTION] and whole numbers, {nodes} or {links}")
     team.add_argument("--command", metavar="WORDS", action=Kinds, dest="team", help="a program of its own, with "
-                      "{host}, {port} and {key} for where it connects and by which key it enters")
+                      "{host}, {port} and {key} for where it connects and by which key it enters, {nodes}, {links} "
+                      "and {home}")
     team.add_argument("--agents", metavar="N", type=int, help="how many agents there are (2, or as many as are named)")
     team.add_argument("--limit", metavar="SECONDS", type=float, default=5, help="how long an agent may take to send "
                       "or to wait (5)")
