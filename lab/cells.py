@@ -148,16 +148,26 @@ def cell_in(place: pathlib.Path, files: Sequence[pathlib.Path], user: int, walls
 
 
 def copy_into(home: pathlib.Path, file: pathlib.Path) -> None:
-    """Copies a file, or all that is in a folder. A link is copied as a link: what it leads to may be another's."""
-    for source in sorted(file.iterdir()) if file.is_dir() else [file]:
-        target = home / source.name
-        if source.is_dir() and not source.is_symlink():
-            shutil.copytree(source, target, symlinks=True, dirs_exist_ok=True)
-        else:
-            shutil.copy2(source, target, follow_symlinks=False)
-    for path in home.rglob("*"):
-        if not path.is_symlink():
-            path.chmod(0o700 if path.is_dir() or path.stat().st_mode & 0o100 else 0o600)
+    """Copies a file, or all that is in a folder."""
+    for source in sorted(file.iterdir()) if file.is_dir() else [file.resolve()]:
+        copy(source, home / (source.name if file.is_dir() else file.name))
+
+
+def copy(source: pathlib.Path, target: pathlib.Path) -> None:
+    """Copies a file or a folder. A link is copied as a link, as what it leads to may be another's, and nothing is
+    written through one. What is neither is left out."""
+    if target.is_symlink():
+        target.unlink()
+    if source.is_symlink():
+        target.unlink(missing_ok=True)
+        target.symlink_to(os.readlink(source))
+    elif source.is_dir():
+        target.mkdir(mode=0o700, exist_ok=True)
+        for inside in sorted(source.iterdir()):
+            copy(inside, target / inside.name)
+    elif source.is_file():
+        shutil.copyfile(source, target)
+        target.chmod(0o700 if os.access(source, os.X_OK) else 0o600)
 
 
 @functools.lru_cache(maxsize=1)

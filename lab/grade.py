@@ -41,13 +41,13 @@ from lab.spread import over_processes
 
 # agents of a match, whose users are numbered apart from those of other matches
 MOST_AGENTS = 64
-HANGS = ("not made smaller: a program lets the lab wait, and what it does then depends on the machine")
-DIFFERS = ("not made smaller: under the same schedule the match went another way when it was played again, so the "
-           "programs are no functions of what they are told; look for clocks, random numbers without a seed, and sets")
+HANGS = "a program lets the lab wait, and what happens then depends on the machine"
+DIFFERS = ("under the same schedule the match went another way when it was played again, so the programs are no functions "
+           "of what they are told; look for clocks, random numbers without a seed, and sets")
 
 
-class Hangs(Exception):
-    """A program lets the lab wait."""
+class NotSmaller(Exception):
+    """A schedule cannot be made smaller; says why."""
 
 
 class Graded(NamedTuple):
@@ -117,28 +117,31 @@ class Cutting(NamedTuple):
     def play(self, case: Case) -> Failure:
         """What came of a failed match."""
         try:
-            return self._failure(case)
-        except Hangs:
-            return Failure(case.number, self._written(case), False, HANGS)
+            said, has_smallest = self._smallest(case), True
+        except NotSmaller as fault:
+            said, has_smallest = f"not made smaller: {fault}", False
+        place = self.graded.place(case)
+        choices = (place / finds.SCHEDULE).read_text(encoding="utf-8").count("\n") - 1
+        return Failure(case.number, choices, has_smallest, said, (place / finds.PAGE).exists())
 
     def digests(self) -> Dict[str, str]:
         return self.graded.digests()
 
-    def _failure(self, case: Case) -> Failure:
+    def _smallest(self, case: Case) -> str:
+        """Writes the smallest schedule that was found after which the team fails; gives what is said of it."""
         check_hangs(self.faults[case.number])
         numbers: List[int] = []
-        place, tries = self.graded.place(case), self.graded.course.tries
-        _, again = self.graded.match(case, noted(self.graded.course.maker(case.scheduler)(case.seed), numbers), None)
+        graded, place = self.graded, self.graded.place(case)
+        _, again = graded.match(case, noted(graded.course.maker(case.scheduler)(case.seed), numbers), None)
         if again.replay != (place / finds.REPLAY).read_bytes() or not again.has_failed():
-            return Failure(case.number, self._written(case), False, DIFFERS)
-        cut = Cut(runs_of(numbers), lambda runs: self._fails(case, runs), tries)
-        schedule, played = self.graded.match(case, in_runs(cut.runs), self.graded.program)
+            raise NotSmaller(DIFFERS)
+        cut = Cut(runs_of(numbers), lambda runs: self._fails(case, runs), graded.course.tries)
+        schedule, played = graded.match(case, in_runs(cut.runs), graded.program)
         if not played.has_failed():
-            return Failure(case.number, self._written(case), False, DIFFERS)
-        finds.write_find(place / league.SMALLEST, schedule, played, self.graded.program)
-        verdict = "; ".join([finds.verdict_text(played.verdict()), *played.faults])
-        said = f"{in_words(cut.runs)}; {len(played.choices)} choices; {verdict}"
-        return Failure(case.number, self._written(case), True, said)
+            raise NotSmaller(DIFFERS)
+        finds.write_find(place / league.SMALLEST, schedule, played, graded.program)
+        came = league.came(*map(str, played.verdict()))
+        return f"{in_words(cut.runs)}; {len(played.choices)} choices; {'; '.join([came, *played.faults])}"
 
     def _fails(self, case: Case, runs: Runs) -> bool:
         """Whether the team fails under this schedule too."""
@@ -146,15 +149,11 @@ class Cutting(NamedTuple):
         check_hangs("; ".join(played.faults))
         return played.has_failed()
 
-    def _written(self, case: Case) -> int:
-        """How many choices the schedule of a failed match has."""
-        text = (self.graded.place(case) / finds.SCHEDULE).read_text(encoding="utf-8")
-        return text.count("\n") - 1
-
 
 def check_hangs(faults: str) -> None:
+    """Refuses to make a schedule smaller under which a program lets the lab wait."""
     if programs.SENT_NOTHING in faults or programs.READ_NOTHING in faults:
-        raise Hangs
+        raise NotSmaller(HANGS)
 
 
 def add_words(parser: argparse.ArgumentParser) -> None:

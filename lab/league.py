@@ -33,13 +33,14 @@ class Standing(NamedTuple):
 
 
 class Failure(NamedTuple):
-    """A failed match: its number, how many choices its schedule has, and what is said of the smallest schedule: what it
-    is, or why there is none."""
+    """A failed match: its number, how many choices its schedule has, whether a smallest schedule was found, what is said
+    of that, and whether there are pages to watch."""
 
     number: int
     choices: int
     has_smallest: bool
     said: str
+    has_pages: bool
 
 
 def standings_of(rows: Sequence[Row], teams: Sequence[str]) -> List[Standing]:
@@ -116,20 +117,27 @@ def failure_of(row: Row, failure: Failure) -> str:
     """A failed match: what came of it, and where it and its smallest schedule can be watched."""
     folder = folder_of(row["team"], failure.number)
     match = f"match {failure.number}: {row['network']}, black hole {row['hole']}, {row['scheduler']} {row['seed']}"
-    came = f"{row['outcome']}, {row['moves']} moves, {row['lost']} lost"
+    verdict = came(row["outcome"], row["moves"], row["lost"])
     faults = "".join(f"<li>{html.escape(fault)}</li>" for fault in row["fault"].split("; ") if fault)
-    played = f"as it was played ({links(folder)}): {failure.choices} choices"
+    played = f"as it was played ({links(folder, failure)}): {failure.choices} choices"
     smallest = html.escape(failure.said)
     if failure.has_smallest:
-        smallest = f"smallest schedule found ({links(f'{folder}/{SMALLEST}')}): {smallest}"
-    return (f'<section class="match"><h3 id="match-{failure.number}">{html.escape(match)}</h3><p>{html.escape(came)}'
+        smallest = f"smallest schedule found ({links(f'{folder}/{SMALLEST}', failure)}): {smallest}"
+    return (f'<section class="match"><h3 id="match-{failure.number}">{html.escape(match)}</h3><p>{html.escape(verdict)}'
             f'</p><ul class="faults">{faults}</ul><ul><li>{smallest}</li><li>{played}</li></ul></section>')
 
 
-def links(folder: str) -> str:
-    """Links to the page of a match and to its schedule."""
-    return (f'<a href="{html.escape(folder)}/{finds.PAGE}">watch</a>, '
-            f'<a href="{html.escape(folder)}/{finds.SCHEDULE}">schedule</a>')
+def came(outcome: str, moves: str, lost: str) -> str:
+    """What a match came to."""
+    return f"{outcome}, {moves} moves, {lost} lost"
+
+
+def links(folder: str, failure: Failure) -> str:
+    """Links to the page of a match, if it has one, and to its schedule and its replay."""
+    files = {"schedule": finds.SCHEDULE, "replay": finds.REPLAY}
+    if failure.has_pages:
+        files = {"watch": finds.PAGE, **files}
+    return ", ".join(f'<a href="{html.escape(folder)}/{file}">{name}</a>' for name, file in files.items())
 
 
 def match_row(row: Row, has_failed: bool) -> str:

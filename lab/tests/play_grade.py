@@ -1,0 +1,177 @@
+"""A course is graded alike on every run; no program meets another team's files, and a wrong one fails alone."""
+import contextlib
+import io
+import os
+import pathlib
+import shutil
+import tempfile
+import unittest
+from typing import Dict, Iterator, List
+from unittest import mock
+
+from lab import cells, course, grade, league, schedulers, sweep
+from lab.__main__ import main
+from lab.cells import Cell, Walls
+from lab.engines import TOP
+from lab.grade import Graded
+from lab.tests.play_programs import running
+from lab.tests.playing import AGENTS, program
+
+EXAMPLE = TOP / "examples" / "course" / "course.toml"
+TESTS = TOP / "lab" / "tests"
+HEAD = 'title = "A trial"\nnetworks = ["ring:4"]\nholes = [2]\nlimit = 8\n'
+RUDE = "python3 rude.py {how} {{host}} {{port}} {{key}}"
+# of each team how it breaks the rules, and what is said of its agent 1
+FAULTS = {
+    "dies": "has ended with status 1 before it connected: no such map",
+    "crash": "has ended with status 137 in the middle of its match",
+    "garbage": 'was not let in: {"no":"enter"}',
+    "flood": "was refused 1000 times in a row",
+    "silent": "has sent no line within 8 s",
+}
+ABSENT = "no-such-program: No such file or directory"
+
+
+def team(name: str, files: List[str], command: str, agents: int = 2) -> str:
+    return f'[[team]]\nname = "{name}"\nagents = {agents}\nfiles = {files}\ncommand = "{command}"\n'
+
+
+RING = team("right", [str(AGENTS / "client.py"), str(AGENTS / "ring.py")],
+            "python3 ring.py {host} {port} {key} {nodes}")
+
+
+def tree(folder: pathlib.Path) -> Dict[str, bytes]:
+    """The bytes of each file of a folder."""
+    return {str(path.relative_to(folder)): path.read_bytes() for path in folder.rglob("*") if path.is_file()}
+
+
+class Grading(unittest.TestCase):
+    def setUp(self) -> None:
+        folder = tempfile.TemporaryDirectory()
+        self.addCleanup(folder.cleanup)
+        self.addCleanup(os.chdir, os.getcwd())
+        os.chdir(TOP)
+        self.folder = pathlib.Path(folder.name)
+
+    def graded(self, file: pathlib.Path, out: str, *more: str) -> str:
+        """Grades a course; gives what is said."""
+        with contextlib.redirect_stdout(io.StringIO()) as said, contextlib.redirect_stderr(io.StringIO()):
+            self.assertEqual(main(["grade", str(file), "--out", str(self.folder / out), *more]), 0)
+        return said.getvalue()
+
+    def rows(self, out: str) -> Dict[str, List[Dict[str, str]]]:
+        """The rows of each team."""
+        found: Dict[str, List[Dict[str, str]]] = {}
+        for row in sweep.rows_in(self.folder / out / sweep.RUNS):
+            found.setdefault(row["team"], []).append(row)
+        return found
+
+    def test_the_example_gives_the_same_bytes_three_times_and_names_the_wrong_team(self) -> None:
+        said = self.graded(EXAMPLE, "first", "--program", program())
+        self.assertRegex(said, "(?m)^3,cedar,4,2,")
+        first = tree(self.folder / "first")
+        self.graded(EXAMPLE, "second", "--program", program(), "--workers", "2")
+        self.assertEqual(tree(self.folder / "second"), first)
+        # the third was interrupted
+        path = self.folder / "second" / sweep.RUNS
+        path.write_bytes(path.read_bytes()[:-200])
+        (self.folder / "second" / league.PAGE).unlink()
+        self.graded(EXAMPLE, "second", "--program", program())
+        self.assertEqual(tree(self.folder / "second"), first)
+        self.check_pages(self.folder / "first")
+
+    def check_pages(self, folder: pathlib.Path) -> None:
+        """The wrong team's page leads to its failed matches and their smallest schedules."""
+        page = (folder / "team-cedar.html").read_text()
+        self.assertIn("then always the first", page)
+        for place in ("failed/cedar-9", "failed/cedar-9/smallest", "failed/cedar-11"):
+            self.assertIn(f'href="{place}/match0.html"', page)
+            self.assertTrue((folder / place / "match0.html").is_file())
+        for name in ("amber", "birch"):
+            self.assertIn("solved each of its matches", (folder / f"team-{name}.html").read_text())
+
+    def test_who_breaks_the_rules_fails_alone(self) -> None:
+        teams = [team(how, [str(TESTS / "rude.py")], RUDE.format(how=how), 1 if how == "silent" else 2)
+                 for how in FAULTS]
+        absent = team("absent", [str(TESTS / "rude.py")], "no-such-program {port} {key}")
+        file = self.folder / "course.toml"
+        file.write_text(HEAD + "".join([*teams, RING, absent]))
+        self.graded(file, "out", "--engine", "model")
+        rows = self.rows("out")
+        self.assertEqual([row["fault"] for row in rows["right"]], [""])
+        self.assertEqual([row["outcome"] for row in rows["right"]], ["solved"])
+        self.assertIn(ABSENT, rows["absent"][0]["fault"])
+        for how, fault in FAULTS.items():
+            with self.subTest(how):
+                self.assertIn(fault, rows[how][0]["fault"])
+        self.assertEqual(running("time.sleep(10000)"), [])
+        self.assertEqual((self.folder / "out" / league.TABLE).read_text().splitlines()[1], "1,right,1,1,9,1")
+
+    def test_a_program_that_is_no_function_of_what_it_is_told(self) -> None:
+        (self.folder / "dice.py").write_text(DICE)
+        file = self.folder / "course.toml"
+        file.write_text(HEAD + team("dice", ["dice.py"], "python3 dice.py {port} {key}", 1))
+        self.graded(file, "out", "--engine", "model")
+        self.assertIn("no functions of what they are told", (self.folder / "out" / "team-dice.html").read_text())
+
+
+# an agent that writes a number by chance on the whiteboard
+DICE = """import json, secrets, socket, sys
+server = socket.create_connection(("127.0.0.1", int(sys.argv[1])))
+for command in ({"do": "enter", "key": sys.argv[2]}, {"do": "write", "expect": "", "put": secrets.token_hex(8)}):
+    server.sendall(json.dumps(command).encode() + b"\\n")
+    server.recv(1000)
+"""
+
+
+class Spies(unittest.TestCase):
+    """A spy, and a team that has what it looks for."""
+
+    def setUp(self) -> None:
+        folder = tempfile.TemporaryDirectory()
+        self.addCleanup(folder.cleanup)
+        os.chmod(folder.name, 0o755)
+        self.folder = pathlib.Path(folder.name) / "course"
+        (self.folder / "rich").mkdir(parents=True)
+        (self.folder / "rich" / "plan.txt").write_text("TREASURE-plan")
+        shutil.copy(TESTS / "spy.py", self.folder)
+        for path in [self.folder, *self.folder.rglob("*")]:
+            path.chmod(0o755 if path.is_dir() else 0o644)
+
+    def found(self, walls: Walls, *places: str) -> List[str]:
+        """What each program of the spies says that it has found there."""
+        text = HEAD + team("rich", ["rich"], "true {port} {key}") + team(
+            "spy", ["spy.py"], f"python3 spy.py {{key}} {self.folder} {' '.join(places)} {{port}}")
+        graded = Graded(text, self.folder, None, walls, self.folder / "out")
+        case = next(case for case in graded.course.cases() if case.team.name == "spy")
+        _, played = graded.match(case, schedulers.fair(0), None)
+        return [fault.rpartition(": ")[2] for fault in played.faults]
+
+    @unittest.skipUnless(cells.strongest() is Walls.ALL, "only root, where it may make namespaces, has walls")
+    def test_behind_walls_they_find_nothing(self) -> None:
+        self.assertEqual(self.found(Walls.ALL, "/tmp", "/dev/shm"), ["found nothing"] * 2)
+
+    @unittest.skipUnless(os.geteuid() == 0, "only root can let programs be other users")
+    def test_as_users_of_their_own_they_find_nothing_that_others_may_not_read(self) -> None:
+        self.folder.chmod(0o700)
+        for said in self.found(Walls.USER):
+            self.assertNotIn("TREASURE", said)
+
+    def test_in_one_folder_they_find_all(self) -> None:
+        """The spies are good ones: in a body that runs all teams in one folder they find what they look for."""
+        shutil.copy(self.folder / "rich" / "plan.txt", self.folder)
+        shared = Cell(self.folder, None, Walls.NONE)
+        with mock.patch.object(cells, "cells", lambda *_: in_one_folder(shared)):
+            for said in self.found(Walls.NONE):
+                self.assertIn("TREASURE-plan", said)
+
+
+@contextlib.contextmanager
+def in_one_folder(cell: Cell) -> Iterator[List[Cell]]:
+    """Cells as a careless body would make them."""
+    with mock.patch.object(Cell, "home", cell.place):
+        yield [cell, cell]
+
+
+if __name__ == "__main__":
+    unittest.main()
