@@ -7,7 +7,7 @@ the runs with the most moves, each with its schedule, its replay and its page. I
 again: it goes on behind the last row. The same file gives the same rows, however many --workers there are.
 
 With --cluster the runs are spread over the workers of a Dask scheduler (Debian's python3-distributed), on this machine
-or others: `dask scheduler`, then `dask worker ADDRESS` for each, then `--cluster ADDRESS`. The rows are the same.
+or others: `dask-scheduler`, then `dask-worker ADDRESS` for each, then `--cluster ADDRESS`. The rows are the same.
 
 A row has the verdict of the proved program on the replay, and the replay's SHA-256. With `--engine model` the Python
 model plays and judges, which is faster and proves nothing; the rows are the same. If you name a program with it by
