@@ -7,9 +7,10 @@ model`). Rows, reports and pages go to the folder of --out; interrupted, sweeps 
 tables are put into docs/EXPERIMENTS.md, each with its command, its engine, its time and the commit.
 
 Tables:
-    rings        moves of two agents on rings under fair and under weighted schedules
+    rings        moves of two agents on rings under fair and under weighted schedules, and the most that was hunted
     explored     the most moves of all schedules on small networks
     no-map       one agent more than the greatest degree, without a map
+    silent       the runs without a map that ended by the arena's limit of commands
     known-map    two agents that have the map
     too-few      one agent too few: a schedule after which the team fails
     losses       the most agents that were lost in each table
@@ -21,8 +22,10 @@ import pathlib
 import re
 import subprocess
 import sys
+import tempfile
 import time
-from typing import Callable, Dict, List, NamedTuple, Sequence, Tuple
+import tomllib
+from typing import Callable, Dict, List, Mapping, NamedTuple, Sequence, Tuple
 
 from lab import grid, report, sweep
 from lab.__main__ import main as lab
@@ -84,14 +87,16 @@ def sweep_table(name: str, asked: Asked) -> Made:
     return Made(rows_of(groups), commands)
 
 
-def rows_of(groups: Sequence[report.Group]) -> List[Cells]:
-    """A row for each network."""
+def rows_of(groups: Sequence[report.Group], hunted: Mapping[str, int] = {}) -> List[Cells]:
+    """A row for each network, with the most moves that were hunted on it, if that was done."""
     schedulers = list(dict.fromkeys(group.name[2] for group in groups))
     bound = grid_bound(groups)
     moves = [f"{name}: {what}" for name in schedulers for what in ("mean", "most")]
+    if hunted:
+        moves.append("hunted: most")
     head = ["network", "agents", "runs", "solved", *moves, "most lost", bound, "most / bound"]
     networks = list(dict.fromkeys(group.name[0] for group in groups))
-    return [head, *(row_of([group for group in groups if group.name[0] == name]) for name in networks)]
+    return [head, *(row_of([group for group in groups if group.name[0] == name], hunted) for name in networks)]
 
 
 def grid_bound(groups: Sequence[report.Group]) -> str:
@@ -100,12 +105,15 @@ def grid_bound(groups: Sequence[report.Group]) -> str:
                  if all(group.bound == bound(group.nodes) for group in groups)), "bound")
 
 
-def row_of(groups: Sequence[report.Group]) -> Cells:
-    most = max(int(group.worst["moves"]) for group in groups)
+def row_of(groups: Sequence[report.Group], hunted: Mapping[str, int]) -> Cells:
+    network = groups[0].name[0]
+    most = max([int(group.worst["moves"]) for group in groups] + [hunted.get(network, 0)])
     bound = groups[0].bound or 1
     cells = [f"{group.mean:.1f} ± {group.confidence:.1f}" if column == 0 else group.worst["moves"]
              for group in groups for column in (0, 1)]
-    return [groups[0].name[0], str(groups[0].agents), str(sum(group.runs for group in groups)),
+    if hunted:
+        cells.append(str(hunted.get(network, "")))
+    return [network, str(groups[0].agents), str(sum(group.runs for group in groups)),
             str(sum(group.solved for group in groups)), *cells, str(max(group.lost for group in groups)),
             f"{bound:.0f}", f"{most / bound:.2f}"]
 
@@ -127,13 +135,75 @@ class Search(NamedTuple):
     network: str
     agent: str
     agents: int
+    more: Sequence[str] = ()
 
     def words(self) -> List[str]:
-        return [self.command, "--network", self.network, "--agents", str(self.agents), "--agent", self.agent]
+        return [self.command, "--network", self.network, "--agents", str(self.agents), "--agent", self.agent,
+                *self.more]
 
     def team(self) -> str:
         """How many agents there are, and which."""
         return f"{self.agents}, `{self.agent.partition(' ')[0].rpartition('/')[2]}`"
+
+
+def hunts(runs: int = 0) -> List[Search]:
+    """The hunts for most moves, as their file says, or with another number of schedules."""
+    found = tomllib.loads((EXPERIMENTS / "hunts.toml").read_text(encoding="utf-8"))
+    more = ("--for", "moves", "--seed", str(found["seed"]), "--runs", str(runs or found["runs"]))
+    return [Search("hunt", network, found["agent"], found["agents"], more) for network in found["networks"]]
+
+
+def hunted_most(hunt: Search, asked: Asked) -> int:
+    """The most moves that a hunt finds. It knows of no earlier finds, so it finds the same again."""
+    folder = asked.out / "hunts" / hunt.network.replace(":", "")
+    with tempfile.TemporaryDirectory() as database:
+        said = said_by([*hunt.words(), "--keep", str(folder), "--database", database], asked)
+    most = re.search(r"^the most moves: .* solved moves (\d+) lost \d+$", said, re.M)
+    if not most:
+        sys.exit(f"{shown(hunt.words())}: {said}")
+    return int(most[1])
+
+
+def rings(asked: Asked) -> Made:
+    """The sweep of rings, with the most moves that were hunted on each."""
+    groups, commands = groups_of_sweep("rings", asked)
+    all_hunts = hunts()
+    hunted = {hunt.network: hunted_most(hunt, asked) for hunt in all_hunts}
+    return Made(rows_of(groups, hunted), [*commands, shown(all_hunts[0].words())], is_searched=True)
+
+
+NO_LIMIT = 100_000
+
+
+def silent(asked: Asked) -> Made:
+    """The runs without a map that ended silent, and how many of them are solved without the limit of commands."""
+    _, commands = groups_of_sweep("no_map", asked)
+    spec = grid.read(EXPERIMENTS / "no_map.toml")
+    cases = list(spec.cases())
+    rows: List[Cells] = [("network", "agents", "runs", "silent", "which", "left of each team", "solved without limit")]
+    for name in spec.names:
+        own = [row for row in sweep.rows_in(asked.out / "no_map" / sweep.RUNS) if row["network"] == name]
+        ended = [row for row in own if not report.is_solved(row)]
+        if ended:
+            solved = sum(is_solved_without_limit(spec, cases[int(row["run"])]) for row in ended)
+            left = sorted({int(row["agents"]) - int(row["lost"]) for row in ended})
+            rows.append((name, own[0]["agents"], str(len(own)), str(len(ended)), which(ended),
+                         ", ".join(map(str, left)), str(solved)))
+    return Made(rows, commands)
+
+
+def which(rows: Sequence[report.Row]) -> str:
+    """The schedulers of runs, each with the seeds."""
+    seeds: Dict[str, List[str]] = {}
+    for row in rows:
+        seeds.setdefault(row["scheduler"], []).append(row["seed"])
+    return "; ".join(f"{scheduler} {', '.join(numbers)}" for scheduler, numbers in seeds.items())
+
+
+def is_solved_without_limit(spec: grid.Grid, case: grid.Case) -> bool:
+    """Whether a run is solved if agents have more commands than the arena gives; the Python model plays it."""
+    row = sweep.row_of(sweep.Work("", None), spec._replace(quota=NO_LIMIT), case)
+    return report.is_solved(dict(zip(sweep.COLUMNS, row)))
 
 
 EXPLORED = [
@@ -198,9 +268,9 @@ def losses(asked: Asked) -> Made:
 
 
 TABLES: Dict[str, Callable[[Asked], Made]] = {
-    "rings": lambda asked: sweep_table("rings", asked), "explored": explored,
-    "no-map": lambda asked: sweep_table("no_map", asked), "known-map": lambda asked: sweep_table("known_map", asked),
-    "too-few": too_few, "losses": losses,
+    "rings": rings, "explored": explored,
+    "no-map": lambda asked: sweep_table("no_map", asked), "silent": silent,
+    "known-map": lambda asked: sweep_table("known_map", asked), "too-few": too_few, "losses": losses,
 }
 
 

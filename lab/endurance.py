@@ -2,10 +2,10 @@
 
     python3 -m lab endure [--runs N] [--seed S]
 
-Two agents search rings of 3 to 64 nodes. On the hypercube of 16 nodes, the torus of 5 rows and 5 columns, and 50 drawn
-networks there is one agent more than the greatest degree. Seeds take the networks, the black holes and the schedulers
-in turn, and the Python model plays. A line is printed for each match in which the team fails; the exit status is then
-1.
+Two agents that know n search rings of n nodes, for n from 3 to 64. On the hypercube of 16 nodes, the torus of 5 rows and
+5 columns, and 50 drawn networks there is one agent more than the greatest degree. Two agents that have the map search
+all of these. Seeds take the networks, the black holes and the schedulers in turn, and the Python model plays. A line is
+printed for each match in which the team fails; the exit status is then 1.
 """
 import argparse
 import itertools
@@ -25,25 +25,27 @@ RUNS = 10_000
 AGENTS = TOP / "examples" / "agents"
 RING = AgentWords(INSIDE, f"{AGENTS / 'ring.py'} {{nodes}}")
 MAP = AgentWords(INSIDE, f"{AGENTS / 'map.py'} {{nodes}} {{links}}")
+KNOWN_MAP = AgentWords(INSIDE, str(AGENTS / "known_map.py"))
 QUOTA, BOARD = 1000, 4096
 
 
-class Course(NamedTuple):
+class Pairing(NamedTuple):
     """A network and the agent that searches it."""
 
     network: str
     agent: AgentWords
 
 
-RINGS = [Course(f"ring:{nodes}", RING) for nodes in range(3, 65)]
-OTHERS = [Course(name, MAP) for name in ("hypercube:4", "torus:5x5", *(f"random:{seed}" for seed in range(50)))]
-COURSES = [course for pair in itertools.zip_longest(RINGS, OTHERS) for course in pair if course]
+RINGS = [Pairing(f"ring:{nodes}", RING) for nodes in range(3, 65)]
+OTHERS = [Pairing(name, MAP) for name in ("hypercube:4", "torus:5x5", *(f"random:{seed}" for seed in range(50)))]
+MAPPED = [Pairing(pairing.network, KNOWN_MAP) for pairing in [*RINGS, *OTHERS]]
+PAIRINGS = [pairing for turn in itertools.zip_longest(RINGS, OTHERS, MAPPED) for pairing in turn if pairing]
 
 
-def fixture_for(course: Course, seed: int) -> Fixture:
+def fixture_for(pairing: Pairing, seed: int) -> Fixture:
     """The match of a seed."""
-    network = named(course.network)
-    agents = 2 if course.agent == RING else max(network.degrees()) + 1
+    network = named(pairing.network)
+    agents = max(network.degrees()) + 1 if pairing.agent == MAP else 2
     home = seed % network.nodes
     hole = (home + 1 + seed // network.nodes % (network.nodes - 1)) % network.nodes
     return fixture_of(Setup(network.nodes, network.links, home, [hole], agents, QUOTA, BOARD))
@@ -51,14 +53,14 @@ def fixture_for(course: Course, seed: int) -> Fixture:
 
 def fault_of(seed: int) -> str:
     """What is wrong with the match of a seed, or nothing."""
-    course, names = COURSES[seed % len(COURSES)], sorted(schedulers.NAMED)
-    name, turn = names[seed // len(COURSES) % len(names)], seed // len(COURSES)
-    fixture = fixture_for(course, turn)
-    team = Together([course.agent] * fixture.setup.agents, fixture, 5)
+    pairing, names = PAIRINGS[seed % len(PAIRINGS)], sorted(schedulers.NAMED)
+    name, turn = names[seed // len(PAIRINGS) % len(names)], seed // len(PAIRINGS)
+    fixture = fixture_for(pairing, turn)
+    team = Together([pairing.agent] * fixture.setup.agents, fixture, 5)
     played = play(Rehearsal(fixture), team, schedulers.NAMED[name](turn), fixture)
     if not played.has_failed():
         return ""
-    return (f"seed {seed}, {course.network}, {name} {turn}, home {fixture.setup.home}, holes {fixture.setup.holes}: "
+    return (f"seed {seed}, {pairing.network}, {name} {turn}, home {fixture.setup.home}, holes {fixture.setup.holes}: "
             f"{'; '.join([played.verdict().outcome, *played.faults])}")
 
 
@@ -80,5 +82,6 @@ def run(words: argparse.Namespace) -> int:
                 print(fault, flush=True)
     except KeyboardInterrupt:
         print("interrupted; until then:")
-    print(f"{played} matches on {len(COURSES)} networks, {len(faults)} failed")
+    networks = len({pairing.network for pairing in PAIRINGS})
+    print(f"{played} matches on {networks} networks, {len(faults)} failed")
     return 1 if faults else 0

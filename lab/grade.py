@@ -42,8 +42,8 @@ from lab.spread import over_processes
 # agents of a match, whose users are numbered apart from those of other matches
 MOST_AGENTS = 64
 HANGS = "a program lets the lab wait, and what happens then depends on the machine"
-DIFFERS = ("under the same schedule the match went another way when it was played again, so the programs are no functions "
-           "of what they are told; look for clocks, random numbers without a seed, and sets")
+DIFFERS = ("under the same schedule the match went another way when it was played again, so the programs are no "
+           "functions of what they are told; look for clocks, random numbers without a seed, and sets")
 
 
 class NotSmaller(Exception):
@@ -200,12 +200,11 @@ def told(graded: Graded, cases: List[Case], words: argparse.Namespace) -> int:
     if graded.program and finds.is_unproved(graded.program):
         engine = "a build without a proof"
     standings = league.standings_of(rows, [team.name for team in graded.course.grid.teams])
-    text = "".join(map(sweep.line_of, league.table(standings)))
-    (words.out / league.TABLE).write_text(text, encoding="utf-8")
+    (words.out / league.TABLE).write_text("".join(map(sweep.line_of, league.table(standings))), encoding="utf-8")
     for name, page in league.pages(graded.course.grid, rows, failures, engine).items():
         (words.out / name).write_text(page, encoding="utf-8")
-    print(text, end="")
-    print(f"{len(rows)} matches on {engine}; failed {len(failures)}")
+    print(league.text_of(standings), end="")
+    print(f"{len(rows)} matches on {engine}; solved {len(rows) - len(failures)}; failed {len(failures)}")
     print(f"read {words.out / league.PAGE}; the rows are in {words.out / sweep.RUNS}")
     return 0
 

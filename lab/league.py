@@ -33,8 +33,8 @@ class Standing(NamedTuple):
 
 
 class Failure(NamedTuple):
-    """A failed match: its number, how many choices its schedule has, whether a smallest schedule was found, what is said
-    of that, and whether there are pages to watch."""
+    """A failed match: its number, how many choices its schedule has, whether a smallest schedule was found, what is
+    said of that, and whether there are pages to watch."""
 
     number: int
     choices: int
@@ -59,6 +59,13 @@ def standings_of(rows: Sequence[Row], teams: Sequence[str]) -> List[Standing]:
 def table(standings: Sequence[Standing]) -> List[Sequence[str]]:
     """The league table's rows, with their head."""
     return [HEAD, *(standing.cells() for standing in standings)]
+
+
+def text_of(standings: Sequence[Standing]) -> str:
+    """The league table as lines of text."""
+    lines = [("#", "team", "solved", "moves", "lost")]
+    lines += [(str(it.place), it.team, f"{it.solved} of {it.matches}", str(it.moves), str(it.lost)) for it in standings]
+    return "".join(f"{a:>3} {b:<16} {c:<10} {d:>6} {e:>4}\n" for a, b, c, d, e in lines)
 
 
 def folder_of(team: str, number: int) -> str:

@@ -18,8 +18,12 @@ DENIALS = {spelled({"no": why}) for why in ("enter", "key", "taken")}
 LAST_LINES = DENIALS | {spelled(reply) for reply in LAST}
 
 
+# how many times longer an agent may sleep than compute: a machine with other work lets it wait too
+LONGER = 20
+
+
 class TooSlow(Exception):
-    """An agent's program computes, and neither sends nor waits."""
+    """An agent's program computes or sleeps, and neither sends nor waits."""
 
 
 class Player:
@@ -79,37 +83,55 @@ class Player:
         self.line, self.state = None, DONE if self._is_over else WAITS
 
 
+class Clock:
+    """Ends a program that is still in the same turn when the clock has rung twice."""
+
+    def __init__(self, team: "Team", signals: int, timer: int, seconds: float, does: str) -> None:
+        self._team, self._signal, self._timer, self._seconds = team, signals, timer, seconds
+        self._fault = f"has {does} for {seconds:g} s, and neither sends nor waits"
+        self._seen = 0
+        self._before: Any = None
+
+    def start(self) -> None:
+        self._before = signal.signal(self._signal, self._look)
+        signal.setitimer(self._timer, self._seconds, self._seconds)
+
+    def stop(self) -> None:
+        signal.setitimer(self._timer, 0)
+        if self._before is not None:
+            signal.signal(self._signal, self._before)
+
+    def _look(self, *_: Any) -> None:
+        """Ends a program that has been running since the last look."""
+        if self._team.turns == self._seen and needed("greenlet").getcurrent().parent is not None:
+            raise TooSlow(self._fault)
+        self._seen = self._team.turns
+
+
 class Team:
-    """The players of a match. A player that computes longer than its limit is ended."""
+    """The players of a match. A player that computes longer than its limit is ended. That is time of the processor, as
+    one that is busy with other work must not end an agent; an agent that sleeps has a longer limit."""
 
     def __init__(self, keys: Sequence[str], scripts: Mapping[int, Script], seconds: float = 5) -> None:
         """The scripts are by the number of their agent."""
         self.turns = 0
         self.players = [Player(self, number, keys[number], script) for number, script in scripts.items()]
-        self._seconds = seconds
-        self._seen = 0
-        self._before: Any = None
+        self._clocks = [Clock(self, signal.SIGPROF, signal.ITIMER_PROF, seconds, "computed"),
+                        Clock(self, signal.SIGALRM, signal.ITIMER_REAL, seconds * LONGER, "slept or computed")]
 
     def start(self) -> None:
         """Begins all programs, in order."""
-        self._before = signal.signal(signal.SIGALRM, self._look)
-        signal.setitimer(signal.ITIMER_REAL, self._seconds, self._seconds)
+        for clock in self._clocks:
+            clock.start()
         for player in self.players:
             player.go_on()
 
     def stop(self) -> None:
         """Ends all programs."""
-        signal.setitimer(signal.ITIMER_REAL, 0)
-        if self._before is not None:
-            signal.signal(signal.SIGALRM, self._before)
+        for clock in self._clocks:
+            clock.stop()
         for player in self.players:
             player.stop()
-
-    def _look(self, *_: Any) -> None:
-        """Ends a program that has been running since the last look."""
-        if self.turns == self._seen and needed("greenlet").getcurrent().parent is not None:
-            raise TooSlow(f"has computed for {self._seconds:g} s, and neither sends nor waits")
-        self._seen = self.turns
 
 
 def faults_of(players: Sequence[Any]) -> List[str]:

@@ -97,8 +97,8 @@ def client_at(address: str) -> Any:
     try:
         client = distributed.Client(address, timeout=SECONDS_TO_ANSWER, set_as_default=False)
     except (OSError, ValueError) as fault:
-        raise NoCluster(f"no Dask scheduler answers at {address} ({fault}): start one by `dask-scheduler`, and workers by "
-                        "`dask-worker ADDRESS`") from None
+        raise NoCluster(f"no Dask scheduler answers at {address} ({fault}): start one by `dask-scheduler`, and workers "
+                        "by `dask-worker ADDRESS`") from None
     if not client.scheduler_info()["workers"]:
         client.close()
         raise NoCluster(f"the Dask scheduler at {address} has no workers: start some by `dask-worker {address}`")

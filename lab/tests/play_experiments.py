@@ -14,6 +14,9 @@ DOCUMENT = make.DOCUMENT
 SMALL = {"rings": ("rings", ["ring:4", "ring:6"]), "no-map": ("no_map", ["hypercube:3"]),
          "known-map": ("known_map", ["hypercube:3"])}
 SMALL_EXPLORED = ("ring:3", "ring:4", "ring:5")
+# rings on which so few schedules show the most moves that were hunted
+SMALL_HUNTED, FEW = ("ring:4", "ring:6", "ring:8"), 150
+HUNTED = 8
 
 
 def table(name: str) -> List[List[str]]:
@@ -40,9 +43,29 @@ class Experiments(unittest.TestCase):
             spec = grid.read(make.EXPERIMENTS / f"{file}.toml")._replace(names=networks)
             rows = [sweep.row_of(Work("", None), spec, case) for case in spec.cases()]
             groups = report.groups_of([dict(zip(sweep.COLUMNS, row)) for row in rows], spec)
-            for row in make.rows_of(groups)[1:]:
+            given = rows_by_network(name)
+            hunted = {network: int(given[network][HUNTED]) for network in networks} if name == "rings" else {}
+            for row in make.rows_of(groups, hunted)[1:]:
                 with self.subTest(name, network=row[0]):
-                    self.assertEqual(rows_by_network(name)[row[0]], list(row))
+                    self.assertEqual(given[row[0]], list(row))
+
+    def test_small_hunts(self) -> None:
+        for hunt in make.hunts(FEW):
+            if hunt.network in SMALL_HUNTED:
+                with self.subTest(hunt.network):
+                    self.assertEqual(rows_by_network("rings")[hunt.network][HUNTED],
+                                     str(make.hunted_most(hunt, self.asked)))
+
+    def test_a_run_that_ends_silent_is_solved_with_more_commands(self) -> None:
+        spec = grid.read(make.EXPERIMENTS / "no_map.toml")
+        network, agents, runs, silent, which, left, solved = table("silent")[0]
+        self.assertEqual((left, solved), ("1", silent))
+        scheduler, seed = which.partition(";")[0].replace(",", "").split()[:2]
+        case = next(case for case in spec.cases() if (case.network, case.scheduler, case.seed) == (
+            network, scheduler, int(seed)))
+        row = dict(zip(sweep.COLUMNS, sweep.row_of(Work("", None), spec, case)))
+        self.assertEqual((row["outcome"], int(row["agents"]) - int(row["lost"])), ("silent", 1))
+        self.assertTrue(make.is_solved_without_limit(spec, case))
 
     def test_small_networks_that_were_explored(self) -> None:
         found = {tuple(row[:2]): row for row in table("explored")}
@@ -59,8 +82,7 @@ class Experiments(unittest.TestCase):
         for row in table("rings"):
             nodes = int(row[0].partition(":")[2])
             with self.subTest(nodes=nodes):
-                self.assertEqual(max(int(row[5]), int(row[7])), make.most_on_ring(nodes))
-        self.assertEqual([make.most_on_ring(nodes) for nodes in (8, 16, 32, 64)], [37, 113, 301, 745])
+                self.assertEqual([int(row[5]), int(row[7]), int(row[HUNTED])], [make.most_on_ring(nodes)] * 3)
 
     def test_teams_with_one_agent_too_few(self) -> None:
         for hunt in make.TOO_FEW[:2]:
