@@ -94,8 +94,20 @@ class Grading(unittest.TestCase):
         for place in ("failed/cedar-9", "failed/cedar-9/smallest", "failed/cedar-11"):
             self.assertIn(f'href="{place}/match0.html"', page)
             self.assertTrue((folder / place / "match0.html").is_file())
+        self.check_replay(folder / "failed/cedar-9/smallest")
         for name in ("amber", "birch"):
             self.assertIn("solved each of its matches", (folder / f"team-{name}.html").read_text())
+
+    def check_replay(self, match: pathlib.Path) -> None:
+        """A team plays its match again where its program is."""
+        own = self.folder / "own"
+        own.mkdir()
+        for path in (AGENTS / "client.py", AGENTS / "ring.py", EXAMPLE.parent / "cedar" / "hasty.py"):
+            shutil.copy(path, own)
+        os.chdir(own)
+        with contextlib.redirect_stdout(io.StringIO()) as said:
+            self.assertEqual(main(["replay", str(match), "--engine", "model"]), 0)
+        self.assertIn("the replay is the same, byte for byte", said.getvalue())
 
     def test_who_breaks_the_rules_fails_alone(self) -> None:
         teams = [team(how, [str(TESTS / "rude.py")], RUDE.format(how=how), 1 if how == "silent" else 2)
