@@ -50,7 +50,8 @@ class Walls(enum.Enum):
 
     ALL = "each program has a user, a network, processes and a view of the disk of its own"
     USER = ("this machine lets root make no namespaces, as in a container: each program has a user of its own, but can "
-            "read what every user may read, and a team's programs can talk to each other unseen")
+            "read what every user may read, so close the course's folder to others by `chmod go= FOLDER`; and a team's "
+            "programs can talk to each other unseen")
     NONE = ("you are not root: teams' programs run as you, and can read and change your files; start the command as "
             "root, by sudo, for programs that you do not trust")
 
@@ -211,8 +212,12 @@ def end_all_of(user: int) -> None:
 def processes_of(user: int) -> List[int]:
     """The processes of a user that still run."""
     found = []
-    for folder in pathlib.Path("/proc").glob("[0-9]*"):
+    for path in pathlib.Path("/proc").glob("[0-9]*/status"):
         with contextlib.suppress(OSError):
-            if folder.stat().st_uid == user and " Z " not in (folder / "stat").read_text(errors="replace"):
-                found.append(int(folder.name))
+            # a process can choose its name, which stands in the first line, and whose its files are
+            lines = path.read_bytes().split(b"\n")[1:]
+            users = next((line.split()[1:] for line in lines if line.startswith(b"Uid:")), [])
+            has_ended = any(line.startswith(b"State:\tZ") for line in lines)
+            if str(user).encode() in users and not has_ended:
+                found.append(int(path.parent.name))
     return found

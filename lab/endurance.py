@@ -2,10 +2,10 @@
 
     python3 -m lab endure [--runs N] [--seed S]
 
-Two agents that know n search rings of n nodes, for n from 3 to 64. On the hypercube of 16 nodes, the torus of 5 rows and
-5 columns, and 50 drawn networks there is one agent more than the greatest degree. Two agents that have the map search
-all of these. Seeds take the networks, the black holes and the schedulers in turn, and the Python model plays. A line is
-printed for each match in which the team fails; the exit status is then 1.
+Two agents that know n search rings of n nodes, for n from 3 to 64. On the hypercube of 16 nodes, the torus of 5 rows
+and 5 columns, and 50 drawn networks there is one agent more than the greatest degree. Two agents that have the map
+search all of these. Seeds take the networks, the black holes and the schedulers in turn, and the Python model plays. A
+line is printed for each match in which the team fails; the exit status is then 1.
 """
 import argparse
 import itertools

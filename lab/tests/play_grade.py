@@ -185,6 +185,33 @@ class Spies(unittest.TestCase):
                 self.assertIn("TREASURE-plan", said)
 
 
+# starts a process that leaves its group, hides whose it is, and sleeps
+LEAVES = """import ctypes, os, sys, time
+if os.fork() == 0:
+    os.setsid()
+    if os.fork() == 0:
+        ctypes.CDLL(None).prctl(4, 0, 0, 0, 0)
+        open("still-there", "w").close()
+        time.sleep(10_000)
+while not os.path.exists("still-there"):
+    time.sleep(0.01)
+sys.exit("has left one")
+"""
+
+
+class Leftovers(unittest.TestCase):
+    @unittest.skipUnless(os.geteuid() == 0, "only root can let programs be other users")
+    def test_what_a_program_leaves_is_ended(self) -> None:
+        for walls in {Walls.USER, cells.strongest()}:
+            with self.subTest(walls), tempfile.TemporaryDirectory() as folder:
+                (pathlib.Path(folder) / "leaves.py").write_text(LEAVES)
+                text = HEAD + team("a", ["leaves.py"], "python3 leaves.py {port} {key}", 1)
+                graded = Graded(text, pathlib.Path(folder), None, walls, pathlib.Path(folder) / "out")
+                _, played = graded.match(graded.course.cases()[0], schedulers.fair(0), None)
+                self.assertIn("has left one", played.faults[0])
+                self.assertEqual(running("leaves.py"), [])
+
+
 @contextlib.contextmanager
 def in_one_folder(cell: Cell) -> Iterator[List[Cell]]:
     """Cells as a careless body would make them."""

@@ -1,6 +1,6 @@
 """An agent's program that looks for what is not its own: `python3 spy.py KEY PLACE ..`.
 
-It reads each file below its folder's parent and below the places that are named, but for the system's programs, and the
+It reads each file of its folder, of the folder above and below the places that are named, but for the system's programs, and the
 command lines and environments of all processes. It ends with what it found, which is a word that begins with TREASURE,
 or a key that is not its own.
 """
@@ -42,7 +42,7 @@ def words_in(path):
 
 def main():
     key, *places = sys.argv[1:]
-    found = {word for path in files(["..", *places]) for word in words_in(path)} - {key.encode()}
+    found = {word for path in files([".", "..", *places]) for word in words_in(path)} - {key.encode()}
     sys.exit("found " + (", ".join(sorted(word.decode() for word in found)) or "nothing"))
 
 
