@@ -35,7 +35,7 @@ import re
 import shlex
 from typing import Any, Dict, List, NamedTuple
 
-from lab import cells, grid
+from lab import cells, grid, networks
 from lab.cells import Walls
 from lab.fixtures import Fixture
 from lab.grid import Case, Grid, NoSweep, is_count, is_text, is_texts, taken
@@ -151,3 +151,12 @@ def check_walls(walls: Walls, path: pathlib.Path) -> None:
         places = ", ".join(f"/{name}" for name in cells.SYSTEM)
         raise NoSweep(f"{path}: teams' programs see {places}, to find what they run by: move the course to another "
                       "folder")
+
+
+def check_networks(course: Course) -> None:
+    """Refuses a network on which no team can solve each match."""
+    for name, network in course.grid.networks.items():
+        cut = networks.cut_of(network)
+        if cut:
+            raise NoSweep(f"networks has {name}, which is not biconnected: {cut}; take another, as no team can solve "
+                          "each match on it")

@@ -169,6 +169,7 @@ def run(words: argparse.Namespace) -> int:
     path, walls = words.file.resolve(), cells.strongest()
     read = course.read(words.file)
     sweep.check_workers(words)
+    course.check_networks(read)
     course.check_walls(walls, path.parent)
     for name in read.grid.schedulers:
         read.maker(name)

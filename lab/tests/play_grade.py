@@ -126,6 +126,14 @@ class Grading(unittest.TestCase):
         self.assertEqual(running("time.sleep(10000)"), [])
         self.assertEqual((self.folder / "out" / league.TABLE).read_text().splitlines()[1], "1,right,1,1,9,1")
 
+    def test_a_network_that_can_be_cut_is_refused(self) -> None:
+        file = self.folder / "course.toml"
+        (self.folder / "net.toml").write_text("nodes = 3\nlinks = [[0, 0, 1, 0], [1, 1, 2, 0]]\n")
+        file.write_text(HEAD.replace("ring:4", "net.toml") + RING)
+        with contextlib.redirect_stderr(io.StringIO()) as errors:
+            self.assertEqual(main(["grade", str(file), "--out", str(self.folder / "out"), "--engine", "model"]), 2)
+        self.assertIn("net.toml, which is not biconnected: without node 1 some other nodes", errors.getvalue())
+
     def test_a_program_that_is_no_function_of_what_it_is_told(self) -> None:
         (self.folder / "dice.py").write_text(DICE)
         file = self.folder / "course.toml"

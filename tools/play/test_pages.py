@@ -233,6 +233,21 @@ def largest(browser: Browser) -> None:
     browser.console("largest")
 
 
+def course(browser: Browser) -> None:
+    """The league table of the example course and pages of its teams, all links of which lead to files."""
+    out = browser.folder / "course"
+    words = [sys.executable, "-m", "lab", "grade", "examples/course/course.toml", "--out", str(out)]
+    subprocess.run(words, cwd=TOP, check=True, stdout=subprocess.DEVNULL)
+    for name in ("league", "team-cedar", "team-amber"):
+        for view, size, dark in (("light", WIDE, False), ("dark", WIDE, True), ("phone", PHONE, False)):
+            browser.size(size, dark)
+            browser.open(out / f"{name}.html")
+            browser.picture(f"{name}-{view}")
+        for link in browser.driver.execute_script("return [...document.links].map((link) => link.pathname)"):
+            browser.check(pathlib.Path(link).is_file(), f"{name}: a link leads to {link}, and there is no such file")
+        browser.console(name)
+
+
 def refused(browser: Browser) -> None:
     """A replay that is cut is refused with the line and the status of `arena judge`, and no page is written."""
     source = browser.folder / "cut.jsonl"
@@ -258,6 +273,7 @@ def main() -> int:
             twins(browser)
             largest(browser)
             refused(browser)
+            course(browser)
         finally:
             browser.driver.quit()
     print(f"pages: {len(browser.faults)} faults; pictures in {pictures}")
