@@ -68,12 +68,22 @@ def parser() -> argparse.ArgumentParser:
     return made
 
 
+class Terminated(BaseException):
+    """The lab is to end. An agent that is playing then does not catch it, as it would an exit."""
+
+
+def end(*_: object) -> None:
+    raise Terminated
+
+
 def main(given: Optional[List[str]] = None) -> int:
     words = parser().parse_args(given)
     # whoever ends the lab ends what it started
-    signal.signal(signal.SIGTERM, lambda *_: sys.exit(143))
+    signal.signal(signal.SIGTERM, end)
     try:
         return words.run(words)
+    except Terminated:
+        return 143
     except KeyboardInterrupt:
         print("lab: interrupted", file=sys.stderr)
         return 130

@@ -1,10 +1,15 @@
 """An agent inside the lab may compute for a while; a machine that lets it wait does not end it."""
+import pathlib
+import subprocess
+import sys
+import tempfile
 import time
 import unittest
 from typing import Any, Callable, List
 from unittest import mock
 
 from lab import players
+from lab.engines import TOP
 from lab.players import Team, faults_of
 
 SECONDS = 0.2
@@ -36,6 +41,27 @@ class Limits(unittest.TestCase):
     def test_who_sleeps_without_end_is_ended(self) -> None:
         said = ["agent 0: has slept or computed for 0.4 s, and neither sends nor waits"]
         self.assertEqual(faults(lambda: time.sleep(10_000), 2), said)
+
+
+# an agent that computes without end
+ENDLESS = """def search(agent, key):
+    print("begun", flush=True)
+    while True:
+        pass
+"""
+
+
+class Ends(unittest.TestCase):
+    def test_who_ends_the_lab_ends_it_while_an_agent_computes(self) -> None:
+        with tempfile.TemporaryDirectory() as folder:
+            path = pathlib.Path(folder) / "endless.py"
+            path.write_text(ENDLESS)
+            words = [sys.executable, "-m", "lab", "run", "--engine", "model", "--limit", "1000", "--agent", str(path)]
+            with subprocess.Popen(words, cwd=TOP, stdout=subprocess.PIPE, text=True) as ran:
+                self.assertEqual(ran.stdout.readline(), "begun\n")
+                ran.terminate()
+                self.assertEqual(ran.communicate(timeout=60)[0], "")
+        self.assertEqual(ran.returncode, 143)
 
 
 if __name__ == "__main__":
