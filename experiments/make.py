@@ -112,7 +112,7 @@ def row_of(groups: Sequence[report.Group], hunted: Mapping[str, int]) -> Cells:
     cells = [f"{group.mean:.1f} ± {group.confidence:.1f}" if column == 0 else group.worst["moves"]
              for group in groups for column in (0, 1)]
     if hunted:
-        cells.append(str(hunted.get(network, "")))
+        cells.append(str(hunted.get(network, "–")))
     return [network, str(groups[0].agents), str(sum(group.runs for group in groups)),
             str(sum(group.solved for group in groups)), *cells, str(max(group.lost for group in groups)),
             f"{bound:.0f}", f"{most / bound:.2f}"]

@@ -16,7 +16,7 @@ from lab.schedules import schedule_of
 from lab.teams import OUTSIDE, AgentWords, Together
 from lab.tests.playing import AGENTS, RING, fixture, played, program
 
-PYTHON = AgentWords(OUTSIDE, f"{sys.executable} {AGENTS / 'ring.py'} {{host}} {{port}} {{key}} 8")
+PYTHON = AgentWords(OUTSIDE, f"{sys.executable} {AGENTS / 'ring.py'} {{host}} {{port}} {{key}} {{nodes}}")
 RUDE = pathlib.Path(__file__).resolve().parent / "rude.py"
 FAULTS = {
     "dies": "agent 1: has ended with status 1 before it connected: no such map",
