@@ -90,7 +90,7 @@ class Course(NamedTuple):
 def read(path: pathlib.Path) -> Course:
     """The course of a file."""
     try:
-        return course_of(path.read_text(encoding="utf-8"), path.parent)
+        return course_of(grid.text_in(path), path.parent)
     except NoSweep as fault:
         raise NoSweep(f"{path}: {fault}") from None
 

@@ -3,7 +3,7 @@
     python3 -m lab grade examples/course/course.toml --out out/course
 
 Each team plays the same matches. The folder gets `league.html` and `league.csv`, the table of all teams (matches solved
-first, then the moves and the lost agents of these); `team-NAME.html` for each team; `matches.csv`, a row for each
+first, then the moves and the lost agents of these); `team-NAME.html` for each team; `runs.csv`, a row for each
 match; and in `failed` each match that a team failed, with its schedule, its replay and its page, and with the smallest
 schedule that was found after which the team fails on the same network. The same file and programs give the same bytes
 on every run, if the programs are functions of what they are told. Interrupted, the same command goes on behind the last

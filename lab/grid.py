@@ -128,9 +128,19 @@ class Grid(NamedTuple):
 def read(path: pathlib.Path) -> Grid:
     """The grid of a sweep's file."""
     try:
-        return grid_of(path.read_text(encoding="utf-8"))
+        return grid_of(text_in(path))
     except NoSweep as fault:
         raise NoSweep(f"{path}: {fault}") from None
+
+
+def text_in(path: pathlib.Path) -> str:
+    """The text of a file."""
+    try:
+        return path.read_text(encoding="utf-8")
+    except FileNotFoundError:
+        raise NoSweep("there is no such file") from None
+    except UnicodeDecodeError:
+        raise NoSweep("it is no text in UTF-8") from None
 
 
 @functools.lru_cache(maxsize=4)
@@ -191,7 +201,10 @@ PORTS_ARE = '"shuffled:SEED" with a whole number, such as "shuffled:3"'
 
 def numbered(name: str, ports: Optional[int], folder: pathlib.Path) -> Network:
     """The network of a name or a file, with its ports numbered anew if there is a seed."""
-    network = networks.named(name if ":" in name else str(folder / name))
+    try:
+        network = networks.named(name if ":" in name else str(folder / name))
+    except (KeyError, TypeError, ValueError):
+        raise NoSweep(f"networks has {name}, which is no network file: `arena check` says what is wrong") from None
     return network if ports is None else networks.shuffled(network, ports)
 
 

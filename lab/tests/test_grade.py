@@ -73,6 +73,18 @@ class Files(Folder):
                 self.course(middle, team)
             self.assertIn(said, str(fault.exception))
 
+    def test_files_that_cannot_be_read(self) -> None:
+        path = self.folder / "course.toml"
+        with self.assertRaisesRegex(NoSweep, "course.toml: there is no such file"):
+            course.read(path)
+        path.write_bytes(b"\xff")
+        with self.assertRaisesRegex(NoSweep, "it is no text in UTF-8"):
+            course.read(path)
+        (self.folder / "net.toml").write_text("nodes = 3\n")
+        path.write_text(HEAD.replace("ring:4", "net.toml") + TEAM)
+        with self.assertRaisesRegex(NoSweep, "networks has net.toml, which is no network file"):
+            course.read(path)
+
     def test_a_course_among_the_systems_programs(self) -> None:
         with self.assertRaisesRegex(NoSweep, "move the course to another folder"):
             course.check_walls(Walls.ALL, pathlib.Path("/usr/share/course"))
