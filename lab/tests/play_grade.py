@@ -19,7 +19,7 @@ from lab.tests.playing import AGENTS, program
 
 EXAMPLE = TOP / "examples" / "course" / "course.toml"
 TESTS = TOP / "lab" / "tests"
-HEAD = 'title = "A trial"\nnetworks = ["ring:4"]\nholes = [2]\nlimit = 8\n'
+HEAD = 'title = "A trial"\nnetworks = ["ring:4"]\nholes = [2]\nlimit = 60\n'
 RUDE = "python3 rude.py {how} {{host}} {{port}} {{key}}"
 # of each team how it breaks the rules, and what is said of its agent 1
 FAULTS = {
@@ -27,8 +27,8 @@ FAULTS = {
     "crash": "has ended with status 137 in the middle of its match",
     "garbage": 'was not let in: {"no":"enter"}',
     "flood": "was refused 1000 times in a row",
-    "silent": "has sent no line within 8 s",
 }
+SILENT = "agent 0: has sent no line within 1 s"
 ABSENT = "no-such-program: No such file or directory"
 
 
@@ -110,8 +110,7 @@ class Grading(unittest.TestCase):
         self.assertIn("the replay is the same, byte for byte", said.getvalue())
 
     def test_who_breaks_the_rules_fails_alone(self) -> None:
-        teams = [team(how, [str(TESTS / "rude.py")], RUDE.format(how=how), 1 if how == "silent" else 2)
-                 for how in FAULTS]
+        teams = [team(how, [str(TESTS / "rude.py")], RUDE.format(how=how)) for how in FAULTS]
         absent = team("absent", [str(TESTS / "rude.py")], "no-such-program {port} {key}")
         file = self.folder / "course.toml"
         file.write_text(HEAD + "".join([*teams, RING, absent]))
@@ -123,8 +122,16 @@ class Grading(unittest.TestCase):
         for how, fault in FAULTS.items():
             with self.subTest(how):
                 self.assertIn(fault, rows[how][0]["fault"])
-        self.assertEqual(running("time.sleep(10000)"), [])
         self.assertEqual((self.folder / "out" / league.TABLE).read_text().splitlines()[1], "1,right,1,1,9,1")
+
+    def test_who_hangs_is_ended_with_all_that_it_has_started(self) -> None:
+        file = self.folder / "course.toml"
+        file.write_text(HEAD.replace("limit = 60", "limit = 1") + team(
+            "silent", [str(TESTS / "rude.py")], RUDE.format(how="silent"), 1))
+        self.graded(file, "out", "--engine", "model")
+        self.assertEqual(self.rows("out")["silent"][0]["fault"], SILENT)
+        self.assertEqual(running("time.sleep(10000)"), [])
+        self.assertIn("depends on the machine", (self.folder / "out" / "team-silent.html").read_text())
 
     def test_a_network_that_can_be_cut_is_refused(self) -> None:
         file = self.folder / "course.toml"
