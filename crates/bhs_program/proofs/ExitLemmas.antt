@@ -17,7 +17,7 @@ use Rattle.bhs_orders.specs.InteractiveTournaments.{interaction_unfiled}
 use Rattle.bhs_orders.specs.Showing.{Prints, all, part, held_back, PrintsByLine, whole, cut_off, kept_back, Reports}
 use Rattle.bhs_orders.specs.Showing.{prints, stops}
 use Rattle.bhs_orders.specs.declared.statuses.TheConstants.{DONE}
-use Rattle.bhs_program.specs.Contests.{Files, all_filed, unfiled_one, Tables, tabled, untabled, Hosts, hosts, fails}
+use Rattle.bhs_program.specs.Contests.{Files, all_filed, unfiled_one, Tables, tabled, untabled, Hosts, fares, fails}
 use Rattle.bhs_program.specs.Contests.{Serves, serves_on, goes_unheard, refuses_contest}
 use Rattle.bhs_program.specs.Program.{Does, IsStatus, Obeys, does, lacks_memory}
 use Rattle.bhs_program.specs.Program.{Runs, obeys, helps, refuses_words, lacks_room}
@@ -68,7 +68,7 @@ module _ {P O : Type 0} (files : P → List ℕ → Taken → P → Type 0) (tak
 
   of_host : (matches : List Ready) (output output' : O) (code : ℕ)
       → Hosts files takes flushes matches output output' code → IsStatus code
-  of_host matches output output' code (hosts settled fared ended) =
+  of_host matches output output' code (fares settled fared ended) =
       rw ended.coded (of_either (ended.filed == DONE) ended.filed ended.printed
       (of_files settled ended.filed ended.writes)
       (of_table _ settled output output' ended.printed ended.tables))

@@ -75,7 +75,7 @@ module _ {P O : Type 0} (files : P → List ℕ → Taken → P → Type 0) (tak
   -- what came of a contest of these matches
   pub data Hosts (matches : List Ready) (output output' : O) (code : ℕ) : Type 0 where
     -- each match settled as its sessions were answered, or was refused with their passes
-    hosts : (settled : List (Result Play Unsettled)) → HaveFared (givens_of 0 matches) settled
+    fares : (settled : List (Result Play Unsettled)) → HaveFared (givens_of 0 matches) settled
         → Ends (map (λ ready. ready.team) matches) settled output output' code → Hosts matches output output' code
     -- memory ran out
     fails : code ≡ status faults.Memory → output' ≡ output → Hosts matches output output' code

@@ -8,8 +8,8 @@ pub returns-in-Ok : goal.returns-in-Ok
 returns-in-Ok g c = tabled c.in-Ok.sealed.items c.in-Ok.ensures.all
     (reported g.W.Output.takes g.W.Output.flushes
     (IsStandings c.args.finished.teams.items c.in-Ok.sealed.items) string_bytes
-    _ _ _ c.standings.result (rw (c.deref.ensures.value, c.deref-2.ensures.value) at c.standings.ensures)
+    _ _ _ c.standings.result (rw (c.deref.ensures.value, c.deref-in-Ok.ensures.value) at c.standings.ensures)
     c.show_made.ensures.shown c.show_made.ensures.lacks)
 
-pub returns-in-Err : goal.returns-in-Err
-returns-in-Err g c = untabled c.in-Err.fault c.in-Err.ensures.fault c.report.ensures refl
+pub returns : goal.returns
+returns g c = untabled c.in-Err.fault c.in-Err.ensures.fault c.report.ensures refl

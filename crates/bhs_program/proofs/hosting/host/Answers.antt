@@ -1,6 +1,6 @@
 use Rattle.std.proofs.Common.{refl, subst, List, ℕ}
 use Rattle.bhs_stream.specs.Streams.{known_takes}
-use Rattle.bhs_program.specs.Contests.{Ends, hosts, fails}
+use Rattle.bhs_program.specs.Contests.{Ends, fares, fails}
 use Rattle.bhs_program.proofs.ContestLemmas.{as_many}
 use Rattle.bhs_program.proofs.hosting.host.Goals as goal
 
@@ -12,7 +12,7 @@ finish-requires-after_bounds g c κs within =
 pub returns-in-Ok : goal.returns-in-Ok
 returns-in-Ok g c =
     let settled = c.in-Ok.finished.settled.items in
-    hosts settled c.in-Ok.ensures.settled
+    fares settled c.in-Ok.ensures.settled
     (subst (λ (teams : List (List ℕ)). Ends (known_takes g.R.File.Write.contents) g.W.Output.takes g.W.Output.flushes
     teams settled c.args.writer.now c.finish.new.writer c.finish.result) c.in-Ok.ensures.teams c.finish.ensures)
 
