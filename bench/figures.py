@@ -53,7 +53,7 @@ section only.
 """
 SECTION = re.compile(r"<!-- figures ([\w-]+) -->\n(.*?)<!-- end of \1 -->\n", re.DOTALL)
 TITLE = re.compile(r"## (.+)\n\n")
-# the day is missing where it was not written down
+# the day is missing if it was not written down
 MEASURED = re.compile(r"^Measured at (`\w+`[\w ]*)(?:, (\d{4}-\d\d-\d\d))?; (.+?); (.+?)\.$", re.MULTILINE)
 
 Cells = Sequence[str]

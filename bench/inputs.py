@@ -101,7 +101,7 @@ def printed_by(program: str, words: Sequence[str], source: pathlib.Path, folder:
 
 
 def peak_so_far(child: subprocess.Popen) -> int:
-    """The most memory, in KiB, that a program has held since it began; 0 where it has ended."""
+    """The most memory, in KiB, that a program has held since it began; 0 if it has ended."""
     for line in pathlib.Path(f"/proc/{child.pid}/status").read_text().splitlines():
         if line.startswith("VmHWM:"):
             return int(line.split()[1])

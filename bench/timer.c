@@ -4,7 +4,7 @@
  *
  * The program has the standard streams of this one. Once it has ended, a line goes to DESCRIPTOR: the seconds that it
  * took, the seconds that a processor worked for it, and the most memory that it held, in KiB. What this program holds
- * itself, 1.2 MiB, is the least that is told. The exit status is that of the program, or 2 where it could not be run.
+ * itself, 1.2 MiB, is the least that is told. The exit status is that of the program, or 2 if it could not be run.
  * Python would do, but it takes half a millisecond to start a program, as long as a short run takes. */
 #include <errno.h>
 #include <fcntl.h>

@@ -32,7 +32,7 @@ def is_proved() -> bool:
 
 
 def proved_program() -> pathlib.Path:
-    """The proved program, which is proved and built first where that is needed."""
+    """The proved program, which is proved and built first if needed."""
     if RELEASED.exists():
         if is_unproved(RELEASED):
             raise NoProgram("this release is not proved: take one whose name has no `unproved`")
@@ -62,7 +62,7 @@ def any_program() -> pathlib.Path:
 @functools.lru_cache(maxsize=None)
 def warn_of(program: pathlib.Path) -> None:
     """Says once on standard error that a program is not proved, if it is not. For who hears the program's own standard
-    error himself, where it says so."""
+    error himself, which has that line."""
     if is_unproved(program):
         print(SAID, file=sys.stderr, flush=True)
 

@@ -89,7 +89,7 @@ def wanderer(chance: random.Random) -> Script:
 
 
 def play_one(program: str, seed: int) -> None:
-    """Plays one match on both engines; raises where they differ."""
+    """Plays one match on both engines; raises if they differ."""
     chance = random.Random(seed)
     fixture = drawn_fixture(chance)
     engine = Program(fixture, program)

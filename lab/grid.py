@@ -237,7 +237,7 @@ NEEDED = object()
 
 
 def taken(table: Dict[str, Any], key: str, is_right: Callable[[Any], bool], wanted: str, usual: Any = NEEDED) -> Any:
-    """The value of a key, or what is usual where it is absent."""
+    """The value of a key, or the default if it is absent."""
     value = table.get(key, usual)
     if value is NEEDED or not is_right(value):
         raise NoSweep(f"{key} must be {wanted}")

@@ -15,7 +15,7 @@ class Missing(Exception):
 
 
 def needed(name: str) -> ModuleType:
-    """The module of this name; where it is missing, a line that says what to install."""
+    """The module of this name; if it is missing, a line that says what to install."""
     package = name.partition(".")[0]
     try:
         return importlib.import_module(name)

@@ -38,7 +38,7 @@ def spelled(value: Any) -> str:
 
 
 def text_of(line: bytes) -> str:
-    """A line as a text, or an empty one, which is no command, where it is too long or is not UTF-8."""
+    """A line as a text, or an empty one, which is no command, if it is too long or is not UTF-8."""
     try:
         return line.decode("utf-8") if len(line) <= MAX_LINE else ""
     except UnicodeDecodeError:
@@ -225,7 +225,7 @@ class Match:
         return (node, port) in self.dark or self.far[node][port][0] in self.setup.holes
 
     def deliver(self, number: int) -> Optional[Object]:
-        """Lets an agent arrive; the reply to it, or None where there is none."""
+        """Lets an agent arrive; the reply to it, or None if there is no reply."""
         agent = self.agents[number]
         if self.closed or agent.standing != AWAY:
             return None
@@ -285,7 +285,7 @@ def begun(head: Object) -> Match:
 
 def played(text: str) -> Match:
     """The match that a replay is of, played anew: its setup, and the commands and deliveries of its events. The text is
-    a replay by these rules where the match has that replay too."""
+    a replay by these rules if the match has that replay too."""
     head, *events = objects_of(text)
     match = begun(head)
     for event in events:

@@ -108,7 +108,7 @@ def shuffled(network: Network, seed: int) -> Network:
 
 
 def cut_of(network: Network) -> str:
-    """Why the network is not biconnected, or nothing where it is."""
+    """Why the network is not biconnected, or nothing if it is."""
     networkx = needed("networkx")
     graph = networkx.Graph()
     graph.add_nodes_from(range(network.nodes))

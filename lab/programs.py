@@ -116,7 +116,7 @@ class Player:
             self._note_status()
 
     def hear(self, line: str) -> None:
-        """Tells the program a line, and waits for its next one where it is due."""
+        """Tells the program a line, and waits for its next one if it is due."""
         self.line = None
         self.state = TRAVELS if line == GONE else DONE if line in LAST_LINES else WAITS
         if line in DENIALS:
@@ -209,7 +209,7 @@ class Player:
         return f": {self._ground.told(said[-1])[:200]}" if said else ""
 
     def _end(self, fault: str) -> None:
-        """Ends the program's play; its agent leaves the match where it is in it."""
+        """Ends the program's play; its agent leaves the match if it is in it."""
         self.fault = self.fault or fault
         self._has_ended, self.line = True, None
         if self._child is not None:

@@ -10,7 +10,7 @@ from lab.model import AWAY, LAST, MAX_LINE, OVER, AgentState, Match, Object, com
 
 # what came out: the connection and the line that it is sent
 Said = Tuple[int, str]
-# what a connection's input holds that was not taken yet: lines, and then None where it has ended
+# what a connection's input holds that was not taken yet: lines, and then None if it has ended
 Item = Optional[bytes]
 BLANK = b" \t\r"
 

@@ -103,7 +103,7 @@ def starved(agent: int) -> Scheduler:
 
 
 def in_runs(runs: Sequence[Tuple[int, int]]) -> Scheduler:
-    """A scheduler of (which of the choices, how often in a row); where only one thing can happen, nothing is used up,
+    """A scheduler of (which of the choices, how often in a row); if only one thing can happen, nothing is used up,
     and behind the last run it is always the first."""
     numbers = itertools.chain.from_iterable(itertools.repeat(which, times) for which, times in runs)
 

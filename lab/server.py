@@ -117,7 +117,7 @@ class Session:
             self.connection.close()
 
     def seat(self, line: Any) -> Any:
-        """The match and agent of the first line, or None where the client is denied."""
+        """The match and agent of the first line, or None if the client is denied."""
         if line is None:
             return None
         command = command_of(line)

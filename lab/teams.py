@@ -67,7 +67,7 @@ def add_words(parser: argparse.ArgumentParser) -> None:
     match.add_argument("--network", metavar="NAME", default=NETWORK, help=f"the network ({NETWORK})")
     match.add_argument("--home", metavar="V", type=int, default=0, help="the home base (0)")
     match.add_argument("--hole", metavar="V", type=int, action="append", help="a black hole, and more by more of "
-                       "these; where nothing that destroys is named, each seed has a black hole of its own")
+                       "these; if nothing that destroys is named, each seed has a black hole of its own")
     match.add_argument("--dark", metavar="V,P", type=place, action="append", default=[], help="a dark link, by the "
                        "node and the port of one of its ends, and more by more of these")
     match.add_argument("--quota", metavar="N", type=int, default=QUOTA, help=f"commands that an agent has ({QUOTA})")
@@ -113,7 +113,7 @@ def read_fixture(words: argparse.Namespace) -> Fixture:
 
 
 def fixture_for(words: argparse.Namespace, seed: int, home: Optional[int] = None) -> Fixture:
-    """The match that the words name. Where they name nothing that destroys, the seed chooses the black hole."""
+    """The match that the words name. If they name nothing that destroys, the seed chooses the black hole."""
     if words.tournament:
         return read_fixture(words)
     network = networks.named(words.network)

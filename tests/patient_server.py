@@ -2,7 +2,7 @@
 
     python3 -m tests.patient_server serve T --port N --sessions S --turns K --pause MS --replay P
 
-A turn waits until an agent may arrive or be destroyed, however long its client takes. Where the input has ended no
+A turn waits until an agent may arrive or be destroyed, however long its client takes. If the input has ended no
 turn waits, so the matches are closed. The milliseconds of a pause are not kept.
 """
 import sys

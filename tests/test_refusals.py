@@ -331,7 +331,7 @@ class ServedTest(unittest.TestCase):
     KEY = b'{"no":"key"}\n'
 
     def outcome(self, mode, run=None, heard=(refusals.HERE + refusals.HERE, KEY), replay=REPLAY, seconds=1.0):
-        """What came of a contest whose replay is accepted where it has its end line."""
+        """What came of a contest whose replay is accepted if it has its end line."""
         contest = refusals.Contest(run or Run(0, b"listening N\n" + self.TABLE, ""), list(heard),
                                    {"kept0.jsonl": replay} if replay else {}, {"refused": 1}, seconds)
         with unittest.mock.patch.object(refusals, "judged",

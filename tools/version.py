@@ -30,7 +30,7 @@ def version() -> str:
 
 
 def asked_of_git(*words: str) -> Optional[str]:
-    """What git says of this tree, or None where it is no repository."""
+    """What git says of this tree, or None if it is no repository."""
     try:
         ran = subprocess.run(["git", "-C", str(TOP), *words], stdout=subprocess.PIPE, stderr=subprocess.DEVNULL)
     except FileNotFoundError:

@@ -1,4 +1,4 @@
-/* The lines that a load sends, and what the arena answers to them where each node has four ports: the whiteboards of
+/* The lines that a load sends, and what the arena answers to them if each node has four ports: the whiteboards of
  * the home bases stay empty, and port 0 leads to a node that is entered by port 1. */
 #ifndef LINES_H
 #define LINES_H

@@ -199,7 +199,7 @@ static void push(struct session *s)
     }
 }
 
-/* Reads what has come; false where nothing has. */
+/* Reads what has come; false if nothing has. */
 static bool pull(struct session *s, char *buffer)
 {
     ssize_t count = recv(s->socket, buffer, READ, 0);

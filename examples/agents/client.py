@@ -75,7 +75,7 @@ REFUSALS = {
 class Here(NamedTuple):
     """A node as an agent sees it: its number of ports, the port by which the agent came, and the whiteboard's text.
 
-    `came` is None where the agent has not moved since it entered.
+    `came` is None if the agent has not moved since it entered.
     """
 
     ports: int

@@ -16,7 +16,7 @@ is tried twice, so at each link of the black hole one agent is lost at most, and
 When all nodes but one are in the map, each link that is not in it leads to the black hole, or joins two nodes of the
 map. As the number of links is known, so is how many of these join two nodes. Once there are none, each port that leads
 nowhere on the map leads to the black hole: the agents that are left accuse one each, and those for whom none is left,
-leave. The number of nodes alone does not suffice: where four agents are on four links, nobody can tell whether all four
+leave. The number of nodes alone does not suffice: if four agents are on four links, nobody can tell whether all four
 lead to the black hole, or two of the ports are the ends of one slow link.
 
 An agent that finds no port to claim waits: then another agent is on a link that is safe, and will be back. It looks at

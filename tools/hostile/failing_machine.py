@@ -7,7 +7,7 @@ PROGRAM is the built program. Each command is run on the examples, once as it sh
 missing. Each run must end within a minute, by itself, and say what it says with nothing missing, or the fault that is
 named here with its status; nothing else may come, neither on standard output nor on standard error. For each thing that
 is missing a line is printed with the number of runs and what came of them, and then the number of all; the exit status
-is 1 where a run ended otherwise. Nothing is written outside a temporary folder.
+is 1 if a run ended otherwise. Nothing is written outside a temporary folder.
 """
 import collections
 import contextlib

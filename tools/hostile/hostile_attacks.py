@@ -1,6 +1,6 @@
 """The attacks of tools/hostile/hostile_clients.py: clients that keep to no rule, and what each of them should see.
 
-Each attack opens sessions of a `Siege`, and answers what was seen, as a text; it raises `Wrong` where that is not as it
+Each attack opens sessions of a `Siege`, and answers what was seen, as a text; it raises `Wrong` if that is not as it
 should be. Sockets that are to stay open until the matches have ended are kept with the siege.
 """
 import contextlib

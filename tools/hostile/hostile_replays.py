@@ -108,7 +108,7 @@ def faults_of(case: Case, size: int, whole: Run, part: Run) -> List[str]:
     if whole.peak > bound:
         found.append(f"{whole.peak:.0f} MiB, more than {bound:.0f}")
     if whole.seconds > 8 * part.seconds + 1:
-        found.append(f"{whole.seconds:.1f} s, where a quarter takes {part.seconds:.1f} s")
+        found.append(f"{whole.seconds:.1f} s, but a quarter takes {part.seconds:.1f} s")
     return found
 
 

@@ -7,8 +7,8 @@ PROGRAM is the built program. Each time `serve` is started on two matches in a t
 again and again, and the server is killed by SIGKILL. Every other contest is so short that the kill may come while the
 replays are written. Then of each match:
 
-- Where a file has the name of the replay, it is one whole replay.
-- Else `arena recover` makes a replay of the part.
+- If a file has the name of the replay, it is one whole replay.
+- Otherwise `arena recover` makes a replay of the part.
 - It has each event that an agent was answered more than two seconds before the kill.
 
 By default there are 100 kills, several at the same time, which take a minute or two. For each kill that leaves less a

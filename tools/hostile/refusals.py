@@ -6,12 +6,12 @@
 PROGRAM is the built program, linked dynamically. Each command is run on the examples with the first, the second, and
 each later request for memory refused; then with each read and each write failed, and with each shortened to one byte. A
 run with a short read or write must do what it does else. Any other must do that too, or tell the fault (`memory`,
-`read` or `write`, with its status) of a place that it may name, where what it printed is the front of what it prints
-else, and `judge` refuses each replay that it left and that is not whole. Where the fault line itself could not be
+`read` or `write`, with its status) of a place that it may name; what it printed is then the front of what it prints
+else, and `judge` refuses each replay that it left and that is not whole. If the fault line itself could not be
 written, the status and what was printed are the same. Nothing may crash, hang or end with another status.
 
 A server is run so as well, with a client that enters and looks and one that has a wrong key. It must end within ten
-seconds, by itself. What the clients hear are fronts of what they hear else, and at most one of them hears less where
+seconds, by itself. What the clients hear are fronts of what they hear else, and at most one of them hears less if
 the server ends well; the table is that of the replay; and the replay has all that was answered.
 
 TESTS is the program that `tools/play/library_tests.py TESTS` leaves. Its tests of tests/library/memory are run with
@@ -20,7 +20,7 @@ two such marks is refused, the test must pass; if another one is, it may want me
 plays on it, and then asks for memory once, for itself: no request before that may be one of the play.
 
 A line is printed for each command and kind, with the number of runs and what came of them, and then the number of all;
-the exit status is 1 where a run ended otherwise. With --quick there are at most 60 runs of each command and kind, 40 of
+the exit status is 1 if a run ended otherwise. With --quick there are at most 60 runs of each command and kind, 40 of
 a server and kind, and 20 of what a test does beside the calls that it tests, evenly spread, the first and the last
 among them; all others are left out. Without it only those of a server are left out that are more than 2,000 of a kind.
 It needs gcc, which builds `tools/hostile/refusals_shim.c`.
@@ -58,7 +58,7 @@ QUICK, QUICK_SERVED, MOST_SERVED = 60, 40, 2000
 # of a test, of requests that are not between its marks
 QUICK_BESIDE = 20
 WORKERS = 8
-# what is told where a part could not be written on, which keeps nothing else back
+# what is told if a part could not be written on, which keeps nothing else back
 CUT_PART = re.compile(r"serve: the part of match 0 ends after \d+ events: (memory|write)\n")
 # seconds, of a server that takes a third of one
 SOON = 60
@@ -67,7 +67,7 @@ PLAYING = "memory::playing::playing_takes_no_memory"
 FAILED_TEST = 101
 # what a test says that wants memory itself
 WANTS = re.compile("(?i)(memory|alloc)")
-# what it says where its own request is refused, and how runs of it end, one request after the other
+# what it says if its own request is refused, and how runs of it end, one request after the other
 OWN = "after the play"
 WANTED_OF_PLAYING = re.compile(r"(begins )*own (passed )*")
 OTHERS = [Command("help", ["--help"], "", None), Command("no command", ["rehears"], "", None)]
@@ -81,7 +81,7 @@ WANTED_TEXTS = {"judge": b"solved moves 13 lost 1\n", "table": b"""\
 """}
 
 SAID = [b'{"do":"enter","key":"ka"}\n{"do":"look"}\n', b'{"do":"enter","key":"zz"}\n']
-# what each of the clients may hear: the first also that the match is over, where it was closed before
+# what each of the clients may hear: the first also that the match is over, if it was closed before
 WHOLE = [[HERE + HERE, HERE + OVER, OVER], [b'{"no":"key"}\n']]
 
 
@@ -191,7 +191,7 @@ def attempt(trials: Trials, command: Command, mode: str = "", place: int = 0) ->
 
 
 def judged(lab: Lab, text: bytes, *words: str) -> Optional[bytes]:
-    """What the program prints of a replay, with nothing refused, or None where it refuses the text."""
+    """What the program prints of a replay, with nothing refused, or None if it refuses the text."""
     with room_of(lab) as room:
         (room / "left.jsonl").write_bytes(text)
         run = plain_run(lab, words or ["judge", "left.jsonl"], room)
@@ -350,7 +350,7 @@ def cut_sessions(heard: Sequence[bytes]) -> int:
 
 
 def check_replay(contest: Contest, lab: Lab, told: str) -> Optional[bytes]:
-    """The table of the replay that a server left, which has all that was answered; None where there is no replay."""
+    """The table of the replay that a server left, which has all that was answered; None if there is no replay."""
     replay = contest.replays.get("kept0.jsonl", b"")
     table = judged(lab, replay, "table", "red=left.jsonl")
     answers = contest.heard[0].replace(OVER, b"")

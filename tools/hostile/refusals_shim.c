@@ -20,7 +20,7 @@
 #include <unistd.h>
 
 enum { MEMORY, READS, WRITES, KINDS, MARKS = 32, MARK = 1048573 };
-/* the exit status where REFUSE or COUNTS cannot be understood: nothing would be tried */
+/* the exit status if REFUSE or COUNTS cannot be understood: nothing would be tried */
 enum { NO_TRIAL = 125 };
 
 #ifdef KEPT
@@ -130,7 +130,7 @@ int posix_memalign(void **to, size_t align, size_t size) {
     return 0;
 }
 
-/* How many bytes may be moved; -1 where the call fails. */
+/* How many bytes may be moved; -1 if the call fails. */
 static long allowed(int kind, size_t size) {
     if (!is_refused(kind))
         return size;

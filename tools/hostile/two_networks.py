@@ -54,7 +54,7 @@ def two_networks() -> Iterator[None]:
 
 
 def played(program: str, address: Optional[str], target: str) -> str:
-    """The line of the table that the team red gets, where its agents connect to this address."""
+    """The line of the table that the team red gets if its agents connect to this address."""
     with tempfile.TemporaryDirectory() as folder:
         words = ["serve", "examples/contest.toml", "--port", PORT, "--sessions", 2, "--turns", 3000, "--pause", 1,
                  "--gather", 5000, "--grace", 100, "--replay", f"{folder}/match",

@@ -5,7 +5,7 @@
 
 Compiles the program without a proof if its sources have changed since the last time, which takes a minute or two. A
 PROGRAM that is named must be one that does not say that it is not proved. A line tells each case that fails; the last
-line reads `N passed, M failed`, and the exit status is 1 where one failed.
+line reads `N passed, M failed`, and the exit status is 1 if one failed.
 """
 import os
 import pathlib

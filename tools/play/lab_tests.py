@@ -4,7 +4,7 @@
     tools/play/lab_tests.py PROGRAM
 
 Installs packages that are missing by apt-get. The tests are those of lab/tests/play_*.py. The last line reads `N
-passed, M failed`, and the exit status is 1 where one failed.
+passed, M failed`, and the exit status is 1 if one failed.
 """
 import os
 import pathlib

@@ -3,7 +3,7 @@
 
     tools/play/network_faults.py PROGRAM [OTHER] [--lists N]
 
-Makes N lists of links by a seeded generator, 10,000 where no number is given. Half of them make a network. Of the
+Makes N lists of links by a seeded generator, 10,000 by default. Half of them make a network. Of the
 others most are broken in one to three places, and some join two networks at a node or not at all. Runs `PROGRAM check`
 on each, and OTHER, another build, if it is named, and compares the fault line and the status. The tournament is
 of version 1, so that older builds take it too. Prints how many lists had each fault, and a line for each difference.
@@ -171,7 +171,7 @@ def tried(programs: Sequence[str], number: int) -> Tuple[str, List[str]]:
         (folder / "n.toml").write_text(network(nodes, links))
         (folder / "t.toml").write_text(tournament("n.toml", 1, 1, 8, 1))
         found = [said(program, folder) for program in programs]
-    return fault, [f"list {number}: {program} says {told} with status {status}, where it should say {wanted}"
+    return fault, [f"list {number}: {program} says {told} with status {status}, but should say {wanted}"
                    for program, (status, told) in zip(programs, found) if (status, told) != wanted]
 
 

@@ -66,7 +66,7 @@ STEPS = {"0": '{"do":"depart","port":0}', "1": '{"do":"depart","port":1}', "a": 
 # What the words say of a replay.
 
 def delivered(match: Match, held: Set[Place], number: int) -> Optional[int]:
-    """The agent whose Deliver is kept where a turn has this word, if there is one."""
+    """The agent whose Deliver is kept if a turn has this word, if there is one."""
     if not match.pool:
         return None
     picked = match.pool[number % len(match.pool)]
@@ -113,7 +113,7 @@ class Heard(NamedTuple):
 
 @contextlib.contextmanager
 def server(stage: Stage, words: Sequence[str]) -> Iterator[Tuple[subprocess.Popen, bytes]]:
-    """A server, and its first line. It is killed where it does not end in time."""
+    """A server, and its first line. It is killed if it does not end in time."""
     with subprocess.Popen([stage.program, *words], cwd=stage.folder, stdout=subprocess.PIPE,
                           stderr=subprocess.PIPE) as child:
         end = threading.Timer(PATIENCE, child.kill)

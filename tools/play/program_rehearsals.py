@@ -1,5 +1,5 @@
 """Rehearsals that are drawn, of each number of agents, and played on the program: it prints what
-tools/play/drawn_rehearsals.py says, also where it answers each line as it comes. No call wants memory."""
+tools/play/drawn_rehearsals.py says, also when it answers each line as it comes. No call wants memory."""
 import functools
 from typing import Sequence
 

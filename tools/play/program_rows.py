@@ -17,7 +17,7 @@ Then come the lines of the step:
     ? NUMBER  the exit status, which is else 0
 
 `>~`, `<~` and `!~` are the same without a line feed behind the text, `>x` gives bytes in hexadecimal digits. A `¶` in
-one of these lines stands for a line feed. A line `+` goes on with the line before it. Where the title of the first row
+one of these lines stands for a line feed. A line `+` goes on with the line before it. If the title of the first row
 of a file begins with `Before each row`, its steps are carried out before those of each other row.
 
 A row may have tables. `* NAME => NAME` names the columns of one, and each line `| VALUE => VALUE` makes a row of its
@@ -26,7 +26,7 @@ hold names of tables that stand before theirs.
 
 A row whose second line is `~ SOURCE TARGET` is a table of changes, for `check cup.toml`. In a line `OLD => NEW => LINE`
 the first OLD in the file SOURCE, as it is written before each row, becomes NEW, and the file TARGET is written so. LINE
-is what is printed, where it begins with `match`, or told, with the exit status 6 where it ends with `: read`, and else
+is what is printed, if it begins with `match`, or told, with the exit status 6 if it ends with `: read`, and else
 3. `right` stands for the line of the match of a file in which nothing is changed.
 """
 import itertools
@@ -38,7 +38,7 @@ import tempfile
 from typing import Any, Callable, Dict, Iterator, List, NamedTuple, Sequence, Tuple, Union
 
 PATIENCE = 60
-# how much of a line is shown where it is not the line that was wanted
+# how much of a line is shown if it is not the line that was wanted
 SHOWN = 160
 HEADS = "$@=%/"
 FIRST = "Before each row"

@@ -7,7 +7,7 @@ import time
 from typing import TextIO
 
 WIDTH = 20
-# seconds between two lines where standard error is no terminal
+# seconds between two lines if standard error is no terminal
 QUIET = 30.0
 
 

@@ -9,7 +9,7 @@ same of more functions: run it for each crate that you change. An edit has lines
 
 Of an edited crate the function that is edited is checked, against its contract and those of what it calls, or what a
 line `only: PATH` names. Edits of different functions are tried in one check, and an edit that is not refused there by
-its own function is tried by itself. Where that much is still proved, or no function is edited, the whole crate is
+its own function is tried by itself. If that much is still proved, or no function is edited, the whole crate is
 checked. Each edit has a line, and the last line reads `N passed, M failed`. The libraries below a crate must be built,
 as tools/build and the gate leave them.
 """
@@ -173,7 +173,7 @@ def own_error(lines: Sequence[str], function: str) -> str:
 
 
 def refused_together(prover: Prover, edits: Sequence[Edit]) -> Dict[str, str]:
-    """What the prover says against those edits that their own functions refuse, where all are made at once."""
+    """What the prover says against those edits that their own functions refuse, if all are made at once."""
     if len(edits) < 2:
         return {}
     try:
@@ -193,7 +193,7 @@ def refused_together(prover: Prover, edits: Sequence[Edit]) -> Dict[str, str]:
 
 
 def refusal(prover: Prover, edit: Edit) -> Optional[str]:
-    """What the prover says against an edit, or None where the crate is still proved."""
+    """What the prover says against an edit, or None if the crate is still proved."""
     if edit.function:
         lines = prover.lines([edit], [edit.function])
         counts = SOME_PROVED.match(lines[-1])
