@@ -170,8 +170,8 @@ Exit status:
 
   0  The verdict was printed
   2  The command line was refused
-  3  The file is no replay: head, line or end
-  4  The replay is not of a match: event or differs
+  3  The file is not a replay: head, line or end
+  4  The replay could not have happened: event or differs
   5  Memory ran out
   6  Reading or writing failed";
 
@@ -198,8 +198,8 @@ Exit status:
 
   0  The table was printed
   2  The command line was refused
-  3  A file is no replay: head, line or end
-  4  A replay is not of a match: event or differs
+  3  A file is not a replay: head, line or end
+  4  A replay could not have happened: event or differs
   5  Memory ran out
   6  Reading or writing failed";
 
@@ -226,8 +226,8 @@ Exit status:
 
   0  The past was printed
   2  The command line was refused
-  3  The file is no replay: head, line or end
-  4  The replay is not of a match: event or differs
+  3  The file is not a replay: head, line or end
+  4  The replay could not have happened: event or differs
   5  Memory ran out
   6  Reading or writing failed";
 
@@ -236,13 +236,15 @@ pub(crate) const TWIN: &str =
 
 pub(crate) const TWIN_AT_LENGTH: &str = "\
 Reads a replay, and prints the replay of its twin: the same match, with a black
-hole at this node in place of the one that was accused first. In the twin each
-agent saw what it saw in the match. Each node at which no agent arrived has such
-a twin, and the twin refutes a guess: `arena judge` calls it `wrong`.
+hole at this node in place of another one, the first that was accused over a link
+that is not dark, or else the least. In the twin each agent saw what it saw in
+the match. A node has such a twin if no agent arrived there and it is neither the
+home base nor a black hole. The twin refutes a guess: `arena judge` calls it
+`wrong`.
 
 If there is no such twin, standard error tells why, as `twin: FAULT`:
 
-  node       There is no such node
+  node       The node does not exist
   home       The node is the home base
   same       It is a black hole already
   reached K  An agent arrived there, first at place K";
@@ -261,8 +263,9 @@ Exit status:
 
   0  The twin was written
   2  The command line was refused
-  3  The file is no replay: head, line or end
-  4  The replay is not of a match: event or differs; or there is no such twin
+  3  The file is not a replay: head, line or end
+  4  The replay could not have happened: event or differs; or there is no such
+     twin
   5  Memory ran out
   6  Reading or writing failed";
 
@@ -289,8 +292,8 @@ Exit status:
 
   0  The replay was printed
   2  The command line was refused
-  3  The file is no part of a replay: head, line or end
-  4  The part is not of a match: event or differs
+  3  The file is not a part of a replay: head, line or end
+  4  The part could not have happened: event or differs
   5  Memory ran out
   6  Reading or writing failed";
 
@@ -318,7 +321,7 @@ The server listens on port PORT, prints `listening PORT`, and accepts up to
 SESSIONS connections. Each is one session of one agent: its first line is the
 agent's enter with its key, and each later line is one of the agent's commands.
 `arena rehearse --help` says what the lines are. Each is answered by a line, and
-an arrival is told by a line too. While the agent is on a link its lines wait.
+an arrival comes as a line too. While the agent is on a link its lines wait.
 
 Without --gather all matches begin at once, when the server listens. In each
 match a turn comes every PAUSE milliseconds: one of the agents on a link
