@@ -25,9 +25,9 @@ as_many place (ready ∷ matches) (one ∷ settled) (first, others) =
     omega (arith, as_many (place + 1) matches settled others)
 
 -- one match more that settled
-pub one_more_settled : (all rest others : List (Result Play Unsettled)) (before : List Play) (one : Play)
-    → all ≡ map Ok before ++ rest → rest ≡ Ok one ∷ others → all ≡ map Ok (before ++ one ∷ []) ++ others
-one_more_settled all rest others before one is next =
+pub one_more_settled : (settled rest others : List (Result Play Unsettled)) (before : List Play) (one : Play)
+    → settled ≡ map Ok before ++ rest → rest ≡ Ok one ∷ others → settled ≡ map Ok (before ++ one ∷ []) ++ others
+one_more_settled settled rest others before one is next =
     is ∙ ap (λ (xs : List (Result Play Unsettled)). map Ok before ++ xs) next
     ∙ sym (append_assoc (map Ok before) (Ok one ∷ []) others)
     ∙ ap (λ (xs : List (Result Play Unsettled)). xs ++ others) (sym (map-append Ok before (one ∷ [])))
