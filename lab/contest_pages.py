@@ -16,7 +16,8 @@ from typing import List, NamedTuple, Optional
 
 from lab.engines import add_program, asked, program_at
 from lab.networks import NoNetwork
-from lab.page import part, write_page
+from lab.page import write_page
+from lab.parts import framed, part
 
 VERDICT = re.compile(r"(.*) moves (\d+) lost (\d+)")
 RANKS = ("solved", "guess", "unfinished", "silent", "wrong")
@@ -74,13 +75,10 @@ def page_of(title: str, matches: List[Shown]) -> str:
     """The page that lists the matches."""
     ranked = sorted(matches, key=rank)
     solved = sum(one.verdict is not None and one.verdict.outcome == "solved" for one in matches)
-    parts = {
-        "{{title}}": html.escape(title),
-        "{{style}}": part("report.css"),
-        "{{about}}": f"{len(matches)} matches, {solved} solved.",
-        "{{rows}}": "".join(row_of(place, one) for place, one in enumerate(ranked, 1)),
-    }
-    return re.sub("|".join(parts), lambda found: parts[found[0]], part("contest.html"))
+    return framed("contest.html", title, part("report.css"), {
+        "about": f"{len(matches)} matches, {solved} solved.",
+        "rows": "".join(row_of(place, one) for place, one in enumerate(ranked, 1)),
+    })
 
 
 def write_pages(program: str, tournament: pathlib.Path, prefix: str, folder: pathlib.Path) -> pathlib.Path:

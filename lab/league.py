@@ -1,12 +1,11 @@
 """The league table of a course, and a page for each team."""
 import html
-import pathlib
-import re
 from typing import Dict, List, NamedTuple, Optional, Sequence, Tuple
 
 from lab import finds
 from lab.grid import Grid
-from lab.report import is_solved, part
+from lab.parts import framed, part
+from lab.report import is_solved
 
 TABLE, PAGE, FAILED, SMALLEST = "league.csv", "league.html", "failed", "smallest"
 HEAD = ("place", "team", "matches", "solved", "moves", "lost")
@@ -87,10 +86,9 @@ def pages(grid: Grid, rows: Sequence[Row], failures: Dict[int, Failure], engine:
     return found
 
 
-def filled(name: str, parts: Dict[str, str]) -> str:
-    """A page with its parts, each in the place of its name."""
-    given = {"{{style}}": part("report.css") + part("league.css"), **parts}
-    return re.sub("|".join(map(re.escape, given)), lambda found: given[found[0]], part(name))
+def framed_page(name: str, title: str, given: Dict[str, str]) -> str:
+    """A page of a course, of this title."""
+    return framed(name, title, part("report.css") + part("league.css"), given)
 
 
 def league_page(grid: Grid, standings: Sequence[Standing], engine: str) -> str:
@@ -98,8 +96,8 @@ def league_page(grid: Grid, standings: Sequence[Standing], engine: str) -> str:
     about = (f"Each of {len(standings)} teams played the same {matches} matches on {', '.join(grid.names)}. Played and "
              f"judged by {engine}.")
     rows = "".join(league_row(standing) for standing in standings)
-    return filled("league.html", {"{{title}}": html.escape(grid.title), "{{about}}": html.escape(about),
-                                  "{{table}}": f"{head_of(HEAD)}<tbody>{rows}</tbody>"})
+    return framed_page("league.html", grid.title, {"about": html.escape(about),
+                                                   "table": f"{head_of(HEAD)}<tbody>{rows}</tbody>"})
 
 
 def league_row(standing: Standing) -> str:
@@ -114,10 +112,10 @@ def team_page(grid: Grid, standing: Standing, rows: Sequence[Row], failures: Dic
              f"{standing.matches} matches, with {standing.moves} moves and {standing.lost} lost agents in these.")
     told = "".join(failure_of(row, failures[int(row["run"])]) for row in failed)
     matches = "".join(match_row(row, not is_solved(row)) for row in rows)
-    return filled("team.html", {
-        "{{title}}": f"Team {html.escape(standing.team)}", "{{course}}": html.escape(grid.title),
-        "{{about}}": html.escape(about), "{{failed}}": told or "<p>None: the team solved each of its matches.</p>",
-        "{{table}}": f"{head_of(MATCH_HEAD)}<tbody>{matches}</tbody>"})
+    return framed_page("team.html", f"Team {standing.team}", {
+        "course": html.escape(grid.title), "about": html.escape(about),
+        "failed": told or "<p>None: the team solved each of its matches.</p>",
+        "table": f"{head_of(MATCH_HEAD)}<tbody>{matches}</tbody>"})
 
 
 def failure_of(row: Row, failure: Failure) -> str:

@@ -16,15 +16,14 @@ import argparse
 import html
 import json
 import pathlib
-import re
 import subprocess
 import tempfile
 from typing import Any, Dict, Iterable, List, Optional, Tuple
 
 from lab.engines import Refused, add_program, asked, program_at
 from lab.missing import needed
+from lab.parts import filled, part
 
-PARTS = pathlib.Path(__file__).resolve().parent / "page_parts"
 SCRIPTS = ("match.js", "met.js", "texts.js", "drawing.js", "page.js")
 SCALE = 1000
 SEED = 4
@@ -167,17 +166,12 @@ def data_of(program: str, replay: str, twin: Optional[int]) -> Dict[str, Any]:
 
 def page_of(data: Dict[str, Any]) -> str:
     """The page. No text of the replay can end the element that it stands in, as `<` is written as its number."""
-    parts = {
-        "{{title}}": html.escape(data["name"]),
-        "{{style}}": part("page.css"),
-        "{{script}}": "".join(map(part, SCRIPTS)),
-        "{{data}}": json.dumps(data, separators=(",", ":")).replace("<", "\\u003c"),
-    }
-    return re.sub("|".join(parts), lambda found: parts[found[0]], part("page.html"))
-
-
-def part(name: str) -> str:
-    return (PARTS / name).read_text(encoding="utf-8")
+    return filled("page.html", {
+        "title": html.escape(data["name"]),
+        "style": part("page.css"),
+        "script": "".join(map(part, SCRIPTS)),
+        "data": json.dumps(data, separators=(",", ":")).replace("<", "\\u003c"),
+    })
 
 
 def write_page(program: str, replay: pathlib.Path, page: pathlib.Path, twin: Optional[int] = None) -> None:

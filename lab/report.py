@@ -1,15 +1,13 @@
 """The report of a sweep: its summary, its plots and its page."""
 import html
 import io
-import pathlib
-import re
 import statistics
 from typing import Any, Dict, Iterable, List, NamedTuple, Optional, Sequence, Tuple
 
 from lab.grid import BOUNDS, Grid
 from lab.missing import needed
+from lab.parts import framed, part
 
-PARTS = pathlib.Path(__file__).resolve().parent / "page_parts"
 HEAD = ("network", "nodes", "team", "agents", "scheduler", "runs", "solved", "mean moves", "confidence 95 %",
         "most moves", "its run", "most lost", "bound")
 CONFIDENCE = 1.96
@@ -165,19 +163,12 @@ def page(spec: Grid, groups: Sequence[Group], kept: Sequence[Kept], engine: str)
     runs, solved = (sum(getattr(group, name) for group in groups) for name in ("runs", "solved"))
     links = {run.row["run"]: run.link for run in kept}
     about = f"{runs} runs, played and judged by {engine}: solved {solved}, failed {runs - solved}."
-    parts = {
-        "{{title}}": html.escape(spec.title),
-        "{{style}}": part("report.css"),
-        "{{about}}": html.escape(about),
-        "{{plot}}": plot(spec, groups),
-        "{{table}}": table(groups, links),
-        "{{kept}}": "".join(map(kept_line, kept)),
-    }
-    return re.sub("|".join(parts), lambda found: parts[found[0]], part("report.html"))
-
-
-def part(name: str) -> str:
-    return (PARTS / name).read_text(encoding="utf-8")
+    return framed("report.html", spec.title, part("report.css"), {
+        "about": html.escape(about),
+        "plot": plot(spec, groups),
+        "table": table(groups, links),
+        "kept": "".join(map(kept_line, kept)),
+    })
 
 
 def table(groups: Sequence[Group], links: Dict[str, str]) -> str:

@@ -124,7 +124,7 @@ def own_digests() -> Dict[str, str]:
 
 
 def digest_of(path: pathlib.Path) -> str:
-    """The SHA-256 of a file, or nothing where there is no such file."""
+    """The SHA-256 of a file, or nothing if there is no such file."""
     return hashlib.sha256(path.read_bytes()).hexdigest() if path.is_file() else ""
 
 
