@@ -20,7 +20,8 @@ network = "<b>.toml"
 
 class Lists(unittest.TestCase):
     def test_matches_stand_in_the_order_of_the_table(self) -> None:
-        verdicts = [Judged("wrong", 1, 0), Judged("solved", 9, 1), Judged("guess 4", 2, 0), Judged("solved", 9, 0), None]
+        verdicts = [Judged("wrong", 1, 0), Judged("solved", 9, 1), Judged("guess 4", 2, 0), Judged("solved", 9, 0),
+                    None]
         page = page_of("cup", [Shown(number, f"t{number}", "n", one) for number, one in enumerate(verdicts)])
         places = [page.index(f"<td>t{number}</td>") for number in (3, 1, 2, 0, 4)]
         self.assertEqual(places, sorted(places))

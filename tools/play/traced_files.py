@@ -67,7 +67,7 @@ def put_in_place(stage: Stage) -> None:
     if ran.returncode != DONE:
         raise Wrong(f"the server ended with {ran.returncode}: {ran.stderr!r}")
     steps = steps_in((stage.folder / "trace").read_text(), str(stage.folder))
-    wanted = [("write", "match0.jsonl.new"), ("sync", "match0.jsonl.new"), ("rename", "match0.jsonl.new", "match0.jsonl"),
-              ("sync", "."), ("remove", "match0.jsonl.part")]
+    wanted = [("write", "match0.jsonl.new"), ("sync", "match0.jsonl.new"),
+              ("rename", "match0.jsonl.new", "match0.jsonl"), ("sync", "."), ("remove", "match0.jsonl.part")]
     if [step for step in steps if step in wanted or "match0.jsonl" in step] != wanted:
         raise Wrong(f"the calls were {steps}")
