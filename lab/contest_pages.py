@@ -61,14 +61,15 @@ def rank(shown: Shown) -> tuple:
 
 def row_of(place: int, shown: Shown) -> str:
     """The row of a match in the list."""
-    cells = [str(place), html.escape(shown.team), str(shown.number), html.escape(shown.network)]
+    match = [str(shown.number), html.escape(shown.network)]
     if shown.verdict is None:
-        return f"<tr>{''.join(f'<td>{cell}</td>' for cell in cells)}<td colspan=\"5\">no replay</td></tr>"
-    name = f"match{shown.number}"
-    cells += [shown.verdict.outcome, str(shown.verdict.moves), str(shown.verdict.lost),
-              f'<a href="{name}.html">watch it</a>', f'<a href="{name}.jsonl">replay</a>']
-    kind = "" if shown.verdict.outcome == "solved" else ' class="failed"'
-    return f"<tr{kind}>{''.join(f'<td>{cell}</td>' for cell in cells)}</tr>"
+        cells, kind = ["no replay", "", "", "", *match, ""], ""
+    else:
+        name = f"match{shown.number}"
+        cells = [shown.verdict.outcome, str(shown.verdict.moves), str(shown.verdict.lost),
+                 f'<a href="{name}.html">watch it</a>', *match, f'<a href="{name}.jsonl">replay</a>']
+        kind = "" if shown.verdict.outcome == "solved" else ' class="failed"'
+    return f"<tr{kind}>{''.join(f'<td>{cell}</td>' for cell in [str(place), html.escape(shown.team), *cells])}</tr>"
 
 
 def page_of(title: str, matches: List[Shown]) -> str:
