@@ -1,6 +1,6 @@
 """The league table of a course, and a page for each team."""
 import html
-from typing import Dict, List, NamedTuple, Optional, Sequence, Tuple
+from typing import Dict, List, NamedTuple, Sequence, Tuple
 
 from lab import finds
 from lab.grid import Grid

@@ -2,7 +2,6 @@
 import contextlib
 import importlib.util
 import io
-import os
 import pathlib
 import subprocess
 import sys
@@ -13,9 +12,8 @@ from unittest import mock
 
 from lab import spread, sweep
 from lab.__main__ import main
-from lab.engines import TOP
 from lab.spread import digest_of, other_files
-from lab.tests.playing import program
+from lab.tests.playing import InFolder, program
 
 TEXT = """title = "A trial"
 networks = ["ring:5", "ring:8"]
@@ -30,13 +28,9 @@ SCHEDULER, WORKER = "distributed.cli.dask_scheduler", "distributed.cli.dask_work
 
 
 @unittest.skipUnless(HAS_DASK, "Debian's python3-distributed is not installed")
-class Clusters(unittest.TestCase):
+class Clusters(InFolder):
     def setUp(self) -> None:
-        folder = tempfile.TemporaryDirectory()
-        self.addCleanup(folder.cleanup)
-        self.addCleanup(os.chdir, os.getcwd())
-        os.chdir(TOP)
-        self.folder = pathlib.Path(folder.name)
+        super().setUp()
         self.file = self.folder / "sweep.toml"
         self.file.write_text(TEXT)
 

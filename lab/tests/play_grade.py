@@ -9,15 +9,16 @@ import unittest
 from typing import Dict, Iterator, List
 from unittest import mock
 
-from lab import cells, course, grade, league, schedulers, sweep
+from lab import cells, league, schedulers, sweep
 from lab.__main__ import main
 from lab.cells import Cell, Walls
 from lab.engines import TOP
 from lab.grade import Graded
 from lab.tests.play_programs import running
-from lab.tests.playing import AGENTS, program
+from lab.tests.playing import AGENTS, InFolder, program
 
 EXAMPLE = TOP / "examples" / "course" / "course.toml"
+MUTANT = TOP / "lab" / "mutants" / "reads_once.py"
 TESTS = TOP / "lab" / "tests"
 HEAD = 'title = "A trial"\nnetworks = ["ring:4"]\nholes = [2]\nlimit = 60\n'
 RUDE = "python3 rude.py {how} {{host}} {{port}} {{key}}"
@@ -52,14 +53,7 @@ def league_in(page: pathlib.Path) -> List[str]:
     return [line[4:] for line in lines[start + 1:start + 5]]
 
 
-class Grading(unittest.TestCase):
-    def setUp(self) -> None:
-        folder = tempfile.TemporaryDirectory()
-        self.addCleanup(folder.cleanup)
-        self.addCleanup(os.chdir, os.getcwd())
-        os.chdir(TOP)
-        self.folder = pathlib.Path(folder.name)
-
+class Grading(InFolder):
     def graded(self, file: pathlib.Path, out: str, *more: str) -> str:
         """Grades a course; gives what is said."""
         with contextlib.redirect_stdout(io.StringIO()) as said, contextlib.redirect_stderr(io.StringIO()):
@@ -102,7 +96,7 @@ class Grading(unittest.TestCase):
         """A team plays its match again where its program is."""
         own = self.folder / "own"
         own.mkdir()
-        for path in (AGENTS / "client.py", AGENTS / "ring.py", EXAMPLE.parent / "cedar" / "hasty.py"):
+        for path in (AGENTS / "client.py", AGENTS / "ring.py", MUTANT, EXAMPLE.parent / "cedar" / "hasty.py"):
             shutil.copy(path, own)
         os.chdir(own)
         with contextlib.redirect_stdout(io.StringIO()) as said:

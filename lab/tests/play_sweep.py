@@ -3,13 +3,11 @@ import contextlib
 import functools
 import hashlib
 import io
-import os
 import pathlib
 import re
 import signal
 import subprocess
 import sys
-import tempfile
 import time
 import unittest
 from typing import List
@@ -17,7 +15,7 @@ from typing import List
 from lab import finds, sweep
 from lab.__main__ import main
 from lab.engines import TOP
-from lab.tests.playing import program
+from lab.tests.playing import InFolder, program
 
 TEXT = """title = "A <small> trial"
 networks = ["ring:5", "ring:8"]
@@ -34,13 +32,9 @@ agent = "lab/mutants/reads_once.py {nodes}"
 MODEL = ["--engine", "model"]
 
 
-class Sweeps(unittest.TestCase):
+class Sweeps(InFolder):
     def setUp(self) -> None:
-        folder = tempfile.TemporaryDirectory()
-        self.addCleanup(folder.cleanup)
-        self.addCleanup(os.chdir, os.getcwd())
-        os.chdir(TOP)
-        self.folder = pathlib.Path(folder.name)
+        super().setUp()
         self.file = self.folder / "sweep.toml"
         self.file.write_text(TEXT)
 

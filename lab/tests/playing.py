@@ -1,6 +1,9 @@
 """What the tests that play share: the program, and matches of the sample agents."""
 import os
+import pathlib
 import random
+import tempfile
+import unittest
 from typing import Any
 
 from lab import schedulers
@@ -43,3 +46,14 @@ def played(given: Fixture, agent: AgentWords, seed: int, maker: schedulers.Maker
            engine: Any = Rehearsal) -> Played:
     """A match of agents that are alike."""
     return play(engine(given), Together([agent] * given.setup.agents, given, 5), maker(seed), given)
+
+
+class InFolder(unittest.TestCase):
+    """Tests that run at the top of the repository, each with a folder of its own."""
+
+    def setUp(self) -> None:
+        folder = tempfile.TemporaryDirectory()
+        self.addCleanup(folder.cleanup)
+        self.addCleanup(os.chdir, os.getcwd())
+        os.chdir(TOP)
+        self.folder = pathlib.Path(folder.name)
