@@ -154,7 +154,8 @@ class Explorer:
         lost = sum(past.agent.lost for past in state.pasts)
         verdict = Verdict(outcome_of(match), sum(past.moves for past in state.pasts), lost)
         stuck = any(past.state == SLEEPS for past in state.pasts)
-        has_failed = verdict.outcome != "solved" or stuck or any(past.fault for past in state.pasts)
+        ended = [own.closed(past) if past.state == TRAVELS else past for own, past in zip(self._pasts, state.pasts)]
+        has_failed = verdict.outcome != "solved" or stuck or any(past.fault for past in ended)
         end = End(has_failed, verdict, number)
         if self.worst is None or end.rank() > self.worst.rank():
             self.worst = end
