@@ -175,6 +175,10 @@ def play(engine: Engine, team: Team, scheduler: Scheduler, fixture: Fixture) -> 
                 choice = scheduler(choices, run)
             except Ended:
                 break
+            except Impossible:
+                raise
+            except Exception as fault:
+                raise Impossible(f"the scheduler raises {type(fault).__name__}: {fault}") from fault
             if choice not in choices:
                 raise Impossible(f"the scheduler chooses {choice!r}, which is not among the choices")
             run.happen(choice)
