@@ -7,3 +7,4 @@ pub mod CutTimeLemmas
 pub mod SlowTimeLemmas
 pub mod ContestLemmas
 pub mod WaitLemmas
+pub mod DelayLemmas

@@ -18,11 +18,11 @@ words = record { picks = λ turn. turn; delays = λ agent departed. departed }
 
 -- 4 scales, 1 word in 8 of each: an agent that departs after 2 turns has a delay of 4 turns
 abbrev pub with_delays : Schedule
-with_delays = oblivious words 2 8 4
+with_delays = oblivious words 2 (record { scales = 4; odds = 8 })
 
 -- no scales, so no delays
 abbrev pub without_delays : Schedule
-without_delays = oblivious words 2 8 0
+without_delays = oblivious words 2 (record { scales = 0; odds = 8 })
 
 abbrev pub HowLongALinkTakes : Type 0
 HowLongALinkTakes =

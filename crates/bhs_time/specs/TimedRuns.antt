@@ -44,13 +44,17 @@ abbrev pub delivery_if : Held → State → (agent : ℕ) → (is_ready : Bool) 
 delivery_if held state agent true = delivery_to held state (Some agent)
 delivery_if held state agent false = None
 
--- The event of the next turn, if it has one: the Deliver of the agent that the schedule picks. There is none after the
--- close.
+-- The event of a turn, if it has one, where these are the turns of departure: the Deliver of the agent that the
+-- schedule picks. There is none after the close.
+abbrev pub delivery_in : Held → Schedule → State → (departed : ℕ → ℕ) → (turn : ℕ) → Option Event
+delivery_in held schedule state departed turn =
+    let agent = schedule.picked turn in
+    if state.closed then None else delivery_if held state agent (schedule.ready agent (departed agent) turn)
+
+-- the event of the next turn of a timed execution, if it has one
 abbrev pub delivery_now : Held → Schedule → TimedState → Option Event
 delivery_now held schedule timed =
-    let agent = schedule.picked timed.turn in
-    if timed.state.closed then None
-    else delivery_if held timed.state agent (schedule.ready agent (departed_at (timed.pasts agent)) timed.turn)
+    delivery_in held schedule timed.state (λ agent. departed_at (timed.pasts agent)) timed.turn
 
 -- the event that a act makes, if any
 abbrev pub event_of : Held → Schedule → TimedState → TimedAct → Option Event
