@@ -31,7 +31,12 @@ pub fn contest_of(alloc: Global, lineup: Lineup) -> Result<Hosted, Memory>
         ≡ dealers_of lineup.seed 0 lineup.ready.items) }
     ensures keys { IfOk result (λ hosted. hosted.contest.keys ≡ lineup.keys) }
 {
-    let Lineup { seed, ready, keys } = lineup;
+    let Lineup {
+        seed,
+        ready,
+        keys,
+        ..
+    } = lineup;
     let (teams, cells, dealers) = rooms(alloc, ready.len())?;
     let mut hosted = Hosted {
         teams,
