@@ -1,11 +1,14 @@
 -- The words of a match under the oblivious schedule: those of its stream pick an agent each turn, and each agent has a
 -- stream of its own for its delays.
-use Rattle.std.specs.Prelude.{ℕ, ◌≡◌, ◌+◌, ◌*◌, ◌%◌, ◌^◌, ◌<◌, List, slice_index_or}
+use Rattle.std.specs.Prelude.{ℕ, ◌≡◌, ◌+◌, ◌*◌, ◌%◌, ◌^◌, ◌<◌, List, slice_index_or, if◌then◌else◌}
 use Rattle.rand_chacha.specs.ChaCha.{ChaCha, word_at}
 use Rattle.bhs_model.specs.Runs.{State}
 use Rattle.bhs_model.specs.Draws.{Held}
 use Rattle.bhs_time.specs.Schedules.{Schedule, Words, DelayLaw, oblivious}
 use Rattle.bhs_time.specs.TimedRuns.{delivery_in}
+use Rattle.bhs_deal.specs.declared.draws.Drawn.{Drawn}
+use Rattle.bhs_deal.specs.declared.draws.Drawn.TheVariants.{Nobody}
+use Rattle.bhs_deal.specs.Drawing.{delivered_to}
 use Rattle.bhs_deal.specs.Dealer.{double_rounds, words_of_a_stream, word_of, dealer_at, next_word}
 
 -- the stream of an agent's delays in the match of a stream; streams are numbers of 64 bits
@@ -37,6 +40,12 @@ schedule_by dealer agents law =
 -- the turns of departure that stand in a list, by agent
 abbrev pub departed_in : List ℕ → (agent : ℕ) → ℕ
 departed_in turns agent = slice_index_or turns agent 0
+
+-- what comes of a turn: what delivering the agent that the schedule picks comes to, if the agent is ready
+abbrev pub drawn_in : Held → Schedule → State → (departed : ℕ → ℕ) → (turn : ℕ) → Drawn
+drawn_in held schedule state departed turn =
+    let agent = schedule.picked turn in
+    if schedule.ready agent (departed agent) turn then delivered_to held state agent else Nobody
 
 -- A dealer that has given one word a turn makes each turn deliver as the schedule of its match does.
 abbrev pub TurnsFollowTheirSchedule : Type 0

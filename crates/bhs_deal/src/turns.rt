@@ -6,7 +6,7 @@ ghost use Rattle.bhs_match.specs.Matches.{state_of};
 ghost use Rattle.bhs_deal.specs.Links.{held_in};
 ghost use Rattle.bhs_deal.specs.Drawing.{delivered_to, delivery_of, IsPlayedIf};
 ghost use Rattle.bhs_deal.specs.Dealer.{moved_on};
-ghost use Rattle.bhs_deal.specs.Delaying.{schedule_by, departed_in};
+ghost use Rattle.bhs_deal.specs.Delaying.{schedule_by, departed_in, drawn_in};
 
 use crate::dealers::Dealer;
 use crate::draws::Drawn;
@@ -17,6 +17,7 @@ use bhs_model::Event;
 use bhs_time::Delays;
 
 /// What the oblivious schedule knows of a match besides its words.
+#[derive(Drop)]
 pub struct Waits<'a> {
     /// The law of the tournament's delays.
     pub delays: Delays,
@@ -49,6 +50,10 @@ pub fn deliver(game: &mut Match, held: &Held, agent: u16) -> Drawn
 /// picks among all agents, if it has been on its link for its delay and the link is not held. Takes no memory.
 pub fn draw_oblivious(game: &mut Match, held: &Held, dealer: &mut Dealer, waits: &Waits) -> Drawn
     requires { game.old.setup.agents ≤ length waits.now.departed.now }
+
+    ensures drawn { result
+        ≡ drawn_in (held_in held.now) (schedule_by dealer.old game.old.setup.agents waits.now.delays)
+        (state_of game.old) (departed_in waits.now.departed.now) waits.now.turn }
 
     // The match is as the event of the definitions makes it; where they have none, it is as it was.
     ensures played { IsPlayedIf game.old

@@ -2,6 +2,7 @@ pub mod KeptCommand
 pub mod Tallies
 pub mod Fitting
 pub mod Passes
+pub mod Timing
 pub mod Halls
 pub mod Recording
 pub mod Comparing
