@@ -8,6 +8,7 @@ tables are put into docs/EXPERIMENTS.md, each with its command, its engine, its 
 
 Tables:
     rings        moves of two agents on rings under fair and under weighted schedules, and the most that was hunted
+    thirds       the most moves of the search by halves and of the search by thirds, beside 3 n log3 n
     explored     the most moves of all schedules on small networks
     no-map       one agent more than the greatest degree, without a map
     silent       the runs without a map that ended by the arena's limit of commands
@@ -27,6 +28,8 @@ import time
 import tomllib
 from typing import Callable, Dict, List, Mapping, NamedTuple, Sequence, Tuple
 
+from experiments.division import Table, bound, of_ring, of_ring3, ring3
+from experiments.turns import played
 from lab import grid, report, sweep
 from lab.__main__ import main as lab
 from lab.engines import TOP, is_unproved, program_at
@@ -36,6 +39,7 @@ EXPERIMENTS = TOP / "experiments"
 DOCUMENT = TOP / "docs" / "EXPERIMENTS.md"
 AGENTS = "examples/agents"
 RING, MAP = f"{AGENTS}/ring.py {{nodes}}", f"{AGENTS}/map.py {{nodes}} {{links}}"
+RING3 = f"{AGENTS}/ring3.py {{nodes}}"
 KNOWN_MAP = f"{AGENTS}/known_map.py"
 
 Cells = Sequence[str]
@@ -118,16 +122,6 @@ def row_of(groups: Sequence[report.Group], hunted: Mapping[str, int]) -> Cells:
             f"{bound:.0f}", f"{most / bound:.2f}"]
 
 
-def most_on_ring(nodes: int) -> int:
-    """The most moves of the search of a ring, as docs/EXPERIMENTS.md counts them: three for each node that is safe, one
-    of the agent that is lost, and the walks of divisions at which 2, 3, 5, 9, .. nodes are left."""
-    found, left = 3 * (nodes - 2) + 1, 2
-    while left <= nodes // 2:
-        found += 2 * (nodes - 1 - left)
-        left = 2 * left - 1
-    return found
-
-
 class Search(NamedTuple):
     """A command of the lab that searches schedules of a team on a network."""
 
@@ -146,11 +140,11 @@ class Search(NamedTuple):
         return f"{self.agents}, `{self.agent.partition(' ')[0].rpartition('/')[2]}`"
 
 
-def hunts(runs: int = 0) -> List[Search]:
-    """The hunts for most moves, as their file says, or with another number of schedules."""
+def hunts(runs: int = 0, agent: str = "") -> List[Search]:
+    """The hunts for most moves, as their file says, or with another number of schedules, or by another search."""
     found = tomllib.loads((EXPERIMENTS / "hunts.toml").read_text(encoding="utf-8"))
     more = ("--for", "moves", "--seed", str(found["seed"]), "--runs", str(runs or found["runs"]))
-    return [Search("hunt", network, found["agent"], found["agents"], more) for network in found["networks"]]
+    return [Search("hunt", network, agent or found["agent"], found["agents"], more) for network in found["networks"]]
 
 
 def hunted_most(hunt: Search, asked: Asked) -> int:
@@ -170,6 +164,34 @@ def rings(asked: Asked) -> Made:
     all_hunts = hunts()
     hunted = {hunt.network: hunted_most(hunt, asked) for hunt in all_hunts}
     return Made(rows_of(groups, hunted), [*commands, shown(all_hunts[0].words())], is_searched=True)
+
+
+# rings on which the searches by halves and by thirds are compared; agents use more commands than the arena gives on
+# those with more than 64 nodes, so there the count stands alone
+SIZES = (8, 16, 27, 32, 64, 81, 128, 243)
+THIRDS_HEAD = ("network", "halves: drawn", "hunted", "counted", "thirds: drawn", "hunted", "counted", "attained",
+               "3 n log3 n", "thirds / it", "thirds / halves")
+
+
+def thirds(asked: Asked) -> Made:
+    """The most moves of the search by halves and of the search by thirds: drawn, hunted, and counted."""
+    groups, commands = groups_of_sweep("thirds", asked)
+    drawn = {(group.name[0], group.name[1]): group.worst["moves"] for group in groups}
+    halves, all_thirds = hunts(), hunts(agent=RING3)
+    hunted = {(search.network, name): str(hunted_most(search, asked))
+              for name, searches in (("halves", halves), ("thirds", all_thirds)) for search in searches
+              if search.network in {f"ring:{nodes}" for nodes in SIZES}}
+    rows = [thirds_row(nodes, drawn, hunted) for nodes in SIZES]
+    return Made([THIRDS_HEAD, *rows], [*commands, shown(all_thirds[0].words())], is_searched=True)
+
+
+def thirds_row(nodes: int, drawn: Mapping[Tuple[str, str], str], hunted: Mapping[Tuple[str, str], str]) -> Cells:
+    network, halves, counted = f"ring:{nodes}", of_ring(nodes), Table(nodes, of_ring3)
+    attained = played(ring3.search, nodes, counted.runs()[0]).moves
+    cells = [[drawn.get((network, name), "–"), hunted.get((network, name), "–"), str(moves)]
+             for name, moves in (("halves", halves), ("thirds", counted.moves()))]
+    return [network, *cells[0], *cells[1], str(attained), f"{bound(nodes):.0f}",
+            f"{counted.moves() / bound(nodes):.2f}", f"{counted.moves() / halves:.2f}"]
 
 
 NO_LIMIT = 100_000
@@ -268,7 +290,7 @@ def losses(asked: Asked) -> Made:
 
 
 TABLES: Dict[str, Callable[[Asked], Made]] = {
-    "rings": rings, "explored": explored,
+    "rings": rings, "thirds": thirds, "explored": explored,
     "no-map": lambda asked: sweep_table("no_map", asked), "silent": silent,
     "known-map": lambda asked: sweep_table("known_map", asked), "too-few": too_few, "losses": losses,
 }

@@ -6,6 +6,7 @@ import unittest
 from typing import Dict, List
 
 from experiments import make
+from experiments.division import Table, bound, of_ring, of_ring3
 from lab import grid, report, sweep
 from lab.engines import TOP
 from lab.sweep import Work
@@ -83,13 +84,26 @@ class Experiments(unittest.TestCase):
 
     def test_the_count_agrees_with_what_was_explored_hunted_and_drawn(self) -> None:
         explored = {int(row[0].partition(":")[2]): int(row[4]) for row in table("explored") if "`ring.py`" in row[1]}
-        self.assertEqual(explored, {nodes: make.most_on_ring(nodes) for nodes in range(3, 10)})
+        self.assertEqual(explored, {nodes: of_ring(nodes) for nodes in range(3, 10)})
         for row in table("rings"):
             nodes = int(row[0].partition(":")[2])
             with self.subTest(nodes=nodes):
-                self.assertEqual([int(row[5]), int(row[7])], [make.most_on_ring(nodes)] * 2)
+                self.assertEqual([int(row[5]), int(row[7])], [of_ring(nodes)] * 2)
         hunted = hunted_in(rows_by_network("rings"))
-        self.assertEqual(hunted, {f"ring:{nodes}": make.most_on_ring(nodes) for nodes in (4, 8, 16, 32, 64)})
+        self.assertEqual(hunted, {f"ring:{nodes}": of_ring(nodes) for nodes in (4, 8, 16, 32, 64)})
+
+    def test_the_search_by_thirds_stays_within_its_count(self) -> None:
+        rows = table("thirds")
+        self.assertEqual([row[0] for row in rows], [f"ring:{nodes}" for nodes in make.SIZES])
+        for row in rows:
+            nodes = int(row[0].partition(":")[2])
+            halves, thirds = of_ring(nodes), Table(nodes, of_ring3).moves()
+            with self.subTest(nodes=nodes):
+                self.assertEqual((row[3], row[6]), (str(halves), str(thirds)))
+                self.assertEqual(row[8:], [f"{bound(nodes):.0f}", f"{thirds / bound(nodes):.2f}", f"{thirds / halves:.2f}"])
+                played = [int(cell) for cell in (row[4], row[5]) if cell != "–"]
+                self.assertTrue(all(moves <= thirds for moves in played))
+                self.assertTrue(all(int(cell) <= halves for cell in (row[1], row[2]) if cell != "–"))
 
     def test_teams_with_one_agent_too_few(self) -> None:
         for hunt in make.TOO_FEW[:2]:

@@ -197,6 +197,20 @@ fn a_turn_brings_news(rt: HostRuntime) -> Result<(), Fail> {
     Ok(())
 }
 
+#[test]
+fn an_arrival_is_told_after_the_close_too(rt: HostRuntime) -> Result<(), Fail> {
+    let alloc = rt.alloc();
+    let shared = cell(alloc, 0, 2, 10)?;
+    let mut mine = claimed(&rt, &shared, 0);
+    tell(&rt, &shared, &mut mine, Command::Enter);
+    tell(&rt, &shared, &mut mine, Command::Depart { port: 0 });
+    shared.turn(&rt, &mut Dealer::new([0; 32], 0));
+    shared.close(&rt);
+    assert_eq!(rt; news(&rt, &shared, &mut mine), "here");
+    assert_eq!(rt; news(&rt, &shared, &mut mine), "over");
+    Ok(())
+}
+
 /// The kind of an agent's news.
 fn news<R: Wait>(rt: &R, cell: &Cell, pass: &mut Pass) -> &'static str {
     match cell.news(rt, pass) {

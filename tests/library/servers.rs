@@ -5,8 +5,8 @@ mod contests;
 mod gates;
 mod logs;
 
-use bhs_lock::{Gate, Open};
-use bhs_server::{Blind, Contest, Limits, Served, run_server};
+use bhs_lock::{Cell, Gate, Open};
+use bhs_server::{Blind, Contest, Limits, Served, Watch, run_server};
 use bhs_session::Ended;
 use clients::{
     ACCUSE, BYE, COME, Client, DEPART, DEPART_TO_THE_HOLE, GONE, HERE, LEAVE, LOOK, NOTED, OVER,
@@ -396,5 +396,42 @@ fn an_accept_that_fails_is_a_session(rt: HostRuntime) -> Result<(), Fail> {
     let sealed = all_sealed(alloc, settled)?;
     assert_eq!(rt; ended.as_slice(), [Ended::ReadFault; 2].as_slice());
     assert_eq!(rt; lengths(alloc, &sealed)?.as_slice(), [1, 1].as_slice());
+    Ok(())
+}
+
+/// Keeps each session from beginning for four seconds, which is longer than the grace period.
+#[derive(Drop)]
+struct Late<'a, C> {
+    clock: &'a C,
+}
+
+impl<C: Clock> Watch for Late<'_, C> {
+    fn came(&self, _session: u32, _peer: SocketAddr) {
+        thread::sleep(self.clock, Duration::from_millis(4000));
+    }
+
+    fn let_in(&self, _session: u32, _game: u32, _agent: u16) {}
+
+    fn ended(&self, _session: u32, _ended: Ended, _played: Option<(u32, u16)>) {}
+
+    fn closed(&self, _game: u32, _turns: u32, _cell: &Cell) {}
+
+    fn look(&self, _cells: &[Cell]) {}
+}
+
+#[test]
+fn a_session_that_begins_after_the_grace_period_is_cut_off(rt: HostRuntime) -> Result<(), Fail> {
+    let alloc = rt.alloc();
+    let pace = Patience::new(&rt, 0, 0);
+    let ready = contest(alloc, 1, 1)?;
+    let listener = listener(&rt)?;
+    let client = Client::new(&rt, alloc, listener.local_addr()?);
+    let (served, heard) = thread::join(
+        &rt,
+        || run_server(&rt, alloc, &listener, ready, limits(1), &pace, &Open, &Late { clock: &rt }),
+        || -> io::Result<String> { io::read_to_string(alloc, &client.says("")?) },
+    );
+    assert_eq!(rt; heard?.as_str(), "");
+    assert_eq!(rt; served?.ended.as_slice(), [Ended::InputEnded].as_slice());
     Ok(())
 }

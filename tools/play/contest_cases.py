@@ -56,10 +56,10 @@ class Server(NamedTuple):
 
 
 @contextlib.contextmanager
-def served(stage: Stage, *more: str, turns: int = 20, pause: int = 10, sessions: int = 1000, grace: float = GRACE,
-           limit: Optional[Callable[[], None]] = None) -> Iterator[Server]:
-    """A server of two teams on the triangle, by these options. What is to limit it is called as it starts."""
-    writes(stage, cup=TWO_TEAMS, tri=TRIANGLE)
+def served(stage: Stage, *more: str, cup: str = TWO_TEAMS, turns: int = 20, pause: int = 10, sessions: int = 1000,
+           grace: float = GRACE, limit: Optional[Callable[[], None]] = None) -> Iterator[Server]:
+    """A server of this tournament on the triangle, by these options. What is to limit it is called as it starts."""
+    writes(stage, cup=cup, tri=TRIANGLE)
     port = free_port()
     given = ["serve", "cup.toml", "--port", port, "--sessions", sessions, "--turns", turns, "--pause", pause,
              "--replay", "match", "--grace", int(grace * 1000), *more]

@@ -5,9 +5,9 @@
 
 PROGRAM is the built program. With a folder only the rows of its files are played: those of tests/benchmark go with the
 benchmark. program_rows.py says how rows are read and played; the other cases are in program_cases.py,
-interactive_cases.py, contest_cases.py, traced_files.py, program_contests.py and program_rehearsals.py. Each row and
-each case is played in a fresh temporary folder; nothing in the repository is overwritten. For each that fails a line
-names the file and the title, what was wanted and what came. The last line reads `N passed, M failed`, and the exit
+interactive_cases.py, contest_cases.py, serving_cases.py, replay_cases.py, traced_files.py, program_contests.py and
+program_rehearsals.py. Each row and each case is played in a fresh temporary folder; nothing in the repository is
+overwritten. For each that fails a line names the file and the title, what was wanted and what came. The last line reads `N passed, M failed`, and the exit
 status is 1 if one failed.
 """
 import concurrent.futures
@@ -20,6 +20,8 @@ import contest_cases  # noqa: F401  adds its cases
 import interactive_cases  # noqa: F401  adds its cases
 import program_contests  # noqa: F401  adds its cases
 import program_rehearsals  # noqa: F401  adds its cases
+import replay_cases  # noqa: F401  adds its cases
+import serving_cases  # noqa: F401  adds its cases
 import traced_files  # noqa: F401  adds its case
 from program_cases import CASES, Trial
 from program_rows import fault_of, play, rows_of

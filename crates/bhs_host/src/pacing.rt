@@ -39,9 +39,9 @@ impl<'a, C> Steady<'a, C> {
 }
 
 impl<C: Clock> Pace for Steady<'_, C> {
-    fn next(&self, _game: u32, turn: u32) -> Step
-        ensures { result ≡ step_after self.now.turns turn }
-    {
+    ghost says = { λ steady game turn step. step ≡ step_after steady.turns turn };
+
+    fn next(&self, _game: u32, turn: u32) -> Step {
         let step = step_after(self.turns, turn);
         if step == Step::Turn {
             thread::sleep(self.clock, Duration::from_millis(u64::from(self.pause)));

@@ -1,7 +1,8 @@
 -- What is told of an arrival is where the agent is.
 use Rattle.std.proofs.Common.{◌≡◌, ℕ, zero, suc, Bool, true, false, not, Option, Some, None, List, [], ◌∷◌, ◌++◌, refl}
 use Rattle.std.proofs.Common.{sym, ap, ◌∙◌, subst}
-use Rattle.std.specs.Prelude.{slice_get, option_map, option_and_then, map}
+use Rattle.std.proofs.Common.{inr}
+use Rattle.std.specs.Prelude.{slice_get, option_map, option_and_then, map, length}
 use Rattle.std.proofs.lemmas.Option.{slice_get-map}
 use Rattle.std.proofs.lemmas.Bool.{and_parts}
 use Rattle.bhs_model.specs.declared.events.Event.{Event}
@@ -18,11 +19,14 @@ use Rattle.bhs_model.specs.Runs.{Position, Before, At, Bound, After, State, init
 use Rattle.bhs_model.specs.Runs.{sight_at, reply}
 use Rattle.bhs_model.specs.InOrder.{replies, replies_from}
 use Rattle.bhs_world.proofs.ListLemmas.{changed_same}
-use Rattle.bhs_match.specs.Matches.{Play, world_in}
+use Rattle.bhs_match.specs.Matches.{Play, world_in, state_of}
 use Rattle.bhs_lock.specs.declared.model.Receipt.{Receipt}
 use Rattle.bhs_lock.specs.Passes.{Passed}
-use Rattle.bhs_lock.specs.Cells.{IsNews}
-use Rattle.bhs_lock.specs.Arrivals.{arrival_mark, receipt_at, is_here}
+use Rattle.bhs_lock.specs.declared.model.Tally.{Tally}
+use Rattle.bhs_lock.specs.Tallies.{IsLegalHistory}
+use Rattle.bhs_lock.specs.Settling.{IsOfWorld}
+use Rattle.bhs_lock.specs.Cells.{Given, GainsArrival, IsOverFor, IsNews}
+use Rattle.bhs_lock.specs.Arrivals.{arrival_mark, arrival_of, receipt_at, is_here, IsGivenIf, IsGiven}
 
 -- an answer, if there is one, says where the agent is
 abbrev IsHereIf : Option Reply → Type 0
@@ -124,23 +128,59 @@ news_found play log found at place mark said same are is reads replied =
     ∙ subst P same are in
     rw reads (next_here play at receipt replied here)
 
--- a pass that gains an arrival has news
-pub gains_news : (pass pass' : Passed) (place : ℕ) (said again : Reply) → is_here said ≡ true → again ≡ said
-    → pass' ≡ record pass { arrivals = pass.arrivals ++ record { place = place; reply = again } ∷ [] }
-    → IsNews pass said pass'
-gains_news pass pass' place (Here ports came board) again here same gains =
-    record {
-      place = place;
-      gains = gains ∙ ap (λ (again : Reply). let p : Passed = record pass
-          { arrivals = pass.arrivals ++ record { place = place; reply = again } ∷ [] } in p) same;
-    }
-gains_news pass pass' place Written again here same gains = absurd cc
-gains_news pass pass' place (Changed board) again here same gains = absurd cc
-gains_news pass pass' place Gone again here same gains = absurd cc
-gains_news pass pass' place Noted again here same gains = absurd cc
-gains_news pass pass' place Bye again here same gains = absurd cc
-gains_news pass pass' place Over again here same gains = absurd cc
-gains_news pass pass' place (No why) again here same gains = absurd cc
+-- an arrival that is given is news
+pub given_is_news : (given : Given) (play : Play) (tallies : List Tally) (pass pass' : Passed) (said : Reply)
+    → IsLegalHistory play tallies → is_here said ≡ true → IsGiven play pass (Some said) pass' → IsNews given pass said pass'
+given_is_news given play tallies pass pass' said legal here is =
+    by_next (arrival_of play pass.agent (length pass.arrivals)) refl is
+  where
+    by_reply : (said : Reply) → is_here said ≡ true → GainsArrival pass said pass' → IsNews given pass said pass'
+    by_reply (Here ports came board) here gains = gains
+    by_reply Written here gains = absurd cc
+    by_reply (Changed board) here gains = absurd cc
+    by_reply Gone here gains = absurd cc
+    by_reply Noted here gains = absurd cc
+    by_reply Bye here gains = absurd cc
+    by_reply Over here gains = absurd cc
+    by_reply (No why) here gains = absurd cc
+
+    by_next : (next : Option Receipt) → arrival_of play pass.agent (length pass.arrivals) ≡ next
+        → IsGivenIf next pass (Some said) pass' → IsNews given pass said pass'
+    by_next None is given = absurd cc
+    by_next (Some receipt) is given =
+        let same : receipt ≡ record { place = receipt.place; reply = said } = let e : said ≡ receipt.reply = cc in
+        rw e refl in
+        by_reply said here (record {
+          place = receipt.place;
+          gains = given.1 ∙ ap (λ (receipt : Receipt). let p : Passed = record pass
+              { arrivals = pass.arrivals ++ receipt ∷ [] } in p) same;
+          play = play;
+          tallies = tallies;
+          legal = legal;
+          next = is ∙ ap (λ (receipt : Receipt). Some receipt) same;
+        })
+
+-- where nothing is given and the match is closed, it is over
+pub none_is_over : (given : Given) (play : Play) (tallies : List Tally) (pass pass' : Passed)
+    → IsLegalHistory play tallies → IsOfWorld given.net given.setup play → (state_of play).closed ≡ true
+    → IsGiven play pass None pass' → IsNews given pass Over pass'
+none_is_over given play tallies pass pass' legal world closed is =
+    by_next (arrival_of play pass.agent (length pass.arrivals)) refl is
+  where
+    by_next : (next : Option Receipt) → arrival_of play pass.agent (length pass.arrivals) ≡ next
+        → IsGivenIf next pass None pass' → IsNews given pass Over pass'
+    by_next (Some receipt) is given = absurd cc
+    by_next None is none = (
+      none.1,
+      inr (record {
+        play = play;
+        tallies = tallies;
+        legal = legal;
+        same_net = world.same_net;
+        same_setup = world.same_setup;
+        is_so = record { closed = closed; all_told = is };
+      }),
+    )
 
 -- a pass with an arrival more
 pub arrivals_more : (inside pass : Passed) (room new : List Receipt) (one : Receipt) → inside ≡ pass

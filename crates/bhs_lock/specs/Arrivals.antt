@@ -34,12 +34,12 @@ abbrev pub is_here : Reply → Bool
 is_here (Here ports came board) = true
 is_here reply = false
 
--- what news makes of a pass, where its agent has this next arrival, or none
-abbrev pub IsGivenIf : Option Receipt → Passed → Reply → Passed → Type 0
-IsGivenIf None pass said pass' = (said ≡ Over) × (pass' ≡ pass)
-IsGivenIf (Some receipt) pass said pass' = (said ≡ receipt.reply)
+-- what is made of a pass whose agent has this next arrival, or none
+abbrev pub IsGivenIf : Option Receipt → Passed → Option Reply → Passed → Type 0
+IsGivenIf None pass said pass' = (said ≡ None) × (pass' ≡ pass)
+IsGivenIf (Some receipt) pass said pass' = (said ≡ Some receipt.reply)
     × (pass' ≡ record pass { arrivals = pass.arrivals ++ receipt ∷ [] })
 
--- the pass gains the next arrival that it has not; if there is none, nothing changes
-abbrev pub IsGiven : Play → Passed → Reply → Passed → Type 0
+-- the pass gains the next arrival that it has not, with its reply; if there is none, nothing changes
+abbrev pub IsGiven : Play → Passed → Option Reply → Passed → Type 0
 IsGiven play pass said pass' = IsGivenIf (arrival_of play pass.agent (length pass.arrivals)) pass said pass'

@@ -1,6 +1,6 @@
 //! A match that threads share.
 
-ghost use Rattle.std.specs.Prelude.{◌≡◌, [], IfOk, IfSome, IsTrue, OnErr, replicate};
+ghost use Rattle.std.specs.Prelude.{◌≡◌, ◌↔◌, [], IfOk, IfSome, IsTrue, OnErr, replicate, vec_len};
 ghost use Rattle.bhs_match.specs.Decided.{AreAllDone, HaveAllEntered};
 ghost use Rattle.bhs_deal.specs.Dealer.{moved_on};
 ghost use Rattle.bhs_lock.specs.Recording.{IsSubmitted};
@@ -10,11 +10,13 @@ ghost use Rattle.bhs_lock.specs.Unclaimed.{IsFresh};
 ghost use Rattle.bhs_lock.specs.Cells.{IsNews};
 ghost use Rattle.bhs_lock.specs.Copies.{AreCopies};
 ghost use Rattle.bhs_lock.specs.Deciding.{WasSeen};
+ghost use Rattle.bhs_lock.specs.Settling.{IsOfWorld};
 
 use crate::copies::{Copied, copies};
 use crate::gates::Gate;
 use crate::hall::{Hall, unheard};
 use crate::model::{Answer, Tally};
+use crate::networks::is_of_world;
 use crate::parts::Parts;
 use crate::pass::Pass;
 use crate::times::Times;
@@ -44,6 +46,7 @@ pub struct Cell {
 }
 
 impl Model for Cell {
+    ghost use Rattle.std.specs.Prelude.{◌≡◌, vec_len};
     ghost use Rattle.bhs_lock.specs.Cells.{Given};
 
     ghost Value = { Given };
@@ -55,6 +58,9 @@ impl Model for Cell {
       held = cell.held;
       schedule = cell.schedule;
     } };
+
+    // Each agent has its condition variable.
+    ghost invariant = { λ cell. vec_len cell.news ≡ cell.setup.agents };
 }
 
 impl Cell {
@@ -146,22 +152,39 @@ impl Cell {
     /// Waits until the agent of a pass has an arrival that the pass has not, which the pass then gains, or until the
     /// match is over and it has none. A pass of another match is answered that the match is over.
     pub fn news<R: Wait>(&self, rt: &R, pass: &mut Pass) -> Result<Reply, Memory>
-        ensures news { IfOk result (λ said. IsNews pass.old said pass.new) }
+        ensures news { IfOk result (λ said. IsNews self.now pass.old said pass.new) }
         ensures failed { OnErr result (pass.new ≡ pass.old) }
     {
-        let agent = pass.agent();
-        let given = pass.arrivals().len();
-        match self.news.get(usize::from(agent)) {
-            Some(bell) if pass.game() == self.game => {
-                let hall = bell.wait_while(
-                    rt,
-                    self.hall.lock(rt),
-                    |hall| !hall.has_news(agent, given),
-                );
-                hall.give(pass)
-            }
+        match self.news.get(usize::from(pass.agent())) {
+            Some(bell) if pass.game() == self.game => self.awaited(rt, bell, pass),
             _ => Ok(Reply::Over),
         }
+    }
+
+    // The news of an agent of the match, whose condition variable this is.
+    fn awaited<R: Wait>(&self, rt: &R, bell: &Condvar, pass: &mut Pass) -> Result<Reply, Memory>
+        ensures news { IfOk result (λ said. IsNews self.now pass.old said pass.new) }
+        ensures failed { OnErr result (pass.new ≡ pass.old) }
+    {
+        let mut hall = self.hall.lock(rt);
+        for _ in rt.forever() {
+            if let Some(reply) = hall.give(pass)? {
+                return Ok(reply);
+            }
+            if hall.state().closed() && self.is_of(&hall) {
+                return Ok(Reply::Over);
+            }
+            hall = bell.wait(rt, hall);
+        }
+        unreachable!()
+    }
+
+    // Whether what stands under the lock is the match of this cell. It always is, but a proof knows no more of it than
+    // the type `Hall` says. So those who ask for the world of a match that they saw compare it.
+    fn is_of(&self, hall: &Hall) -> bool
+        ensures { IsTrue result ↔ IsOfWorld self.now.net self.now.setup hall.now.play }
+    {
+        is_of_world(hall.state(), &self.net, &self.setup)
     }
 
     /// Takes a turn with the dealer's next word: plays at most one delivery, and wakes the agent that it delivered. Takes
@@ -180,18 +203,18 @@ impl Cell {
 
     /// Whether all agents have entered.
     pub fn is_gathered<R: Wait>(&self, rt: &R) -> bool
-        ensures { IsTrue result → WasSeen HaveAllEntered }
+        ensures { IsTrue result → WasSeen self.now.net self.now.setup HaveAllEntered }
     {
         let hall = self.hall.lock(rt);
-        hall.state().is_gathered()
+        hall.state().is_gathered() && self.is_of(&hall)
     }
 
     /// Whether each agent has ended or is lost: then nothing that may still happen changes the verdict.
     pub fn is_decided<R: Wait>(&self, rt: &R) -> bool
-        ensures { IsTrue result → WasSeen AreAllDone }
+        ensures { IsTrue result → WasSeen self.now.net self.now.setup AreAllDone }
     {
         let hall = self.hall.lock(rt);
-        hall.state().is_decided()
+        hall.state().is_decided() && self.is_of(&hall)
     }
 
     /// Copies of the kept events from this place of the log on, `most` of them at the most. The lock is held only while
@@ -261,6 +284,7 @@ impl Frame {
         ensures setup { IfOk result (λ frame. frame.setup ≡ play.now.setup) }
         ensures tallies { IfOk result (λ frame. frame.tallies.items ≡ replicate play.now.setup.agents nothing) }
         ensures times { IfOk result (λ frame. frame.times ≡ at_first play.now.setup.agents) }
+        ensures news { IfOk result (λ frame. vec_len frame.news ≡ play.now.setup.agents) }
     {
         let agents = play.setup().agents;
         let tallies = unheard(alloc, agents)?;
@@ -279,9 +303,11 @@ impl Frame {
     }
 }
 
-fn bells(alloc: Global, agents: u16) -> Result<Vec<Condvar>, Memory> {
+fn bells(alloc: Global, agents: u16) -> Result<Vec<Condvar>, Memory>
+    ensures { IfOk result (λ bells. vec_len bells ≡ agents) }
+{
     let mut bells = Vec::with_capacity(alloc, usize::from(agents))?;
-    for _ in 0..agents {
+    for _agent in 0..agents {
         bells.push(Condvar::new())?;
     }
     Ok(bells)

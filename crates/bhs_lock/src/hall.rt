@@ -1,12 +1,11 @@
 //! What stands under the lock of a match.
 
-ghost use Rattle.std.specs.Prelude.{◌≡◌, [], true, IfOk, OnErr, replicate};
+ghost use Rattle.std.specs.Prelude.{◌≡◌, [], true, IfOk, IfSome, OnErr, replicate};
 ghost use Rattle.bhs_lock.specs.Halls.{agrees, same_tally, is_below, empty_hall, IsAnswered};
 ghost use Rattle.bhs_lock.specs.Tallies.{IsLegalHistory, nothing};
 ghost use Rattle.bhs_lock.specs.Recording.{IsSubmitted};
 ghost use Rattle.bhs_lock.specs.Passes.{passes_of};
-ghost use Rattle.bhs_lock.specs.Cells.{IsNews};
-ghost use Rattle.bhs_lock.specs.Arrivals.{IsGiven};
+ghost use Rattle.bhs_lock.specs.Arrivals.{is_here, IsGiven};
 ghost use Rattle.bhs_match.specs.Matches.{state_of};
 ghost use Rattle.bhs_match.specs.Games.{IsPlayed};
 ghost use Rattle.bhs_match.specs.declared.answers.Answer.{Answer as MatchAnswer};
@@ -185,15 +184,11 @@ impl Hall {
         let _legal = self.play.log();
     }
 
-    /// Whether an agent has more arrivals than this, or the match is over.
-    pub(crate) fn has_news(&self, agent: u16, given: usize) -> bool {
-        self.play.news(agent).len() > given || self.play.closed()
-    }
-
-    /// Gives a pass its agent's next arrival.
-    pub(crate) fn give(&self, pass: &mut Pass) -> Result<Reply, Memory>
+    /// Gives a pass its agent's next arrival, which is answered; None if there is none.
+    pub(crate) fn give(&self, pass: &mut Pass) -> Result<Option<Reply>, Memory>
+        ensures legal { IsLegalHistory self.now.play self.now.tallies }
         ensures given { IfOk result (λ said. IsGiven self.now.play pass.old said pass.new) }
-        ensures news { IfOk result (λ said. IsNews pass.old said pass.new) }
+        ensures here { IfOk result (λ said. IfSome said (λ reply. is_here reply ≡ true)) }
         ensures failed { OnErr result (pass.new ≡ pass.old) }
     {
         pass.hear_news(&self.play)

@@ -1,15 +1,14 @@
 //! What the session of an agent was answered.
 
 ghost use Rattle.std.specs.Prelude.{◌≡◌, [], true, IfOk, OnErr, length, option_map, option_and_then, slice_get, map};
-ghost use Rattle.std.specs.Prelude.{Some, IsTrue, ◌↔◌};
+ghost use Rattle.std.specs.Prelude.{Some, IfSome, IsTrue, ◌↔◌};
 ghost use Rattle.bhs_match.specs.Matches.{world_in, state_of, shown_at};
 ghost use Rattle.bhs_lock.specs.Passes.{Passed, empty_pass, is_end, tally_in, Ascend};
 ghost use Rattle.std.specs.Prelude.{MatchOption};
 ghost use Rattle.bhs_lock.specs.Comparing.{entry_of, receipted, IsFirstDifference};
 ghost use Rattle.bhs_lock.specs.Halls.{is_below, spoken, IsSpareFor, IsTold};
-ghost use Rattle.bhs_lock.specs.Cells.{IsNews};
 ghost use Rattle.bhs_lock.specs.Settling.{arrived_by};
-ghost use Rattle.bhs_lock.specs.Arrivals.{arrival_at, receipt_at, IsGiven};
+ghost use Rattle.bhs_lock.specs.Arrivals.{arrival_at, receipt_at, is_here, IsGiven};
 ghost use Rattle.bhs_model.specs.Marks.{read};
 
 use crate::comparing::{is_entry, reads_as};
@@ -183,15 +182,15 @@ impl Pass {
 }
 
 impl Pass {
-    /// Takes over the agent's next arrival, which is answered, or answers that the match is over if there is none.
-    pub(crate) fn hear_news(&mut self, play: &Match) -> Result<Reply, Memory>
+    /// Takes over the agent's next arrival, which is answered; None if there is none.
+    pub(crate) fn hear_news(&mut self, play: &Match) -> Result<Option<Reply>, Memory>
         ensures given { IfOk result (λ said. IsGiven play.now self.old said self.new) }
-        ensures news { IfOk result (λ said. IsNews self.old said self.new) }
+        ensures here { IfOk result (λ said. IfSome said (λ reply. is_here reply ≡ true)) }
         ensures failed { OnErr result (self.new ≡ self.old) }
     {
         let log = play.log();
         let Some((place, mark)) = arrival_of(play.news(self.agent), log, self.arrivals.len()) else {
-            return Ok(Reply::Over);
+            return Ok(None);
         };
         self.arrivals.reserve(1)?;
         let reply = play.reply(&mark)?;
@@ -200,7 +199,7 @@ impl Pass {
             place,
             reply: again,
         });
-        Ok(reply)
+        Ok(Some(reply))
     }
 }
 

@@ -1,9 +1,11 @@
 -- What is known of a session on a cell's port: what it said and was answered, and what it wrote of it.
-use Rattle.std.proofs.Common.{◌≡◌, ◌∙◌, ℕ, inl, inr, Option, Some, None, List, [], ◌∷◌, ◌++◌, map, take}
-use Rattle.std.proofs.Common.{drop}
+use Rattle.std.proofs.Common.{◌≡◌, ◌∙◌, ℕ, zero, suc, inl, inr, Option, Some, None, List, [], ◌∷◌, ◌++◌, map, take}
+use Rattle.std.proofs.Common.{drop, length, get_or, ◌<◌, arith, Result, Ok, Err, IfOk, OnErr}
 use Rattle.std.proofs.Common.{true, false, option_to_list, refl, sym, ap, ap₂, subst, append_assoc, append-nil}
 use Rattle.std.specs.Prelude.{option_map}
 use Rattle.std.proofs.lemmas.List.{map-append, take-append-drop}
+use Rattle.std.specs.declared.alloc.AllocError.{AllocError}
+use Rattle.bhs_session.specs.Port.{News, answered}
 use Rattle.bhs_model.specs.declared.commands.Command.{Command}
 use Rattle.bhs_model.specs.declared.commands.Command.TheVariants as commands
 use Rattle.bhs_model.specs.declared.replies.Reply.{Reply}
@@ -14,7 +16,7 @@ use Rattle.bhs_stream.specs.Streams.{Taken}
 use Rattle.bhs_lock.specs.declared.model.Receipt.{Receipt}
 use Rattle.bhs_lock.specs.Passes.{Passed, tally_in}
 use Rattle.bhs_lock.specs.Recording.{is_unheard, refusal_by, IsSubmitted}
-use Rattle.bhs_lock.specs.Cells.{Given, IsNews}
+use Rattle.bhs_lock.specs.Cells.{Given, GainsArrival, IsNews}
 use Rattle.bhs_session.specs.declared.endings.Ended.{Ended as Ending}
 use Rattle.bhs_session.specs.declared.endings.Ended.TheVariants as endings
 use Rattle.bhs_session.specs.Phase.{Phase, Fresh, Ready, Awaits, Owes, Leaves, Finished, answered_by, stopped}
@@ -25,7 +27,7 @@ use Rattle.bhs_session.specs.Session.{TakesLines}
 use Rattle.bhs_session.specs.Answering.{IsLastLine, MayLack, IsUnwritten}
 use Rattle.bhs_session.proofs.AnsweredLemmas.{lacks_none}
 use Rattle.bhs_server.specs.declared.ports.Played.{Played}
-use Rattle.bhs_server.specs.Ports.{IsOfCell, IsToldBy}
+use Rattle.bhs_server.specs.Ports.{Seated, IsOfCell, IsNewsIn, IsToldBy, Calls}
 use Rattle.bhs_server.specs.Exchanges.{Exchange, Took, Refused, Came, reply_in, text_if}
 use Rattle.bhs_server.specs.Exchanges.{session_text, commands_in, receipts_in, kept_in, arrivals_in, phase_after}
 use Rattle.bhs_server.specs.Exchanges.{phase_from, IsInTurn, AreInTurn}
@@ -265,9 +267,57 @@ line_answered written taken line now pass pass' reply takes a told = by_place to
           (by_refusal written taken line now pass reply _ takes a refl refused)
     ]
 
+-- what news makes of a pass, whatever was seen
+abbrev pub PassNews : Passed → Reply → Passed → Type 0
+PassNews pass (replies.Here ports came board) pass' = GainsArrival pass (replies.Here ports came board) pass'
+PassNews pass replies.Over pass' = pass' ≡ pass
+PassNews pass said pass' = ⊥
+
+of_news : (given : Given) (pass pass' : Passed) (reply : Reply) → IsNews given pass reply pass' → PassNews pass reply pass'
+of_news given pass pass' (replies.Here ports came board) is = is
+of_news given pass pass' replies.Over is = is.0
+of_news given pass pass' replies.Written is = absurd is
+of_news given pass pass' (replies.Changed board) is = absurd is
+of_news given pass pass' replies.Gone is = absurd is
+of_news given pass pass' replies.Noted is = absurd is
+of_news given pass pass' replies.Bye is = absurd is
+of_news given pass pass' (replies.No why) is = absurd is
+
+pub pass_news : (cells : List Given) (game : ℕ) (pass pass' : Passed) (reply : Reply)
+    → IsNewsIn cells game pass reply pass' → PassNews pass reply pass'
+pass_news [] game pass pass' reply is = subst (λ (said : Reply). PassNews pass said pass') (sym is.0) is.1
+pass_news (given ∷ cells) zero pass pass' reply is = of_news given pass pass' reply is
+pass_news (given ∷ cells) (suc game) pass pass' reply is = pass_news cells game pass pass' reply is
+
+-- by the match that was found there
+news_at : (cells : List Given) (game : ℕ) (pass pass' : Passed) (given : Given) → game < length cells
+    → given ≡ get_or cells game given → (reply : Reply) → IsNews given pass reply pass'
+    → IsNewsIn cells game pass reply pass'
+news_at [] game pass pass' given below there reply is = absurd (omega (arith, below))
+news_at (first ∷ cells) zero pass pass' given below there reply is =
+    subst (λ (one : Given). IsNews one pass reply pass') there is
+news_at (first ∷ cells) (suc game) pass pass' given below there reply is =
+    news_at cells game pass pass' given (omega (arith, below)) there reply is
+
+pub news_called : (inside old : Seated) (played : Played) (pass' : Passed) (given : Given) (result : Result Reply AllocError)
+    → inside ≡ old → inside.played ≡ Some played → played.game < length inside.cells
+    → given ≡ get_or inside.cells played.game given → IfOk result (λ reply. IsNews given played.pass reply pass')
+    → OnErr result (pass' ≡ played.pass) →
+    Calls old News (answered result) (record inside { played = Some (record played { pass = pass' }) })
+news_called inside old played pass' given result same plays below there news failed =
+    subst (λ (old : Seated). Calls old News (answered result) (record inside
+    { played = Some (record played { pass = pass' }) })) same (by_result result news failed)
+  where
+    by_result : (result : Result Reply AllocError) → IfOk result (λ reply. IsNews given played.pass reply pass')
+        → OnErr result (pass' ≡ played.pass) →
+        Calls inside News (answered result) (record inside { played = Some (record played { pass = pass' }) })
+    by_result (Ok reply) news failed =
+        rw plays (pass', news_at inside.cells played.game played.pass pass' given below there reply news, refl)
+    by_result (Err error) news failed = rw (failed, plays) refl
+
 -- the answer to news
 pub news_answered : (written : List ℕ) (taken : List Line) (pass pass' : Passed) (reply : Reply)
-    → Answered written taken Awaits pass → IsNews pass reply pass' →
+    → Answered written taken Awaits pass → PassNews pass reply pass' →
     Talks written (taken ++ []) (Owes (text_of reply) (answered_by false reply)) pass'
 news_answered written taken pass pass' (replies.Here ports came board) a is =
     let said : Reply = replies.Here ports came board in

@@ -17,7 +17,7 @@ use Rattle.bhs_lineup.specs.KeyTable.{Seat}
 use Rattle.bhs_lock.specs.declared.model.Receipt.{Receipt}
 use Rattle.bhs_lock.specs.Passes.{Passed}
 use Rattle.bhs_lock.specs.Recording.{IsSubmitted}
-use Rattle.bhs_lock.specs.Cells.{Given, IsNews}
+use Rattle.bhs_lock.specs.Cells.{Given}
 use Rattle.bhs_lock.specs.Unclaimed.{IsFresh}
 use Rattle.bhs_session.specs.declared.endings.Ended.{Ended as Ending}
 use Rattle.bhs_session.specs.declared.endings.Ended.TheVariants as endings
@@ -37,7 +37,7 @@ use Rattle.bhs_server.specs.Written.{Ends, IsWrittenFor, IsAttended}
 use Rattle.bhs_server.proofs.DrainedLemmas.{session_drained, none_more}
 use Rattle.bhs_server.proofs.KnownLemmas.{MayLeave, Talks, Alone, Known, IsPlayedOn, Answered}
 use Rattle.bhs_server.proofs.KnownLemmas.{answered_all, few_lines, leaves_without}
-use Rattle.bhs_server.proofs.KnownLemmas.{line_answered, news_answered, stopped_known, sent_known}
+use Rattle.bhs_server.proofs.KnownLemmas.{line_answered, PassNews, pass_news, news_answered, stopped_known, sent_known}
 
 -- ---- the port
 
@@ -151,7 +151,8 @@ module _ (written : List ℕ) (taken : List Line) (keys : List Seat) (cells : Li
       (subst (λ (port : Seated). Known written (taken ++ []) (hear Awaits (Answers reply)) port.played)
       (sym called.2)
       (news_answered written taken played.pass called.0 reply
-      (answered_all written taken Awaits Awaits played.pass k k.is_unwritten k.stands) called.1))
+      (answered_all written taken Awaits Awaits played.pass k k.is_unwritten k.stands)
+      (pass_news cells played.game played.pass called.0 reply called.1)))
   news_heard played NoMemory new called k =
       subst (λ (lines : List Line). Known written lines (Leaves endings.Memory) new.played) (append-nil taken)
       (subst (λ (port : Seated). Known written (taken ++ []) (Leaves endings.Memory) port.played) (sym called)
@@ -326,7 +327,7 @@ quota_told : (pass pass' : Passed) (command : Command) (reply : Reply) (place : 
 quota_told pass pass' command reply (Some place) is = ap (λ (one : Passed). one.quota) is.gains
 quota_told pass pass' command reply None is = ap (λ (one : Passed). one.quota) is.same
 
-quota_news : (pass pass' : Passed) (reply : Reply) → IsNews pass reply pass' → pass'.quota ≡ pass.quota
+quota_news : (pass pass' : Passed) (reply : Reply) → PassNews pass reply pass' → pass'.quota ≡ pass.quota
 quota_news pass pass' (replies.Here ports came board) is = ap (λ (one : Passed). one.quota) is.gains
 quota_news pass pass' replies.Over is = ap (λ (one : Passed). one.quota) is
 quota_news pass pass' replies.Written is = absurd is
@@ -418,7 +419,8 @@ module _ (keys : List Seat) (cells : List Given) where
   stays_after News (Answers reply) (Some played) new called on =
       stays_as cells new _ called.2 (record {
         same = refl;
-        plays = of_cell_same cells played.game played.pass called.0 (quota_news played.pass called.0 reply called.1) on;
+        plays = of_cell_same cells played.game played.pass called.0 (quota_news played.pass called.0 reply
+            (pass_news cells played.game played.pass called.0 reply called.1)) on;
       })
   stays_after News NoMemory played new called on =
       stays_as cells new (seated keys cells played) called (record { same = refl; plays = on })

@@ -74,14 +74,20 @@ pub record IsLeftOut (old : Seated) (key : List ℕ) (new : Seated) : Type 0 whe
   pub claimed : IsClaimed old key game fresh
   pub plays : new ≡ record old { played = Some (record { game = game; pass = fresh }) }
 
+-- what news makes of a pass in the match of this number; without such a match it is over, and nothing changes
+abbrev pub IsNewsIn : List Given → (game : ℕ) → Passed → Reply → Passed → Type 0
+IsNewsIn cells game pass reply pass' = IsNewsBy (slice_get cells game) where
+  IsNewsBy : Option Given → Type 0
+  IsNewsBy None = (reply ≡ Over) × (pass' ≡ pass)
+  IsNewsBy (Some given) = IsNews given pass reply pass'
+
 -- the agent's pass comes from one to the other; without an agent the match is over, and nothing changes
-abbrev pub Plays : (Passed → Reply → Passed → Type 0) → (old : Seated) → Reply → (new : Seated) → Type 0
+abbrev pub Plays : (Played → Reply → Passed → Type 0) → (old : Seated) → Reply → (new : Seated) → Type 0
 Plays does old reply new = PlaysBy old.played where
   PlaysBy : Option Played → Type 0
   PlaysBy None = (reply ≡ Over) × (new ≡ old)
   PlaysBy (Some played) =
-      (pass : Passed) × does played.pass reply pass
-      × (new ≡ record old { played = Some (record played { pass = pass }) })
+      (pass : Passed) × does played reply pass × (new ≡ record old { played = Some (record played { pass = pass }) })
 
 -- What a port is asked and answers. What is not listed never comes.
 abbrev pub Calls : Seated → Asked → Heard → Seated → Type 0
@@ -91,8 +97,9 @@ Calls old (Enters key) (LetIn Taken) new =
 Calls old (Enters key) (LetIn (In reply)) new = IsLetIn old key reply new
 Calls old (Enters key) NoMemory new = IsLeftOut old key new
 Calls old (Tells command) (Answers reply) new =
-    Plays (λ pass said pass'. IsToldBy pass command said pass') old reply new
+    Plays (λ played said pass. IsToldBy played.pass command said pass) old reply new
 Calls old (Tells command) NoMemory new = new ≡ old
-Calls old News (Answers reply) new = Plays IsNews old reply new
+Calls old News (Answers reply) new =
+    Plays (λ played said pass. IsNewsIn old.cells played.game played.pass said pass) old reply new
 Calls old News NoMemory new = new ≡ old
 Calls old asked heard new = ⊥

@@ -1,7 +1,7 @@
 //! The turns of a match.
 
-ghost use Rattle.std.specs.Prelude.{◌≡◌};
-ghost use Rattle.bhs_server.specs.Dealing.{moved_by};
+ghost use Rattle.std.specs.Prelude.{ℕ, ◌≡◌, ◌<◌, ◌-◌, ◌^◌, IsTrue, false};
+ghost use Rattle.bhs_server.specs.Dealing.{moved_by, MayClose};
 
 use crate::pacing::{Pace, Step};
 use bhs_deal::Dealer;
@@ -34,16 +34,37 @@ pub fn deal<R: Wait, P: Pace>(
     cell: &Cell,
     dealer: &mut Dealer,
 ) -> u32
-    ensures { dealer.new ≡ moved_by result dealer.old }
+    ensures words { dealer.new ≡ moved_by result dealer.old }
+    ensures paced { (turn : ℕ) → turn < result → P.says pace.now game turn Step.Turn }
+    ensures closes { MayClose (P.says pace.now game result Step.Close) early cell.now result }
 {
     let mut turns = 0;
-    while turns < u32::MAX
-        && !(early && cell.is_decided(rt))
-        && pace.next(game, turns) == Step::Turn
-    {
+    while goes_on(rt, pace, early, game, cell, turns) {
         cell.turn(rt, dealer);
         turns += 1;
     }
     cell.close(rt);
     turns
+}
+
+// Whether a match takes another turn after these.
+fn goes_on<R: Wait, P: Pace>(
+    rt: &R,
+    pace: &P,
+    early: bool,
+    game: u32,
+    cell: &Cell,
+    turns: u32,
+) -> bool
+    ensures paced { IsTrue result → P.says pace.now game turns Step.Turn }
+    ensures more { IsTrue result → turns < 2 ^ 32 - 1 }
+    ensures closes { result ≡ false → MayClose (P.says pace.now game turns Step.Close) early cell.now turns }
+{
+    if turns == u32::MAX || (early && cell.is_decided(rt)) {
+        return false;
+    }
+    match pace.next(game, turns) {
+        Step::Turn => true,
+        Step::Close => false,
+    }
 }

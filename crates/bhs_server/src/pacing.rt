@@ -1,5 +1,8 @@
 //! When the turns of a match come.
 
+ghost use Rattle.std.specs.Prelude.{ℕ};
+ghost use Rattle.bhs_server.specs.declared.pacing.Step.{Step as DealerStep};
+
 /// What a match's dealer does next.
 #[derive(Clone, Copy, Debug, PartialEq, Eq)]
 pub enum Step {
@@ -11,6 +14,10 @@ pub enum Step {
 
 /// When the dealers of a server take their turns. It may pause before it answers.
 pub trait Pace {
+    // What it may answer for the match of this number, after this number of turns.
+    ghost says: { Self → ℕ → ℕ → DealerStep → Type 0 };
+
     /// What the dealer of match `game` does after this number of turns.
-    fn next(&self, game: u32, turn: u32) -> Step;
+    fn next(&self, game: u32, turn: u32) -> Step
+        ensures { says self.now game turn result };
 }

@@ -1,5 +1,6 @@
 //! A session of a contest, from its first line to its end.
 
+ghost use Rattle.std.specs.Prelude.{◌≡◌, option_map};
 ghost use Rattle.bhs_server.specs.Written.{IsAttended};
 
 use crate::connections::SessionHooks;
@@ -23,7 +24,9 @@ pub struct Visit {
 
 impl Visit {
     /// The match and the agent that the session played, if it was let in.
-    pub(crate) fn seat(&self) -> Option<(u32, u16)> {
+    pub(crate) fn seat(&self) -> Option<(u32, u16)>
+        ensures { result ≡ option_map (λ played. (played.game, played.pass.agent)) self.now.played }
+    {
         let played = self.played.as_ref()?;
         Some((played.game, played.pass.agent()))
     }

@@ -74,6 +74,10 @@ impl<'a, C: Clock> Patience<'a, C> {
 const TURNS: u32 = 100;
 
 impl<C: Clock> Pace for Patience<'_, C> {
+    ghost use Rattle.std.specs.Prelude.{Unit};
+
+    ghost says = { λ patience game turn step. Unit {0} };
+
     fn next(&self, _game: u32, turn: u32) -> Step {
         self.waits_for(self.begins);
         if turn >= TURNS && self.reached.load(Ordering::SeqCst) >= self.ends {

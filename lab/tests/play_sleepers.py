@@ -1,0 +1,124 @@
+"""What `explore` finds of agents that sleep, and of links that are held: a search that forgets a wake, that wakes nobody
+at a write, or that crosses a held link comes to other ends."""
+import argparse
+import pathlib
+import tempfile
+import unittest
+from typing import Dict, List
+from unittest import mock
+
+from lab import explore
+from lab.__main__ import parser
+from lab.tests.playing import RING
+
+# The black hole of ring:3 is node 1. One agent walks by node 2, writes x and then y at home, and accuses.
+AGENTS = '''
+def works(agent, key):
+    agent.enter(key)
+    agent.depart(1)
+    agent.depart(0)
+    agent.write("", "x")
+    agent.write("x", "y")
+    agent.accuse(0)
+
+def leaves_and_sleeps(agent, key, sleep):
+    agent.enter(key)
+    agent.leave()
+    sleep(1)
+    sleep(1)
+
+def is_wrong_if_it_sees_x_twice(agent, key, sleep):
+    agent.enter(key)
+    seen = 0
+    while True:
+        sleep(1)
+        board = agent.look().board
+        if board == "y":
+            agent.leave()
+            return
+        seen += board == "x"
+        if seen == 2:
+            agent.accuse(1)
+            return
+
+def wants_y_twice(agent, key, sleep):
+    agent.enter(key)
+    seen = 0
+    while seen < 2:
+        sleep(1)
+        seen += agent.look().board == "y"
+    agent.leave()
+
+def wants_y(agent, key, sleep):
+    agent.enter(key)
+    while True:
+        sleep(1)
+        if agent.look().board == "y":
+            agent.leave()
+            return
+
+def goes(agent, key):
+    agent.enter(key)
+    agent.depart(1)
+    agent.leave()
+'''
+
+HELD = """version = 2
+seed = "{seed}"
+
+[[match]]
+team = "red"
+network = "{network}"
+home = 0
+holes = [1]
+quota = 10
+board = 8
+keys = ["a", "b"]
+held = [[0, 1]]
+"""
+
+
+class Sleepers(unittest.TestCase):
+    def setUp(self) -> None:
+        folder = tempfile.TemporaryDirectory()
+        self.addCleanup(folder.cleanup)
+        self.folder = pathlib.Path(folder.name)
+        (self.folder / "agents.py").write_text(AGENTS, encoding="utf-8")
+
+    def worst(self, names: List[str], *words: str) -> explore.End:
+        """The worst end of a match of these agents."""
+        agents = [word for name in names for word in ("--agent", f"{self.folder}/agents.py:{name}")]
+        given: argparse.Namespace = parser().parse_args(["explore", *words, *agents])
+        fixture = explore.fixtures_for(given)[-1]
+        end = explore.explored(fixture, explore.teams.team_of(given), given, mock.Mock()).explorer.worst
+        assert end is not None
+        return end
+
+    def test_what_sleepers_come_to(self) -> None:
+        ends = {"is_wrong_if_it_sees_x_twice": (True, "wrong"), "leaves_and_sleeps": (True, "solved"),
+                "wants_y_twice": (True, "unfinished"), "wants_y": (False, "solved")}
+        for name, wanted in ends.items():
+            with self.subTest(name):
+                end = self.worst([name, "works"], "--network", "ring:3", "--hole", "1")
+                self.assertEqual((end.has_failed, end.verdict.outcome), wanted)
+
+    def test_nobody_arrives_over_a_held_link(self) -> None:
+        (self.folder / "ring.toml").write_text(
+            "version = 1\nnodes = 3\nlinks = [[0,0,1,1],[1,0,2,1],[2,0,0,1]]\n", encoding="utf-8")
+        cup = self.folder / "cup.toml"
+        cup.write_text(HELD.format(seed="0" * 64, network=self.folder / "ring.toml"), encoding="utf-8")
+        end = self.worst(["goes", "goes"], "--tournament", str(cup))
+        self.assertEqual((end.verdict.outcome, end.verdict.moves), ("silent", 2))
+
+    def test_the_most_moves_for_each_black_hole(self) -> None:
+        most: Dict[int, int] = {}
+        given: argparse.Namespace = parser().parse_args(["explore", "--network", "ring:6", "--agent", RING.words])
+        for fixture in explore.fixtures_for(given):
+            end = explore.explored(fixture, explore.teams.team_of(given), given, mock.Mock()).explorer.worst
+            assert end is not None and not end.has_failed
+            most[fixture.setup.holes[0]] = end.verdict.moves
+        self.assertEqual(most, {1: 23, 2: 23, 3: 19, 4: 19, 5: 19})
+
+
+if __name__ == "__main__":
+    unittest.main()

@@ -1,0 +1,59 @@
+"""Cases of many and of long replays: more than one digit in their numbers, more words than a shell's line has, and more
+bytes than a program reads at once."""
+from program_cases import MATCH, SEED, TABLE_HEAD, TRIANGLE, case, writes
+from program_rows import Stage, Wrong, expect
+
+ENTER, LOOK = '{"do":"enter","key":"ka"}', '{"do":"look"}'
+# more than any buffer of the program takes
+LONG = 70_000
+
+
+def rehearsed(stage: Stage, cup: str, script: str) -> None:
+    """Replays m0.jsonl, m1.jsonl and so on of a script."""
+    writes(stage, cup=cup, tri=TRIANGLE)
+    ran = stage.run(["rehearse", "cup.toml", "--replay", "m"], script.encode())
+    expect(ran, ran.printed)
+
+
+@case("each of twelve matches has a replay with its own number")
+def twelve_replays(stage: Stage) -> None:
+    cup = SEED + "".join(MATCH.format(network="tri.toml", key=f"k{match}-") for match in range(12))
+    rehearsed(stage, cup, "".join(f"close {match}\n" for match in range(12)))
+    names = sorted(path.name for path in stage.folder.glob("m*.jsonl"))
+    if names != sorted(f"m{match}.jsonl" for match in range(12)):
+        raise Wrong(f"there are {names}")
+
+
+@case("a table takes a hundred replays")
+def many_words(stage: Stage) -> None:
+    rehearsed(stage, SEED + MATCH.format(network="tri.toml", key="k"), "close 0\n")
+    rows = "".join(f"{place:3} {f't{place - 1:03}':16} silent          0    0\n" for place in range(1, 101))
+    words = ["table", *(f"t{number:03}=m0.jsonl" for number in range(100))]
+    expect(stage.run(words), f"{TABLE_HEAD}\n{rows}".encode())
+
+
+@case("a word may have six hundred bytes")
+def long_word(stage: Stage) -> None:
+    folder = "/".join(letter * 200 for letter in "nmo")
+    (stage.folder / folder).mkdir(parents=True)
+    writes(stage, tri=TRIANGLE)
+    (stage.folder / folder / "cup.toml").write_text(SEED + MATCH.format(network="tri.toml", key="k"))
+    expect(stage.run(["check", f"{folder}/cup.toml"]), b"match 0 red nodes 3 links 3 agents 2\n")
+
+
+@case("replays of many bytes are read to their ends")
+def long_replays(stage: Stage) -> None:
+    cup = SEED + MATCH.format(network="tri.toml", key="k").replace("quota = 10", "quota = 1000")
+    last = '0 {"do":"accuse","port":1}\n'
+    rehearsed(stage, cup, f"0 {ENTER}\n" + f"0 {LOOK}\n" * 999 + last + "close 0\n")
+    text = (stage.folder / "m0.jsonl").read_bytes()
+    if len(text) < LONG:
+        raise Wrong(f"the replay has {len(text)} bytes alone")
+    lines = text.splitlines(keepends=True)
+    (stage.folder / "part").write_bytes(b"".join(lines[:-2]))
+    expect(stage.run(["recover", "part"]), text)
+    expect(stage.run(["judge", "m0.jsonl"]), b"guess 1 moves 0 lost 0\n")
+    expect(stage.run(["table", "red=m0.jsonl"]), f"{TABLE_HEAD}\n  1 red              guess 1         0    0\n".encode())
+    expect(stage.run(["explain", "m0.jsonl", "0"]),
+           b"".join(b"%d %b" % (place, line) for place, line in enumerate(lines[1:-2])))
+    expect(stage.run(["twin", "m0.jsonl", "1"]), text.replace(b'"holes":[2]', b'"holes":[1]'))
