@@ -34,9 +34,9 @@ pub fn contest_of(alloc: Global, lineup: Lineup) -> Result<Hosted, Memory>
 {
     let Lineup {
         seed,
+        schedule,
         ready,
         keys,
-        ..
     } = lineup;
     let (teams, cells, dealers) = rooms(alloc, ready.len())?;
     let mut hosted = Hosted {
