@@ -48,7 +48,7 @@ pub fn contest_of(alloc: Global, lineup: Lineup) -> Result<Hosted, Memory>
         },
     };
     for one in ready {
-        hosted.add(alloc, seed, schedule, one)?;
+        hosted.add(alloc, seed, &schedule, one)?;
     }
     Ok(hosted)
 }
@@ -69,20 +69,20 @@ impl Hosted {
         &mut self,
         alloc: Global,
         seed: [u8; SEED_BYTES],
-        schedule: ScheduleKind,
+        schedule: &ScheduleKind,
         ready: Ready,
     ) -> Result<(), Memory>
         requires { ready.game.log ≡ [] }
         ensures teams { IfOk result (λ _. self.new.teams.items ≡ self.old.teams.items ++ ready.team ∷ []) }
         ensures cells { IfOk result (λ _. self.new.contest.cells.items
-            ≡ self.old.contest.cells.items ++ given_of schedule (length self.old.contest.cells.items) ready ∷ []) }
+            ≡ self.old.contest.cells.items ++ given_of schedule.now (length self.old.contest.cells.items) ready ∷ []) }
         ensures dealers { IfOk result (λ _. self.new.contest.dealers.items ≡ self.old.contest.dealers.items
             ++ dealer_at seed (length self.old.contest.dealers.items) 0 ∷ []) }
         ensures keys { IfOk result (λ _. self.new.contest.keys ≡ self.old.contest.keys) }
     {
         let Ready { team, game, held } = ready;
         let number = number_at(self.contest.cells.len());
-        let cell = Cell::new(alloc, number, game, held, schedule)?;
+        let cell = Cell::new(alloc, number, game, held, *schedule)?;
         self.contest.cells.push(cell)?;
         self.teams.push(team)?;
         let stream = self.contest.dealers.len() as u64;

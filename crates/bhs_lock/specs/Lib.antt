@@ -4,6 +4,7 @@ pub mod Fitting
 pub mod Passes
 pub mod Timing
 pub mod Halls
+pub mod Timely
 pub mod Recording
 pub mod Comparing
 pub mod Arrivals

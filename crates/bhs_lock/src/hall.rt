@@ -178,6 +178,7 @@ impl Hall {
     pub(crate) fn close(&mut self)
         ensures closed { (answer : MatchAnswer) × IsPlayed self.old.play Event.Close answer self.new.play }
         ensures game { self.new.game ≡ self.old.game }
+        ensures times { self.new.times ≡ self.old.times }
     {
         self.play.apply(Event::Close);
         // The proof needs what the log says of itself.
