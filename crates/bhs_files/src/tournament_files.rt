@@ -77,9 +77,9 @@ fn tournament(alloc: Global, version: u16, table: &Table) -> Result<Tournament, 
     })
 }
 
-/// Reads a tournament file of version 1, 2 or 3. The first fault is told: the text is no TOML document, then its version,
-/// then `seed`, in version 3 `schedule`, and for the oblivious one `delay_scales` and `delay_odds`, then `match`, and
-/// then match by match `team`, `network`, `home`, `holes` and `dark` (`hole` in version
+/// Reads a tournament file of version 1, 2 or 3. The first fault is told: the text is no TOML document, then its
+/// version, then `seed`, in version 3 `schedule`, and for the oblivious one `delay_scales` and `delay_odds`, then
+/// `match`, and then match by match `team`, `network`, `home`, `holes` and `dark` (`hole` in version
 /// 1), `quota`, `board`, `keys` and `held`, whatever the order in the file. Other keys are ignored.
 #[tactic(auto, unfolding(crate::specs::Tournaments::tournament_in))]
 pub fn read_tournament(alloc: Global, text: &str) -> Result<Tournament, FileFault>

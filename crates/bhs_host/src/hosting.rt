@@ -27,7 +27,8 @@ pub struct Hosted {
 pub fn contest_of(alloc: Global, lineup: Lineup) -> Result<Hosted, Memory>
     requires { AreFresh lineup.ready.items }
     ensures teams { IfOk result (λ hosted. hosted.teams.items ≡ map (λ ready. ready.team) lineup.ready.items) }
-    ensures cells { IfOk result (λ hosted. hosted.contest.cells.items ≡ givens_of lineup.schedule 0 lineup.ready.items) }
+    ensures cells { IfOk result (λ hosted. hosted.contest.cells.items
+        ≡ givens_of lineup.schedule 0 lineup.ready.items) }
     ensures dealers { IfOk result (λ hosted. hosted.contest.dealers.items
         ≡ dealers_of lineup.seed 0 lineup.ready.items) }
     ensures keys { IfOk result (λ hosted. hosted.contest.keys ≡ lineup.keys) }

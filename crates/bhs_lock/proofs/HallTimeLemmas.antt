@@ -1,5 +1,5 @@
 -- What stands under the lock of a match is a timed execution.
-use Rattle.std.proofs.Common.{arith, ℕ, zero, suc, ◌≡◌, ◌<◌, ◌≤◌, ◌+◌, ◌-◌, ◌^◌, ◌%◌, min, Bool, true, false, not, ◌==◌}
+use Rattle.std.proofs.Common.{arith, ℕ, zero, suc, ◌≡◌, ◌<◌, ◌≤◌, ◌+◌, ◌-◌, ◌^◌, ◌%◌, min, Bool, true, false, ◌==◌}
 use Rattle.std.proofs.Common.{◌⊎◌, Option, Some, None}
 use Rattle.std.proofs.Common.{List, [], ◌∷◌, ◌++◌, length, nat_lt, refl, sym, ap, ap₂, ◌∙◌, subst, if◌then◌else◌, inl}
 use Rattle.std.proofs.Common.{inr}
@@ -22,7 +22,7 @@ use Rattle.bhs_model.specs.Worlds.{World}
 use Rattle.bhs_model.specs.Setups.{world_of}
 use Rattle.bhs_model.specs.Marks.{events_of}
 use Rattle.bhs_model.specs.Standings.{standing_at}
-use Rattle.bhs_model.specs.Runs.{Position, Before, At, Bound, After, State, initial, changed, heard, is_bound, arrives}
+use Rattle.bhs_model.specs.Runs.{Position, Before, At, Bound, After, State, initial, heard, is_bound, arrives}
 use Rattle.bhs_model.specs.Runs.{next, run}
 use Rattle.bhs_model.specs.Draws.{Held, is_held}
 use Rattle.bhs_model.specs.Kept.{lost}
@@ -30,18 +30,19 @@ use Rattle.bhs_model.proofs.StepLemmas.{by_cases}
 use Rattle.bhs_model.proofs.AddLemmas.{run-append}
 use Rattle.bhs_model.proofs.KeptLemmas.{unkept_state}
 use Rattle.bhs_model.proofs.LegalLemmas.{AllLegal, all_run}
-use Rattle.bhs_time.specs.TimedViews.{TimedView, ToldAt, bare, is_away, departed_at}
+use Rattle.bhs_time.specs.TimedViews.{ToldAt, ArrivedAt, bare, is_away, departed_at}
 use Rattle.bhs_time.specs.Schedules.{Schedule}
 use Rattle.bhs_time.specs.TimedRuns.{TimedState, TimedAct, Says, Passes, Ends, glance_then, told_then, arrived_then}
 use Rattle.bhs_time.specs.TimedRuns.{happened}
-use Rattle.bhs_time.specs.TimedRuns.{happened_if, timed_next, timed_initial, timed_run_from, delivery_now, delivery_in}
+use Rattle.bhs_time.specs.TimedRuns.{happened_if, timed_next, timed_initial, timed_run, timed_run_from, delivery_now}
+use Rattle.bhs_time.specs.TimedRuns.{delivery_in}
 use Rattle.bhs_time.specs.TimedRuns.{delivery_if}
 use Rattle.bhs_time.proofs.StampLemmas.{IsStamped, happened_state, next_stamped, initial_stamped}
+use Rattle.bhs_time.proofs.StampLemmas.{clocks_only_stamp_lemma}
+use Rattle.bhs_time.proofs.WaitLemmas.{equal_waits_lemma}
 use Rattle.bhs_world.specs.Tables.{keeps_next, log_after}
 use Rattle.bhs_world.proofs.GrowthLemmas.{events_more}
-use Rattle.bhs_match.specs.declared.answers.Answer.{Answer as MatchAnswer}
 use Rattle.bhs_match.specs.Matches.{Play, world_in, state_of}
-use Rattle.bhs_match.specs.Games.{IsPlayed}
 use Rattle.bhs_deal.specs.declared.draws.Drawn.{Drawn}
 use Rattle.bhs_deal.specs.declared.draws.Drawn.TheVariants.{Nobody, Stays, Delivered}
 use Rattle.bhs_deal.specs.Dealer.{dealer_at}
@@ -52,7 +53,7 @@ use Rattle.bhs_lock.specs.Passes.{Passed}
 use Rattle.bhs_lock.specs.declared.model.Answer.{Answer}
 use Rattle.bhs_lock.specs.Halls.{Housed, empty_hall, agrees, IsHeardBy}
 use Rattle.bhs_lock.specs.Timely.{TurnTerms, schedule_in, IsToldCall, IsTurnCall, IsCloseCall, IsCall, AreCalls}
-use Rattle.bhs_lock.specs.Timely.{StandsAs, HallsAreTimedExecutions}
+use Rattle.bhs_lock.specs.Timely.{HallsAreTimedExecutions, EqualWaitsUnderLocks}
 use Rattle.bhs_lock.proofs.ToldLemmas.{same_play}
 use Rattle.bhs_lock.proofs.DrawLemmas.{length_told, length_turned}
 use Rattle.bhs_lock.proofs.TallyLemmas.{has_agreed}
@@ -510,3 +511,23 @@ halls_lemma terms game play acts hall fresh some few calls =
     zeros zero agent = refl
     zeros (suc agents) zero = refl
     zeros (suc agents) (suc agent) = zeros agents agent
+
+-- the past of an agent under the lock is its timed view without the turns
+past_under : (terms : TurnTerms) (game : ℕ) (play : Play) (acts : List TimedAct) (hall : Housed) → play.log ≡ [] →
+    0 < play.setup.agents → length acts < 2 ^ 32 - 1 → AreCalls terms acts (empty_hall game play) hall →
+    (agent : ℕ) → (state_of hall.play).past agent
+    ≡ bare ((timed_run (world_in play) terms.held (schedule_in terms play) acts).pasts agent)
+past_under terms game play acts hall fresh some few calls agent =
+    ap (λ (state : State). state.past agent) (halls_lemma terms game play acts hall fresh some few calls).state
+    ∙ sym ((clocks_only_stamp_lemma (world_in play) terms.held (schedule_in terms play) acts).pasts agent)
+
+pub waits_lemma : EqualWaitsUnderLocks
+waits_lemma terms others game number play twin acts sequel hall there fresh some few calls fresh_too some_too few_too
+    calls_too same agent before turn later sight seen arrived came = record {
+      past = past_under terms game play acts hall fresh some few calls agent ∙ ap bare arrived;
+      other_past = past_under others number twin sequel there fresh_too some_too few_too calls_too agent ∙ ap bare came;
+      turns = equal_waits_lemma (schedule_in terms play) (world_in play) terms.held acts (world_in twin) others.held
+          sequel agent before turn later sight seen arrived
+          (subst (λ (schedule : Schedule). (timed_run (world_in twin) others.held schedule sequel).pasts agent
+          ≡ ArrivedAt before later seen) (sym same) came);
+    }

@@ -4,7 +4,7 @@ use Rattle.bhs_model.specs.declared.commands.Command.{Command}
 use Rattle.bhs_model.specs.declared.events.Event.TheVariants.{Close}
 use Rattle.bhs_model.specs.Draws.{Held}
 use Rattle.bhs_time.specs.declared.kinds.ScheduleKind.TheVariants.{Oblivious}
-use Rattle.bhs_time.specs.TimedViews.{departed_at}
+use Rattle.bhs_time.specs.TimedViews.{TimedView, ArrivedAt, TimedSight, bare, departed_at}
 use Rattle.bhs_time.specs.Schedules.{Schedule, DelayLaw}
 use Rattle.bhs_time.specs.TimedRuns.{TimedAct, Says, Passes, Ends, TimedState, timed_run}
 use Rattle.bhs_match.specs.declared.answers.Answer.{Answer as MatchAnswer}
@@ -81,3 +81,25 @@ HallsAreTimedExecutions = (terms : TurnTerms) (game : ℕ) (play : Play) (acts :
     play.log ≡ [] → 0 < play.setup.agents → length acts < 2 ^ 32 - 1 →
     AreCalls terms acts (empty_hall game play) hall →
     StandsAs (timed_run (world_in play) terms.held (schedule_in terms play) acts) hall
+
+-- what is known of two arrivals after equal timed views: the pasts under the two locks, and the turns
+pub record ArriveAlike (hall there : Housed) (agent : ℕ) (before : TimedView) (turn later : ℕ)
+    (sight seen : TimedSight) : Type 0 where
+  pub past : (state_of hall.play).past agent ≡ bare (ArrivedAt before turn sight)
+  pub other_past : (state_of there.play).past agent ≡ bare (ArrivedAt before later seen)
+  pub turns : turn ≡ later
+
+-- The headline in time. Take two matches under their locks with one schedule, of one contest or of two, which may
+-- differ in their networks, in what destroys, in held links and in all that is said. If an agent with the same timed
+-- view before has arrived next in both, then it arrived after equally many turns.
+abbrev pub EqualWaitsUnderLocks : Type 0
+EqualWaitsUnderLocks = (terms others : TurnTerms) (game number : ℕ) (play twin : Play) (acts sequel : List TimedAct)
+    (hall there : Housed) →
+    play.log ≡ [] → 0 < play.setup.agents → length acts < 2 ^ 32 - 1 → AreCalls terms acts (empty_hall game play) hall →
+    twin.log ≡ [] → 0 < twin.setup.agents → length sequel < 2 ^ 32 - 1 →
+    AreCalls others sequel (empty_hall number twin) there →
+    schedule_in terms play ≡ schedule_in others twin →
+    (agent : ℕ) (before : TimedView) (turn later : ℕ) (sight seen : TimedSight) →
+    (timed_run (world_in play) terms.held (schedule_in terms play) acts).pasts agent ≡ ArrivedAt before turn sight →
+    (timed_run (world_in twin) others.held (schedule_in others twin) sequel).pasts agent ≡ ArrivedAt before later seen →
+    ArriveAlike hall there agent before turn later sight seen

@@ -66,8 +66,8 @@ impl Model for Cell {
 impl Cell {
     ghost use Rattle.bhs_lock.specs.Cells.{Given};
 
-    /// The cell of a match with an empty log, whose turns are of this schedule and let nobody arrive over the held links. It keeps a copy of the
-    /// network and the setup. All memory that the match and its passes need is taken here.
+    /// The cell of a match with an empty log, whose turns are of this schedule and let nobody arrive over the held links.
+    /// It keeps a copy of the network and the setup. All memory that the match and its passes need is taken here.
     pub fn new(
         alloc: Global,
         game: u32,
@@ -187,8 +187,8 @@ impl Cell {
         is_of_world(hall.state(), &self.net, &self.setup)
     }
 
-    /// Takes a turn with the dealer's next word: plays at most one delivery, and wakes the agent that it delivered. Takes
-    /// no memory.
+    /// Takes a turn with the dealer's next word: plays at most one delivery, and wakes the agent that it delivered.
+    /// Takes no memory.
     pub fn turn<R: Wait>(&self, rt: &R, dealer: &mut Dealer) -> Drawn
         ensures { dealer.new ≡ moved_on dealer.old }
     {

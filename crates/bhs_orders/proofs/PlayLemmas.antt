@@ -8,8 +8,8 @@ use Rattle.bhs_stream.specs.Sending.{PutsAll}
 use Rattle.bhs_stream.proofs.PutsLemmas.{IsSentUpTo, sent_part, sent_some}
 use Rattle.bhs_rehearsal.specs.Games.{Game}
 use Rattle.bhs_rehearsal.specs.Rehearsing.{Rehearsing, Follows, Refuses, fault_of}
-use Rattle.bhs_rehearsal.specs.Stages.{Stage, Instruction, Feeds, EndsInput, Draws, Delivers, Closes, Stepped, nothing, step}
-use Rattle.bhs_rehearsal.specs.Stages.{stands_after}
+use Rattle.bhs_rehearsal.specs.Stages.{Stage, Instruction, Feeds, EndsInput, Draws, Delivers, Closes, Stepped}
+use Rattle.bhs_rehearsal.specs.Stages.{nothing, step, stands_after}
 use Rattle.bhs_rehearsal.specs.declared.faults.RehearsalFault.{RehearsalFault}
 use Rattle.bhs_rehearsal.specs.declared.faults.RehearsalFault.TheVariants as rehearsals
 use Rattle.bhs_script.specs.Instructions.{seen}

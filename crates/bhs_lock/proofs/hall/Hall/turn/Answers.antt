@@ -1,4 +1,4 @@
-use Rattle.std.proofs.Common.{◌∙◌, ap, sym}
+use Rattle.std.proofs.Common.{◌∙◌, sym}
 use Rattle.bhs_deal.specs.Links.{held_in}
 use Rattle.bhs_lock.proofs.DrawLemmas.{legal_turned, agents_played, length_turned}
 use Rattle.bhs_lock.proofs.hall.Hall.turn.Goals as goal
