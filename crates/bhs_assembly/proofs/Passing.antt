@@ -12,6 +12,7 @@ use Rattle.bhs_lineup.specs.declared.lineups.Ready.{Ready}
 use Rattle.bhs_files.specs.Names.{first_seen}
 use Rattle.bhs_lineup.specs.KeyTable.{Seat}
 use Rattle.bhs_lineup.specs.Lineups.{Contest}
+use Rattle.bhs_time.specs.declared.kinds.ScheduleKind.{ScheduleKind}
 use Rattle.bhs_assembly.specs.KeyTable.{key_table}
 use Rattle.bhs_files.specs.Reading.{◌>>=◌, Fails}
 use Rattle.bhs_files.specs.Tournaments.{Plan, Planned, planned}
@@ -165,12 +166,15 @@ abbrev pub network_in : List (List ℕ) → List Network → Planned → Network
 network_in names networks planned = network_named names networks planned.network
 
 -- what is made of the tournament, as its code makes it
-module _ (seed : List ℕ) (fs : List Fixture) (names : List (List ℕ)) (networks : List Network) where
+module _ (seed : List ℕ) (schedule : ScheduleKind) (fs : List Fixture) (names : List (List ℕ))
+    (networks : List Network) where
   abbrev made_of : List Planned → Result Contest FileFault
   made_of ps = each_in (begun (network_in names networks)) 0 ps >>= λ games. key_table (map key_list fs) >>=
-      λ seats. each_in readied 0 (zip fs games) >>= λ made. Ok (record { seed = seed; matches = made; keys = seats })
+      λ seats. each_in readied 0 (zip fs games) >>= λ made. Ok
+      (record { seed = seed; schedule = schedule; matches = made; keys = seats })
 
-  contest_is : names ≡ names_of (map planned fs) → contest_in (record { seed = seed; matches = map planned fs })
+  contest_is : names ≡ names_of (map planned fs) → contest_in
+      (record { seed = seed; schedule = schedule; matches = map planned fs })
       networks ≡ made_of (map planned fs)
   contest_is is =
       let network = network_in names networks in
@@ -178,20 +182,22 @@ module _ (seed : List ℕ) (fs : List Fixture) (names : List (List ℕ)) (networ
       rw (← is, begun_all network 0 ps, ← map-map (λ (p : Planned). p.keys) planned fs)
       (combine _ _ (map (λ p. start_of (network p) p) ps) (key_table (map (λ (p : Planned). p.keys) ps)) _
       (λ games. each_in readied 0 (zip fs games))
-      (λ seats made. record { seed = seed; matches = made; keys = seats }) (readied_all network 0 fs))
+      (λ seats made. record { seed = seed; schedule = schedule; matches = made; keys = seats })
+      (readied_all network 0 fs))
 
   module _ (is : names ≡ first_seen (map name_of fs)) where
-    contest_here : contest_in (record { seed = seed; matches = map planned fs }) networks ≡ made_of (map planned fs)
+    contest_here : contest_in (record { seed = seed; schedule = schedule; matches = map planned fs }) networks
+        ≡ made_of (map planned fs)
     contest_here = contest_is (is ∙ sym (ap first_seen (map-map (λ (p : Planned). p.network) planned fs)))
 
     pub no_game : (fault : FileFault) → Fails fault (each_in (begun (network_in names networks)) 0 (map planned fs))
-        → Fails fault (contest_in (record { seed = seed; matches = map planned fs }) networks)
+        → Fails fault (contest_in (record { seed = seed; schedule = schedule; matches = map planned fs }) networks)
     no_game fault = fails_with fault (each_in (begun (network_in names networks)) 0 (map planned fs)) _
         (λ h. contest_here ∙ rw h refl)
 
     pub no_keys : (games : List Play) (fault : FileFault) → each_in (begun (network_in names networks)) 0
         (map planned fs) ≡ Ok games → Fails fault (key_table (map key_list fs))
-        → Fails fault (contest_in (record { seed = seed; matches = map planned fs }) networks)
+        → Fails fault (contest_in (record { seed = seed; schedule = schedule; matches = map planned fs }) networks)
     no_keys games fault played = fails_with fault (key_table (map key_list fs)) _
         (λ h. contest_here ∙ rw (played, h) refl)
 
@@ -199,15 +205,16 @@ module _ (seed : List ℕ) (fs : List Fixture) (names : List (List ℕ)) (networ
         → each_in (begun (network_in names networks)) 0 (map planned fs) ≡ Ok games
         → key_table (map key_list fs) ≡ Ok seats
         → Fails fault (each_in readied 0 (zip fs games))
-        → Fails fault (contest_in (record { seed = seed; matches = map planned fs }) networks)
+        → Fails fault (contest_in (record { seed = seed; schedule = schedule; matches = map planned fs }) networks)
     not_ready games seats fault played keyed =
         fails_with fault (each_in readied 0 (zip fs games)) _ (λ h. contest_here ∙ rw (played, keyed, h) refl)
 
     pub all_made : (games : List Play) (seats : List Seat) (made : List Ready)
         → each_in (begun (network_in names networks)) 0 (map planned fs) ≡ Ok games
         → key_table (map key_list fs) ≡ Ok seats
-        → each_in readied 0 (zip fs games) ≡ Ok made → contest_in (record { seed = seed; matches = map planned fs })
-        networks ≡ Ok (record { seed = seed; matches = made; keys = seats })
+        → each_in readied 0 (zip fs games) ≡ Ok made → contest_in
+        (record { seed = seed; schedule = schedule; matches = map planned fs })
+        networks ≡ Ok (record { seed = seed; schedule = schedule; matches = made; keys = seats })
     all_made games seats made played keyed readied = contest_here ∙ rw (played, keyed, readied) refl
 
 -- the matches of a contest that is made
@@ -216,7 +223,7 @@ pub ready_are : (plan : Plan) (networks : List Network) (made : Contest) → con
 ready_are plan networks made is = go _ (key_table (map (λ (p : Planned). p.keys) plan.matches)) _ is
   where
     out : List Seat → Contest
-    out keys = record { seed = plan.seed; matches = all_ready plan networks; keys = keys }
+    out keys = record { seed = plan.seed; schedule = plan.schedule; matches = all_ready plan networks; keys = keys }
 
     go : (first : Option FileFault) (keys : Result (List Seat) FileFault) (last : Option FileFault)
         → unless first (keys >>= λ seats. unless last (Ok (out seats))) ≡ Ok made

@@ -96,4 +96,9 @@ contest_in plan networks =
     (key_table (map (λ planned. planned.keys) plan.matches) >>= λ keys.
     unless (first_of (λ game planned. held_fault (network_for plan.matches networks planned) game
     planned) 0 plan.matches)
-    (Ok (record { seed = plan.seed; matches = all_ready plan networks; keys = keys })))
+    (Ok (record {
+      seed = plan.seed;
+      schedule = plan.schedule;
+      matches = all_ready plan networks;
+      keys = keys;
+    })))

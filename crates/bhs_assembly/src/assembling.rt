@@ -46,9 +46,14 @@ pub fn assemble(
 {
     let games = games(alloc, &tournament, networks)?;
     let keys = keys_of(alloc, &tournament.matches)?;
-    let Tournament { seed, matches } = tournament;
+    let Tournament {
+        seed,
+        schedule,
+        matches,
+    } = tournament;
     Ok(Lineup {
         seed,
+        schedule,
         ready: all_ready(alloc, matches, games)?,
         keys,
     })

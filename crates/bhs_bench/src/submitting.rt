@@ -9,6 +9,7 @@ use bhs_lock::{Cell, Hall, Open, Pass, settle};
 use bhs_match::Match;
 use bhs_model::{Command, MAX_QUOTA, Text};
 use bhs_net::Memory;
+use bhs_time::ScheduleKind;
 use std::alloc::Global;
 use std::sync::Wait;
 use std::thread;
@@ -176,7 +177,7 @@ fn cells(alloc: Global, matches: u16, agents: u16) -> Result<Vec<Cell>, BenchFau
     for number in 0..matches {
         let play = game(alloc, agents)?;
         let held = Held::new(alloc, play.net(), &[])?;
-        cells.push(Cell::new(alloc, u32::from(number), play, held)?)?;
+        cells.push(Cell::new(alloc, u32::from(number), play, held, ScheduleKind::Adaptive)?)?;
     }
     Ok(cells)
 }

@@ -32,6 +32,7 @@ Each line of the script is one of these:
   hex N DIGITS  It sends the bytes that the hexadecimal digits give
   end N         Its input ends
   draw G W      A delivery is drawn in match G. W is any word from 0 to 4294967295
+  deliver G A   Agent A of match G arrives, unless its link is held or destroys it
   close G       Match G is ended
 
 Empty lines and lines that begin with # are skipped.

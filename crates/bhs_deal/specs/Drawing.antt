@@ -2,8 +2,8 @@
 use Rattle.std.specs.Prelude.{ℕ, ◌≡◌, Option, Some, None, if◌then◌else◌}
 use Rattle.bhs_model.specs.declared.events.Event.{Event}
 use Rattle.bhs_model.specs.declared.events.Event.TheVariants.{Deliver}
-use Rattle.bhs_model.specs.Runs.{State}
-use Rattle.bhs_model.specs.Draws.{Held, pool, pick, is_held, draw}
+use Rattle.bhs_model.specs.Runs.{State, is_bound}
+use Rattle.bhs_model.specs.Draws.{Held, pool, pick, is_held, delivery_to, draw}
 use Rattle.bhs_match.specs.declared.answers.Answer.{Answer}
 use Rattle.bhs_match.specs.Matches.{Play}
 use Rattle.bhs_match.specs.Games.{IsPlayed}
@@ -18,6 +18,17 @@ drawn_of held state (Some agent) = if is_held held (state.position agent) then S
 -- what a word draws
 abbrev pub drawn : Held → State → (word : ℕ) → Drawn
 drawn held state word = if state.closed then Nobody else drawn_of held state (pick (pool state) word)
+
+-- the event that delivers this agent: none after the close, or if its link is held
+abbrev pub delivery_of : Held → State → (agent : ℕ) → Option Event
+delivery_of held state agent = if state.closed then None else delivery_to held state (Some agent)
+
+-- what becomes of an agent that is to be delivered: nobody is, if it is on no link
+abbrev pub delivered_to : Held → State → (agent : ℕ) → Drawn
+delivered_to held state agent =
+    if state.closed then Nobody
+    else (if is_held held (state.position agent) then Stays
+    else (if is_bound (state.position agent) then Delivered agent else Nobody))
 
 -- what an event makes of a match, if there is one: without one the match is as it was
 abbrev pub IsPlayedIf : (old : Play) → Option Event → (new : Play) → Type 0

@@ -9,7 +9,8 @@ use Rattle.bhs_model.specs.Runs.{run}
 use Rattle.bhs_deal.specs.declared.draws.Drawn.{Drawn}
 use Rattle.bhs_deal.specs.declared.draws.Drawn.TheVariants.{Nobody, Stays, Delivered}
 use Rattle.bhs_deal.specs.Links.{held_in, first_strange}
-use Rattle.bhs_deal.specs.Drawing.{drawn}
+use Rattle.bhs_deal.specs.Drawing.{drawn, delivered_to}
+use Rattle.bhs_deal.specs.Delaying.{delay_stream}
 
 -- port 0 of node 0 is joined to port 0 of node 1, port 1 of node 1 to port 0 of node 2, and port 1 of node 2 to port 1
 -- of node 0
@@ -53,3 +54,17 @@ WhoIsHeldStays =
 
 abbrev pub NobodyIsDrawnAfterTheClose : Type 0
 NobodyIsDrawnAfterTheClose = drawn_after (both_depart ++ Close ∷ []) [] 5 ≡ Nobody
+
+-- whom a delivery of this agent delivers after these events, where these links are held
+abbrev pub delivered_after : List Event → List (ℕ × ℕ) → (agent : ℕ) → Drawn
+delivered_after events pairs agent = delivered_to (held_in pairs) (run triangle events) agent
+
+abbrev pub ADeliveryIsOfItsAgent : Type 0
+ADeliveryIsOfItsAgent =
+    (delivered_after both_depart [] 1 ≡ Delivered 1)
+    × (delivered_after both_depart ((0, 1) ∷ []) 0 ≡ Stays)
+    × (delivered_after one_departs [] 1 ≡ Nobody)
+    × (delivered_after (both_depart ++ Close ∷ []) [] 1 ≡ Nobody)
+
+abbrev pub EachAgentHasItsOwnStream : Type 0
+EachAgentHasItsOwnStream = (delay_stream 3 0 ≡ 4294967299) × (delay_stream 0 63 ≡ 274877906944)

@@ -3,4 +3,5 @@ pub mod Pool
 pub mod Links
 pub mod Marking
 pub mod Drawing
+pub mod Delaying
 pub mod Examples

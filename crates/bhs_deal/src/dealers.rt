@@ -13,6 +13,7 @@ use std::marker::Model;
 /// Two dealers of one seed and stream give the same words. A stream starts again after 2^68 words.
 #[derive(Debug, Drop)]
 pub struct Dealer {
+    seed: [u8; 32],
     words: ChaCha8Rng,
 }
 
@@ -22,11 +23,17 @@ impl Model for Dealer {
 
     ghost Value = { ChaCha };
 
+    ghost use Rattle.std.specs.Prelude.{◌≡◌};
+    ghost use Rattle.rand_chacha.specs.ChaCha.{key_of};
+
     ghost view = { λ dealer. dealer.words };
+
+    ghost invariant = { λ dealer. dealer.words.key ≡ key_of dealer.seed };
 }
 
 impl Dealer {
     ghost use Rattle.bhs_deal.specs.Dealer.{dealer_at, next_word, moved_on};
+    ghost use Rattle.bhs_deal.specs.Delaying.{delay_word};
 
     /// The dealer at the start of a stream of the seed.
     pub fn new(seed: [u8; 32], stream: u64) -> Dealer
@@ -34,7 +41,7 @@ impl Dealer {
     {
         let mut words = ChaCha8Rng::from_seed(seed);
         words.set_stream(stream);
-        Dealer { words }
+        Dealer { seed, words }
     }
 
     /// The word at the dealer's place. The dealer then stands at the next place, which after the stream's
@@ -44,5 +51,17 @@ impl Dealer {
         ensures moved { self.new ≡ moved_on self.old }
     {
         self.words.next_word()
+    }
+
+    /// The word for the delay of an agent that departs after so many turns. It is of the agent's own stream, and the
+    /// dealer stays where it is.
+    pub fn delay_word(&self, agent: u16, departed: u32) -> u32
+        ensures { result ≡ delay_word self.now agent departed }
+    {
+        let own = (u64::from(agent) + 1) * 4_294_967_296;
+        let mut words = ChaCha8Rng::from_seed(self.seed);
+        words.set_stream(self.words.get_stream().wrapping_add(own));
+        words.set_word_pos(u128::from(departed));
+        words.next_word()
     }
 }

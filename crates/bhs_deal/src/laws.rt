@@ -1,13 +1,16 @@
 //! Laws of the words and of the draws.
 
 ghost use Rattle.bhs_deal.specs.Examples.{
+  ADeliveryIsOfItsAgent,
   ALinkIsHeldInOneDirection,
+  EachAgentHasItsOwnStream,
   NobodyIsDrawnAfterTheClose,
   TheFirstStrangePairIsTold,
   WhoIsHeldStays,
   WordsDrawFromThePool,
 };
 ghost use Rattle.bhs_deal.specs.Drawing.{DrawsAreThoseOfTheModel};
+ghost use Rattle.bhs_deal.specs.Delaying.{DelaysHaveTheirOwnStreams, TurnsFollowTheirSchedule};
 ghost use Rattle.bhs_deal.specs.Dealer.{GivesTheWordAtItsPlace, GivesItsStreamInOrder, AreTheWordsOfChaCha8};
 
 /// A dealer gives the word at its place, and then stands at the next place.
@@ -30,6 +33,16 @@ pub fn draws_are_those_of_the_model()
     ensures { DrawsAreThoseOfTheModel }
 {}
 
+/// The streams of delays are apart from those of the matches, and from each other.
+pub fn delays_have_their_own_streams()
+    ensures { DelaysHaveTheirOwnStreams }
+{}
+
+/// A dealer that has given one word a turn makes each turn deliver as the schedule of its match does.
+pub fn turns_follow_their_schedule()
+    ensures { TurnsFollowTheirSchedule }
+{}
+
 /// What the definitions give on a triangle, worked out by hand.
 pub fn worked_draws()
     ensures the_first_strange_pair_is_told { TheFirstStrangePairIsTold }
@@ -37,4 +50,6 @@ pub fn worked_draws()
     ensures words_draw_from_the_pool { WordsDrawFromThePool }
     ensures who_is_held_stays { WhoIsHeldStays }
     ensures nobody_is_drawn_after_the_close { NobodyIsDrawnAfterTheClose }
+    ensures a_delivery_is_of_its_agent { ADeliveryIsOfItsAgent }
+    ensures each_agent_has_its_own_stream { EachAgentHasItsOwnStream }
 {}

@@ -9,13 +9,16 @@ mod held;
 mod laws;
 mod marking;
 mod picks;
+mod turns;
 
 pub use dealers::Dealer;
 pub use draws::{Drawn, draw};
 pub use faults::HeldFault;
 pub use held::Held;
 pub use laws::{
-    draws_are_those_of_the_model, gives_its_stream_in_order, gives_the_word_at_its_place,
-    words_are_those_of_chacha8, worked_draws,
+    delays_have_their_own_streams, draws_are_those_of_the_model, gives_its_stream_in_order,
+    gives_the_word_at_its_place, turns_follow_their_schedule, words_are_those_of_chacha8,
+    worked_draws,
 };
 pub use picks::pick;
+pub use turns::{Waits, deliver, draw_oblivious};

@@ -1,5 +1,6 @@
 -- What each key of the two files may hold: the value that the data stands for, or None if it has another shape.
-use Rattle.std.specs.Prelude.{ℕ, pos, Bool, ◌&&◌, ◌==◌, ◌+◌, ◌∷◌, not, nat_eq, nat_le, if◌then◌else◌, List, []}
+use Rattle.std.specs.Prelude.{ℕ, pos, Bool, true, false, ◌&&◌, ◌==◌, ◌+◌, ◌∷◌, not, nat_eq, nat_le, if◌then◌else◌, List}
+use Rattle.std.specs.Prelude.{[]}
 use Rattle.std.specs.Prelude.{length, codes, Option, Some, None, option_map, option_and_then}
 use Rattle.std.specs.List.{list_all}
 use Rattle.std.specs.Cmp.Lexicographic.{pointwise}
@@ -8,6 +9,7 @@ use Rattle.toml.specs.Data.{Data, string, integer, array, Items, no_items, item,
 use Rattle.bhs_model.specs.declared.limits.TheConstants.{SEED_BYTES}
 use Rattle.hex.specs.Hex.{decode_sized}
 use Rattle.bhs_text.specs.Teams.{is_team}
+use Rattle.bhs_time.specs.declared.delays.TheConstants.{MAX_SCALES}
 use Rattle.bhs_files.specs.declared.limits.TheConstants.{MAX_MATCHES, MAX_NETWORK_NAME, MAX_KEY, MAX_KEYS}
 
 -- a whole number 0 to 65,535
@@ -42,6 +44,22 @@ key = text_where (is_sized MAX_KEY)
 abbrev pub seed : Data → Option (List ℕ)
 seed (string text) = result_ok (decode_sized text SEED_BYTES)
 seed _ = None
+
+-- whether the schedule with this name is the oblivious one
+abbrev pub is_oblivious : Data → Option Bool
+is_oblivious (string text) =
+    if pointwise nat_eq text (codes "oblivious") then Some true
+    else (if pointwise nat_eq text (codes "adaptive") then Some false else None)
+is_oblivious _ = None
+
+-- a whole number of scales, 0 to 24
+abbrev pub delay_scales : Data → Option ℕ
+delay_scales found = option_and_then (λ scales. if nat_le scales MAX_SCALES then Some scales else None) (number found)
+
+-- a whole number from 1 to 65,535, and not below the number of scales
+abbrev pub delay_odds : (scales : ℕ) → Data → Option ℕ
+delay_odds scales found =
+    option_and_then (λ odds. if nat_le 1 odds && nat_le scales odds then Some odds else None) (number found)
 
 -- the node of the black hole, or no node where the text is `none`
 abbrev pub hole : Data → Option (Option ℕ)

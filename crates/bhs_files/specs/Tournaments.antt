@@ -1,17 +1,23 @@
--- What a tournament file says: the seed and the matches, or its first fault.
-use Rattle.std.specs.Prelude.{ℕ, ◌+◌, ◌==◌, if◌then◌else◌, ◌∷◌, List, [], map, Option, Some, None, option_to_list}
+-- What a tournament file says: the seed, the schedule and the matches, or its first fault.
+use Rattle.std.specs.Prelude.{ℕ, ◌+◌, ◌==◌, if◌then◌else◌, nat_lt, Bool, false, ◌∷◌, List, [], map, Option, Some, None}
+use Rattle.std.specs.Prelude.{option_to_list}
 use Rattle.std.specs.Prelude.{Result, Ok}
 use Rattle.toml.specs.Data.{Members}
 use Rattle.toml.specs.Parse.{parse_document}
 use Rattle.bhs_files.specs.declared.faults.FileFault.{FileFault}
 use Rattle.bhs_files.specs.declared.file_keys.FileKey.TheVariants.{Seed, Match, Team, Network, Home, Hole, Holes, Dark}
 use Rattle.bhs_files.specs.declared.file_keys.FileKey.TheVariants.{Quota, Board, Keys, Held}
+use Rattle.bhs_files.specs.declared.file_keys.FileKey.TheVariants.{Schedule, DelayScales, DelayOdds}
 use Rattle.bhs_files.specs.declared.fixtures.Fixture.{Fixture}
 use Rattle.bhs_files.specs.declared.tournaments.Tournament.{Tournament}
 use Rattle.bhs_files.specs.Reading.{◌>>=◌, required, optional}
 use Rattle.bhs_files.specs.declared.limits.TheConstants.{TOURNAMENT_VERSION}
 use Rattle.bhs_files.specs.Documents.{Document, document_in}
 use Rattle.bhs_files.specs.Shapes.{number, team, network_name, seed, hole, holes, ends, matches, keys}
+use Rattle.bhs_files.specs.Shapes.{is_oblivious, delay_scales, delay_odds}
+use Rattle.bhs_time.specs.Schedules.{DelayLaw}
+use Rattle.bhs_time.specs.declared.kinds.ScheduleKind.{ScheduleKind}
+use Rattle.bhs_time.specs.declared.kinds.ScheduleKind.TheVariants.{Adaptive, Oblivious}
 
 -- a match of the file, without where it lies in memory
 pub record Planned : Type 0 where
@@ -28,6 +34,7 @@ pub record Planned : Type 0 where
 -- a tournament, without where it lies in memory
 pub record Plan : Type 0 where
   pub seed : List ℕ
+  pub schedule : ScheduleKind
   pub matches : List Planned
 
 abbrev pub planned : Fixture → Planned
@@ -44,7 +51,7 @@ planned f = record {
 }
 
 abbrev pub plan : Tournament → Plan
-plan t = record { seed = t.seed; matches = map planned t.matches.items }
+plan t = record { seed = t.seed; schedule = t.schedule; matches = map planned t.matches.items }
 
 -- the black holes and the dark links of a match
 abbrev pub Dangers : Type 0
@@ -89,12 +96,30 @@ matches_in version game (members ∷ rest) = do
   others ← matches_in version (game + 1) rest
   Ok (first ∷ others)
 
+-- the law of delays of an oblivious schedule
+abbrev pub delays_in : Members → Result DelayLaw FileFault
+delays_in members =
+    required None DelayScales delay_scales members >>= λ scales.
+    required None DelayOdds (delay_odds scales) members >>= λ odds.
+    Ok (record { scales = scales; odds = odds })
+
+abbrev pub schedule_if : (is_oblivious : Bool) → Members → Result ScheduleKind FileFault
+schedule_if is_oblivious members =
+    if is_oblivious then (delays_in members >>= λ law. Ok (Oblivious law)) else Ok Adaptive
+
+-- The schedule: up to version 2 of the file it is the adaptive one, and so it is where the file names none.
+abbrev pub schedule_in : (version : ℕ) → Members → Result ScheduleKind FileFault
+schedule_in version members =
+    if nat_lt version 3 then Ok Adaptive
+    else (optional None Schedule is_oblivious false members >>= λ is_oblivious. schedule_if is_oblivious members)
+
 unfoldable pub plan_in : Document → Result Plan FileFault
 plan_in document = do
   seed ← required None Seed seed document.1
+  schedule ← schedule_in document.0 document.1
   tables ← required None Match matches document.1
   planned ← matches_in document.0 0 tables
-  Ok (record { seed = seed; matches = planned })
+  Ok (record { seed = seed; schedule = schedule; matches = planned })
 
 unfoldable pub tournament_in : List ℕ → Result Plan FileFault
 tournament_in text = document_in TOURNAMENT_VERSION (parse_document text) >>= plan_in

@@ -2,12 +2,16 @@ use Rattle.std.specs.Prelude.{ℕ, List, codes}
 use Rattle.bhs_files.specs.declared.file_keys.FileKey.{FileKey}
 use Rattle.bhs_files.specs.declared.file_keys.FileKey.TheVariants.{Nodes, Links, Seed, Match, Team, Network, Home, Hole}
 use Rattle.bhs_files.specs.declared.file_keys.FileKey.TheVariants.{Holes, Dark, Quota, Board, Keys, Held}
+use Rattle.bhs_files.specs.declared.file_keys.FileKey.TheVariants.{Schedule, DelayScales, DelayOdds}
 
 -- a key as the files spell it
 abbrev pub word : FileKey → List ℕ
 word Nodes = codes "nodes"
 word Links = codes "links"
 word Seed = codes "seed"
+word Schedule = codes "schedule"
+word DelayScales = codes "delay_scales"
+word DelayOdds = codes "delay_odds"
 word Match = codes "match"
 word Team = codes "team"
 word Network = codes "network"

@@ -3,8 +3,8 @@
 /// The version of network files.
 pub const NETWORK_VERSION: u16 = 1;
 
-/// The latest version of tournament files. Version 1 is read as well.
-pub const TOURNAMENT_VERSION: u16 = 2;
+/// The latest version of tournament files. Versions 1 and 2 are read as well.
+pub const TOURNAMENT_VERSION: u16 = 3;
 
 /// The most matches of a tournament. The least is 1.
 pub const MAX_MATCHES: usize = 64;

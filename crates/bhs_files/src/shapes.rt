@@ -5,11 +5,13 @@ ghost use Rattle.toml.specs.Data.{as_table};
 ghost use Rattle.toml.specs.View.{view, items_view, table_view};
 ghost use Rattle.bhs_files.specs.Shapes.{number, is_sized, is_network_name, team};
 ghost use Rattle.bhs_files.specs.Shapes.{network_name, key, seed, hole, holes, pair, each, ends, keys, matches};
+ghost use Rattle.bhs_files.specs.Shapes.{is_oblivious, delay_scales, delay_odds};
 
 use crate::limits::{MAX_KEY, MAX_KEYS, MAX_MATCHES, MAX_NETWORK_NAME};
 use bhs_model::{SEED_BYTES, Text};
 use bhs_net::Memory;
 use bhs_text::is_team;
+use bhs_time::MAX_SCALES;
 use hex::FromHex;
 use std::alloc::Global;
 use toml::{Table, Value};
@@ -69,6 +71,37 @@ pub fn seed(value: &Value) -> Option<[u8; SEED_BYTES]>
     match value.as_str() {
         Some(digits) => <[u8; SEED_BYTES] as FromHex>::from_hex(digits).ok(),
         None => None,
+    }
+}
+
+/// Whether the schedule with this name is the oblivious one.
+pub fn is_oblivious(value: &Value) -> Option<bool>
+    ensures { result ≡ is_oblivious (view value.now) }
+{
+    match value.as_str() {
+        Some(text) if text == "oblivious" => Some(true),
+        Some(text) if text == "adaptive" => Some(false),
+        _ => None,
+    }
+}
+
+pub fn delay_scales(value: &Value) -> Option<u16>
+    ensures shape { result ≡ delay_scales (view value.now) }
+    ensures few { IfSome result (λ scales. scales ≤ MAX_SCALES) }
+{
+    match number(value) {
+        Some(scales) if scales <= MAX_SCALES => Some(scales),
+        _ => None,
+    }
+}
+
+pub fn delay_odds(scales: u16, value: &Value) -> Option<u16>
+    ensures shape { result ≡ delay_odds scales (view value.now) }
+    ensures some { IfSome result (λ odds. (1 ≤ odds) × (scales ≤ odds)) }
+{
+    match number(value) {
+        Some(odds) if 1 <= odds && scales <= odds => Some(odds),
+        _ => None,
     }
 }
 

@@ -1,13 +1,13 @@
 //! What a table says at each key, or the fault of the key.
 
-ghost use Rattle.std.specs.Prelude.{◌≡◌, ◌≤◌, Some, None, IfOk, [], option_map};
+ghost use Rattle.std.specs.Prelude.{◌≡◌, ◌≤◌, false, Some, None, IfOk, [], option_map};
 ghost use Rattle.std.specs.Prelude.{option_to_list, vec_len, map};
 ghost use Rattle.toml.specs.Data.{get_member};
 ghost use Rattle.toml.specs.View.{view, table_view};
 ghost use Rattle.bhs_files.specs.Words.{word};
 ghost use Rattle.bhs_files.specs.Reading.{Gives, GivesUnlessMemory, present, shaped, required, optional};
 ghost use Rattle.bhs_files.specs.Shapes as shapes;
-ghost use Rattle.bhs_files.specs.Tournaments.{dangers_in};
+ghost use Rattle.bhs_files.specs.Tournaments.{dangers_in, delays_in, schedule_in, schedule_if};
 ghost use Rattle.bhs_files.specs.declared.file_keys.FileKey.TheVariants as keys;
 
 use crate::faults::FileFault;
@@ -16,6 +16,7 @@ use crate::limits::{MAX_KEYS, MAX_MATCHES};
 use crate::shapes;
 use bhs_model::{DarkLinks, Holes, SEED_BYTES, Text};
 use bhs_net::Memory;
+use bhs_time::{Delays, ScheduleKind};
 use std::alloc::Global;
 use toml::{Table, Value};
 
@@ -58,6 +59,36 @@ pub fn seed(table: &Table) -> Result<[u8; SEED_BYTES], FileFault>
         FileKey::Seed,
         shapes::seed(present(None, FileKey::Seed, table)?),
     )
+}
+
+fn delays(table: &Table) -> Result<Delays, FileFault>
+    ensures { result ≡ delays_in (table_view table.now) }
+{
+    let value = present(None, FileKey::DelayScales, table)?;
+    let scales = shaped(None, FileKey::DelayScales, shapes::delay_scales(value))?;
+    let value = present(None, FileKey::DelayOdds, table)?;
+    let odds = shaped(None, FileKey::DelayOdds, shapes::delay_odds(scales, value))?;
+    Ok(Delays::new(scales, odds))
+}
+
+// Whether the table names the oblivious schedule. It may name none.
+fn is_oblivious(table: &Table) -> Result<bool, FileFault>
+    ensures { result ≡ optional None keys.Schedule shapes.is_oblivious false (table_view table.now) }
+{
+    match lookup(table, FileKey::Schedule.word()) {
+        Some(value) => shaped(None, FileKey::Schedule, shapes::is_oblivious(value)),
+        None => Ok(false),
+    }
+}
+
+/// The schedule of a tournament, in a file of this version.
+pub fn schedule(version: u16, table: &Table) -> Result<ScheduleKind, FileFault>
+    ensures { result ≡ schedule_in version (table_view table.now) }
+{
+    if version < 3 || !is_oblivious(table)? {
+        return Ok(ScheduleKind::Adaptive);
+    }
+    Ok(ScheduleKind::Oblivious(delays(table)?))
 }
 
 pub fn matches(alloc: Global, table: &Table) -> Result<Vec<&Table>, FileFault>

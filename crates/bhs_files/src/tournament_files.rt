@@ -68,15 +68,18 @@ fn tournament(alloc: Global, version: u16, table: &Table) -> Result<Tournament, 
     ensures { GivesUnlessMemory plan result (plan_in (version, table_view table.now)) }
 {
     let seed = tables::seed(table)?;
+    let schedule = tables::schedule(version, table)?;
     let matches = tables::matches(alloc, table)?;
     Ok(Tournament {
         seed,
+        schedule,
         matches: fixtures(alloc, version, &matches)?,
     })
 }
 
-/// Reads a tournament file of version 1 or 2. The first fault is told: the text is no TOML document, then its version,
-/// then `seed` and `match`, and then match by match `team`, `network`, `home`, `holes` and `dark` (`hole` in version
+/// Reads a tournament file of version 1, 2 or 3. The first fault is told: the text is no TOML document, then its
+/// version, then `seed`, in version 3 `schedule`, and for the oblivious one `delay_scales` and `delay_odds`, then
+/// `match`, and then match by match `team`, `network`, `home`, `holes` and `dark` (`hole` in version
 /// 1), `quota`, `board`, `keys` and `held`, whatever the order in the file. Other keys are ignored.
 #[tactic(auto, unfolding(crate::specs::Tournaments::tournament_in))]
 pub fn read_tournament(alloc: Global, text: &str) -> Result<Tournament, FileFault>

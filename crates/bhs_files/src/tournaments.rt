@@ -7,6 +7,7 @@ ghost use Rattle.bhs_files.specs.Names.{first_seen, is_among};
 use crate::fixtures::Fixture;
 use bhs_model::SEED_BYTES;
 use bhs_net::Memory;
+use bhs_time::ScheduleKind;
 use indexmap::IndexSet;
 use std::alloc::Global;
 
@@ -15,6 +16,8 @@ use std::alloc::Global;
 pub struct Tournament {
     /// From what the deliveries are drawn.
     pub seed: [u8; SEED_BYTES],
+    /// How its turns choose whom they deliver.
+    pub schedule: ScheduleKind,
     /// The matches, by number.
     pub matches: Vec<Fixture>,
     ghost few_matches: { vec_len matches ≤ MAX_MATCHES },

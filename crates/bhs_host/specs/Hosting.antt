@@ -2,6 +2,7 @@
 use Rattle.std.specs.Prelude.{ℕ, ◌≡◌, ◌+◌, ◌-◌, ◌^◌, min, List, [], ◌∷◌, string_bytes}
 use Rattle.rand_chacha.specs.ChaCha.{ChaCha}
 use Rattle.bhs_match.specs.Matches.{Play}
+use Rattle.bhs_time.specs.declared.kinds.ScheduleKind.{ScheduleKind}
 use Rattle.bhs_lineup.specs.declared.lineups.Ready.{Ready}
 use Rattle.bhs_lock.specs.Cells.{Given}
 use Rattle.bhs_deal.specs.Dealer.{dealer_at}
@@ -14,15 +15,21 @@ use Rattle.bhs_standings.specs.Tables.{table_of}
 abbrev pub number_at : (place : ℕ) → ℕ
 number_at place = min place (2 ^ 32 - 1)
 
--- what the cell of the match at this place is given: its number, its network, its setup and its held links
-abbrev pub given_of : (place : ℕ) → Ready → Given
-given_of place ready =
-    record { game = number_at place; net = ready.game.net; setup = ready.game.setup; held = ready.held }
+-- what the cell of the match at this place is given: its number, its network, its setup, its held links, and the
+-- schedule of the tournament
+abbrev pub given_of : ScheduleKind → (place : ℕ) → Ready → Given
+given_of schedule place ready = record {
+  game = number_at place;
+  net = ready.game.net;
+  setup = ready.game.setup;
+  held = ready.held;
+  schedule = schedule;
+}
 
 -- what the cells of matches are given of which the first stands at this place
-abbrev pub givens_of : (place : ℕ) → List Ready → List Given
-givens_of place [] = []
-givens_of place (ready ∷ others) = given_of place ready ∷ givens_of (place + 1) others
+abbrev pub givens_of : ScheduleKind → (place : ℕ) → List Ready → List Given
+givens_of schedule place [] = []
+givens_of schedule place (ready ∷ others) = given_of schedule place ready ∷ givens_of schedule (place + 1) others
 
 -- the dealers of matches of which the first has this number: each at the start of the stream of its match's number
 abbrev pub dealers_of : (seed : List ℕ) (game : ℕ) → List Ready → List ChaCha

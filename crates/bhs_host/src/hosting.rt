@@ -11,6 +11,7 @@ use bhs_lock::Cell;
 use bhs_model::{SEED_BYTES, Text};
 use bhs_net::Memory;
 use bhs_server::Contest;
+use bhs_time::ScheduleKind;
 use std::alloc::Global;
 
 /// A contest that can be served, and the teams of its matches.
@@ -22,16 +23,22 @@ pub struct Hosted {
 }
 
 /// The matches of a tournament under their locks, each with the dealer that has the stream of its number. Nothing has
-/// happened in them. Draws in a match let nobody arrive over its held links.
+/// happened in them. Their turns are of the tournament's schedule, and let nobody arrive over held links.
 pub fn contest_of(alloc: Global, lineup: Lineup) -> Result<Hosted, Memory>
     requires { AreFresh lineup.ready.items }
     ensures teams { IfOk result (λ hosted. hosted.teams.items ≡ map (λ ready. ready.team) lineup.ready.items) }
-    ensures cells { IfOk result (λ hosted. hosted.contest.cells.items ≡ givens_of 0 lineup.ready.items) }
+    ensures cells { IfOk result (λ hosted. hosted.contest.cells.items
+        ≡ givens_of lineup.schedule 0 lineup.ready.items) }
     ensures dealers { IfOk result (λ hosted. hosted.contest.dealers.items
         ≡ dealers_of lineup.seed 0 lineup.ready.items) }
     ensures keys { IfOk result (λ hosted. hosted.contest.keys ≡ lineup.keys) }
 {
-    let Lineup { seed, ready, keys } = lineup;
+    let Lineup {
+        seed,
+        schedule,
+        ready,
+        keys,
+    } = lineup;
     let (teams, cells, dealers) = rooms(alloc, ready.len())?;
     let mut hosted = Hosted {
         teams,
@@ -42,7 +49,7 @@ pub fn contest_of(alloc: Global, lineup: Lineup) -> Result<Hosted, Memory>
         },
     };
     for one in ready {
-        hosted.add(alloc, seed, one)?;
+        hosted.add(alloc, seed, &schedule, one)?;
     }
     Ok(hosted)
 }
@@ -59,18 +66,24 @@ fn rooms(alloc: Global, games: usize) -> Result<(Vec<Text>, Vec<Cell>, Vec<Deale
 
 impl Hosted {
     // Puts a match under its lock, with the dealer that has the stream of its number.
-    fn add(&mut self, alloc: Global, seed: [u8; SEED_BYTES], ready: Ready) -> Result<(), Memory>
+    fn add(
+        &mut self,
+        alloc: Global,
+        seed: [u8; SEED_BYTES],
+        schedule: &ScheduleKind,
+        ready: Ready,
+    ) -> Result<(), Memory>
         requires { ready.game.log ≡ [] }
         ensures teams { IfOk result (λ _. self.new.teams.items ≡ self.old.teams.items ++ ready.team ∷ []) }
         ensures cells { IfOk result (λ _. self.new.contest.cells.items
-            ≡ self.old.contest.cells.items ++ given_of (length self.old.contest.cells.items) ready ∷ []) }
+            ≡ self.old.contest.cells.items ++ given_of schedule.now (length self.old.contest.cells.items) ready ∷ []) }
         ensures dealers { IfOk result (λ _. self.new.contest.dealers.items ≡ self.old.contest.dealers.items
             ++ dealer_at seed (length self.old.contest.dealers.items) 0 ∷ []) }
         ensures keys { IfOk result (λ _. self.new.contest.keys ≡ self.old.contest.keys) }
     {
         let Ready { team, game, held } = ready;
         let number = number_at(self.contest.cells.len());
-        let cell = Cell::new(alloc, number, game, held)?;
+        let cell = Cell::new(alloc, number, game, held, *schedule)?;
         self.contest.cells.push(cell)?;
         self.teams.push(team)?;
         let stream = self.contest.dealers.len() as u64;

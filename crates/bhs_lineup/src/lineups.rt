@@ -4,6 +4,7 @@ use crate::key_table::Keys;
 use bhs_deal::Held;
 use bhs_match::Match;
 use bhs_model::{SEED_BYTES, Text};
+use bhs_time::ScheduleKind;
 
 /// A match that can be played.
 #[derive(Debug, Drop)]
@@ -21,6 +22,8 @@ pub struct Ready {
 pub struct Lineup {
     /// From what the deliveries are drawn.
     pub seed: [u8; SEED_BYTES],
+    /// How the turns choose whom they deliver.
+    pub schedule: ScheduleKind,
     /// The matches, by number.
     pub ready: Vec<Ready>,
     /// Which agent of which match each key lets in.

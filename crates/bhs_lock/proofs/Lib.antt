@@ -16,6 +16,7 @@ pub mod EndLemmas
 mod WorldLemmas
 pub mod PlaceLemmas
 mod KeptLemmas
+pub mod HallTimeLemmas
 mod FoundLemmas
 pub mod PastLogLemmas
 pub mod LoopLemmas

@@ -25,7 +25,7 @@ use Rattle.bhs_lock.specs.Passes.{Passed}
 use Rattle.bhs_lock.specs.declared.model.Tally.{Tally}
 use Rattle.bhs_lock.specs.Tallies.{IsLegalHistory}
 use Rattle.bhs_lock.specs.Settling.{IsOfWorld}
-use Rattle.bhs_lock.specs.Cells.{Given, GainsArrival, IsOverFor, IsNews}
+use Rattle.bhs_lock.specs.Cells.{Given, GainsArrival, IsNews}
 use Rattle.bhs_lock.specs.Arrivals.{arrival_mark, arrival_of, receipt_at, is_here, IsGivenIf, IsGiven}
 
 -- an answer, if there is one, says where the agent is

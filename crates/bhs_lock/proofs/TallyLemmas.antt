@@ -90,6 +90,11 @@ is_some_if : (b : Bool) (n : ℕ) (place : Option ℕ) → place ≡ (if b then 
 is_some_if true n place e = ap (λ (p : Option ℕ). is_some p) e
 is_some_if false n place e = ap (λ (p : Option ℕ). is_some p) e
 
+-- a command changes no setup
+pub agents_told : {play play' : Play} {pass pass' : Passed} {command : Command} {place : Option ℕ} {mark : Mark}
+    {said : Reply} → IsTold play pass command place mark said play' pass' → play'.setup.agents ≡ play.setup.agents
+agents_told is = ap (λ (one : Play). one.setup.agents) is.grown
+
 -- a command that is not heard leaves the match
 pub unheard_same : (play play' : Play) (pass pass' : Passed) (command : Command) (place : Option ℕ) (mark : Mark)
     (said : Reply) →

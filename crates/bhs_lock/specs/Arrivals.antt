@@ -6,7 +6,7 @@ use Rattle.bhs_model.specs.declared.events.Event.TheVariants.{Deliver}
 use Rattle.bhs_model.specs.declared.marks.Mark.{Mark}
 use Rattle.bhs_model.specs.declared.marks.Kept.{Kept}
 use Rattle.bhs_model.specs.declared.replies.Reply.{Reply}
-use Rattle.bhs_model.specs.declared.replies.Reply.TheVariants.{Here, Over}
+use Rattle.bhs_model.specs.declared.replies.Reply.TheVariants.{Here}
 use Rattle.bhs_model.specs.Marks.{read}
 use Rattle.bhs_match.specs.Matches.{Play, arrivals}
 use Rattle.bhs_lock.specs.declared.model.Receipt.{Receipt}

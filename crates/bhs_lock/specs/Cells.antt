@@ -4,6 +4,7 @@ use Rattle.bhs_net.specs.Network.{Network}
 use Rattle.bhs_model.specs.declared.setups.Setup.{Setup}
 use Rattle.bhs_model.specs.declared.replies.Reply.{Reply}
 use Rattle.bhs_model.specs.declared.replies.Reply.TheVariants.{Here, Over}
+use Rattle.bhs_time.specs.declared.kinds.ScheduleKind.{ScheduleKind}
 use Rattle.bhs_match.specs.Matches.{Play, state_of}
 use Rattle.bhs_lock.specs.declared.model.Tally.{Tally}
 use Rattle.bhs_lock.specs.Tallies.{IsLegalHistory}
@@ -12,12 +13,13 @@ use Rattle.bhs_lock.specs.Arrivals.{arrival_of}
 use Rattle.bhs_lock.specs.Deciding.{WasSeen}
 
 -- What a cell was given: the number of its match, the network and the setup, and the links over which no turn lets an
--- agent arrive, each as the node and the port by which it is left.
+-- agent arrive, each as the node and the port by which it is left; and how turns choose whom they deliver.
 pub record Given : Type 0 where
   pub game : ℕ
   pub net : Network
   pub setup : Setup
   pub held : List (ℕ × ℕ)
+  pub schedule : ScheduleKind
 
 -- the pass is of no agent of the cell's match
 abbrev pub IsOfOtherMatch : Given → Passed → Type 0

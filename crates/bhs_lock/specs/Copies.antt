@@ -1,5 +1,5 @@
 -- What is copied out of a log.
-use Rattle.std.specs.Prelude.{ℕ, ◌≡◌, Option, List, map, take, drop}
+use Rattle.std.specs.Prelude.{ℕ, ◌≡◌, List, map, take, drop}
 use Rattle.bhs_model.specs.declared.marks.Kept.{Kept}
 use Rattle.bhs_model.specs.Marks.{read_if}
 use Rattle.bhs_match.specs.Matches.{Play}

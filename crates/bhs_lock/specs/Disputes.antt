@@ -80,7 +80,13 @@ IsDispute account NotClosed = IsOpen account
 -- what parts and passes are settled by
 abbrev pub account_of : Parts → List Passed → Account
 account_of parts passes = record {
-  given = record { game = parts.game; net = parts.net; setup = parts.setup; held = parts.held };
+  given = record {
+    game = parts.game;
+    net = parts.net;
+    setup = parts.setup;
+    held = parts.held;
+    schedule = parts.schedule;
+  };
   play = parts.hall.play;
   left = parts.left.items;
   passes = passes;

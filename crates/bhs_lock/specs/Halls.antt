@@ -1,6 +1,6 @@
 -- What stands under the lock, and what a command makes of it and of a pass.
 use Rattle.std.specs.Prelude.{ℕ, ◌≡◌, Bool, true, false, ◌&&◌, not, Option, Some, None, List, ◌==◌, nat_lt}
-use Rattle.std.specs.Prelude.{if◌then◌else◌, length, slice_get, ◌-◌, replicate}
+use Rattle.std.specs.Prelude.{if◌then◌else◌, length, slice_get, ◌-◌, replicate, is_some}
 use Rattle.bhs_model.specs.declared.commands.Command.{Command}
 use Rattle.bhs_model.specs.declared.events.Event.TheVariants.{Tell}
 use Rattle.bhs_model.specs.declared.marks.Mark.{Mark}
@@ -9,25 +9,32 @@ use Rattle.bhs_model.specs.declared.replies.Reply.{Reply}
 use Rattle.bhs_model.specs.declared.replies.Reply.TheVariants as replies
 use Rattle.bhs_model.specs.declared.replies.Why.TheVariants.{Agent}
 use Rattle.bhs_model.specs.Marks.{read}
-use Rattle.bhs_model.specs.Runs.{reply}
+use Rattle.bhs_model.specs.Runs.{reply, is_bound}
 use Rattle.bhs_world.specs.Tables.{keeps_next, log_after, is_of_board_if}
 use Rattle.bhs_match.specs.Matches.{Play, world_in, state_of, shown_at}
 use Rattle.bhs_lock.specs.declared.model.Answer.{Answer}
 use Rattle.bhs_lock.specs.declared.model.Receipt.{Receipt}
 use Rattle.bhs_lock.specs.declared.model.Spare.{Spare}
 use Rattle.bhs_lock.specs.declared.model.Tally.{Tally}
+use Rattle.bhs_lock.specs.Timing.{Timed, at_first, told_at}
 use Rattle.bhs_lock.specs.Tallies.{tally_of, nothing}
 use Rattle.bhs_lock.specs.Passes.{Passed, tally_in, kept_command, gained}
 
--- the number of the match, the match, and of each agent its two numbers
+-- the number of the match, the match, of each agent its two numbers, and the turns
 pub record Housed : Type 0 where
   pub game : ℕ
   pub play : Play
   pub tallies : List Tally
+  pub times : Timed
 
 -- what stands under the lock at first
 abbrev pub empty_hall : (game : ℕ) → Play → Housed
-empty_hall game play = record { game = game; play = play; tallies = replicate play.setup.agents nothing }
+empty_hall game play = record {
+  game = game;
+  play = play;
+  tallies = replicate play.setup.agents nothing;
+  times = at_first play.setup.agents;
+}
 
 -- whether two truth values are the same
 abbrev pub same_bool : (a b : Bool) → Bool
@@ -91,6 +98,8 @@ pub record IsHeardBy (hall : Housed) (pass : Passed) (command : Command) (answer
   pub mark : Mark
   pub told : IsTold hall.play pass command answer.place mark answer.reply hall'.play pass'
   pub game : hall'.game ≡ hall.game
+  pub times : hall'.times ≡ (if is_some answer.place
+      then told_at (is_bound ((state_of hall.play).position pass.agent)) pass.agent hall.times else hall.times)
 
 -- a pass that does not agree is no agent's, and nothing changes
 pub record IsStranger (hall : Housed) (pass : Passed) (answer : Answer) (hall' : Housed) (pass' : Passed) : Type 0 where

@@ -2,7 +2,9 @@ pub mod KeptCommand
 pub mod Tallies
 pub mod Fitting
 pub mod Passes
+pub mod Timing
 pub mod Halls
+pub mod Timely
 pub mod Recording
 pub mod Comparing
 pub mod Arrivals

@@ -5,6 +5,7 @@ ghost use Rattle.bhs_match.specs.Decided.{AreAllDone, HaveAllEntered};
 ghost use Rattle.bhs_deal.specs.Dealer.{moved_on};
 ghost use Rattle.bhs_lock.specs.Recording.{IsSubmitted};
 ghost use Rattle.bhs_lock.specs.Tallies.{nothing};
+ghost use Rattle.bhs_lock.specs.Timing.{at_first};
 ghost use Rattle.bhs_lock.specs.Unclaimed.{IsFresh};
 ghost use Rattle.bhs_lock.specs.Cells.{IsNews};
 ghost use Rattle.bhs_lock.specs.Copies.{AreCopies};
@@ -18,11 +19,13 @@ use crate::model::{Answer, Tally};
 use crate::networks::is_of_world;
 use crate::parts::Parts;
 use crate::pass::Pass;
+use crate::times::Times;
 use crate::unclaimed::Unclaimed;
 use bhs_deal::{Dealer, Drawn, Held};
 use bhs_match::Match;
 use bhs_model::{Command, Reply, Setup};
 use bhs_net::{Memory, Net};
+use bhs_time::ScheduleKind;
 use std::alloc::Global;
 use std::marker::Model;
 use std::sync::{Condvar, Mutex, Wait};
@@ -37,6 +40,7 @@ pub struct Cell {
     /// One for each agent: it is told of the agent's arrivals, and of the close.
     news: Vec<Condvar>,
     held: Held,
+    schedule: ScheduleKind,
     net: Net,
     setup: Setup,
 }
@@ -47,7 +51,13 @@ impl Model for Cell {
 
     ghost Value = { Given };
 
-    ghost view = { λ cell. record { game = cell.game; net = cell.net; setup = cell.setup; held = cell.held } };
+    ghost view = { λ cell. record {
+      game = cell.game;
+      net = cell.net;
+      setup = cell.setup;
+      held = cell.held;
+      schedule = cell.schedule;
+    } };
 
     // Each agent has its condition variable.
     ghost invariant = { λ cell. vec_len cell.news ≡ cell.setup.agents };
@@ -56,12 +66,18 @@ impl Model for Cell {
 impl Cell {
     ghost use Rattle.bhs_lock.specs.Cells.{Given};
 
-    /// The cell of a match with an empty log, whose draws let nobody arrive over the held links. It keeps a copy of the
-    /// network and the setup. All memory that the match and its passes need is taken here.
-    pub fn new(alloc: Global, game: u32, play: Match, held: Held) -> Result<Cell, Memory>
+    /// The cell of a match with an empty log, whose turns are of this schedule and let nobody arrive over the held links.
+    /// It keeps a copy of the network and the setup. All memory that the match and its passes need is taken here.
+    pub fn new(
+        alloc: Global,
+        game: u32,
+        play: Match,
+        held: Held,
+        schedule: ScheduleKind,
+    ) -> Result<Cell, Memory>
         requires { play.log ≡ [] }
         ensures { IfOk result (λ cell. cell
-            ≡ record { game = game; net = play.net; setup = play.setup; held = held }) }
+            ≡ record { game = game; net = play.net; setup = play.setup; held = held; schedule = schedule }) }
     {
         let Frame {
             net,
@@ -69,13 +85,15 @@ impl Cell {
             news,
             unclaimed,
             tallies,
+            times,
         } = Frame::new(alloc, game, &play)?;
         Ok(Cell {
             game,
-            hall: Mutex::new(Hall::alone(game, play, tallies)),
+            hall: Mutex::new(Hall::alone(game, play, tallies, times)),
             unclaimed: Mutex::new(unclaimed),
             news,
             held,
+            schedule,
             net,
             setup,
         })
@@ -169,12 +187,12 @@ impl Cell {
         is_of_world(hall.state(), &self.net, &self.setup)
     }
 
-    /// Draws with the dealer's next word: plays at most one delivery, and wakes the agent that it delivered. Takes no
-    /// memory.
+    /// Takes a turn with the dealer's next word: plays at most one delivery, and wakes the agent that it delivered.
+    /// Takes no memory.
     pub fn turn<R: Wait>(&self, rt: &R, dealer: &mut Dealer) -> Drawn
         ensures { dealer.new ≡ moved_on dealer.old }
     {
-        let drawn = self.hall.lock(rt).turn(&self.held, dealer);
+        let drawn = self.hall.lock(rt).turn(&self.held, self.schedule, dealer);
         if let Drawn::Delivered { agent } = drawn {
             if let Some(bell) = self.news.get(usize::from(agent)) {
                 bell.notify_all();
@@ -225,7 +243,7 @@ impl Cell {
     /// The parts of a cell that no thread shares any more.
     pub fn into_parts(self) -> Parts
         ensures { (result.game ≡ self.game) × (result.net ≡ self.net) × (result.setup ≡ self.setup)
-            × (result.held ≡ self.held) }
+            × (result.held ≡ self.held) × (result.schedule ≡ self.schedule) }
     {
         let Cell {
             game,
@@ -233,6 +251,7 @@ impl Cell {
             unclaimed,
             news: _,
             held,
+            schedule,
             net,
             setup,
         } = self;
@@ -243,6 +262,7 @@ impl Cell {
             net,
             setup,
             held,
+            schedule,
         }
     }
 }
@@ -254,6 +274,7 @@ struct Frame {
     news: Vec<Condvar>,
     unclaimed: Unclaimed,
     tallies: Vec<Tally>,
+    times: Times,
 }
 
 impl Frame {
@@ -262,10 +283,12 @@ impl Frame {
         ensures net { IfOk result (λ frame. frame.net ≡ play.now.net) }
         ensures setup { IfOk result (λ frame. frame.setup ≡ play.now.setup) }
         ensures tallies { IfOk result (λ frame. frame.tallies.items ≡ replicate play.now.setup.agents nothing) }
+        ensures times { IfOk result (λ frame. frame.times ≡ at_first play.now.setup.agents) }
         ensures news { IfOk result (λ frame. vec_len frame.news ≡ play.now.setup.agents) }
     {
         let agents = play.setup().agents;
         let tallies = unheard(alloc, agents)?;
+        let times = Times::new(alloc, agents)?;
         let news = bells(alloc, agents)?;
         let setup = play.setup().try_clone()?;
         let net = play.net().try_clone(alloc)?;
@@ -275,6 +298,7 @@ impl Frame {
             setup,
             news,
             tallies,
+            times,
         })
     }
 }

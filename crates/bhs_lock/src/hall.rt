@@ -6,20 +6,22 @@ ghost use Rattle.bhs_lock.specs.Tallies.{IsLegalHistory, nothing};
 ghost use Rattle.bhs_lock.specs.Recording.{IsSubmitted};
 ghost use Rattle.bhs_lock.specs.Passes.{passes_of};
 ghost use Rattle.bhs_lock.specs.Arrivals.{is_here, IsGiven};
-ghost use Rattle.bhs_model.specs.Draws.{draw};
 ghost use Rattle.bhs_match.specs.Matches.{state_of};
 ghost use Rattle.bhs_match.specs.Games.{IsPlayed};
 ghost use Rattle.bhs_match.specs.declared.answers.Answer.{Answer as MatchAnswer};
-ghost use Rattle.bhs_deal.specs.Dealer.{moved_on, next_word};
+ghost use Rattle.bhs_deal.specs.Dealer.{moved_on};
 ghost use Rattle.bhs_deal.specs.Links.{held_in};
-ghost use Rattle.bhs_deal.specs.Drawing.{drawn, IsPlayedIf};
+ghost use Rattle.bhs_deal.specs.Drawing.{IsPlayedIf};
+ghost use Rattle.bhs_lock.specs.Timing.{at_first, turned, arrived_by, event_of_turn, drawn_in_turn};
 
 use crate::model::{Answer, Receipt, Tally};
 use crate::pass::Pass;
-use bhs_deal::{Dealer, Drawn, Held, draw};
+use crate::times::{Times, arrived, deliver_by};
+use bhs_deal::{Dealer, Drawn, Held};
 use bhs_match::{Match, Sealed};
 use bhs_model::{Command, Event, Reply, Setup, Why};
 use bhs_net::Memory;
+use bhs_time::ScheduleKind;
 use std::alloc::Global;
 use std::marker::Model;
 
@@ -29,6 +31,7 @@ pub struct Hall {
     game: u32,
     play: Match,
     tallies: Vec<Tally>,
+    times: Times,
 }
 
 impl Model for Hall {
@@ -38,9 +41,17 @@ impl Model for Hall {
 
     ghost Value = { Housed };
 
-    ghost view = { λ hall. record { game = hall.game; play = hall.play; tallies = hall.tallies.items } };
+    ghost view = { λ hall. record {
+      game = hall.game;
+      play = hall.play;
+      tallies = hall.tallies.items;
+      times = hall.times;
+    } };
 
-    ghost invariant = { λ hall. IsLegalHistory hall.play hall.tallies.items × AreFit hall.play };
+    ghost use Rattle.std.specs.Prelude.{◌≡◌, length};
+
+    ghost invariant = { λ hall. (IsLegalHistory hall.play hall.tallies.items × AreFit hall.play)
+        × (length hall.times.departed ≡ hall.play.setup.agents) };
 }
 
 impl Hall {
@@ -52,13 +63,15 @@ impl Hall {
         ensures passes { IfOk result (λ made. made.1.items ≡ passes_of game play.setup.quota play.setup.agents) }
     {
         let (tallies, passes) = unheard_and_passes(alloc, game, play.setup())?;
-        Ok((Hall::alone(game, play, tallies), passes))
+        let times = Times::new(alloc, play.setup().agents)?;
+        Ok((Hall::alone(game, play, tallies, times), passes))
     }
 
     /// The hall of a match with an empty log, with the tallies of agents that were never heard. It takes no memory.
-    pub(crate) fn alone(game: u32, play: Match, tallies: Vec<Tally>) -> Hall
+    pub(crate) fn alone(game: u32, play: Match, tallies: Vec<Tally>, times: Times) -> Hall
         requires log { play.log ≡ [] }
         requires tallies { tallies.items ≡ replicate play.setup.agents nothing }
+        requires times { times ≡ at_first play.setup.agents }
         ensures { result ≡ empty_hall game play }
     {
         // The proof needs what the log says of itself.
@@ -67,6 +80,7 @@ impl Hall {
             game,
             play,
             tallies,
+            times,
         }
     }
 
@@ -87,6 +101,7 @@ impl Hall {
             game: _,
             play,
             tallies: _,
+            times: _,
         } = self;
         match play.sealed() {
             Ok(sealed) => sealed,
@@ -125,6 +140,7 @@ impl Hall {
             });
         }
         let agent = pass.agent();
+        let was_away = self.play.is_away(agent);
         // The proof needs that the places of the receipts ascend.
         let _order = pass.receipts();
         let step = pass.submit_to(&mut self.play, command)?;
@@ -132,6 +148,7 @@ impl Hall {
         let _legal = self.play.log();
         if step.place.is_some() {
             self.tallies[usize::from(agent)] = pass.tally();
+            self.times.told(agent, was_away);
         }
         Ok(Answer {
             place: step.place,
@@ -139,19 +156,21 @@ impl Hall {
         })
     }
 
-    /// Takes a turn: plays at most one delivery, that of the agent that the dealer's next word picks out of the pool,
-    /// unless its link is held. Takes no memory.
-    pub fn turn(&mut self, held: &Held, dealer: &mut Dealer) -> Drawn
-        ensures drawn { result ≡ drawn (held_in held.now) (state_of self.old.play) (next_word dealer.old) }
+    /// Takes a turn: plays at most one delivery, that of the schedule by the dealer's words. Takes no memory.
+    pub fn turn(&mut self, held: &Held, schedule: ScheduleKind, dealer: &mut Dealer) -> Drawn
+        ensures drawn { result
+            ≡ drawn_in_turn schedule (held_in held.now) self.old.play self.old.times dealer.old }
         ensures played { IsPlayedIf self.old.play
-            (draw (held_in held.now) (state_of self.old.play) (next_word dealer.old)) self.new.play }
+            (event_of_turn schedule (held_in held.now) self.old.play self.old.times dealer.old) self.new.play }
+        ensures times { self.new.times ≡ turned (arrived_by (state_of self.new.play) result) self.old.times }
         ensures dealer { dealer.new ≡ moved_on dealer.old }
         ensures game { self.new.game ≡ self.old.game }
     {
-        let word = dealer.next();
-        let drawn = draw(&mut self.play, held, word);
+        let drawn = deliver_by(&mut self.play, held, schedule, dealer, &self.times);
         // The proof needs what the log says of itself.
         let _legal = self.play.log();
+        let arrived = arrived(&self.play, drawn);
+        self.times.pass(arrived);
         drawn
     }
 
@@ -159,6 +178,7 @@ impl Hall {
     pub(crate) fn close(&mut self)
         ensures closed { (answer : MatchAnswer) × IsPlayed self.old.play Event.Close answer self.new.play }
         ensures game { self.new.game ≡ self.old.game }
+        ensures times { self.new.times ≡ self.old.times }
     {
         self.play.apply(Event::Close);
         // The proof needs what the log says of itself.

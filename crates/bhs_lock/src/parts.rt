@@ -5,6 +5,7 @@ use crate::pass::Pass;
 use bhs_deal::Held;
 use bhs_model::Setup;
 use bhs_net::Net;
+use bhs_time::ScheduleKind;
 
 /// What a cell is made of, once no thread shares it: what stood under its locks, and what it was given.
 #[derive(Debug, Drop)]
@@ -16,4 +17,5 @@ pub struct Parts {
     pub net: Net,
     pub setup: Setup,
     pub held: Held,
+    pub schedule: ScheduleKind,
 }

@@ -63,6 +63,7 @@ impl Parts {
             net: _,
             setup: _,
             held: _,
+            schedule: _,
         } = self;
         match dispute {
             None => Ok(hall.into_sealed()),

@@ -8,8 +8,8 @@ use Rattle.bhs_stream.specs.Sending.{PutsAll}
 use Rattle.bhs_stream.proofs.PutsLemmas.{IsSentUpTo, sent_part, sent_some}
 use Rattle.bhs_rehearsal.specs.Games.{Game}
 use Rattle.bhs_rehearsal.specs.Rehearsing.{Rehearsing, Follows, Refuses, fault_of}
-use Rattle.bhs_rehearsal.specs.Stages.{Stage, Instruction, Feeds, EndsInput, Draws, Closes, Stepped, nothing, step}
-use Rattle.bhs_rehearsal.specs.Stages.{stands_after}
+use Rattle.bhs_rehearsal.specs.Stages.{Stage, Instruction, Feeds, EndsInput, Draws, Delivers, Closes, Stepped}
+use Rattle.bhs_rehearsal.specs.Stages.{nothing, step, stands_after}
 use Rattle.bhs_rehearsal.specs.declared.faults.RehearsalFault.{RehearsalFault}
 use Rattle.bhs_rehearsal.specs.declared.faults.RehearsalFault.TheVariants as rehearsals
 use Rattle.bhs_script.specs.Instructions.{seen}
@@ -55,6 +55,7 @@ still : (stage : Stage) (instruction : Instruction) (fault : RehearsalFault)
 still stage (Feeds conn bytes) fault is = still_if (nat_lt conn (length stage.connections)) fault _ _ _ is
 still stage (EndsInput conn) fault is = still_if (nat_lt conn (length stage.connections)) fault _ _ _ is
 still stage (Draws game word) fault is = still_if (nat_lt game (length stage.games)) fault _ _ _ is
+still stage (Delivers game agent) fault is = still_if (nat_lt game (length stage.games)) fault _ _ _ is
 still stage (Closes game) fault is = still_if (nat_lt game (length stage.games)) fault _ _ _ is
 
 -- what is printed of a call is what its instruction prints, and the rehearsal stands as that leaves it

@@ -1,6 +1,7 @@
 -- The built-in tournament: one match of two agents on a triangle, with the black hole at node 2.
 use Rattle.std.specs.Prelude.{[], ◌∷◌, codes, replicate}
 use Rattle.bhs_net.specs.Network.{Network}
+use Rattle.bhs_time.specs.declared.kinds.ScheduleKind.TheVariants.{Adaptive}
 use Rattle.bhs_files.specs.Tournaments.{Planned, Plan}
 use Rattle.bhs_assembly.specs.Lineups.{ready_of}
 use Rattle.bhs_lineup.specs.Lineups.{Contest}
@@ -28,12 +29,13 @@ fixture = record {
 }
 
 abbrev pub plan : Plan
-plan = record { seed = replicate 32 0; matches = fixture ∷ [] }
+plan = record { seed = replicate 32 0; schedule = Adaptive; matches = fixture ∷ [] }
 
 -- the match before anything happens, and its keys
 abbrev pub built_in : Contest
 built_in = record {
   seed = replicate 32 0;
+  schedule = Adaptive;
   matches = ready_of triangle fixture ∷ [];
   keys = (codes "ka", (0, 0)) ∷ (codes "kb", (0, 1)) ∷ [];
 }

@@ -96,6 +96,10 @@ pub(crate) fn obey_lent(
             let sent = rehearsal.draw(*game, *word);
             push_once(rehearsal, text, sent)
         }
+        Instruction::Deliver { game, agent } => {
+            let sent = rehearsal.deliver(*game, *agent);
+            push_once(rehearsal, text, sent)
+        }
         Instruction::Close { game } => push_all(text, rehearsal.close(*game)),
     }
 }

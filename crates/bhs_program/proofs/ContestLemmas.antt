@@ -3,6 +3,7 @@ use Rattle.std.proofs.Common.{◌≡◌, refl, sym, subst, ◌∙◌, arith, ℕ
 use Rattle.std.proofs.Common.{OnErr, Result, Ok, Err, ◌++◌, ap, append_assoc}
 use Rattle.std.proofs.lemmas.List.{length-map, map-append}
 use Rattle.bhs_match.specs.Matches.{Play}
+use Rattle.bhs_time.specs.declared.kinds.ScheduleKind.{ScheduleKind}
 use Rattle.bhs_lineup.specs.declared.lineups.Ready.{Ready}
 use Rattle.bhs_lineup.specs.declared.lineups.Lineup.{Lineup}
 use Rattle.bhs_lock.specs.declared.settling.Unsettled.{Unsettled}
@@ -16,13 +17,13 @@ use Rattle.bhs_orders.specs.declared.statuses.TheConstants.{DONE, NO_MEMORY}
 use Rattle.bhs_orders.proofs.ReportLemmas.{not_done}
 use Rattle.bhs_program.specs.Contests.{Serves, goes_unheard, refuses_contest, listening}
 
-pub as_many : (place : ℕ) (matches : List Ready) (settled : List (Result Play Unsettled))
-    → HaveFared (givens_of place matches) settled → length (map (λ ready. ready.team) matches) ≡ length settled
-as_many place [] [] fared = refl
-as_many place [] (one ∷ settled) fared = absurd fared
-as_many place (ready ∷ matches) [] fared = absurd fared
-as_many place (ready ∷ matches) (one ∷ settled) (first, others) =
-    omega (arith, as_many (place + 1) matches settled others)
+pub as_many : (schedule : ScheduleKind) (place : ℕ) (matches : List Ready) (settled : List (Result Play Unsettled))
+    → HaveFared (givens_of schedule place matches) settled → length (map (λ ready. ready.team) matches) ≡ length settled
+as_many schedule place [] [] fared = refl
+as_many schedule place [] (one ∷ settled) fared = absurd fared
+as_many schedule place (ready ∷ matches) [] fared = absurd fared
+as_many schedule place (ready ∷ matches) (one ∷ settled) (first, others) =
+    omega (arith, as_many schedule (place + 1) matches settled others)
 
 -- one match more that settled
 pub one_more_settled : (settled rest others : List (Result Play Unsettled)) (before : List Play) (one : Play)

@@ -3,6 +3,7 @@ use Rattle.std.specs.Prelude.{◌≡◌, ℕ, Bool, true, List, ◌∷◌, ◌++
 use Rattle.std.specs.List.{AllByRecursion}
 use Rattle.bhs_match.specs.Matches.{Play}
 use Rattle.bhs_stream.specs.Streams.{Taken}
+use Rattle.bhs_time.specs.declared.kinds.ScheduleKind.{ScheduleKind}
 use Rattle.bhs_lineup.specs.declared.lineups.Ready.{Ready}
 use Rattle.bhs_lineup.specs.declared.lineups.Lineup.{Lineup}
 use Rattle.bhs_lock.specs.declared.settling.Unsettled.{Unsettled}
@@ -72,19 +73,21 @@ module _ {P O : Type 0} (files : P → List ℕ → Taken → P → Type 0) (tak
     pub tables : Tables takes flushes teams settled output output' printed
     pub coded : code ≡ first_status filed printed
 
-  -- what came of a contest of these matches
-  pub data Hosts (matches : List Ready) (output output' : O) (code : ℕ) : Type 0 where
+  -- what came of a contest of these matches under this schedule
+  pub data Hosts (schedule : ScheduleKind) (matches : List Ready) (output output' : O) (code : ℕ) : Type 0 where
     -- each match settled as its sessions were answered, or was refused with their passes
-    fares : (settled : List (Result Play Unsettled)) → HaveFared (givens_of 0 matches) settled
-        → Ends (map (λ ready. ready.team) matches) settled output output' code → Hosts matches output output' code
+    fares : (settled : List (Result Play Unsettled)) → HaveFared (givens_of schedule 0 matches) settled
+        → Ends (map (λ ready. ready.team) matches) settled output output' code →
+        Hosts schedule matches output output' code
     -- memory ran out
-    fails : code ≡ status faults.Memory → output' ≡ output → Hosts matches output output' code
+    fails : code ≡ status faults.Memory → output' ≡ output → Hosts schedule matches output output' code
 
   -- what came of serving a tournament that is named, on this port
   pub data Serves (port : ℕ) (output output' : O) (code : ℕ) : Type 0 where
     -- it was put together, the program said that it listens, and then there was the contest
     serves_on : (lineup : Lineup) → IsAssembled lineup → (heard : O)
-        → Shows takes flushes (listening port) true output heard → Hosts lineup.ready.items heard output' code
+        → Shows takes flushes (listening port) true output heard →
+        Hosts lineup.schedule lineup.ready.items heard output' code
         → Serves port output output' code
     -- it was put together, and the program could not say that it listens
     goes_unheard : (lineup : Lineup) → IsAssembled lineup → code ≡ status faults.Write

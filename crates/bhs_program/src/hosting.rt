@@ -41,7 +41,8 @@ pub fn host<R: Files + Threads + Wait + Clock + Eprint + Keep + Sync, W: Output,
     errors: &mut E,
 ) -> u8
     requires { AreFresh lineup.ready.items }
-    ensures { Hosts (known_takes R.File.contents) W.takes W.flushes lineup.ready.items writer.old writer.new result }
+    ensures { Hosts (known_takes R.File.contents) W.takes W.flushes lineup.schedule lineup.ready.items
+        writer.old writer.new result }
 {
     match served(alloc, rt, listener, lineup, hosting) {
         Ok(finished) => finish(alloc, rt, hosting.prefix.as_str(), finished, writer, errors),
@@ -59,7 +60,8 @@ fn served<R: Files + Threads + Wait + Clock + Eprint + Keep + Sync>(
 ) -> Result<Finished, Memory>
     requires { AreFresh lineup.ready.items }
     ensures teams { IfOk result (λ finished. finished.teams.items ≡ map (λ ready. ready.team) lineup.ready.items) }
-    ensures settled { IfOk result (λ finished. HaveFared (givens_of 0 lineup.ready.items) finished.settled.items) }
+    ensures settled { IfOk result (λ finished. HaveFared (givens_of lineup.schedule 0 lineup.ready.items)
+        finished.settled.items) }
 {
     let Hosted { teams, contest } = contest_of(alloc, lineup)?;
     let prefix = hosting.prefix.as_str();

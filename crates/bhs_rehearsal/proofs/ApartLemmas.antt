@@ -11,10 +11,11 @@ use Rattle.bhs_model.specs.declared.events.Event.TheVariants.{Tell, Deliver, Clo
 use Rattle.bhs_model.specs.declared.replies.Reply.{Reply}
 use Rattle.bhs_model.specs.declared.replies.Reply.TheVariants.{Over}
 use Rattle.bhs_session.specs.Texts.{text_of}
-use Rattle.bhs_rehearsal.specs.Games.{Game, state_of, played, reply_to, is_away, drawn}
+use Rattle.bhs_rehearsal.specs.Games.{Game, state_of, played, reply_to, is_away, drawn, delivered}
 use Rattle.bhs_rehearsal.specs.Connections.{Item, Ends, Connection, unfed, shut, Taken, taken, after}
 use Rattle.bhs_rehearsal.specs.Stages.{Stage, game_at, connection_at, with_game, with_connection, has_seat, Entry}
-use Rattle.bhs_rehearsal.specs.Stages.{Waits, Sits, IsDenied, Goes, entry, Moved, moves, Draws, Closes, Stepped}
+use Rattle.bhs_rehearsal.specs.Stages.{Waits, Sits, IsDenied, Goes, entry, Moved, moves, Draws, Delivers, Closes}
+use Rattle.bhs_rehearsal.specs.Stages.{Stepped}
 use Rattle.bhs_rehearsal.specs.Stages.{sent_to, stepped, nothing, tells_arrival, delivers, waits_in, shut_in, told_over}
 use Rattle.bhs_rehearsal.specs.Stages.{closes, step}
 use Rattle.bhs_rehearsal.specs.Laws.{plays_in, IsOfConnection, IsOfGame, ClientsKeepToThemselves}
@@ -218,12 +219,18 @@ delivers_of_game stage game (Some (Deliver agent)) =
     (reply_to (game_at stage game) (Deliver agent))
     (position (has_seat (game, agent)) stage.connections) refl
 
-draws_of_game : (stage : Stage) (game word : ℕ) → IsOfGame stage game (step stage (Draws game word))
-draws_of_game stage game word =
+event_of_game : (stage : Stage) (game : ℕ) (event : Option Event) →
+    IsOfGame stage game (cond (nat_lt game (length stage.games)) (delivers stage game event) (nothing stage))
+event_of_game stage game event =
     by_bool (nat_lt game (length stage.games))
-    (λ (below : Bool). IsOfGame stage game (cond below (delivers stage game (drawn (game_at stage game) word))
-    (nothing stage)))
-    (λ below. delivers_of_game stage game (drawn (game_at stage game) word)) (λ past. nothing_of_game stage game)
+    (λ (below : Bool). IsOfGame stage game (cond below (delivers stage game event) (nothing stage)))
+    (λ below. delivers_of_game stage game event) (λ past. nothing_of_game stage game)
+
+draws_of_game : (stage : Stage) (game word : ℕ) → IsOfGame stage game (step stage (Draws game word))
+draws_of_game stage game word = event_of_game stage game (drawn (game_at stage game) word)
+
+deliveries_of_game : (stage : Stage) (game agent : ℕ) → IsOfGame stage game (step stage (Delivers game agent))
+deliveries_of_game stage game agent = event_of_game stage game (delivered (game_at stage game) agent)
 
 -- ---- a close
 
@@ -323,4 +330,5 @@ closes_of_game stage game =
     (λ past. nothing_of_game stage game)
 
 pub matches_lemma : MatchesKeepToThemselves
-matches_lemma stage game word = (draws_of_game stage game word, closes_of_game stage game)
+matches_lemma stage game word agent =
+    (draws_of_game stage game word, closes_of_game stage game, deliveries_of_game stage game agent)

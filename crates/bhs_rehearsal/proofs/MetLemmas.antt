@@ -13,11 +13,11 @@ use Rattle.bhs_model.specs.Views.{View, Away, standing}
 use Rattle.bhs_model.specs.Runs.{initial, is_bound}
 use Rattle.bhs_model.specs.Runs.{run_from}
 use Rattle.bhs_lineup.specs.KeyTable.{Seat}
-use Rattle.bhs_rehearsal.specs.Games.{Game, world_in, state_of, played, reply_to, is_away, drawn}
+use Rattle.bhs_rehearsal.specs.Games.{Game, world_in, state_of, played, reply_to, is_away, drawn, delivered}
 use Rattle.bhs_rehearsal.specs.Connections.{Connection, Item, unfed, shut}
 use Rattle.bhs_rehearsal.specs.Stages.{Stage, game_at, connection_at, with_game, with_connection, has_seat, Entry}
 use Rattle.bhs_rehearsal.specs.Stages.{Waits, Sits, IsDenied, Goes, entry, enters, moves_in, moves, Instruction}
-use Rattle.bhs_rehearsal.specs.Stages.{Feeds, EndsInput, Draws, Closes, Stepped, stepped, nothing}
+use Rattle.bhs_rehearsal.specs.Stages.{Feeds, EndsInput, Draws, Delivers, Closes, Stepped, stepped, nothing}
 use Rattle.bhs_rehearsal.specs.Stages.{tells_arrival, delivers, waits_in, shut_in, told_over, closes, step, begun}
 use Rattle.bhs_rehearsal.specs.Stages.{stands_after, sends}
 use Rattle.bhs_rehearsal.specs.Laws.{awaits_arrival, IsSettled}
@@ -47,6 +47,23 @@ not_equal : (other agent : ℕ) → other ≢ agent → (agent == other) ≡ fal
 not_equal other agent apart =
     by_bool (agent == other) (λ (is : Bool). (agent == other) ≡ is → (agent == other) ≡ false)
     (λ first same. absurd (apart (sym (eqb-true agent other same)))) (λ first differs. differs) refl
+
+event_known : (stage : Stage) (conn : ℕ) (input : Fed) (sent : List ℕ) (game : ℕ) (event : Option Event) →
+    Knows stage conn input sent →
+    IsSettled (cond (nat_lt game (length stage.games)) (delivers stage game event) (nothing stage)).stage →
+    Knows (cond (nat_lt game (length stage.games)) (delivers stage game event) (nothing stage)).stage conn input
+    (sent ++ bytes_among conn
+    (cond (nat_lt game (length stage.games)) (delivers stage game event) (nothing stage)).outs)
+event_known stage conn input sent game event knows =
+    let done = delivers stage game event in
+    by_bool (nat_lt game (length stage.games))
+    (λ (below : Bool). nat_lt game (length stage.games) ≡ below → IsSettled (cond below done (nothing stage)).stage →
+    Knows (cond below done (nothing stage)).stage conn input
+    (sent ++ bytes_among conn (cond below done (nothing stage)).outs))
+    (λ first below settled. delivers_known stage game conn input sent (ltb-true game (length stage.games) below) knows
+    event settled)
+    (λ first past settled. nothing_more stage conn input sent knows)
+    refl
 
 step_known : (stage : Stage) (conn : ℕ) (input : Fed) (sent : List ℕ) (instruction : Instruction)
     → Knows stage conn input sent →
@@ -87,15 +104,11 @@ step_known stage conn input sent (EndsInput mover) knows =
     (λ same still. subst (λ (new : Fed). IsReady stage (ending old) new sent old.seat) (all same)
     (end_ready stage old input sent old.seat still (mine same)))
 step_known stage conn input sent (Draws game word) knows =
-    let done = delivers stage game (drawn (game_at stage game) word) in
-    by_bool (nat_lt game (length stage.games))
-    (λ (below : Bool). nat_lt game (length stage.games) ≡ below → IsSettled (cond below done (nothing stage)).stage →
-    Knows (cond below done (nothing stage)).stage conn input
-    (sent ++ bytes_among conn (cond below done (nothing stage)).outs))
-    (λ first below settled. delivers_known stage game conn input sent (ltb-true game (length stage.games) below) knows
-    (drawn (game_at stage game) word) settled)
-    (λ first past settled. nothing_more stage conn input sent knows)
-    refl (settle_lemma stage (Draws game word) knows.settled)
+    event_known stage conn input sent game (drawn (game_at stage game) word) knows
+    (settle_lemma stage (Draws game word) knows.settled)
+step_known stage conn input sent (Delivers game agent) knows =
+    event_known stage conn input sent game (delivered (game_at stage game) agent) knows
+    (settle_lemma stage (Delivers game agent) knows.settled)
 step_known stage conn input sent (Closes game) knows =
     let old = game_at stage game in
     let done : Stepped = record {
@@ -172,17 +185,23 @@ length_delivers stage game (Some (Deliver agent)) =
     length_tells (with_game stage game (played (game_at stage game) (Deliver agent)))
     (reply_to (game_at stage game) (Deliver agent)) (position (has_seat (game, agent)) stage.connections)
 
+length_event : (stage : Stage) (game : ℕ) (event : Option Event) →
+    length (cond (nat_lt game (length stage.games)) (delivers stage game event) (nothing stage)).stage.connections
+    ≡ length stage.connections
+length_event stage game event =
+    by_bool (nat_lt game (length stage.games))
+    (λ (below : Bool). length (cond below (delivers stage game event) (nothing stage)).stage.connections
+    ≡ length stage.connections)
+    (λ below. length_delivers stage game event) (λ past. refl)
+
 length_step : (stage : Stage) (instruction : Instruction) → length (step stage instruction).stage.connections ≡ length
     stage.connections
 length_step stage (Feeds conn bytes) = length_client stage conn (grown (connection_at stage conn) bytes)
     (nat_lt conn (length stage.connections)) (connection_at stage conn).ended
 length_step stage (EndsInput conn) = length_client stage conn (ending (connection_at stage conn))
     (nat_lt conn (length stage.connections)) (connection_at stage conn).ended
-length_step stage (Draws game word) =
-    by_bool (nat_lt game (length stage.games))
-    (λ (below : Bool). length (cond below (delivers stage game (drawn (game_at stage game) word))
-    (nothing stage)).stage.connections ≡ length stage.connections)
-    (λ below. length_delivers stage game (drawn (game_at stage game) word)) (λ past. refl)
+length_step stage (Draws game word) = length_event stage game (drawn (game_at stage game) word)
+length_step stage (Delivers game agent) = length_event stage game (delivered (game_at stage game) agent)
 length_step stage (Closes game) =
     let old = game_at stage game in
     let done : Stepped = record {

@@ -8,10 +8,11 @@ use Rattle.std.proofs.lemmas.List.Quantifiers.{position-Some}
 use Rattle.bhs_model.specs.declared.events.Event.{Event}
 use Rattle.bhs_model.specs.declared.events.Event.TheVariants.{Tell, Deliver, Close}
 use Rattle.bhs_model.specs.declared.replies.Reply.{Reply}
-use Rattle.bhs_rehearsal.specs.Games.{Game, state_of, played, reply_to, drawn}
+use Rattle.bhs_rehearsal.specs.Games.{Game, state_of, played, reply_to, drawn, delivered}
 use Rattle.bhs_rehearsal.specs.Connections.{Item, Ends, Connection, unfed, taken}
 use Rattle.bhs_rehearsal.specs.Stages.{Stage, game_at, connection_at, with_game, with_connection, has_seat, Moved}
-use Rattle.bhs_rehearsal.specs.Stages.{moves, Instruction, Feeds, EndsInput, Draws, Closes, Stepped, stepped, nothing}
+use Rattle.bhs_rehearsal.specs.Stages.{moves, Instruction, Feeds, EndsInput, Draws, Delivers, Closes, Stepped, stepped}
+use Rattle.bhs_rehearsal.specs.Stages.{nothing}
 use Rattle.bhs_rehearsal.specs.Stages.{tells_arrival, delivers, shut_in, told_over, closes, step, stands_after}
 use Rattle.bhs_rehearsal.specs.Laws.{plays_in, IsOfConnection, SameBut, is_of_match}
 use Rattle.bhs_rehearsal.specs.Clients.{bytes_among}
@@ -187,12 +188,18 @@ delivers_same stage game (Some (Deliver agent)) =
     (reply_to (game_at stage game) (Deliver agent))
     (position (has_seat (game, agent)) stage.connections) refl
 
-pub draws_same : (stage : Stage) (game word : ℕ) → SameBut game stage (step stage (Draws game word)).stage
-draws_same stage game word =
+event_same : (stage : Stage) (game : ℕ) (event : Option Event) → SameBut game stage
+    (cond (nat_lt game (length stage.games)) (delivers stage game event) (nothing stage)).stage
+event_same stage game event =
     by_bool (nat_lt game (length stage.games))
-    (λ (below : Bool). SameBut game stage (cond below (delivers stage game (drawn (game_at stage game) word))
-    (nothing stage)).stage)
-    (λ below. delivers_same stage game (drawn (game_at stage game) word)) (λ past. same_itself game stage)
+    (λ (below : Bool). SameBut game stage (cond below (delivers stage game event) (nothing stage)).stage)
+    (λ below. delivers_same stage game event) (λ past. same_itself game stage)
+
+pub draws_same : (stage : Stage) (game word : ℕ) → SameBut game stage (step stage (Draws game word)).stage
+draws_same stage game word = event_same stage game (drawn (game_at stage game) word)
+
+pub deliveries_same : (stage : Stage) (game agent : ℕ) → SameBut game stage (step stage (Delivers game agent)).stage
+deliveries_same stage game agent = event_same stage game (delivered (game_at stage game) agent)
 
 pub closes_same : (stage : Stage) (game : ℕ) → SameBut game stage (step stage (Closes game)).stage
 closes_same stage game =
@@ -229,6 +236,9 @@ of_match_same game stage (EndsInput conn) here =
 of_match_same game stage (Draws other word) here =
     subst (λ (number : ℕ). SameBut number stage (step stage (Draws other word)).stage) (eqb-true other game here)
     (draws_same stage other word)
+of_match_same game stage (Delivers other agent) here =
+    subst (λ (number : ℕ). SameBut number stage (step stage (Delivers other agent)).stage) (eqb-true other game here)
+    (deliveries_same stage other agent)
 of_match_same game stage (Closes other) here =
     subst (λ (number : ℕ). SameBut number stage (step stage (Closes other)).stage) (eqb-true other game here)
     (closes_same stage other)
@@ -250,10 +260,13 @@ of_match_unheard game stage (Feeds other bytes) here conn elsewhere =
 of_match_unheard game stage (EndsInput other) here conn elsewhere =
     (clients_lemma stage other []).1.outs conn (differs game stage other conn here elsewhere)
 of_match_unheard game stage (Draws other word) here conn elsewhere =
-    (matches_lemma stage other word).0.outs conn
+    (matches_lemma stage other word 0).0.outs conn
+    (ap (λ (number : ℕ). plays_in number (connection_at stage conn)) (eqb-true other game here) ∙ elsewhere)
+of_match_unheard game stage (Delivers other agent) here conn elsewhere =
+    (matches_lemma stage other 0 agent).2.outs conn
     (ap (λ (number : ℕ). plays_in number (connection_at stage conn)) (eqb-true other game here) ∙ elsewhere)
 of_match_unheard game stage (Closes other) here conn elsewhere =
-    (matches_lemma stage other 0).1.outs conn
+    (matches_lemma stage other 0 0).1.outs conn
     (ap (λ (number : ℕ). plays_in number (connection_at stage conn)) (eqb-true other game here) ∙ elsewhere)
 
 -- ---- who plays goes on to play
@@ -286,6 +299,9 @@ stays_seated stage (EndsInput other) conn seat seated =
 stays_seated stage (Draws game word) conn seat seated =
     sym (seats_at stage.connections (step stage (Draws game word)).stage.connections
     (draws_same stage game word).seats conn) ∙ seated
+stays_seated stage (Delivers game agent) conn seat seated =
+    sym (seats_at stage.connections (step stage (Delivers game agent)).stage.connections
+    (deliveries_same stage game agent).seats conn) ∙ seated
 stays_seated stage (Closes game) conn seat seated =
     sym (seats_at stage.connections (step stage (Closes game)).stage.connections (closes_same stage game).seats conn)
     ∙ seated

@@ -13,7 +13,7 @@ use Rattle.bhs_model.specs.declared.marks.Kept.{Kept}
 use Rattle.bhs_model.specs.Marks.{events_of, read_if}
 use Rattle.bhs_model.specs.Runs.{State, arrives}
 use Rattle.bhs_model.specs.Kept.{destroys, lost}
-use Rattle.bhs_model.specs.Draws.{draw}
+use Rattle.bhs_model.specs.Draws.{draw, is_held}
 use Rattle.bhs_world.specs.Tables.{keeps_next, log_after}
 use Rattle.bhs_world.proofs.GrowthLemmas.{events_more, slice_get_end}
 use Rattle.bhs_match.specs.declared.answers.Answer.{Answer}
@@ -23,10 +23,10 @@ use Rattle.bhs_match.specs.Games.{IsPlayed}
 use Rattle.bhs_deal.specs.Links.{held_in}
 use Rattle.bhs_deal.specs.declared.draws.Drawn.{Drawn as DrawnOfCode}
 use Rattle.bhs_deal.specs.declared.draws.Drawn.TheVariants.{Delivered}
-use Rattle.bhs_deal.specs.Drawing.{IsPlayedIf, event_of}
+use Rattle.bhs_deal.specs.Drawing.{IsPlayedIf, event_of, delivery_of}
 use Rattle.bhs_deal.specs.Drawing as drawing
 use Rattle.bhs_deal.proofs.DrawLemmas.{draws_are_those}
-use Rattle.bhs_rehearsal.specs.Games.{Game, played, reply_to, drawn}
+use Rattle.bhs_rehearsal.specs.Games.{Game, played, reply_to, drawn, delivered}
 use Rattle.bhs_rehearsal.specs.Takings.{Drawn, after_draw, mark_at, told_to}
 
 -- a match and its held links
@@ -114,6 +114,49 @@ one_drawn old new held word agent found told is played_if this read =
           (λ (reply : Reply). (agent, reply)) one;
     }) reply
     ∙ ap (after_draw (game_in old held)) (sym event)
+
+-- a match with what its agent is told
+abbrev told_of : Play → List (ℕ × ℕ) → (agent : ℕ) → Option Reply → Drawn
+told_of new held agent told =
+    record { game = game_in new held; arrival = option_map (λ (reply : Reply). (agent, reply)) told }
+
+-- what delivering an agent makes of a match, and whom it tells what: where nothing is played, nothing is read behind
+-- the log
+pub one_delivered : (old new : Play) (held : List (ℕ × ℕ)) (agent : ℕ) (told : Option Reply)
+    → IsPlayedIf old (delivery_of (held_in held) (matches.state_of old) agent) new →
+    told ≡ read_if new.log (mark_at new.log (length old.log)) →
+    record { game = game_in new held; arrival = option_map (λ (reply : Reply). (agent, reply)) told } ≡ after_draw
+    (game_in old held) (delivered (game_in old held) agent)
+one_delivered old new held agent told played_if read =
+    go (matches.state_of old).closed (is_held (held_in held) ((matches.state_of old).position agent)) played_if
+  where
+    none : new ≡ old → told_of new held agent told ≡ after_draw (game_in old held) None
+    none same =
+        let past : slice_get old.log (length old.log) ≡ None = slice_get_past old.log (length old.log) (omega arith) in
+        let silent : told ≡ None =
+        read ∙ ap (λ (one : Play). read_if one.log (mark_at one.log (length old.log))) same
+        ∙ ap (λ (kept : Option Kept). read_if old.log (option_and_then (λ (one : Kept). one.mark) kept)) past in
+        rw (silent, same) refl
+
+    done : (answer : Answer) × IsPlayed old (Deliver agent) answer new →
+        told_of new held agent told ≡ after_draw (game_in old held) (Some (Deliver agent))
+    done is =
+        let game : game_in new held ≡ played (game_in old held) (Deliver agent) =
+        played_lemma old new held (Deliver agent) is.0.mark is.1.log is.1.net is.1.setup in
+        let reply : told ≡ reply_to (game_in old held) (Deliver agent) =
+        read ∙ arrival_lemma old new held agent is.0 is.1 in
+        ap (λ (one : Game). record { game = one; arrival = option_map (λ (reply : Reply). (agent, reply)) told }) game
+        ∙ ap (λ (one : Option Reply). record {
+          game = played (game_in old held) (Deliver agent);
+          arrival = option_map (λ (reply : Reply). (agent, reply)) one;
+        }) reply
+
+    go : (closed kept : Bool) → IsPlayedIf old (if closed then None else (if kept then None else Some (Deliver agent)))
+        new → told_of new held agent told
+        ≡ after_draw (game_in old held) (if closed then None else (if kept then None else Some (Deliver agent)))
+    go true kept is = none is
+    go false true is = none is
+    go false false is = done is
 
 -- whom a draw tells what, by what it makes of the match
 pub told_drawn : (one other : Drawn) (before : List ℕ) → one ≡ other

@@ -9,10 +9,11 @@ use Rattle.bhs_model.specs.declared.events.Event.{Event}
 use Rattle.bhs_model.specs.declared.events.Event.TheVariants.{Tell, Deliver, Close}
 use Rattle.bhs_model.specs.declared.replies.Reply.{Reply}
 use Rattle.bhs_session.specs.Texts.{text_of}
-use Rattle.bhs_rehearsal.specs.Games.{Game, state_of, played, reply_to, drawn}
+use Rattle.bhs_rehearsal.specs.Games.{Game, state_of, played, reply_to, drawn, delivered}
 use Rattle.bhs_rehearsal.specs.Connections.{Ends, Connection, unfed}
 use Rattle.bhs_rehearsal.specs.Stages.{Stage, game_at, connection_at, with_game, with_connection, has_seat, Moved}
-use Rattle.bhs_rehearsal.specs.Stages.{moves, Instruction, Feeds, EndsInput, Draws, Closes, Stepped, sent_to, stepped}
+use Rattle.bhs_rehearsal.specs.Stages.{moves, Instruction, Feeds, EndsInput, Draws, Delivers, Closes, Stepped, sent_to}
+use Rattle.bhs_rehearsal.specs.Stages.{stepped}
 use Rattle.bhs_rehearsal.specs.Stages.{nothing, tells_arrival, delivers, shut_in, told_over, step, sends}
 use Rattle.bhs_rehearsal.specs.Laws.{plays_in, SameBut, HeardAlike, is_of_match, without, MatchesAreHeardApart}
 use Rattle.bhs_rehearsal.specs.Laws.{OtherMatchesAreNotHeard}
@@ -133,20 +134,21 @@ module _ (game : ℕ) (one two : Stage) (alike : SameBut game one two) where
       (arrival_alike number agent apart (played old (Deliver agent)) (reply_to old (Deliver agent))
       (position (has_seat (number, agent)) one.connections) refl)
 
-  abbrev draw_of : (stage : Stage) (number word : ℕ) → Game → (count : ℕ) → Stepped
-  draw_of stage number word old count = cond (nat_lt number count)
-      (delivers stage number (drawn old word)) (nothing stage)
+  abbrev event_for : (chosen : Game → Option Event) (stage : Stage) (number : ℕ) → Game → (count : ℕ) → Stepped
+  event_for chosen stage number old count = cond (nat_lt number count)
+      (delivers stage number (chosen old)) (nothing stage)
 
-  draws_alike : (number word : ℕ) → number ≢ game → StepsAlike game (step one (Draws number word))
-      (step two (Draws number word))
-  draws_alike number word apart =
+  events_alike : (chosen : Game → Option Event) (number : ℕ) → number ≢ game → StepsAlike game
+      (event_for chosen one number (game_at one number) (length one.games))
+      (event_for chosen two number (game_at two number) (length two.games))
+  events_alike chosen number apart =
       let old = game_at one number in
-      subst (λ (done : Stepped). StepsAlike game (draw_of one number word old (length one.games)) done)
-      (ap₂ (λ (it : Game) (count : ℕ). draw_of two number word it count) (alike.games number apart) alike.count)
+      subst (λ (done : Stepped). StepsAlike game (event_for chosen one number old (length one.games)) done)
+      (ap₂ (λ (it : Game) (count : ℕ). event_for chosen two number it count) (alike.games number apart) alike.count)
       (by_bool (nat_lt number (length one.games))
-      (λ (below : Bool). StepsAlike game (cond below (delivers one number (drawn old word)) (nothing one))
-      (cond below (delivers two number (drawn old word)) (nothing two)))
-      (λ below. delivers_alike number apart (drawn old word)) (λ past. nothing_alike game one two alike))
+      (λ (below : Bool). StepsAlike game (cond below (delivers one number (chosen old)) (nothing one))
+      (cond below (delivers two number (chosen old)) (nothing two)))
+      (λ below. delivers_alike number apart (chosen old)) (λ past. nothing_alike game one two alike))
 
   -- ---- a close of another match
 
@@ -207,13 +209,17 @@ module _ (game : ℕ) (one two : Stage) (alike : SameBut game one two) where
       let ending : Connection → Connection = λ (connection : Connection). record connection
       { unfinished = Some []; queue = connection.queue ++ Ends ∷ []; ended = true } in
       client_alike conn ending (λ connection. refl) elsewhere
-  elsewhere_alike (Draws number word) elsewhere = draws_alike number word (eqb-false number game elsewhere)
+  elsewhere_alike (Draws number word) elsewhere =
+      events_alike (λ (it : Game). drawn it word) number (eqb-false number game elsewhere)
+  elsewhere_alike (Delivers number agent) elsewhere =
+      events_alike (λ (it : Game). delivered it agent) number (eqb-false number game elsewhere)
   elsewhere_alike (Closes number) elsewhere = closes_alike number (eqb-false number game elsewhere)
 
   of_match_both : (instruction : Instruction) → is_of_match game one instruction ≡ is_of_match game two instruction
   of_match_both (Feeds conn bytes) = plays_in_both game one two alike conn
   of_match_both (EndsInput conn) = plays_in_both game one two alike conn
   of_match_both (Draws number word) = refl
+  of_match_both (Delivers number agent) = refl
   of_match_both (Closes number) = refl
 
   here_alike : (instruction : Instruction) → is_of_match game one instruction ≡ true

@@ -10,10 +10,11 @@ use Rattle.bhs_model.specs.declared.events.Event.{Event}
 use Rattle.bhs_model.specs.declared.events.Event.TheVariants.{Tell, Deliver, Close}
 use Rattle.bhs_model.specs.declared.replies.Reply.{Reply}
 use Rattle.bhs_lineup.specs.KeyTable.{Seat}
-use Rattle.bhs_rehearsal.specs.Games.{Game, state_of, played, reply_to, is_away, drawn}
+use Rattle.bhs_rehearsal.specs.Games.{Game, state_of, played, reply_to, is_away, drawn, delivered}
 use Rattle.bhs_rehearsal.specs.Connections.{Ends, Connection, unfed, shut}
 use Rattle.bhs_rehearsal.specs.Stages.{Stage, game_at, connection_at, with_game, with_connection, has_seat, Moved}
-use Rattle.bhs_rehearsal.specs.Stages.{moves, sent_to, Instruction, Feeds, EndsInput, Draws, Closes, Stepped, stepped}
+use Rattle.bhs_rehearsal.specs.Stages.{moves, sent_to, Instruction, Feeds, EndsInput, Draws, Delivers, Closes, Stepped}
+use Rattle.bhs_rehearsal.specs.Stages.{stepped}
 use Rattle.bhs_rehearsal.specs.Stages.{nothing, tells_arrival, delivers, waits_in, shut_in, told_over, closes, step}
 use Rattle.bhs_rehearsal.specs.Stages.{begun, stands_after}
 use Rattle.bhs_rehearsal.specs.Laws.{awaits_arrival, IsSettled, SettledStagesSettle, ScriptsSettle, moves_in_turn}
@@ -176,13 +177,14 @@ close_settles stage game within settled =
 
 -- ---- every instruction
 
-draws_settle : (stage : Stage) (game word : ℕ) → IsSettled stage → IsSettled (step stage (Draws game word)).stage
-draws_settle stage game word settled =
+event_settles : (stage : Stage) (game : ℕ) (event : Option Event) → IsSettled stage
+    → IsSettled (cond (nat_lt game (length stage.games)) (delivers stage game event) (nothing stage)).stage
+event_settles stage game event settled =
     by_bool (nat_lt game (length stage.games))
     (λ (below : Bool). nat_lt game (length stage.games) ≡ below
-    → IsSettled (cond below (delivers stage game (drawn (game_at stage game) word)) (nothing stage)).stage)
-    (λ first below. delivers_settles stage game (ltb-true game (length stage.games) below) settled
-    (drawn (game_at stage game) word)) (λ first past. settled) refl
+    → IsSettled (cond below (delivers stage game event) (nothing stage)).stage)
+    (λ first below. delivers_settles stage game (ltb-true game (length stage.games) below) settled event)
+    (λ first past. settled) refl
 
 closes_settle : (stage : Stage) (game : ℕ) → IsSettled stage → IsSettled (step stage (Closes game)).stage
 closes_settle stage game settled =
@@ -207,7 +209,9 @@ settle_lemma stage (EndsInput conn) settled =
     let old = connection_at stage conn in
     let ending : Connection = record old { unfinished = Some []; queue = old.queue ++ Ends ∷ []; ended = true } in
     client_settles stage conn ending (nat_lt conn (length stage.connections)) old.ended settled refl refl
-settle_lemma stage (Draws game word) settled = draws_settle stage game word settled
+settle_lemma stage (Draws game word) settled = event_settles stage game (drawn (game_at stage game) word) settled
+settle_lemma stage (Delivers game agent) settled =
+    event_settles stage game (delivered (game_at stage game) agent) settled
 settle_lemma stage (Closes game) settled = closes_settle stage game settled
 
 -- ---- from the start

@@ -19,9 +19,11 @@ use Rattle.bhs_model.proofs.AddLemmas.{run-append}
 use Rattle.bhs_model.proofs.TwinLemmas.{doomed_not_through, other_world, reply_alike, next_twin}
 use Rattle.bhs_model.proofs.SlowLemmas.{MadeAlike, draw_alike}
 use Rattle.bhs_deal.specs.Links.{held_in}
+use Rattle.bhs_deal.specs.Drawing.{delivery_of}
 use Rattle.bhs_wire.specs.Lines.{said_by}
 use Rattle.bhs_session.specs.Texts.{text_of, command_by}
 use Rattle.bhs_rehearsal.specs.Games.{Game, world_in, state_of, played, reply_to, is_away, drawn}
+use Rattle.bhs_rehearsal.specs.Games.{delivered as delivered_event}
 use Rattle.bhs_rehearsal.specs.Connections.{Item, Says, Ends, Taken, is_last, leaves, answers, taken}
 use Rattle.bhs_rehearsal.specs.Laws.{IsSlowFor, slow_of, SlowMatchesBegin}
 use Rattle.bhs_rehearsal.proofs.CuttingLemmas.{by_bool, behind}
@@ -224,6 +226,21 @@ module _ (game slow : Game) (is : IsSlowFor game slow) where
       (drawn game word) there) same
       (draw_alike (world_in game) (held_in game.held) (world_in slow) held_or_doomed instead (state_of game)
       (state_of game).closed picked)
+
+  -- what delivers an agent
+  pub delivered_slow : (agent : ℕ) → MadeAlike (world_in game) (world_in slow) (state_of game)
+      (delivered_event game agent)
+      (delivered_event slow agent)
+  delivered_slow agent =
+      let instead : SlowInstead (world_in game) (held_in game.held) (world_in slow) held_or_doomed =
+      record { worlds = is.worlds; harmless = is.harmless; held_too = λ node port. refl } in
+      let same : delivery_of held_or_doomed (state_of game) agent ≡ delivered_event slow agent =
+      ap (λ (event : Option Event). cond (state_of game).closed None event) (let_go_same (Some agent))
+      ∙ ap (λ (state : State). delivery_of (held_in slow.held) state agent) is.stands in
+      subst (λ (there : Option Event). MadeAlike (world_in game) (world_in slow) (state_of game)
+      (delivered_event game agent) there) same
+      (draw_alike (world_in game) (held_in game.held) (world_in slow) held_or_doomed instead (state_of game)
+      (state_of game).closed (Some agent))
 
 -- ---- items
 

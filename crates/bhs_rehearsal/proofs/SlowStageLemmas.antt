@@ -12,11 +12,12 @@ use Rattle.bhs_model.specs.Runs.{State}
 use Rattle.bhs_model.proofs.SlowLemmas.{MadeAlike}
 use Rattle.bhs_lineup.specs.KeyTable.{Seat}
 use Rattle.bhs_session.specs.Texts.{text_of}
-use Rattle.bhs_rehearsal.specs.Games.{Game, world_in, state_of, played, reply_to, is_away, drawn}
+use Rattle.bhs_rehearsal.specs.Games.{Game, world_in, state_of, played, reply_to, is_away, drawn, delivered}
 use Rattle.bhs_rehearsal.specs.Connections.{Item, Ends, Connection, shut, taken}
 use Rattle.bhs_rehearsal.specs.Stages.{Stage, game_at, connection_at, with_game, with_connection, has_seat, Entry}
 use Rattle.bhs_rehearsal.specs.Stages.{Waits, Sits, IsDenied, Goes, entry, Moved, plays, enters, moves_in, moves}
-use Rattle.bhs_rehearsal.specs.Stages.{Instruction, Feeds, EndsInput, Draws, Closes, Stepped, sent_to, stepped, nothing}
+use Rattle.bhs_rehearsal.specs.Stages.{Instruction, Feeds, EndsInput, Draws, Delivers, Closes, Stepped, sent_to}
+use Rattle.bhs_rehearsal.specs.Stages.{stepped, nothing}
 use Rattle.bhs_rehearsal.specs.Stages.{tells_arrival, delivers, waits_in, shut_in, told_over, closes, step}
 use Rattle.bhs_rehearsal.specs.Laws.{IsSlowFor, IsSlowStageFor, HoleSoundsSlow, IsSlowLineupFor, SlowLineupsSoundAlike}
 use Rattle.bhs_lineup.specs.declared.lineups.Lineup.{Lineup}
@@ -25,7 +26,7 @@ use Rattle.bhs_rehearsal.proofs.CuttingLemmas.{by_bool}
 use Rattle.bhs_rehearsal.proofs.TurnLemmas.{grown}
 use Rattle.bhs_rehearsal.proofs.IsolationLemmas.{game_in, set_alike, entry-by_seats}
 use Rattle.bhs_rehearsal.proofs.SlowGameLemmas.{begin_lemma, played_slow, reply_slow, away_slow, destroyed_slow}
-use Rattle.bhs_rehearsal.proofs.SlowGameLemmas.{destroyed_unanswered, drawn_slow, taken_slow}
+use Rattle.bhs_rehearsal.proofs.SlowGameLemmas.{destroyed_unanswered, drawn_slow, delivered_slow, taken_slow}
 
 -- ---- the matches of two stages
 
@@ -302,38 +303,43 @@ module _ (game : ℕ) (one : Stage) (slow : List Game) (are : SlowGames game one
       })
       (reply_slow old slow_old are.here (Deliver agent) made.1))
 
-  draw_slow : (number word : ℕ) → StepsAlike game (delivers one number (drawn (game_in one.games number) word))
-      (delivers (record one { games = slow }) number (drawn (game_in slow number) word))
-  draw_slow number word =
+  abbrev MadeSlow : (chosen : Game → Option Event) → Type 0
+  MadeSlow chosen = MadeAlike (world_in (game_in one.games game)) (world_in (game_in slow game))
+      (state_of (game_in one.games game)) (chosen (game_in one.games game)) (chosen (game_in slow game))
+
+  event_slow : (chosen : Game → Option Event) → MadeSlow chosen → (number : ℕ) →
+      StepsAlike game (delivers one number (chosen (game_in one.games number)))
+      (delivers (record one { games = slow }) number (chosen (game_in slow number)))
+  event_slow chosen made number =
       let P : ℕ → Type 0 = λ (place : ℕ).
-      StepsAlike game (delivers one place (drawn (game_in one.games place) word))
-      (delivers (record one { games = slow }) place (drawn (game_in slow place) word)) in
+      StepsAlike game (delivers one place (chosen (game_in one.games place)))
+      (delivers (record one { games = slow }) place (chosen (game_in slow place))) in
       by_bool (number == game) (λ (is : Bool). (number == game) ≡ is → P number)
       (λ first here. subst P (sym (eqb-true number game here))
-      (delivers_slow (drawn (game_in one.games game) word) (drawn (game_in slow game) word)
-      (drawn_slow (game_in one.games game) (game_in slow game) are.here word)))
+      (delivers_slow (chosen (game_in one.games game)) (chosen (game_in slow game)) made))
       (λ first elsewhere.
       let apart : number ≢ game = eqb-false number game elsewhere in
-      subst (λ (it : Game). StepsAlike game (delivers one number (drawn (game_in one.games number) word))
-      (delivers (record one { games = slow }) number (drawn it word)))
-      (are.others number apart) (delivers_same number apart (drawn (game_in one.games number) word)))
+      subst (λ (it : Game). StepsAlike game (delivers one number (chosen (game_in one.games number)))
+      (delivers (record one { games = slow }) number (chosen it)))
+      (are.others number apart) (delivers_same number apart (chosen (game_in one.games number))))
       refl
 
-  abbrev draw_of : Stage → (number word count : ℕ) → Stepped
-  draw_of stage number word count = cond (nat_lt number count)
-      (delivers stage number (drawn (game_at stage number) word)) (nothing stage)
+  abbrev event_for : (chosen : Game → Option Event) → Stage → (number count : ℕ) → Stepped
+  event_for chosen stage number count = cond (nat_lt number count)
+      (delivers stage number (chosen (game_at stage number))) (nothing stage)
 
-  draws_slow : (number word : ℕ) → StepsAlike game (step one (Draws number word))
-      (step (record one { games = slow }) (Draws number word))
-  draws_slow number word =
-      subst (λ (count : ℕ). StepsAlike game (step one (Draws number word))
-      (draw_of (record one { games = slow }) number word count)) are.count
+  events_slow : (chosen : Game → Option Event) → MadeSlow chosen → (number : ℕ) →
+      StepsAlike game (event_for chosen one number (length one.games))
+      (event_for chosen (record one { games = slow }) number (length slow))
+  events_slow chosen made number =
+      subst (λ (count : ℕ). StepsAlike game (event_for chosen one number (length one.games))
+      (event_for chosen (record one { games = slow }) number count)) are.count
       (by_bool (nat_lt number (length one.games))
       (λ (below : Bool). StepsAlike game
-      (cond below (delivers one number (drawn (game_in one.games number) word)) (nothing one))
-      (cond below (delivers (record one { games = slow }) number (drawn (game_in slow number) word))
+      (cond below (delivers one number (chosen (game_in one.games number))) (nothing one))
+      (cond below (delivers (record one { games = slow }) number (chosen (game_in slow number)))
       (nothing (record one { games = slow }))))
-      (λ below. draw_slow number word) (λ past. nothing_slow game one slow are))
+      (λ below. event_slow chosen made number) (λ past. nothing_slow game one slow are))
 
 -- ---- a close
 
@@ -442,7 +448,10 @@ module _ (game : ℕ) (one : Stage) (slow : List Game) (are : SlowGames game one
       let new : Connection = record old { unfinished = Some []; queue = old.queue ++ Ends ∷ []; ended = true } in
       client_slow game one slow are conn new (nat_lt conn (length one.connections)) old.ended
       (moves_slow game (with_connection one conn new) slow are conn)
-  steps_slow (Draws number word) = draws_slow game one slow are number word
+  steps_slow (Draws number word) = events_slow game one slow are (λ (it : Game). drawn it word)
+      (drawn_slow (game_in one.games game) (game_in slow game) are.here word) number
+  steps_slow (Delivers number agent) = events_slow game one slow are (λ (it : Game). delivered it agent)
+      (delivered_slow (game_in one.games game) (game_in slow game) are.here agent) number
   steps_slow (Closes number) = closes_slow number
 
 -- ---- scripts

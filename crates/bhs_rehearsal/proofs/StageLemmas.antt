@@ -17,6 +17,8 @@ use Rattle.bhs_model.specs.declared.events.Event.TheVariants.{Tell, Deliver, Clo
 use Rattle.bhs_model.specs.declared.replies.Reply.{Reply}
 use Rattle.bhs_lineup.specs.KeyTable.{Seat}
 use Rattle.bhs_lineup.specs.declared.lineups.Ready.{Ready}
+use Rattle.bhs_rehearsal.specs.declared.choices.Choice.{Choice}
+use Rattle.bhs_rehearsal.specs.Choices.{chosen}
 use Rattle.bhs_rehearsal.specs.Games.{Game, drawn}
 use Rattle.bhs_rehearsal.specs.Connections.{Connection, unfed, shut, Taken, taken, after}
 use Rattle.bhs_rehearsal.specs.Stages.{Stage, Stepped, game_at, connection_at, with_game, plays, waits_in, shut_in}
@@ -100,26 +102,26 @@ with_ready ready keys connections failed place one new game read is team =
     (teams_same ready place one new read team)
 
 pub draws_lemma : (ready : List Ready) (keys : List Seat) (connections : List Connection) (failed : Bool)
-    (place word : ℕ) (one new : Ready) (before text : List ℕ) (result : Result (Option ℕ) AllocError) →
+    (place : ℕ) (choice : Choice) (one new : Ready) (before text : List ℕ) (result : Result (Option ℕ) AllocError) →
     place < length ready → one ≡ get_or ready place one →
-    IfOk result (λ agent. (game_of new ≡ (after_draw (game_of one) (drawn (game_of one) word)).game)
-    × ((agent, text) ≡ told_to before (after_draw (game_of one) (drawn (game_of one) word)).arrival))
+    IfOk result (λ agent. (game_of new ≡ (after_draw (game_of one) (chosen (game_of one) choice)).game)
+    × ((agent, text) ≡ told_to before (after_draw (game_of one) (chosen (game_of one) choice)).arrival))
     → team_of new ≡ team_of one →
     IsDrawn (rehearsing ready keys connections failed) place
     (after_draw (game_at (stage_of ready keys connections) place)
-    (drawn (game_at (stage_of ready keys connections) place) word)) before result text
+    (chosen (game_at (stage_of ready keys connections) place) choice)) before result text
     (rehearsing (slice_set ready place new) keys connections failed)
-draws_lemma ready keys connections failed place word one new before text (Ok agent) within read is team =
-    let same : after_draw (game_of one) (drawn (game_of one) word)
+draws_lemma ready keys connections failed place choice one new before text (Ok agent) within read is team =
+    let same : after_draw (game_of one) (chosen (game_of one) choice)
     ≡ after_draw (game_at (stage_of ready keys connections) place)
-    (drawn (game_at (stage_of ready keys connections) place) word) =
-    ap (λ (game : Game). after_draw game (drawn game word))
+    (chosen (game_at (stage_of ready keys connections) place) choice) =
+    ap (λ (game : Game). after_draw game (chosen game choice))
     (sym (game_read ready keys connections place one within read)) in (
       is.1 ∙ ap (λ (drawn : Drawn). told_to before drawn.arrival) same,
       with_ready ready keys connections failed place one new _ read
           (is.0 ∙ ap (λ (drawn : Drawn). drawn.game) same) team,
     )
-draws_lemma ready keys connections failed place word one new before text (Err memory) within read is team = tt
+draws_lemma ready keys connections failed place choice one new before text (Err memory) within read is team = tt
 
 -- a stage with the match that it has
 same_game : (stage : Stage) (game : ℕ) → with_game stage game (game_at stage game) ≡ stage

@@ -3,7 +3,7 @@ use Rattle.std.specs.Prelude.{ℕ, Bool, true, false, ◌==◌, List, [], ◌∷
 use Rattle.bhs_model.specs.declared.commands.Command.{Command}
 use Rattle.bhs_wire.specs.Lines.{lines}
 use Rattle.bhs_session.specs.Texts.{command_of}
-use Rattle.bhs_rehearsal.specs.Stages.{Instruction, Feeds, EndsInput, Draws, Closes}
+use Rattle.bhs_rehearsal.specs.Stages.{Instruction, Feeds, EndsInput, Draws, Delivers, Closes}
 
 -- ---- what it is fed
 
@@ -26,6 +26,7 @@ abbrev pub fed_by : (conn : ℕ) → Fed → Instruction → Fed
 fed_by conn fed (Feeds other bytes) = if other == conn then (if fed.has_ended then fed else fed_more fed bytes) else fed
 fed_by conn fed (EndsInput other) = if other == conn then at_end fed else fed
 fed_by conn fed (Draws game word) = fed
+fed_by conn fed (Delivers game agent) = fed
 fed_by conn fed (Closes game) = fed
 
 abbrev pub fed_to : (conn : ℕ) → Fed → List Instruction → Fed

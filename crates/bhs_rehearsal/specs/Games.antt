@@ -10,6 +10,7 @@ use Rattle.bhs_model.specs.Kept.{keeps, lost}
 use Rattle.bhs_model.specs.Draws.{draw}
 use Rattle.bhs_model.specs.Setups.{world_of}
 use Rattle.bhs_deal.specs.Links.{held_in}
+use Rattle.bhs_deal.specs.Drawing.{delivery_of}
 
 -- a network, how the match on it is set up, the links that no draw lets an agent arrive over, and the events that
 -- were kept
@@ -45,3 +46,7 @@ is_away game agent = is_bound ((state_of game).position agent)
 -- the event that a word draws, if any
 abbrev pub drawn : Game → (word : ℕ) → Option Event
 drawn game word = draw (held_in game.held) (state_of game) word
+
+-- the event that delivers an agent: none after the close, or if its link is held
+abbrev pub delivered : Game → (agent : ℕ) → Option Event
+delivered game agent = delivery_of (held_in game.held) (state_of game) agent

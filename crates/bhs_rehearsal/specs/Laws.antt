@@ -12,6 +12,7 @@ use Rattle.bhs_rehearsal.specs.Connections.{Connection}
 use Rattle.bhs_rehearsal.specs.Rehearsing.{first_stage, first_game}
 use Rattle.bhs_rehearsal.specs.Clients.{bytes_among, bytes_to}
 use Rattle.bhs_rehearsal.specs.Stages.{Stage, game_at, connection_at, moves, Instruction, Feeds, EndsInput, Draws}
+use Rattle.bhs_rehearsal.specs.Stages.{Delivers}
 use Rattle.bhs_rehearsal.specs.Stages.{Closes, Stepped, nothing, sent_to, step, begun, stands_after, sends}
 
 -- ---- cutting
@@ -75,11 +76,12 @@ ClientsKeepToThemselves =
     (stage : Stage) (conn : ℕ) (bytes : List ℕ) →
     IsOfConnection stage conn (step stage (Feeds conn bytes)) × IsOfConnection stage conn (step stage (EndsInput conn))
 
--- a draw and a close are of their match
+-- a draw, a delivery and a close are of their match
 abbrev pub MatchesKeepToThemselves : Type 0
 MatchesKeepToThemselves =
-    (stage : Stage) (game word : ℕ) →
+    (stage : Stage) (game word agent : ℕ) →
     IsOfGame stage game (step stage (Draws game word)) × IsOfGame stage game (step stage (Closes game))
+    × IsOfGame stage game (step stage (Delivers game agent))
 
 -- ---- what is left to take
 
@@ -158,11 +160,12 @@ MatchesAreHeardApart =
     (game : ℕ) (one two : Stage) (script : List Instruction) → SameBut game one two →
     HeardAlike game one script two script
 
--- whether an instruction is for a match: a draw, a close, or one for a connection that plays in it
+-- whether an instruction is for a match: a draw, a delivery, a close, or one for a connection that plays in it
 abbrev pub is_of_match : (game : ℕ) → Stage → Instruction → Bool
 is_of_match game stage (Feeds conn bytes) = plays_in game (connection_at stage conn)
 is_of_match game stage (EndsInput conn) = plays_in game (connection_at stage conn)
 is_of_match game stage (Draws other word) = other == game
+is_of_match game stage (Delivers other agent) = other == game
 is_of_match game stage (Closes other) = other == game
 
 -- a script without what it has for a match

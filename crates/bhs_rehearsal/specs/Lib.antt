@@ -3,6 +3,7 @@ pub mod Clients
 pub mod Connections
 pub mod Examples
 pub mod Games
+pub mod Choices
 pub mod Headline
 pub mod Laws
 pub mod MetExample

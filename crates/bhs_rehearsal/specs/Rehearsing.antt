@@ -10,7 +10,8 @@ use Rattle.bhs_lineup.specs.declared.lineups.Ready.{Ready}
 use Rattle.bhs_lineup.specs.declared.lineups.Lineup.{Lineup}
 use Rattle.bhs_rehearsal.specs.Games.{Game}
 use Rattle.bhs_rehearsal.specs.Connections.{Item, Says, Ends, Connection}
-use Rattle.bhs_rehearsal.specs.Stages.{Stage, Instruction, Feeds, EndsInput, Draws, Closes, game_at, begun, step}
+use Rattle.bhs_rehearsal.specs.Stages.{Stage, Instruction, Feeds, EndsInput, Draws, Delivers, Closes, game_at, begun}
+use Rattle.bhs_rehearsal.specs.Stages.{step}
 use Rattle.bhs_rehearsal.specs.Stages.{stands_after, sends}
 use Rattle.bhs_rehearsal.specs.declared.items.Item.{Item as ItemOfCode}
 use Rattle.bhs_rehearsal.specs.declared.items.Item.TheVariants as items
@@ -92,6 +93,7 @@ abbrev pub fault_of : Stage → Instruction → Option RehearsalFault
 fault_of stage (Feeds conn bytes) = if nat_lt conn (length stage.connections) then None else Some Conn
 fault_of stage (EndsInput conn) = if nat_lt conn (length stage.connections) then None else Some Conn
 fault_of stage (Draws game word) = if nat_lt game (length stage.games) then None else Some NoGame
+fault_of stage (Delivers game agent) = if nat_lt game (length stage.games) then None else Some NoGame
 fault_of stage (Closes game) = if nat_lt game (length stage.games) then None else Some NoGame
 
 -- the rehearsal on another stage

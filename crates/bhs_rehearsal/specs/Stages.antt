@@ -15,7 +15,7 @@ use Rattle.bhs_session.specs.Texts.{denial_text}
 use Rattle.bhs_session.specs.Port.{Enters, Tells, News, Answers}
 use Rattle.bhs_session.specs.Phase.{Phase, Fresh, Awaits}
 use Rattle.bhs_session.specs.Machine.{Ask, Asks, Denies, Rests, ask, hear, owed_text}
-use Rattle.bhs_rehearsal.specs.Games.{Game, state_of, played, reply_to, is_away, drawn}
+use Rattle.bhs_rehearsal.specs.Games.{Game, state_of, played, reply_to, is_away, drawn, delivered}
 use Rattle.bhs_rehearsal.specs.Connections.{Item, Says, Ends, Connection, unfed, shut, taken, after}
 
 -- the matches of a rehearsal, the keys that let agents enter them, and the connections
@@ -137,6 +137,8 @@ pub data Instruction : Type 0 where
   EndsInput : (conn : ℕ) → Instruction
   -- a word is drawn in a match
   Draws : (game word : ℕ) → Instruction
+  -- an agent of a match is delivered, unless its link is held
+  Delivers : (game agent : ℕ) → Instruction
   -- a match is ended
   Closes : (game : ℕ) → Instruction
 
@@ -230,6 +232,9 @@ step stage (Feeds conn bytes) = if nat_lt conn (length stage.connections) then f
 step stage (EndsInput conn) = if nat_lt conn (length stage.connections) then ends stage conn else nothing stage
 step stage (Draws game word) =
     if nat_lt game (length stage.games) then delivers stage game (drawn (game_at stage game) word) else nothing stage
+step stage (Delivers game agent) =
+    if nat_lt game (length stage.games) then delivers stage game (delivered (game_at stage game) agent)
+    else nothing stage
 step stage (Closes game) = if nat_lt game (length stage.games) then closes stage game else nothing stage
 
 -- how a rehearsal begins

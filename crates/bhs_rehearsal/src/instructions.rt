@@ -8,17 +8,19 @@ ghost use Rattle.bhs_model.specs.declared.replies.Reply.TheVariants.{Over};
 ghost use Rattle.bhs_wire.specs.LentReply.{reply_of};
 ghost use Rattle.bhs_session.specs.Texts.{text_of};
 ghost use Rattle.bhs_model.specs.declared.events.Event.TheVariants.{Close};
-ghost use Rattle.bhs_rehearsal.specs.Games.{drawn, played};
+ghost use Rattle.bhs_rehearsal.specs.Choices.{chosen};
+ghost use Rattle.bhs_rehearsal.specs.Games.{drawn, delivered, played};
 ghost use Rattle.bhs_rehearsal.specs.Stages.{feeds, ends, delivers, tells_arrival, closes, game_at, with_game};
 ghost use Rattle.bhs_rehearsal.specs.Stages.{has_seat, sent_to, told_over, shut_in};
 ghost use Rattle.bhs_rehearsal.specs.Rehearsing.{game_of, team_of, seen_out, sent_all, sent_once, on_stage};
 ghost use Rattle.bhs_rehearsal.specs.Takings.{IsStepped, IsDrawn, after_draw, mark_at, told_to};
 
+use crate::choices::Choice;
 use crate::connections::Connection;
 use crate::outs::Out;
 use crate::rehearsals::Rehearsal;
 use crate::takings::play_event;
-use bhs_deal::{Drawn, draw};
+use bhs_deal::{Drawn, deliver, draw};
 use bhs_lineup::Ready;
 use bhs_match::Match;
 use bhs_model::{Event, Kept};
@@ -76,15 +78,15 @@ impl<'s> Rehearsal<'s> {
         Ok(self.sent_to(conn, text))
     }
 
-    // A word is drawn in a match.
-    pub(crate) fn drawn(&mut self, game: u32, word: u32) -> Result<Option<Out>, Memory>
+    // An agent of a match is delivered.
+    pub(crate) fn drawn(&mut self, game: u32, choice: Choice) -> Result<Option<Out>, Memory>
         requires { game < length self.old.stage.games }
-        ensures { IsStepped sent_once self.old (delivers self.old.stage game (drawn (game_at self.old.stage game) word))
-            result self.new }
+        ensures { IsStepped sent_once self.old
+            (delivers self.old.stage game (chosen (game_at self.old.stage game) choice)) result self.new }
     {
         let alloc = *self.connections.allocator();
         let mut text = self.empty_text(alloc);
-        let Some(agent) = self.delivered(alloc, game, word, &mut text)? else {
+        let Some(agent) = self.delivered(alloc, game, choice, &mut text)? else {
             self.keep(text);
             return Ok(None);
         };
@@ -97,20 +99,20 @@ impl<'s> Rehearsal<'s> {
         }
     }
 
-    // What the draw makes of the match. Gives the agent that arrives, and adds the text that it is told.
+    // What the delivery makes of the match. Gives the agent that arrives, and adds the text that it is told.
     fn delivered(
         &mut self,
         alloc: Global,
         game: u32,
-        word: u32,
+        choice: Choice,
         text: &mut Vec<u8>,
     ) -> Result<Option<u16>, Memory>
         requires { game < length self.old.stage.games }
         ensures { IsDrawn self.old game (after_draw (game_at self.old.stage game)
-            (drawn (game_at self.old.stage game) word)) text.old.items result text.new.items self.new }
+            (chosen (game_at self.old.stage game) choice)) text.old.items result text.new.items self.new }
     {
         let ready = &mut self.ready[game as usize];
-        deliver(alloc, ready, word, text)
+        deliver_chosen(alloc, ready, choice, text)
     }
 
     // The first connection that plays this agent of this match.
@@ -205,8 +207,49 @@ impl<'s> Rehearsal<'s> {
     }
 }
 
-// Draws a word in a match. Gives the agent that arrives, and adds the text that it is told.
-fn deliver(
+// Delivers an agent of a match. Gives the agent if it arrives, and adds the text that it is told.
+fn deliver_chosen(
+    alloc: Global,
+    ready: &mut Ready,
+    choice: Choice,
+    text: &mut Vec<u8>,
+) -> Result<Option<u16>, Memory>
+    ensures drawn { let drawn = after_draw (game_of ready.old) (chosen (game_of ready.old) choice) in
+        IfOk result (λ agent. (game_of ready.new ≡ drawn.game)
+        × ((agent, text.new.items) ≡ told_to text.old.items drawn.arrival)) }
+    ensures team { team_of ready.new ≡ team_of ready.old }
+{
+    match choice {
+        Choice::Word(word) => draw_in(alloc, ready, word, text),
+        Choice::Agent(agent) => deliver_in(alloc, ready, agent, text),
+    }
+}
+
+// Delivers this agent.
+fn deliver_in(
+    alloc: Global,
+    ready: &mut Ready,
+    agent: u16,
+    text: &mut Vec<u8>,
+) -> Result<Option<u16>, Memory>
+    ensures drawn { let drawn = after_draw (game_of ready.old) (delivered (game_of ready.old) agent) in
+        IfOk result (λ found. (game_of ready.new ≡ drawn.game)
+        × ((found, text.new.items) ≡ told_to text.old.items drawn.arrival)) }
+    ensures team { team_of ready.new ≡ team_of ready.old }
+{
+    let before = ready.game.log().len();
+    deliver(&mut ready.game, &ready.held, agent);
+    match reply_at(&ready.game, before) {
+        Some(reply) => {
+            push_reply(alloc, reply, text)?;
+            Ok(Some(agent))
+        }
+        None => Ok(None),
+    }
+}
+
+// Delivers the agent that a word picks.
+fn draw_in(
     alloc: Global,
     ready: &mut Ready,
     word: u32,

@@ -1,6 +1,7 @@
 //! Rehearsals: many clients at once, in memory, as a script says. Each connection acts as a session does.
 #![tactic(auto)]
 
+mod choices;
 mod connections;
 mod entries;
 mod faults;

@@ -2,10 +2,11 @@
 
 ghost use Rattle.std.specs.Prelude.{◌≡◌, [], false, map, IfOk, replicate};
 ghost use Rattle.bhs_rehearsal.specs.Connections.{unfed};
-ghost use Rattle.bhs_rehearsal.specs.Stages.{Feeds, EndsInput, Draws, Closes};
+ghost use Rattle.bhs_rehearsal.specs.Stages.{Feeds, EndsInput, Draws, Delivers, Closes};
 ghost use Rattle.bhs_rehearsal.specs.Rehearsing.{Follows, game_of, made_of, sent_all, sent_once, team_of};
 ghost use Rattle.bhs_rehearsal.specs.Takings.{IsConcluded};
 
+use crate::choices::Choice;
 use crate::connections::Connection;
 use crate::faults::RehearsalFault;
 use crate::holders::Holders;
@@ -139,7 +140,22 @@ impl<'s> Rehearsal<'s> {
         if game as usize >= self.ready.len() {
             return Err(RehearsalFault::NoGame);
         }
-        let outs = self.drawn(game, word);
+        let outs = self.drawn(game, Choice::Word(word));
+        self.settled(outs)
+    }
+
+    /// Delivers an agent of a match, unless its link is held. `NoGame` if there is no such match; an agent that is not
+    /// there, or on no link, is not delivered.
+    pub fn deliver(&mut self, game: u32, agent: u16) -> Result<Option<Out>, RehearsalFault>
+        ensures { Follows sent_once self.old (Delivers game agent) result self.new }
+    {
+        if self.has_failed {
+            return Err(RehearsalFault::Memory);
+        }
+        if game as usize >= self.ready.len() {
+            return Err(RehearsalFault::NoGame);
+        }
+        let outs = self.drawn(game, Choice::Agent(agent));
         self.settled(outs)
     }
 

@@ -3,7 +3,7 @@ use Rattle.std.specs.Prelude.{◌≡◌, ◌⊎◌, ℕ, List, [], ◌∷◌, �
 use Rattle.std.specs.Cow.{cow_slice_items}
 use Rattle.bhs_rehearsal.specs.Stages as stages
 use Rattle.bhs_script.specs.declared.instructions.Instruction.{Instruction}
-use Rattle.bhs_script.specs.declared.instructions.Instruction.TheVariants.{Feed, End, Draw, Close}
+use Rattle.bhs_script.specs.declared.instructions.Instruction.TheVariants.{Feed, End, Draw, Deliver, Close}
 use Rattle.bhs_script.specs.declared.meanings.Meaning.{Meaning}
 use Rattle.bhs_script.specs.declared.meanings.Meaning.TheVariants as meanings
 use Rattle.bhs_script.specs.Script as script
@@ -12,6 +12,7 @@ abbrev pub seen : Instruction → stages.Instruction
 seen (Feed conn bytes) = stages.Feeds conn (cow_slice_items bytes)
 seen (End conn) = stages.EndsInput conn
 seen (Draw game word) = stages.Draws game word
+seen (Deliver game agent) = stages.Delivers game agent
 seen (Close game) = stages.Closes game
 
 abbrev pub seen_as : Meaning → script.Meaning

@@ -5,8 +5,8 @@ use Rattle.std.specs.List.{position}
 use Rattle.std.specs.Result.{result_ok}
 use Rattle.hex.specs.Hex.{decode_of}
 use Rattle.bhs_wire.specs.Lines.{is_line_feed}
-use Rattle.bhs_rehearsal.specs.Stages.{Instruction, Feeds, EndsInput, Draws, Closes}
-use Rattle.bhs_script.specs.declared.instructions.TheConstants.{CONNECTIONS}
+use Rattle.bhs_rehearsal.specs.Stages.{Instruction, Feeds, EndsInput, Draws, Delivers, Closes}
+use Rattle.bhs_script.specs.declared.instructions.TheConstants.{AGENTS, CONNECTIONS}
 use Rattle.bhs_script.specs.Number.{number}
 
 -- ---- lines
@@ -75,6 +75,14 @@ draws games rest = do
   word ← number parts.1
   Some (Draws game word)
 
+-- `deliver G A` delivers agent A of match G
+abbrev pub deliveries : (games : ℕ) → (rest : List ℕ) → Option Instruction
+deliveries games rest = do
+  parts ← parted rest
+  game ← number_below games parts.0
+  agent ← number_below AGENTS parts.1
+  Some (Delivers game agent)
+
 -- `close G` ends match G
 abbrev pub closes : (games : ℕ) → (rest : List ℕ) → Option Instruction
 closes games rest = do
@@ -87,8 +95,9 @@ instruction_by games word rest =
     if bytes_eq word (codes "hex") then feeds_bytes rest
     else (if bytes_eq word (codes "end") then ends_input rest
     else (if bytes_eq word (codes "draw") then draws games rest
+    else (if bytes_eq word (codes "deliver") then deliveries games rest
     else (if bytes_eq word (codes "close") then closes games rest
-    else feeds_line word rest)))
+    else feeds_line word rest))))
 
 -- the instruction of a line, in a rehearsal of this number of matches; None if it is not a line of a script
 abbrev pub instruction_in : (games : ℕ) → List ℕ → Option Instruction

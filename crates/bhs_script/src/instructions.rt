@@ -5,6 +5,9 @@ use std::borrow::CowSlice;
 /// How many connections the program's rehearsal has.
 pub const CONNECTIONS: u16 = 256;
 
+/// How many numbers an agent may have in a script.
+pub(crate) const AGENTS: usize = 65_536;
+
 /// What a line of a script does.
 #[derive(Drop)]
 pub enum Instruction<'s> {
@@ -14,6 +17,8 @@ pub enum Instruction<'s> {
     End { conn: u16 },
     /// Draws a delivery in a match by a word.
     Draw { game: u32, word: u32 },
+    /// Delivers an agent of a match, unless its link is held.
+    Deliver { game: u32, agent: u16 },
     /// Ends a match.
     Close { game: u32 },
 }

@@ -6,12 +6,13 @@ ghost use Rattle.std.specs.List.{position};
 ghost use Rattle.std.specs.Option.{option_map_or};
 ghost use Rattle.bhs_script.specs.Script.{meaning, lines_of, is_space, instructions_of, instruction_in, parted};
 ghost use Rattle.bhs_script.specs.Script.{number_below, bytes_of, feeds_line, feeds_bytes, ends_input, draws, closes};
+ghost use Rattle.bhs_script.specs.Script.{deliveries};
 ghost use Rattle.bhs_script.specs.Instructions.{IsEnded, seen, seen_as};
 ghost use Rattle.bhs_script.specs.declared.instructions.TheConstants.{CONNECTIONS};
 ghost use Rattle.bhs_script.specs.ScriptFault.{Refuses};
 
 use crate::faults::ScriptFault;
-use crate::instructions::{CONNECTIONS, Instruction};
+use crate::instructions::{AGENTS, CONNECTIONS, Instruction};
 use crate::meanings::Meaning;
 use crate::numbers::number_of;
 use bhs_net::Memory;
@@ -58,6 +59,8 @@ fn instruction_in<'s>(
         Ok(end_input(rest))
     } else if word == b"draw".as_slice() {
         Ok(draw(games, rest))
+    } else if word == b"deliver".as_slice() {
+        Ok(deliver(games, rest))
     } else if word == b"close".as_slice() {
         Ok(close(games, rest))
     } else {
@@ -156,6 +159,15 @@ fn draw<'s>(games: usize, rest: &[u8]) -> Option<Instruction<'s>>
     let game = number_below(games, number)?;
     let word = number_of(digits)?;
     Some(Instruction::Draw { game, word })
+}
+
+fn deliver<'s>(games: usize, rest: &[u8]) -> Option<Instruction<'s>>
+    ensures { option_map seen result ≡ deliveries games rest.now }
+{
+    let (number, digits) = parted(rest)?;
+    let game = number_below(games, number)?;
+    let agent = number_below(AGENTS, digits)? as u16;
+    Some(Instruction::Deliver { game, agent })
 }
 
 fn close<'s>(games: usize, rest: &[u8]) -> Option<Instruction<'s>>

@@ -11,6 +11,7 @@ use bhs_match::{Match, Sealed};
 use bhs_model::{Command, Reply, Text};
 use bhs_net::{Memory, Net};
 use bhs_replay::{ReplayFault, WritingFault, read_replay, write_replay};
+use bhs_time::ScheduleKind;
 use bhs_view::{RestrictFault, TwinFault, cut_of, restrict, twin_of};
 use std::alloc::{AllocError, Global};
 use std::process::Abort;
@@ -120,7 +121,7 @@ fn a_match_is_made_again(rt: HostRuntime) -> Result<(), Fail> {
 /// The match on the triangle, under its lock.
 fn cell(alloc: Global) -> Result<Cell, Memory> {
     let (game, held): (Match, Held) = triangle(alloc).ok_or(Memory)?;
-    Cell::new(alloc, 0, game, held)
+    Cell::new(alloc, 0, game, held, ScheduleKind::Adaptive)
 }
 
 /// What an agent is answered to a command. If memory runs out its pass stays as it was, and the command is told

@@ -7,7 +7,7 @@ use Rattle.bhs_program.proofs.hosting.host.Goals as goal
 pub finish-requires-after_bounds : goal.finish-requires-after_bounds
 finish-requires-after_bounds g c κs within =
     rw c.in-Ok.ensures.teams
-    (as_many 0 c.args.lineup.ready.items c.in-Ok.finished.settled.items c.in-Ok.ensures.settled)
+    (as_many c.args.lineup.schedule 0 c.args.lineup.ready.items c.in-Ok.finished.settled.items c.in-Ok.ensures.settled)
 
 pub returns-in-Ok : goal.returns-in-Ok
 returns-in-Ok g c =

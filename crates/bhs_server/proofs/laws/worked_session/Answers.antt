@@ -1,5 +1,6 @@
 use Rattle.std.proofs.Common.{None, [], ◌∷◌, refl, inl}
 use Rattle.bhs_model.specs.declared.replies.Why.TheVariants.{Twice}
+use Rattle.bhs_time.specs.declared.kinds.ScheduleKind.TheVariants.{Adaptive}
 use Rattle.bhs_wire.proofs.OnLiterals.{bhs_wire_on_literals}
 use Rattle.bhs_server.specs.ContestExample.{settled, pass, all_said}
 use Rattle.bhs_server.specs.ContestExample.{settled_elsewhere, pass_beside, pass_elsewhere, said_elsewhere}
@@ -16,7 +17,7 @@ returns c = record {
   headline = record {
     kept = refl;
     replies = refl;
-    given = record { game = 0; net = settled.net; setup = settled.setup; held = [] };
+    given = record { game = 0; net = settled.net; setup = settled.setup; held = []; schedule = Adaptive };
     passes = pass ∷ [];
     accord = record {
       world = record { same_net = refl; same_setup = refl };
@@ -26,7 +27,7 @@ returns c = record {
     };
     index = 0;
     handed_in = refl;
-    cells = record { game = 0; net = settled.net; setup = settled.setup; held = [] } ∷ [];
+    cells = record { game = 0; net = settled.net; setup = settled.setup; held = []; schedule = Adaptive } ∷ [];
     game = 0;
     cell = refl;
     of_cell = refl;
@@ -52,7 +53,13 @@ returns c = record {
   other = record {
     kept = refl;
     replies = refl;
-    given = record { game = 3; net = settled_elsewhere.net; setup = settled_elsewhere.setup; held = [] };
+    given = record {
+      game = 3;
+      net = settled_elsewhere.net;
+      setup = settled_elsewhere.setup;
+      held = [];
+      schedule = Adaptive;
+    };
     passes = pass_beside ∷ pass_elsewhere ∷ [];
     accord = record {
       world = record { same_net = refl; same_setup = refl };
@@ -62,7 +69,13 @@ returns c = record {
     };
     index = 1;
     handed_in = refl;
-    cells = record { game = 3; net = settled_elsewhere.net; setup = settled_elsewhere.setup; held = [] } ∷ [];
+    cells = record {
+      game = 3;
+      net = settled_elsewhere.net;
+      setup = settled_elsewhere.setup;
+      held = [];
+      schedule = Adaptive;
+    } ∷ [];
     game = 0;
     cell = refl;
     of_cell = refl;

@@ -6,7 +6,7 @@ use Rattle.bhs_rehearsal.specs.Games.{drawn}
 use Rattle.bhs_rehearsal.specs.Rehearsing.{game_of}
 use Rattle.bhs_rehearsal.specs.Takings.{after_draw, mark_at}
 use Rattle.bhs_rehearsal.proofs.PlayedLemmas.{one_drawn, told_drawn}
-use Rattle.bhs_rehearsal.proofs.instructions.deliver.Goals as goal
+use Rattle.bhs_rehearsal.proofs.instructions.draw_in.Goals as goal
 
 pub returns-in_ok-push_reply-in-Some-clause-drawn : goal.returns-in_ok-push_reply-in-Some-clause-drawn
 returns-in_ok-push_reply-in-Some-clause-drawn c =

@@ -1,0 +1,62 @@
+-- The turns of a match under its lock, and whom a turn delivers.
+use Rattle.std.specs.Prelude.{ℕ, ◌+◌, ◌-◌, ◌^◌, min, Bool, Option, Some, None, List, length, nat_lt}
+use Rattle.std.specs.Prelude.{if◌then◌else◌, replicate, slice_set}
+use Rattle.rand_chacha.specs.ChaCha.{ChaCha}
+use Rattle.bhs_model.specs.declared.events.Event.{Event}
+use Rattle.bhs_model.specs.Runs.{State, is_bound}
+use Rattle.bhs_model.specs.Draws.{Held, draw}
+use Rattle.bhs_time.specs.declared.kinds.ScheduleKind.{ScheduleKind}
+use Rattle.bhs_time.specs.declared.kinds.ScheduleKind.TheVariants.{Adaptive, Oblivious}
+use Rattle.bhs_time.specs.TimedRuns.{delivery_in}
+use Rattle.bhs_match.specs.Matches.{Play, state_of}
+use Rattle.bhs_deal.specs.Dealer.{next_word}
+use Rattle.bhs_deal.specs.Delaying.{schedule_by, departed_in, drawn_in}
+use Rattle.bhs_deal.specs.Drawing.{drawn}
+use Rattle.bhs_deal.specs.declared.draws.Drawn.{Drawn}
+use Rattle.bhs_deal.specs.declared.draws.Drawn.TheVariants.{Delivered}
+
+-- how many turns have passed, and of each agent, after how many it took its newest step that was not on a link
+pub record Timed : Type 0 where
+  pub turn : ℕ
+  pub departed : List ℕ
+
+-- before anything happens
+abbrev pub at_first : (agents : ℕ) → Timed
+at_first agents = record { turn = 0; departed = replicate agents 0 }
+
+-- after an agent took a step that was not on a link
+abbrev pub stepped : (agent : ℕ) → Timed → Timed
+stepped agent timed = record timed {
+  departed = if nat_lt agent (length timed.departed) then slice_set timed.departed agent timed.turn else timed.departed;
+}
+
+-- after an agent that was on a link, or not, said a command that was heard
+abbrev pub told_at : (was_away : Bool) → (agent : ℕ) → Timed → Timed
+told_at was_away agent timed = if was_away then timed else stepped agent timed
+
+abbrev pub stepped_if : Option ℕ → Timed → Timed
+stepped_if None timed = timed
+stepped_if (Some agent) timed = stepped agent timed
+
+-- after a turn, with the agent that arrived in it, if one did. Turns are counted to 2 ^ 32 - 1.
+abbrev pub turned : Option ℕ → Timed → Timed
+turned arrived timed =
+    record (stepped_if arrived timed) { turn = min ((stepped_if arrived timed).turn + 1) (2 ^ 32 - 1) }
+
+-- the agent that arrived by what was drawn, if one did, where the match then stands like this
+abbrev pub arrived_by : State → Drawn → Option ℕ
+arrived_by state (Delivered agent) = if is_bound (state.position agent) then None else Some agent
+arrived_by state drawn = None
+
+-- The event of a turn, if it has one. Under the adaptive schedule the dealer's next word draws it out of the pool.
+-- Under the oblivious one it is the delivery of the schedule by the dealer's words.
+abbrev pub event_of_turn : ScheduleKind → Held → Play → Timed → ChaCha → Option Event
+event_of_turn Adaptive held play timed dealer = draw held (state_of play) (next_word dealer)
+event_of_turn (Oblivious law) held play timed dealer =
+    delivery_in held (schedule_by dealer play.setup.agents law) (state_of play) (departed_in timed.departed) timed.turn
+
+-- what comes of a turn
+abbrev pub drawn_in_turn : ScheduleKind → Held → Play → Timed → ChaCha → Drawn
+drawn_in_turn Adaptive held play timed dealer = drawn held (state_of play) (next_word dealer)
+drawn_in_turn (Oblivious law) held play timed dealer =
+    drawn_in held (schedule_by dealer play.setup.agents law) (state_of play) (departed_in timed.departed) timed.turn

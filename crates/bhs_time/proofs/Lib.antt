@@ -1,0 +1,10 @@
+pub mod StampLemmas
+pub mod TimelyLemmas
+pub mod StandLemmas
+pub mod HoleLemmas
+pub mod LeavingLemmas
+pub mod CutTimeLemmas
+pub mod SlowTimeLemmas
+pub mod ContestLemmas
+pub mod WaitLemmas
+pub mod DelayLemmas

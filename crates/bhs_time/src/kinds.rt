@@ -1,0 +1,12 @@
+//! Which schedule a tournament has.
+
+use crate::delays::Delays;
+
+/// How the turns of a tournament choose whom they deliver.
+#[derive(Clone, Copy, Debug)]
+pub enum ScheduleKind {
+    /// A turn's word picks out of the pool of those on a link.
+    Adaptive,
+    /// A turn's word picks one of all agents, which arrives if it has been on its link for its delay.
+    Oblivious(Delays),
+}

@@ -1,0 +1,86 @@
+//! The laws of time. Each holds for every world, every oblivious schedule and every timed execution; the functions do
+//! nothing.
+
+ghost use Rattle.bhs_time.specs.Contests.{MatchesAreApartInTime};
+ghost use Rattle.bhs_time.specs.Leaving.{CutsSufficeInTime, TheUnseenMayBeLeftOut};
+ghost use Rattle.bhs_time.specs.Rows.{
+  ADepartureKeepsItsTurn,
+  AHeldLinkHolds,
+  APickThatDoesNothing,
+  AWalkWithItsTurns,
+  HowLongALinkTakes,
+  OthersShowInNoTurn,
+  ThePoolTells,
+  WhoIsReleased,
+};
+ghost use Rattle.bhs_time.specs.Laws.{
+  ArrivalsAreByTheWords,
+  ClocksOnlyStamp,
+  EqualPastsInTime,
+  EqualWaits,
+  HolesDoNotShowInTime,
+  HolesLookSlowInTime,
+  IsolatedInTime,
+};
+
+/// Without its turns a timed execution is the match of its events.
+pub fn clocks_only_stamp()
+    ensures { ClocksOnlyStamp }
+{}
+
+/// An agent arrives at the first turn since its departure that releases it.
+pub fn arrivals_are_by_the_words()
+    ensures { ArrivalsAreByTheWords }
+{}
+
+/// An agent with the same timed view in two matches waits for the same number of turns, whatever else differs.
+pub fn equal_waits_in_time()
+    ensures { EqualWaits }
+{}
+
+/// Isolation in time: agents that met the same at the same turns arrive at the same turns.
+pub fn isolated_in_time()
+    ensures { IsolatedInTime }
+{}
+
+/// Agents that met the same at the same turns are answered alike.
+pub fn equal_pasts_in_time()
+    ensures { EqualPastsInTime }
+{}
+
+/// What watched agents do not see may be left out: their pasts stay the same, with all turns.
+pub fn the_unseen_may_be_left_out()
+    ensures { TheUnseenMayBeLeftOut }
+{}
+
+/// What is said outside an agent's cut changes neither its past nor any turn in it.
+pub fn cuts_suffice_in_time()
+    ensures { CutsSufficeInTime }
+{}
+
+/// Unreached black holes and uncrossed dark links show in no turn of an agent's past.
+pub fn holes_do_not_show_in_time()
+    ensures { HolesDoNotShowInTime }
+{}
+
+/// No agent can tell black holes and dark links from links that are held for good, whatever turns it counts.
+pub fn holes_look_slow_in_time()
+    ensures { HolesLookSlowInTime }
+{}
+
+/// A match among others is as it is alone, with its turns.
+pub fn matches_are_apart_in_time()
+    ensures { MatchesAreApartInTime }
+{}
+
+/// What the definitions give on a triangle, worked out by hand.
+pub fn worked_rows()
+    ensures how_long_a_link_takes { HowLongALinkTakes }
+    ensures who_is_released { WhoIsReleased }
+    ensures a_walk_with_its_turns { AWalkWithItsTurns }
+    ensures others_show_in_no_turn { OthersShowInNoTurn }
+    ensures a_pick_that_does_nothing { APickThatDoesNothing }
+    ensures a_departure_keeps_its_turn { ADepartureKeepsItsTurn }
+    ensures a_held_link_holds { AHeldLinkHolds }
+    ensures the_pool_tells { ThePoolTells }
+{}
