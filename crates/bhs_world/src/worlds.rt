@@ -131,7 +131,8 @@ impl World {
         ensures placed { IsTrue result → self.new ≡ record self.old {
           agents = slice_set self.old.agents agent (record newcomer { position = position_of standing });
         } }
-        ensures within { IsTrue result → agent < self.old.setup.agents }
+        ensures stands { IsTrue result → agent_at self.new.agents agent
+            ≡ record newcomer { position = position_of standing } }
         ensures kept { IsFalse result → self.new ≡ self.old }
         ensures same { (self.new.net ≡ self.old.net) × (self.new.setup ≡ self.old.setup) }
     {
@@ -148,7 +149,8 @@ impl World {
         ensures shown { IsTrue result → self.new ≡ record self.old {
           boards = slice_set self.old.boards node (record { limit = self.old.setup.board; last = last });
         } }
-        ensures within { IsTrue result → node < nodes_of self.old.net }
+        ensures shows { IsTrue result → board_at self.new.boards node
+            ≡ record { limit = self.old.setup.board; last = last } }
         ensures kept { IsFalse result → self.new ≡ self.old }
         ensures same { (self.new.net ≡ self.old.net) × (self.new.setup ≡ self.old.setup) }
     {
@@ -161,7 +163,8 @@ impl World {
 
     /// Whether a link destroys who travels on it; a number without a link does not.
     pub fn is_doomed(&self, node: u16, port: u16) -> bool
-        ensures { IsPlaced self.now.net (Bound node port) → result ≡ doomed (world_in self.now) node port }
+        ensures link { IsPlaced self.now.net (Bound node port) → result ≡ doomed (world_in self.now) node port }
+        ensures only { IsTrue result → doomed (world_in self.now) node port ≡ true }
     {
         node < self.net.nodes()
             && port < self.net.degree(node)
