@@ -36,6 +36,17 @@ impl Agent {
         }
     }
 
+    /// An agent that stands so, has used nothing, and is not known to be lost.
+    pub fn standing_so(standing: Standing) -> Agent
+        ensures { result ≡ record newcomer { position = position_of standing } }
+    {
+        Agent {
+            standing,
+            used: 0,
+            lost: false,
+        }
+    }
+
     /// What it is doing, and where.
     pub fn standing(&self) -> Standing
         ensures { position_of result ≡ self.now.position }

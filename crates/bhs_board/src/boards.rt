@@ -31,6 +31,14 @@ impl Board {
         Board { limit, last: None }
     }
 
+    /// A whiteboard that holds up to this many bytes, and shows the text of this place.
+    pub fn showing(limit: u16, last: Option<u32>) -> Board
+        ensures limit { result.limit ≡ limit }
+        ensures last { result.last ≡ last }
+    {
+        Board { limit, last }
+    }
+
     /// The place of the write whose text is shown; None while no write has changed the whiteboard.
     pub fn last(&self) -> Option<u32>
         ensures { result ≡ self.now.last }

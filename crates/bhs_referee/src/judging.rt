@@ -1,6 +1,8 @@
 //! The verdict on a match that has ended.
 
-ghost use Rattle.std.specs.Prelude.{◌≡◌};
+ghost use Rattle.std.specs.Prelude.{◌≡◌, ℕ};
+ghost use Rattle.bhs_model.specs.Runs.{Position};
+ghost use Rattle.bhs_referee.specs.Verdicts.{is_unfinished as is_unfinished_at};
 ghost use Rattle.bhs_model.specs.Setups.{world_of};
 ghost use Rattle.bhs_match.specs.Matches.{state_of};
 ghost use Rattle.bhs_referee.specs.Verdicts.{outcome_of, verdict_of};
@@ -33,13 +35,21 @@ pub fn judge(sealed: &Sealed) -> Verdict
 fn outcome(net: &Net, setup: &Setup, sealed: &Sealed, walk: &Walk) -> Outcome
     ensures { result ≡ outcome_of (world_of net.now setup.now) (state_of sealed.now).position (found_in walk.now) }
 {
+    outcome_by(net, setup, is_unfinished(net, setup, sealed), walk)
+}
+
+/// The outcome by what was found, and by whether some agent is at a node.
+pub fn outcome_by(net: &Net, setup: &Setup, is_unfinished: bool, walk: &Walk) -> Outcome
+    ensures { (position : ℕ → Position) → is_unfinished ≡ is_unfinished_at (world_of net.now setup.now) position
+        → result ≡ outcome_of (world_of net.now setup.now) position (found_in walk.now) }
+{
     if is_wrong(net, setup, walk) {
         return Outcome::Wrong;
     }
     if is_silent(net, setup, walk) {
         return Outcome::Silent;
     }
-    if is_unfinished(net, setup, sealed) {
+    if is_unfinished {
         return Outcome::Unfinished;
     }
     if !is_past_dark(net, setup, walk) {

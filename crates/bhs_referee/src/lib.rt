@@ -8,6 +8,7 @@ mod looks;
 mod verdicts;
 mod walks;
 
-pub use judging::judge;
+pub use judging::{judge, outcome_by};
 pub use laws::verdicts_stand;
 pub use verdicts::{Outcome, Verdict};
+pub use walks::Walk;

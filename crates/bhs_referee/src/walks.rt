@@ -11,15 +11,15 @@ use bhs_net::MAX_NODES;
 /// What a pass over a log and its sites keeps: of each agent the link that it accused, by the node where it was and the
 /// port; of each node whether an agent arrived there; and how many Departs were answered Gone.
 #[derive(Clone, Copy)]
-pub(crate) struct Walk {
-    pub(crate) accused: [Option<(u16, u16)>; MAX_AGENTS as usize],
-    pub(crate) reached: [bool; MAX_NODES as usize],
-    pub(crate) moves: u32,
+pub struct Walk {
+    pub accused: [Option<(u16, u16)>; MAX_AGENTS as usize],
+    pub reached: [bool; MAX_NODES as usize],
+    pub moves: u32,
 }
 
 impl Walk {
     /// Before the first event.
-    pub(crate) fn new() -> Walk
+    pub fn new() -> Walk
         ensures { result ≡ start }
     {
         Walk {
@@ -51,7 +51,7 @@ impl Walk {
 
     // Keeps this link of an agent.
     #[tactic(auto, using(std::proofs::lemmas::List::set_past))]
-    fn keep(&mut self, agent: u16, link: Option<(u16, u16)>)
+    pub fn keep(&mut self, agent: u16, link: Option<(u16, u16)>)
         ensures { self.new ≡ record self.old { accused = slice_set self.old.accused agent link } }
     {
         if usize::from(agent) < self.accused.len() {
@@ -61,7 +61,7 @@ impl Walk {
 
     // Marks a node as reached.
     #[tactic(auto, using(std::proofs::lemmas::List::set_past))]
-    fn mark(&mut self, node: u16)
+    pub fn mark(&mut self, node: u16)
         ensures { self.new ≡ record self.old { reached = slice_set self.old.reached node true } }
     {
         if usize::from(node) < self.reached.len() {

@@ -1,24 +1,26 @@
 //! A match without its log: network, setup, whiteboards and agents.
 
 ghost use Rattle.std.specs.Prelude.{◌≡◌, ◌<◌, ◌^◌, List, length, [], Some, None, IfOk, IfErr, true};
-ghost use Rattle.std.specs.Prelude.{IsTrue, OnOk, if◌then◌else◌, ◌⊎◌, nat_lt, option_and_then};
+ghost use Rattle.std.specs.Prelude.{IsTrue, IsFalse, OnOk, slice_set, if◌then◌else◌, ◌⊎◌, nat_lt, option_and_then};
 ghost use Rattle.bhs_net.specs.Network.{nodes_of};
+ghost use Rattle.bhs_model.specs.Worlds.{doomed};
 ghost use Rattle.bhs_model.specs.declared.marks.Kept.{Kept as KeptData};
 ghost use Rattle.bhs_model.specs.Marks.{events_of, read_if, board_of};
 ghost use Rattle.bhs_model.specs.Places.{written, named};
-ghost use Rattle.bhs_model.specs.Runs.{run, reply};
+ghost use Rattle.bhs_model.specs.Runs.{Bound, run, reply};
 ghost use Rattle.bhs_model.specs.Setups.{normal, IsNormal};
 ghost use Rattle.bhs_world.specs.Faults.{first_fault, IsWithinLimits};
 ghost use Rattle.bhs_world.specs.Tables.{agent_at, board_at, world_in, StandsFor, keeps_next, log_after};
 ghost use Rattle.bhs_world.specs.Tables.{is_of_board_if};
 ghost use Rattle.bhs_model.specs.Standings.{standing_at};
+ghost use Rattle.bhs_agent.specs.Agents.{newcomer, position_of};
 ghost use Rattle.bhs_world.specs.Steps.{IsSound, IsPlaced, refusal_of, hears_in, table_heard, mark_heard, table_after};
 ghost use Rattle.bhs_world.specs.Steps.{mark_after, mark_of_command, heard_in, keeps_delivered, keeps_in, shows_in};
 
 use crate::faults::SetupFault;
 use crate::hearing::{advance, answer, here, refusal, shows_from};
 use crate::making::{empty_boards, in_order, judged, newcomers};
-use bhs_agent::Agent;
+use bhs_agent::{Agent, Standing};
 use bhs_board::Board;
 use bhs_model::{Command, Dooms, Event, Kept, Mark, Setup, Why};
 use bhs_net::Net;
@@ -123,6 +125,52 @@ impl World {
         self.boards[usize::from(node)].last()
     }
 
+    /// Lets an agent stand so, with nothing used. Says whether there is such an agent and such a place; if not, nothing
+    /// is changed.
+    pub fn place(&mut self, agent: u16, standing: Standing) -> bool
+        ensures placed { IsTrue result → self.new ≡ record self.old {
+          agents = slice_set self.old.agents agent (record newcomer { position = position_of standing });
+        } }
+        ensures stands { IsTrue result → agent_at self.new.agents agent
+            ≡ record newcomer { position = position_of standing } }
+        ensures kept { IsFalse result → self.new ≡ self.old }
+        ensures same { (self.new.net ≡ self.old.net) × (self.new.setup ≡ self.old.setup) }
+    {
+        if agent >= self.setup.agents || !is_placed(&self.net, standing) {
+            return false;
+        }
+        self.agents[usize::from(agent)] = Agent::standing_so(standing);
+        true
+    }
+
+    /// Lets the whiteboard of a node name this place, whose text it shows then. Says whether there is such a node; if
+    /// not, nothing is changed.
+    pub fn show(&mut self, node: u16, last: Option<u32>) -> bool
+        ensures shown { IsTrue result → self.new ≡ record self.old {
+          boards = slice_set self.old.boards node (record { limit = self.old.setup.board; last = last });
+        } }
+        ensures shows { IsTrue result → board_at self.new.boards node
+            ≡ record { limit = self.old.setup.board; last = last } }
+        ensures kept { IsFalse result → self.new ≡ self.old }
+        ensures same { (self.new.net ≡ self.old.net) × (self.new.setup ≡ self.old.setup) }
+    {
+        if node >= self.net.nodes() {
+            return false;
+        }
+        self.boards[usize::from(node)] = Board::showing(self.setup.board, last);
+        true
+    }
+
+    /// Whether a link destroys who travels on it; a number without a link does not.
+    pub fn is_doomed(&self, node: u16, port: u16) -> bool
+        ensures link { IsPlaced self.now.net (Bound node port) → result ≡ doomed (world_in self.now) node port }
+        ensures only { IsTrue result → doomed (world_in self.now) node port ≡ true }
+    {
+        node < self.net.nodes()
+            && port < self.net.degree(node)
+            && self.dooms.is_doomed(&self.net, node, port)
+    }
+
     /// Whether the match has ended.
     pub fn closed(&self) -> bool
         ensures { result ≡ self.now.closed }
@@ -202,8 +250,9 @@ impl World {
         refusal(agent.standing(), agent.used() < self.setup.quota, command)
     }
 
-    // Answers a command, and plays it if it is heard.
-    fn answer_command(&mut self, log: &[Kept], agent: u16, command: &Command) -> Mark
+    /// Answers a command, and plays it if it is heard, where the whiteboards name places of this log. A Write that is
+    /// answered Written names the place behind the last.
+    pub fn tell(&mut self, log: &[Kept], agent: u16, command: &Command) -> Mark
         requires room { length log.now < 2 ^ 32 }
         ensures mark { result ≡ mark_of_command self.old log.now agent command.now }
         ensures world { self.new ≡ (if heard_in self.old agent command.now then table_heard self.old log.now agent
@@ -222,8 +271,8 @@ impl World {
         }
     }
 
-    // Lets an agent through on its link: it arrives, or it is destroyed.
-    fn deliver(&mut self, agent: u16) -> Option<Mark>
+    /// Lets an agent through on its link: it arrives, or it is destroyed.
+    pub fn deliver(&mut self, agent: u16) -> Option<Mark>
         ensures mark { result ≡ mark_after self.old [] (Event.Deliver agent) }
         ensures world { self.new ≡ table_after self.old [] (Event.Deliver agent) }
         ensures sound { IsSound self.old }
@@ -250,7 +299,7 @@ impl World {
         ensures sound { IsSound self.old }
     {
         match event {
-            Event::Tell { agent, command } => Some(self.answer_command(log, *agent, command)),
+            Event::Tell { agent, command } => Some(self.tell(log, *agent, command)),
             Event::Deliver { agent } => self.deliver(*agent),
             Event::Close => {
                 self.closed = true;
@@ -301,5 +350,16 @@ impl World {
             Some((node, port)) => !self.dooms.is_doomed(&self.net, node, port) || !agent.lost(),
             None => false,
         }
+    }
+}
+
+// Whether there is such a place.
+fn is_placed(net: &Net, standing: Standing) -> bool
+    ensures { IsTrue result → IsPlaced net.now (position_of standing) }
+{
+    match standing {
+        Standing::Present { node, .. } => node < net.nodes(),
+        Standing::Away { node, port } => node < net.nodes() && port < net.degree(node),
+        _ => true,
     }
 }

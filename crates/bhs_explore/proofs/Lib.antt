@@ -1,0 +1,13 @@
+pub mod Closed
+pub mod Turns
+pub mod Tabled
+pub mod Losses
+pub mod Spent
+pub mod Costs
+pub mod Answering
+pub mod Playing
+pub mod Scenes
+pub mod Leading
+pub mod Closing
+pub mod Walking
+pub mod Whole

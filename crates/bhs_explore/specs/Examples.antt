@@ -1,0 +1,118 @@
+-- Worked examples on the triangle: what each shows is checked by computing the definitions.
+use Rattle.std.specs.Prelude.{ℕ, ◌≡◌, Bool, true, false, Option, Some, None, List, [], ◌∷◌, codes, if◌then◌else◌, ◌==◌}
+use Rattle.std.specs.Prelude.{◌&&◌, ◌||◌, ◌+◌}
+use Rattle.bhs_model.specs.declared.commands.Command.TheVariants.{Enter, Write, Depart, Accuse, Leave}
+use Rattle.bhs_model.specs.declared.replies.Reply.TheVariants.{Here, Written, Gone}
+use Rattle.bhs_model.specs.Draws.{Held}
+use Rattle.bhs_model.specs.Examples.{triangle, none_held}
+use Rattle.bhs_referee.specs.declared.verdicts.Verdict.{Verdict}
+use Rattle.bhs_referee.specs.declared.verdicts.Outcome.TheVariants.{Solved, Silent}
+use Rattle.bhs_explore.specs.declared.minds.Step.{Step}
+use Rattle.bhs_explore.specs.declared.minds.Step.TheVariants.{Says, Sleeps, Stops}
+use Rattle.bhs_explore.specs.Minds.{Item, Heard, Woke, History, Mind, Minds}
+use Rattle.bhs_explore.specs.Schedules.{Trial, under, can_move, verdict}
+use Rattle.bhs_explore.specs.Machines.{Machines, memory_at, minds_of}
+use Rattle.bhs_explore.specs.Spending.{used_in}
+
+-- enters, goes to node 1, and accuses the link from there to node 2
+abbrev pub scout : Mind
+scout [] = Says Enter
+scout (Heard (Here ports None board) ∷ history) = Says (Depart 0)
+scout (Heard (Here ports (Some label) board) ∷ history) = Says (Accuse 1)
+scout history = Stops
+
+-- enters, goes into the black hole
+abbrev pub victim : Mind
+victim [] = Says Enter
+victim (Heard (Here ports came board) ∷ history) = Says (Depart 1)
+victim history = Stops
+
+-- enters, writes, and leaves
+abbrev pub writer : Mind
+writer [] = Says Enter
+writer (Heard (Here ports came board) ∷ history) = Says (Write [] (codes "a"))
+writer (Heard Written ∷ history) = Says Leave
+writer history = Stops
+
+-- enters, and sleeps again and again
+abbrev pub sleeper : Mind
+sleeper [] = Says Enter
+sleeper history = Sleeps
+
+abbrev pub two : Mind → Mind → Minds
+two one other agent = if agent == 0 then one else other
+
+abbrev pub on_triangle : Mind → Mind → Trial
+on_triangle one other = record { world = triangle; held = none_held; naps = 0; minds = two one other }
+
+-- of both agents whether they can move once these have had their turns
+abbrev pub moves_left : Trial → (schedule : List ℕ) → Bool × Bool
+moves_left trial schedule = (can_move trial (under trial schedule) 0, can_move trial (under trial schedule) 1)
+
+-- the scout solves the triangle, also while the other is on its way to the black hole, whether or not that is lost yet
+abbrev pub TheScoutSolves : Type 0
+TheScoutSolves =
+    (moves_left (on_triangle scout victim) (0 ∷ 1 ∷ 0 ∷ 1 ∷ 0 ∷ 0 ∷ []) ≡ (false, false))
+    × (verdict (on_triangle scout victim) (under (on_triangle scout victim) (0 ∷ 1 ∷ 0 ∷ 1 ∷ 0 ∷ 0 ∷ []))
+    ≡ record { outcome = Solved; moves = 2; lost = 0 })
+    × (verdict (on_triangle scout victim) (under (on_triangle scout victim) (1 ∷ 1 ∷ 1 ∷ 0 ∷ 0 ∷ 0 ∷ 0 ∷ []))
+    ≡ record { outcome = Solved; moves = 2; lost = 1 })
+
+-- a held link lets nobody arrive
+abbrev pub AHeldLinkHolds : Type 0
+AHeldLinkHolds =
+    (moves_left (record (on_triangle scout victim) { held = λ node port. true }) (0 ∷ 0 ∷ 1 ∷ 1 ∷ 0 ∷ [])
+    ≡ (false, false))
+    × (verdict (record (on_triangle scout victim) { held = λ node port. true })
+    (under (record (on_triangle scout victim) { held = λ node port. true }) (0 ∷ 0 ∷ 1 ∷ 1 ∷ 0 ∷ []))
+    ≡ record { outcome = Silent; moves = 2; lost = 0 })
+
+-- a sleeper wakes once, and again after somebody has written on the whiteboard in front of it
+abbrev pub ASleeperWakes : Type 0
+ASleeperWakes =
+    (moves_left (on_triangle writer sleeper) (1 ∷ []) ≡ (true, true))
+    × (moves_left (on_triangle writer sleeper) (1 ∷ 1 ∷ []) ≡ (true, false))
+    × (moves_left (on_triangle writer sleeper) (1 ∷ 1 ∷ 0 ∷ []) ≡ (true, false))
+    × (moves_left (on_triangle writer sleeper) (1 ∷ 1 ∷ 0 ∷ 0 ∷ []) ≡ (true, true))
+    × (moves_left (on_triangle writer sleeper) (1 ∷ 1 ∷ 0 ∷ 0 ∷ 1 ∷ []) ≡ (true, false))
+
+-- a sleeper may nap as often as it is allowed
+abbrev pub ASleeperNaps : Type 0
+ASleeperNaps =
+    (moves_left (record (on_triangle writer sleeper) { naps = 2 }) (1 ∷ 1 ∷ 1 ∷ 1 ∷ []) ≡ (true, false))
+    × (moves_left (record (on_triangle writer sleeper) { naps = 2 }) (1 ∷ 1 ∷ 1 ∷ []) ≡ (true, true))
+    × (moves_left (record (on_triangle writer sleeper) { naps = 2 }) (1 ∷ 1 ∷ 1 ∷ 1 ∷ 0 ∷ 0 ∷ []) ≡ (true, true))
+
+-- what the scout and the victim do by what they hold: it enters, departs, arrives, accuses
+abbrev pub does_as : ℕ → Step
+does_as memory =
+    if memory == 0 || memory == 10 then Says Enter
+    else (if memory == 1 then Says (Depart 0)
+    else (if memory == 11 then Says (Depart 1)
+    else (if memory == 3 then Says (Accuse 1) else Stops)))
+
+-- the scout and the victim as machines: agent 0 holds 0 at the start, agent 1 holds 10
+abbrev pub scouts : Machines
+scouts = record {
+  start = λ agent. if agent == 0 then 0 else 10;
+  after = λ memory item. memory + 1;
+  does = does_as;
+}
+
+-- what they hold, and what they do by that: two histories after which an agent holds the same are one to it
+abbrev pub MachinesPlay : Type 0
+MachinesPlay =
+    (memory_at scouts 1 (Woke ∷ Heard Gone ∷ []) ≡ 12)
+    × (memory_at scouts 1 (Heard Gone ∷ Woke ∷ []) ≡ 12)
+    × (moves_left (record { world = triangle; held = none_held; naps = 0; minds = minds_of scouts }) (0 ∷ 1 ∷ 0 ∷ 1 ∷ 0 ∷ 0 ∷ [])
+    ≡ (false, false))
+    × (verdict (record { world = triangle; held = none_held; naps = 0; minds = minds_of scouts })
+    (under (record { world = triangle; held = none_held; naps = 0; minds = minds_of scouts }) (1 ∷ 1 ∷ 1 ∷ 0 ∷ 0 ∷ 0 ∷ 0 ∷ []))
+    ≡ record { outcome = Solved; moves = 2; lost = 1 })
+
+-- an Enter is not counted, a Depart and an Accuse are
+abbrev pub WhatIsUsed : Type 0
+WhatIsUsed =
+    (used_in (on_triangle scout victim) (under (on_triangle scout victim) (0 ∷ 0 ∷ 0 ∷ [])) 0 ≡ 1)
+    × (used_in (on_triangle scout victim) (under (on_triangle scout victim) (0 ∷ 0 ∷ 0 ∷ 0 ∷ [])) 0 ≡ 2)
+    × (used_in (on_triangle scout victim) (under (on_triangle scout victim) (1 ∷ 1 ∷ 1 ∷ 1 ∷ [])) 1 ≡ 1)

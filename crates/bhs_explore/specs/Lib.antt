@@ -1,0 +1,11 @@
+pub mod Minds
+pub mod Schedules
+pub mod Everywhere
+pub mod Machines
+pub mod Spending
+pub mod Answers
+pub mod Certificates
+pub mod Knowing
+pub mod Telling
+pub mod Laws
+pub mod Examples
