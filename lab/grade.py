@@ -28,13 +28,12 @@ from lab.agent_files import digests
 from lab.cells import NETWORK, Cell, Walls
 from lab.course import Course
 from lab.cutting import Cut, Runs, in_words, noted, runs_of
-from lab.engines import program_at
+from lab.engines import add_engine, program_of
 from lab.fixtures import Fixture
 from lab.grid import Case, NoSweep
 from lab.league import Failure, Row
 from lab.play import Played, play
 from lab.progress import along
-from lab.run import PROGRAM, add_engine
 from lab.schedulers import Scheduler, in_runs
 from lab.schedules import Schedule, schedule_of
 from lab.spread import over_processes
@@ -175,7 +174,7 @@ def run(words: argparse.Namespace) -> int:
         read.maker(name)
     if walls is not Walls.ALL:
         print(f"lab: {walls.value}", file=sys.stderr)
-    program = program_at(words.program) if words.engine == PROGRAM else None
+    program = program_of(words)
     graded = Graded(read.text, path.parent, program, walls, words.out)
     cases = read.cases()
     made = {"course": hashlib.sha256(read.text.encode()).hexdigest(), "engine": words.engine, "files": graded.digests()}

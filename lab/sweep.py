@@ -25,12 +25,12 @@ from typing import Any, Dict, Iterable, Iterator, List, NamedTuple, Optional, Tu
 
 from lab import grid, report
 from lab.agent_files import digests
-from lab.engines import Differs, judged, program_at
+from lab.engines import Differs, add_engine, judged, program_at, program_of
 from lab.finds import engine_of, write_find
 from lab.grid import Case, Grid, NoSweep
 from lab.play import Played, play
 from lab.progress import along
-from lab.run import PROGRAM, add_engine, maker_of
+from lab.run import maker_of
 from lab.schedules import Schedule, schedule_of
 from lab.spread import Result, over_cluster, over_processes
 from lab.teams import Together
@@ -153,7 +153,7 @@ def add_workers(parser: argparse.ArgumentParser) -> None:
 def run(words: argparse.Namespace) -> int:
     spec, text = grid.read(words.file), words.file.read_text(encoding="utf-8")
     check_workers(words)
-    work = Work(text, program_at(words.program) if words.engine == PROGRAM else None)
+    work = Work(text, program_of(words))
     for name in spec.schedulers:
         maker_of(name)
     cases = list(spec.cases())
