@@ -85,8 +85,9 @@ def row_for(case: Case, schedule: Schedule, played: Played, program: Optional[st
     commands = sum(agent.used for agent in match.agents)
     found = (case.number, case.network, setup.nodes, len(setup.links), setup.home, case.hole, case.team.name,
              setup.agents, case.scheduler, case.seed, verdict.outcome, verdict.moves, verdict.lost, commands,
-             len(match.log), hashlib.sha256(played.replay).hexdigest(), " ".join("; ".join(played.faults).split()))
-    return [str(value) for value in found]
+             len(match.log), hashlib.sha256(played.replay).hexdigest())
+    faults = [" ".join(fault.split()) for fault in played.faults]
+    return [*map(str, found), *(faults or [""])]
 
 
 def line_of(row: Iterable[str]) -> str:
@@ -96,9 +97,11 @@ def line_of(row: Iterable[str]) -> str:
     return text.getvalue()
 
 
-def rows_in(path: pathlib.Path) -> List[Dict[str, str]]:
+def rows_in(path: pathlib.Path) -> List[report.Row]:
+    """The rows of a file. A row ends with a field for each fault, and `faults` has them all."""
     with path.open(encoding="utf-8", newline="") as file:
-        return list(csv.DictReader(file))
+        rows = list(csv.DictReader(file, restkey=report.MORE))
+    return [{**row, report.FAULTS: [it for it in (row["fault"], *row.get(report.MORE, [])) if it]} for row in rows]
 
 
 def done_in(path: pathlib.Path) -> int:

@@ -9,7 +9,8 @@ from lab.tests.playing import KNOWN_MAP, MAP, RING, InFolder, network_fixture, p
 class Pages(InFolder):
     def test_the_model_says_what_the_program_says(self) -> None:
         chance = random.Random(7)
-        matches = [(ring_fixture(8, 5, chance), RING), (network_fixture(chance), MAP), (network_fixture(chance), KNOWN_MAP)]
+        matches = [(ring_fixture(8, 5, chance), RING), (network_fixture(chance), MAP),
+                   (network_fixture(chance), KNOWN_MAP)]
         for number, (fixture, agent) in enumerate(matches):
             path = self.folder / f"{number}.jsonl"
             path.write_bytes(played(fixture, agent, number, schedulers.slow_agents).replay)
