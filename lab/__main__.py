@@ -16,9 +16,10 @@ from lab.schedulers import Impossible
 from lab.schedules import NoSchedule
 from lab.spread import NoCluster
 from lab.agent_files import NoAgent
+from lab.users import NoUser
 
 FAULTS = (Differs, Impossible, Missing, NoAgent, NoCell, NoCluster, NoFunction, NoNetwork, NoProgram, NoSchedule,
-          NoSweep)
+          NoSweep, NoUser)
 
 
 class Command(NamedTuple):

@@ -1,44 +1,54 @@
 """Cells: where programs of strangers play, each apart from all others.
 
 A program in a cell runs in a folder of its own, which has a copy of its team's files and nothing else. What else keeps
-it apart depends on who starts the lab:
+it apart depends on the machine and on who starts the lab:
 
-- root, on a machine that gives it namespaces (as Linux does outside containers): the program is a user of its own, who
-  has no name; it sees no network but the lab, no processes but its own, and of the disk the system's programs and its
-  folder. So it cannot meet other programs, also not those of its own team.
-- root elsewhere: the program is a user of its own. It can read what every user of the machine may read, and programs
-  can talk to each other behind the whiteboards' back.
-- anybody else: the program can read and write what this user can.
-
-All that a program leaves behind is removed when its match ends: its folder, and processes that it started.
+- With Debian's bubblewrap and python3-seccomp, where the machine lets its users make namespaces (as Linux does outside
+  containers): the program sees no network but the lab, no processes but its own, and of the disk the system's programs
+  and its folder, which is in memory. A filter refuses the calls of the system by which it could meet other programs,
+  also those of its own team. If root starts the lab, it is besides a user of its own, who has no name.
+- Otherwise, if root starts the lab: the program is a user of its own. It can read what every user of the machine may
+  read, and programs can talk to each other behind the whiteboards' back.
+- Otherwise: the program can read and write what this user can.
 """
 import contextlib
 import enum
 import functools
-import json
 import os
 import pathlib
-import pwd
 import shutil
 import signal
 import socket
 import subprocess
 import sys
 import tempfile
-import time
 from typing import Any, Dict, Iterator, List, NamedTuple, Optional, Sequence, Tuple
 
-from lab.cell_start import HOME, PATH, READY, SYSTEM
+from lab import users
+from lab.cell_start import READY
+from lab.hand_in import HandIn
+from lab.missing import DEBIANS_PYTHON
+from lab.programs import NoStart, Started
+from lab.watch import Watch, memory_of, processes_below, space_of
 
-STARTER = pathlib.Path(__file__).resolve().parent / "cell_start.py"
-# where programs connect behind walls, each in a network of its own
-PORT = 4000
-# the file of the network, for programs that have the map
-NETWORK = "network.toml"
-# numbers of users that no system gives out for long
-USERS = range(61_184, 65_520)
-# how long a machine with much other work may take to begin a cell, and to end what a user has left
-SECONDS_TO_BEGIN, SECONDS_TO_END = 60, 10
+STARTER, FILTER = (pathlib.Path(__file__).resolve().parent / name for name in ("cell_start.py", "cell_filter.py"))
+# where a program's folder stands behind walls, where it connects, and who it is there
+HOME, PORT, USER = "/agent", 4000, "1000"
+PATH = "/usr/local/bin:/usr/bin:/bin"
+# what a program sees of the disk, to read
+TOP = ("bin", "lib", "lib32", "lib64", "libx32")
+SEEN = ("/usr/bin", "/usr/include", "/usr/lib", "/usr/lib32", "/usr/lib64", "/usr/libexec", "/usr/libx32", "/usr/local",
+        "/usr/share")
+SETTINGS = ("alternatives", "fonts", "hosts", "java*", "ld.so.*", "localtime", "mime.types", "nsswitch.conf",
+            "os-release", "protocols", "python3*", "services", "ssl/certs", "ssl/openssl.cnf")
+# what it sees of /proc besides its processes: the rest tells how busy the machine is
+PROCESSES = {"self", "thread-self", "mounts", "net", "cpuinfo", "filesystems", "version"}
+# where it can write, in memory, and how many bytes each of these takes
+SPACES, SPACE = (HOME, "/tmp", "/dev/shm"), 64 << 20
+# how long a machine with much other work may take to begin a cell
+SECONDS_TO_BEGIN = 60
+PACKAGES = "apt-get install bubblewrap python3-seccomp"
+NOTHING = HandIn({}).archive()
 
 
 class NoCell(Exception):
@@ -48,176 +58,262 @@ class NoCell(Exception):
 class Walls(enum.Enum):
     """What keeps a program apart, besides a folder of its own."""
 
-    ALL = "each program has a user, a network, processes and a view of the disk of its own"
-    USER = ("this machine lets root make no namespaces, as in a container: each program has a user of its own, but can "
-            "read what every user may read, so close the course's folder to others by `chmod go= FOLDER`; and a team's "
-            "programs can talk to each other unseen")
-    NONE = ("you are not root: teams' programs run as you, and can read and change your files; start the command as "
-            "root, by sudo, for programs that you do not trust")
+    ALL = "each program has a network, processes and a view of the disk of its own"
+    USER = ("each program has a user of its own, but can read what every user may read, so close the course's folder "
+            "to others by `chmod go= FOLDER`; and a team's programs can talk to each other unseen")
+    NONE = ("teams' programs run as you: they can read and change your files, and what they write to /tmp and "
+            "processes that leave their group stay when a match has ended")
 
 
-class Cell(NamedTuple):
-    """A place for one program: the folder that has what it needs, its user, and what keeps it apart."""
+class Yard(NamedTuple):
+    """What all cells of a course share: what keeps programs apart, and which folders they see besides the system's."""
 
-    place: pathlib.Path
-    user: Optional[int]
     walls: Walls
+    tools: Tuple[str, ...] = ()
 
-    @property
-    def home(self) -> pathlib.Path:
-        """The program's folder."""
-        return self.place / "home"
+    def words(self) -> List[str]:
+        """The command that puts up walls, up to the command that is to run behind them."""
+        words = ["bwrap", "--unshare-all", "--unshare-user", "--disable-userns", "--uid", USER, "--gid", USER,
+                 "--hostname", "cell", "--die-with-parent", "--new-session", "--clearenv", "--setenv", "PATH", PATH,
+                 "--setenv", "TMPDIR", "/tmp", "--setenv", "COUNTED", "yes"]
+        words += [*disk_words(), "--proc", "/proc", *proc_words(), "--dev", "/dev"]
+        for path in SPACES:
+            words += ["--size", str(SPACE), "--tmpfs", path]
+        for path in self.tools:
+            words += ["--ro-bind", path, path]
+        for path in meeting_places((*SEEN, *self.tools)):
+            words += ["--ro-bind", os.devnull, path]
+        return [*words, "--remount-ro", "/dev", "--remount-ro", "/", "--chdir", HOME]
 
-    @property
-    def facts(self) -> Dict[str, str]:
-        """What stands for words of a command: the network's file, if the cell has it."""
-        return {"network": NETWORK} if (self.home / NETWORK).is_file() else {}
 
-    def start(self, words: Sequence[str], errors: Any) -> Tuple["subprocess.Popen[bytes]", socket.socket]:
-        """Starts a program; gives it, and the listener to which it is to connect, whose port stands for `{port}`."""
-        is_apart = self.walls is Walls.ALL
-        path = os.environ.get("PATH", PATH) if self.user is None else PATH
-        given = {"words": list(words), "folder": str(self.home), "root": str(self.place / "root"), "user": self.user,
-                 "walls": is_apart, "port": PORT if is_apart else 0, "path": path}
+class Cell:
+    """A place for one program: its team's files and what is told of the network, its user, and what keeps it apart."""
+
+    def __init__(self, yard: Yard, files: bytes, user: Optional[int], place: Optional[pathlib.Path],
+                 facts: Dict[str, str]) -> None:
+        self.yard = yard
+        self.user = user
+        self.place = place
+        self.facts = facts
+        self._files = files
+        self._child: Optional["subprocess.Popen[bytes]"] = None
+        self._fault = ""
+
+    def start(self, words: Sequence[str], errors: Any) -> Started:
+        """Starts a program."""
         ours, theirs = socket.socketpair()
-        with ours, theirs:
-            child = subprocess.Popen(
-                [sys.executable, "-I", "-S", str(STARTER), str(theirs.fileno())], pass_fds=[theirs.fileno()],
-                stdin=subprocess.DEVNULL, stdout=subprocess.DEVNULL, stderr=errors, start_new_session=True)
-            theirs.close()
-            return child, listener_of(child, ours, given, errors)
+        with theirs, contextlib.ExitStack() as opened:
+            files = opened.enter_context(in_memory(self._files))
+            given, command, port = [theirs.fileno(), files], self._before(), 0
+            if self.place is None:
+                port = PORT
+                given.append(opened.enter_context(in_memory(system_filter())))
+                command += [*self.yard.words(), "--seccomp", str(given[-1])]
+            command += [python(), "-I", "-S", "-c", STARTER.read_text(encoding="utf-8"), str(theirs.fileno()),
+                        str(files), str(port), *words]
+            path = PATH if self.user is not None else os.environ.get("PATH", PATH)
+            self._child = subprocess.Popen(
+                command, pass_fds=given, stdin=subprocess.DEVNULL, stdout=subprocess.DEVNULL, stderr=errors,
+                cwd=self.place, env={"PATH": path, "COUNTED": "" if self.user is None else "yes"},
+                start_new_session=True)
+        return self._child, functools.partial(self._listener_of, self._child, ours, errors)
+
+    def _before(self) -> List[str]:
+        """The words that make a program the first that is ended if memory is short, and another user."""
+        first = ["choom", "-n", "1000", "--"]
+        if self.user is None:
+            return first
+        return [*first, "setpriv", f"--reuid={self.user}", f"--regid={self.user}", "--clear-groups", "--no-new-privs",
+                "--"]
+
+    def _listener_of(self, child: "subprocess.Popen[bytes]", channel: socket.socket, errors: Any) -> socket.socket:
+        """Takes the listener, and so waits until the program begins."""
+        try:
+            with channel:
+                channel.settimeout(SECONDS_TO_BEGIN)
+                _, sent, _, _ = socket.recv_fds(channel, len(READY), 1)
+                return socket.socket(fileno=sent[0])
+        except (OSError, IndexError) as fault:
+            self.kill(child)
+            errors.seek(0)
+            said = errors.read().decode(errors="replace").strip()
+            why = f"a cell for a program cannot be made: {said or fault}"
+        if self._files == NOTHING:
+            raise NoCell(why)
+        # if others can be started, it is this program's files or words
+        try_out(self.yard)
+        raise NoStart(why)
+
+    def kill(self, child: "subprocess.Popen[bytes]") -> None:
+        """Ends the program, and all that it has started."""
+        if self.place is None and child.poll() is None:
+            # the first process behind walls takes all others with it, and bubblewrap waits for it
+            first = processes_below(child.pid)[1:2]
+            with contextlib.suppress(ProcessLookupError, subprocess.TimeoutExpired):
+                os.kill(first[0] if first else child.pid, signal.SIGKILL)
+                child.wait(SECONDS_TO_BEGIN)
+        elif self.place is not None and self.user is not None:
+            users.end_all_of(self.user)
+        with contextlib.suppress(ProcessLookupError):
+            os.killpg(child.pid, signal.SIGKILL)
+        child.wait()
 
     def told(self, text: str) -> str:
         """What a program says, without the name of its folder, which is another one on each run."""
-        return text.replace(f"{self.home}/", "").replace(f"{HOME}/", "")
+        return text.replace(f"{self.place or HOME}/", "")
 
-    def end(self) -> None:
-        """Ends all that the program has started and left."""
-        if self.user is not None:
-            end_all_of(self.user)
+    def fault(self) -> str:
+        """Why the program was ended, if it has taken too much."""
+        return self._fault
 
+    def used(self) -> int:
+        """The bytes of memory that the program takes."""
+        if self._child is None or self._child.returncode is not None:
+            return 0
+        processes = processes_below(self._child.pid)
+        inside = processes[1:2] if self.place is None else []
+        spaces = [space_of(f"/proc/{first}/root{path}") for first in inside for path in SPACES]
+        return memory_of(processes) + sum(spaces)
 
-def listener_of(child: "subprocess.Popen[bytes]", channel: socket.socket, given: Any, errors: Any) -> socket.socket:
-    """Tells the starter what to start; takes the listener, and waits until the program begins."""
-    channel.settimeout(SECONDS_TO_BEGIN)
-    listener = None
-    try:
-        channel.sendall(json.dumps(given).encode() + b"\n")
-        _, sent, _, _ = socket.recv_fds(channel, 16, 1)
-        listener = socket.socket(fileno=sent[0])
-        if channel.recv(len(READY)) != READY:
-            raise OSError("it has ended")
-        return listener
-    except (OSError, IndexError) as fault:
-        if listener is not None:
-            listener.close()
-        os.killpg(child.pid, signal.SIGKILL)
-        child.wait()
-        errors.seek(0)
-        said = errors.read().decode(errors="replace").strip()
-        raise NoCell(f"a cell for a program cannot be made: {said or fault}") from None
+    def end_for(self, fault: str) -> None:
+        """Ends the program, as it has taken too much."""
+        self._fault = fault
+        for process in processes_below(self._child.pid)[1:] if self.place is None else [self._child.pid]:
+            with contextlib.suppress(ProcessLookupError):
+                os.kill(process, signal.SIGKILL)
 
 
 @contextlib.contextmanager
-def cells(files: Sequence[pathlib.Path], users: Sequence[int], walls: Walls) -> Iterator[List[Cell]]:
-    """Cells of a team's programs, each with a copy of the files and a user of its own."""
-    with tempfile.TemporaryDirectory(prefix="lab-cells-") as folder:
-        os.chmod(folder, 0o711)
+def cells(yard: Yard, files: bytes, count: int, facts: Dict[str, str]) -> Iterator[List[Cell]]:
+    """Cells of a team's programs, each with a copy of the files of an archive."""
+    with contextlib.ExitStack() as left:
         made = []
-        try:
-            for number, user in enumerate(users):
-                made.append(cell_in(pathlib.Path(folder) / str(number), files, user, walls))
-            yield made
-        finally:
-            for cell in made:
-                cell.end()
+        for _ in range(count):
+            has_user = os.geteuid() == 0 and yard.walls is not Walls.NONE
+            user = left.enter_context(users.claimed()) if has_user else None
+            place = None if yard.walls is Walls.ALL else left.enter_context(folder_for(user))
+            made.append(Cell(yard, files, user, place, facts))
+        left.enter_context(Watch([cell.used for cell in made], [cell.end_for for cell in made]))
+        yield made
 
 
-def cell_in(place: pathlib.Path, files: Sequence[pathlib.Path], user: int, walls: Walls) -> Cell:
-    """A cell in this folder, with a copy of the files."""
-    cell = Cell(place, None if walls is Walls.NONE else user, walls)
-    place.mkdir(mode=0o711)
-    place.chmod(0o711)
-    (place / "root").mkdir()
-    cell.home.mkdir(mode=0o700)
-    for file in files:
-        copy_into(cell.home, file)
-    if cell.user is not None:
-        for path in [cell.home, *cell.home.rglob("*")]:
-            os.chown(path, cell.user, cell.user, follow_symlinks=False)
-    return cell
+def try_out(yard: Yard) -> None:
+    """Starts a program that does nothing; if even that cannot be started, NoCell says why."""
+    with cells(yard, NOTHING, 1, {}) as made, tempfile.TemporaryFile() as errors:
+        child, listener_of = made[0].start(["true"], errors)
+        listener_of().close()
+        if child.wait() != 0:
+            raise NoCell(f"a program that does nothing has ended with status {child.returncode}")
 
 
-def copy_into(home: pathlib.Path, file: pathlib.Path) -> None:
-    """Copies a file, or all that is in a folder."""
-    for source in sorted(file.iterdir()) if file.is_dir() else [file.resolve()]:
-        copy(source, home / (source.name if file.is_dir() else file.name))
+@contextlib.contextmanager
+def folder_for(user: Optional[int]) -> Iterator[pathlib.Path]:
+    """A folder of this user's own, who has nothing else, before and after."""
+    if user is not None:
+        # a command that was killed may have left it
+        users.end_and_remove(user)
+    above = pathlib.Path(tempfile.mkdtemp(prefix="lab-cell-"))
+    try:
+        # a program may rename its folder, if it may write to the one above
+        above.chmod(0o711)
+        (above / "home").mkdir(mode=0o700)
+        if user is not None:
+            os.chown(above / "home", user, user)
+        yield above / "home"
+    finally:
+        if user is not None:
+            users.end_and_remove(user)
+        remove(above)
 
 
-def copy(source: pathlib.Path, target: pathlib.Path) -> None:
-    """Copies a file or a folder. A link is copied as a link, as what it leads to may be another's, and nothing is
-    written through one. What is neither is left out."""
-    if target.is_symlink():
-        target.unlink()
-    if source.is_symlink():
-        target.unlink(missing_ok=True)
-        target.symlink_to(os.readlink(source))
-    elif source.is_dir():
-        target.mkdir(mode=0o700, exist_ok=True)
-        for inside in sorted(source.iterdir()):
-            copy(inside, target / inside.name)
-    elif source.is_file():
-        shutil.copyfile(source, target)
-        target.chmod(0o700 if os.access(source, os.X_OK) else 0o600)
+def remove(folder: pathlib.Path) -> None:
+    """Removes a folder, however deep a program has made folders in it."""
+    subprocess.run(["rm", "-rf", "--", str(folder)], stderr=subprocess.DEVNULL)
+
+
+@contextlib.contextmanager
+def in_memory(content: bytes) -> Iterator[int]:
+    """A file in memory, at its beginning."""
+    with open(os.memfd_create("lab"), "wb") as file:
+        file.write(content)
+        file.flush()
+        file.seek(0)
+        yield file.fileno()
+
+
+def python() -> str:
+    """The Python that starts programs: one that every user has, if there is one."""
+    return DEBIANS_PYTHON if os.path.exists(DEBIANS_PYTHON) else sys.executable
+
+
+@functools.lru_cache(maxsize=1)
+def system_filter() -> bytes:
+    """The filter of system calls, as bubblewrap takes it."""
+    ran = subprocess.run([DEBIANS_PYTHON, str(FILTER)], capture_output=True)
+    if ran.returncode != 0:
+        raise NoCell(f"the filter of system calls cannot be made: {ran.stderr.decode(errors='replace').strip()}")
+    return ran.stdout
+
+
+@functools.lru_cache(maxsize=1)
+def weakness() -> str:
+    """Why there are no walls here, or nothing if there are."""
+    if shutil.which("bwrap") is None or not os.path.exists(DEBIANS_PYTHON) or subprocess.run(
+            [DEBIANS_PYTHON, "-c", "import seccomp"], stderr=subprocess.DEVNULL).returncode != 0:
+        return f"there are no walls between programs: `{PACKAGES}` installs what makes them"
+    try:
+        try_out(Yard(Walls.ALL))
+        return ""
+    except NoCell as fault:
+        return f"this machine makes no walls between programs, as in a container: {fault}"
 
 
 @functools.lru_cache(maxsize=1)
 def strongest() -> Walls:
     """What can keep programs apart here."""
-    if os.geteuid() != 0:
-        return Walls.NONE
-    with cells([], [unnamed()[0]], Walls.ALL) as made, tempfile.TemporaryFile() as errors:
-        try:
-            child, listener = made[0].start(["true"], errors)
-        except NoCell:
-            return Walls.USER
-        listener.close()
-        return Walls.ALL if child.wait() == 0 else Walls.USER
+    if not weakness():
+        return Walls.ALL
+    return Walls.USER if os.geteuid() == 0 else Walls.NONE
 
 
-@functools.lru_cache(maxsize=1)
-def unnamed() -> List[int]:
-    """Numbers of users who have no name on this machine."""
-    named = {entry.pw_uid for entry in pwd.getpwall()}
-    return [user for user in USERS if user not in named]
+def disk_words() -> List[str]:
+    """What all programs see of the system's disk."""
+    words = []
+    for name in TOP:
+        if os.path.islink(f"/{name}"):
+            words += ["--symlink", os.readlink(f"/{name}"), f"/{name}"]
+        elif os.path.isdir(f"/{name}"):
+            words += ["--ro-bind", f"/{name}", f"/{name}"]
+    for path in SEEN:
+        words += ["--ro-bind-try", path, path]
+    for pattern in SETTINGS:
+        for found in sorted(pathlib.Path("/etc").glob(pattern)):
+            words += ["--ro-bind-try", str(found), str(found)]
+    return words
 
 
-def is_seen(path: pathlib.Path) -> bool:
-    """Whether programs behind walls see this path, as it stands among the system's programs."""
-    return path.resolve().parts[1:2] in [(name,) for name in SYSTEM]
+def proc_words() -> List[str]:
+    """What hides all of /proc that is of no process."""
+    words = []
+    for name in sorted(os.listdir("/proc")):
+        if not name.isdigit() and name not in PROCESSES:
+            path = f"/proc/{name}"
+            words += ["--tmpfs", path, "--remount-ro", path] if os.path.isdir(path) else ["--ro-bind", os.devnull, path]
+    return words
 
 
-def end_all_of(user: int) -> None:
-    """Ends all processes of a user."""
-    until = time.monotonic() + SECONDS_TO_END
-    while found := processes_of(user):
-        if time.monotonic() > until:
-            raise NoCell(f"processes of user {user} do not end: {found[:5]}")
-        for process in found:
-            with contextlib.suppress(ProcessLookupError):
-                os.kill(process, signal.SIGKILL)
-        time.sleep(0.005)
+@functools.lru_cache(maxsize=4)
+def meeting_places(folders: Sequence[str]) -> List[str]:
+    """The pipes and sockets in these folders, by which programs that only read could talk."""
+    ran = subprocess.run(["find", *filter(os.path.isdir, folders), "(", "-type", "p", "-o", "-type", "s", ")",
+                          "-print0"], capture_output=True)
+    return [os.fsdecode(path) for path in ran.stdout.split(b"\0") if path]
 
 
-def processes_of(user: int) -> List[int]:
-    """The processes of a user that still run."""
-    found = []
-    for path in pathlib.Path("/proc").glob("[0-9]*/status"):
-        with contextlib.suppress(OSError):
-            # a process can choose its name, which stands in the first line, and whose its files are
-            lines = path.read_bytes().split(b"\n")[1:]
-            users = next((line.split()[1:] for line in lines if line.startswith(b"Uid:")), [])
-            has_ended = any(line.startswith(b"State:\tZ") for line in lines)
-            if str(user).encode() in users and not has_ended:
-                found.append(int(path.parent.name))
-    return found
+def seen_at(path: pathlib.Path, tools: Sequence[str]) -> Optional[str]:
+    """The folder that programs behind walls see, and that has this path or is in it; None if they do not see it."""
+    real = path.resolve()
+    for seen in (*map("/{}".format, TOP), *SEEN, *tools):
+        if real.is_relative_to(pathlib.Path(seen).resolve()):
+            return seen
+    return None

@@ -1,6 +1,6 @@
 """Writes a page of each match of a contest, and a page that lists them with their verdicts.
 
-    python3 -m lab pages TOURNAMENT PREFIX --out FOLDER [--program PATH]
+    python3 -m lab pages TOURNAMENT PREFIX --out FOLDER [--program PATH | --engine model]
 
 TOURNAMENT is the file that was served, and PREFIX what its --replay named: the replay of match M is PREFIXM.jsonl. The
 folder gets index.html, which has the table of the contest with links, and beside it the page and the replay of each
@@ -9,25 +9,18 @@ match. All of it opens without a network. A match without a replay, as after a s
 import argparse
 import html
 import pathlib
-import re
 import shutil
 import tomllib
 from typing import List, NamedTuple, Optional
 
-from lab.engines import add_program, asked, program_at
+from lab.engines import add_engine, program_of
+from lab.judging import verdict_of
+from lab.model import Verdict
 from lab.networks import NoNetwork
 from lab.page import write_page
 from lab.parts import framed, part
 
-VERDICT = re.compile(r"(.*) moves (\d+) lost (\d+)")
 RANKS = ("solved", "guess", "unfinished", "silent", "wrong")
-
-
-class Judged(NamedTuple):
-    """The verdict on a match."""
-    outcome: str
-    moves: int
-    lost: int
 
 
 class Shown(NamedTuple):
@@ -35,7 +28,7 @@ class Shown(NamedTuple):
     number: int
     team: str
     network: str
-    verdict: Optional[Judged]
+    verdict: Optional[Verdict]
 
 
 def matches_of(tournament: pathlib.Path) -> List[Shown]:
@@ -45,11 +38,6 @@ def matches_of(tournament: pathlib.Path) -> List[Shown]:
         return [Shown(number, one["team"], one["network"], None) for number, one in enumerate(found)]
     except (tomllib.TOMLDecodeError, KeyError, TypeError) as fault:
         raise NoNetwork(f"{tournament}: this is not the file of a tournament ({fault}): see `arena check`") from None
-
-
-def judged(program: str, replay: pathlib.Path) -> Judged:
-    outcome, moves, lost = VERDICT.fullmatch(asked(program, "judge", str(replay)).strip()).groups()
-    return Judged(outcome, int(moves), int(lost))
 
 
 def rank(shown: Shown) -> tuple:
@@ -82,14 +70,14 @@ def page_of(title: str, matches: List[Shown]) -> str:
     })
 
 
-def write_pages(program: str, tournament: pathlib.Path, prefix: str, folder: pathlib.Path) -> pathlib.Path:
+def write_pages(program: Optional[str], tournament: pathlib.Path, prefix: str, folder: pathlib.Path) -> pathlib.Path:
     """Writes the pages of a contest; gives the page that lists the others."""
     folder.mkdir(parents=True, exist_ok=True)
     matches = []
     for shown in matches_of(tournament):
         replay = pathlib.Path(f"{prefix}{shown.number}.jsonl")
         if replay.exists():
-            shown = shown._replace(verdict=judged(program, replay))
+            shown = shown._replace(verdict=verdict_of(program, replay))
             write_page(program, replay, folder / f"match{shown.number}.html")
             kept = folder / f"match{shown.number}.jsonl"
             if kept.resolve() != replay.resolve():
@@ -105,9 +93,9 @@ def add_words(parser: argparse.ArgumentParser) -> None:
     parser.add_argument("tournament", metavar="TOURNAMENT", type=pathlib.Path, help="the file that was served")
     parser.add_argument("prefix", metavar="PREFIX", help="what --replay named: the replay of match M is PREFIXM.jsonl")
     parser.add_argument("--out", metavar="FOLDER", type=pathlib.Path, required=True, help="write the pages there")
-    add_program(parser)
+    add_engine(parser)
 
 
 def run(words: argparse.Namespace) -> int:
-    print(write_pages(program_at(words.program), words.tournament, words.prefix, words.out))
+    print(write_pages(program_of(words), words.tournament, words.prefix, words.out))
     return 0

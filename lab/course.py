@@ -18,7 +18,10 @@
     ports, home, holes, seeds, quota, board
                   as in the file of a sweep: see `python3 -m lab sweep --help`
     limit         how many seconds a program may take to send a line (20)
+    match_limit   how many seconds the lab waits for the programs of a match in all (60)
+    team_limit    how many seconds all matches of a team may take (600, or 5 for each match if that is more)
     tries         how many schedules are tried to make that of a failed match small (100)
+    tools         folders that programs see to read, besides the system's, such as ["/opt/jdk-21"]
 
 Each [[team]] has a `name`, of 1 to 16 characters out of a to z, 0 to 9 and -; `agents`, a number or "degree" for one
 more than the network's greatest degree (2); `files`, a list of files and folders, whose copies each of its programs
@@ -26,16 +29,21 @@ has; and `command`, the words that start the program of one agent in the folder 
 {port} and {key} say where it connects and by which key it enters. {nodes}, {links} and {home} say what the team is to
 know of the network; {network} is the network's file, for a team that is to have the map.
 
-Names of files are paths from the folder of the course's file.
+Names of files are paths from the folder of the course's file. A hand-in is bounded, and no link in it is followed.
+
+Keys, black holes that are drawn, and the seeds of schedulers come from the course's secret, which is drawn at the first
+run and kept in `secret.txt` beside the results. To grade again by the same draws, name that file by --secret.
 """
 import functools
 import hashlib
+import os
 import pathlib
 import re
+import secrets
 import shlex
-from typing import Any, Dict, List, NamedTuple
+from typing import Any, Dict, List, NamedTuple, Optional, Sequence, Tuple
 
-from lab import cells, grid, networks
+from lab import cells, grid, hand_in, networks
 from lab.cells import Walls
 from lab.fixtures import Fixture
 from lab.grid import Case, Grid, NoSweep, is_count, is_text, is_texts, taken
@@ -45,68 +53,130 @@ from lab.schedulers import Maker
 from lab.teams import OUTSIDE
 
 FILES = "files"
-KEYS = grid.KEYS - {"bound"} | {"limit", "tries"}
+KEYS = grid.KEYS - {"bound"} | {"limit", "match_limit", "team_limit", "tries", "tools"}
 TEAM_KEYS = {"name", "agents", OUTSIDE, FILES}
 LIMIT, TRIES = 20, 100
+# seconds of a match, of all matches of a team, and of these for each match
+MATCH_LIMIT, TEAM_LIMIT, FOR_A_MATCH = 60, 600, 5
+SECRET = "secret.txt"
 WORDS = ("host", "port", "key", "nodes", "links", "home", "network")
 NEEDED = ("port", "key")
 
 
 class Course(NamedTuple):
-    """What a course's file says. The files are those of each team."""
+    """What a course's file says, and its secret. The files are those of each team."""
 
     text: str
     folder: pathlib.Path
+    secret: str
     grid: Grid
     files: Dict[str, List[pathlib.Path]]
-    limit: int
+    limits: "Limits"
     tries: int
+    tools: Tuple[str, ...]
 
     def cases(self) -> List[Case]:
         """All matches, team by team."""
-        found = list(self.grid.cases())
+        found = list(self.grid.cases(self.secret))
         return [case._replace(number=number) for number, case in enumerate(
             case for team in self.grid.teams for case in found if case.team.name == team.name)]
 
     def fixture(self, case: Case) -> Fixture:
-        """A match. Who has not the course's file cannot guess its keys."""
+        """A match. Who has not the course's secret cannot guess its keys."""
         fixture = self.grid.fixture(case)
-        keys = [hashlib.sha256(f"{case.number} {agent} {self.text}".encode()).hexdigest()[:20]
-                for agent in range(fixture.setup.agents)]
+        keys = [self._drawn("key", self.text, case.number, agent)[:20] for agent in range(fixture.setup.agents)]
         return fixture._replace(team=case.team.name, keys=keys)
 
     def maker(self, name: str) -> Maker:
         """The scheduler of a name or a file."""
         return maker_of(str(self.folder / name) if ".py" in name else name)
 
+    def seed(self, case: Case) -> int:
+        """The seed that a match's scheduler gets, which is the same for all teams. Those of matches that differ in the
+        seed alone follow one another."""
+        drawn = self._drawn("seed", case.network, case.scheduler)
+        return int(drawn[:8], 16) + case.seed
+
+    def hand_in(self, team: str) -> hand_in.HandIn:
+        """What a team has handed in."""
+        return read_once(tuple(self.files[team]), self.folder)
+
     def digests(self) -> Dict[str, str]:
-        """The SHA-256 of each file on which the matches depend."""
+        """The SHA-256 of each file and each hand-in on which the matches depend, and of the secret."""
         own = [self.folder / name.partition(":")[0] for name in [*self.grid.schedulers, *self.grid.names]]
-        given = [path for files in self.files.values() for path in files]
-        inside = [file for path in given for file in (sorted(path.rglob("*")) if path.is_dir() else [path])]
-        return {str(path): hashlib.sha256(path.read_bytes()).hexdigest() for path in [*own, *inside] if path.is_file()}
+        return {
+            **{str(path): hashlib.sha256(path.read_bytes()).hexdigest() for path in own if path.is_file()},
+            **{f"team {name}": self.hand_in(name).digest() for name in self.files},
+            SECRET: self._drawn("digest"),
+        }
+
+    def _drawn(self, *words: object) -> str:
+        """Digits that nobody can guess without the secret."""
+        return hashlib.sha256("\0".join(map(str, [self.secret, *words])).encode()).hexdigest()
 
 
-def read(path: pathlib.Path) -> Course:
+class Limits(NamedTuple):
+    """How many seconds programs may take: for a line, in a match, and in all matches of a team."""
+
+    line: int
+    match: int
+    team: int
+
+
+read_once = functools.lru_cache(maxsize=4)(hand_in.read)
+
+
+def read(path: pathlib.Path, secret: str) -> Course:
     """The course of a file."""
     try:
-        return course_of(grid.text_in(path), path.parent)
+        return course_of(grid.text_in(path), path.parent, secret)
     except NoSweep as fault:
         raise NoSweep(f"{path}: {fault}") from None
 
 
+def secret_in(out: pathlib.Path, given: Optional[pathlib.Path]) -> str:
+    """The secret of a course with these results: one that a file gives, or that of the first run, or a new one."""
+    path = out / SECRET
+    said = None if given is None else grid.text_in(given).strip()
+    if said is not None and len(said) < 16:
+        raise NoSweep(f"{given}: a secret has at least 16 characters, or it could be guessed")
+    if path.exists():
+        kept = grid.text_in(path).strip()
+        if said not in (None, kept):
+            raise NoSweep(f"{path} is another secret than {given}: name another folder by --out, or remove this one")
+        return kept
+    out.mkdir(parents=True, exist_ok=True)
+    said = said or secrets.token_hex(32)
+    with open(os.open(path, os.O_WRONLY | os.O_CREAT | os.O_EXCL, 0o600), "w", encoding="utf-8") as file:
+        file.write(said + "\n")
+    return said
+
+
 @functools.lru_cache(maxsize=4)
-def course_of(text: str, folder: pathlib.Path) -> Course:
+def course_of(text: str, folder: pathlib.Path, secret: str) -> Course:
     """The course that a text says, whose files are looked for in the folder."""
     found = grid.table_of(text)
     grid.check_keys(found, KEYS, "a course")
-    limit = taken(found, "limit", is_count, "a whole number of seconds from 1", LIMIT)
+    line, match, team = (taken(found, name, is_count, "a whole number of seconds from 1", usual) for name, usual in (
+        ("limit", LIMIT), ("match_limit", MATCH_LIMIT), ("team_limit", TEAM_LIMIT)))
     tries = taken(found, "tries", grid.is_number, "a whole number", TRIES)
+    tools = tools_of(taken(found, "tools", lambda it: it == [] or is_texts(it), "a list of folders", []))
     files = {}
     for row in taken(found, "team", grid.is_tables, "given: write [[team]] and its keys below it"):
         name = check_team(row)
         files[name] = files_of(row.pop(FILES), name, folder)
-    return Course(text, folder, grid.grid_in(found, folder), files, limit, tries)
+    played = grid.grid_in(found, folder)
+    count = sum(1 for _ in played.cases()) // len(played.teams)
+    limits = Limits(line, match, team if "team_limit" in found else max(team, FOR_A_MATCH * count))
+    return Course(text, folder, secret, played, files, limits, tries, tools)
+
+
+def tools_of(names: List[str]) -> Tuple[str, ...]:
+    """Folders that programs see, besides the system's."""
+    for name in names:
+        if not os.path.isabs(name) or not os.path.isdir(name) or len(pathlib.Path(name).parts) < 3:
+            raise NoSweep(f"tools has {name}, which is no folder that programs may see: write one like /opt/jdk-21")
+    return tuple(names)
 
 
 def check_team(row: Dict[str, Any]) -> str:
@@ -145,12 +215,12 @@ def files_of(names: List[str], team: str, folder: pathlib.Path) -> List[pathlib.
     return found
 
 
-def check_walls(walls: Walls, path: pathlib.Path) -> None:
-    """Refuses a course that teams' programs could read in spite of the walls."""
-    if walls is Walls.ALL and cells.is_seen(path):
-        places = ", ".join(f"/{name}" for name in cells.SYSTEM)
-        raise NoSweep(f"{path}: teams' programs see {places}, to find what they run by: move the course to another "
-                      "folder")
+def check_walls(walls: Walls, paths: Sequence[pathlib.Path], tools: Sequence[str]) -> None:
+    """Refuses a course and results that teams' programs could read in spite of the walls."""
+    for path in paths:
+        seen = cells.seen_at(path, tools) if walls is Walls.ALL else None
+        if seen:
+            raise NoSweep(f"{path}: teams' programs see {seen}, to find what they run by: name a folder elsewhere")
 
 
 def check_networks(course: Course) -> None:

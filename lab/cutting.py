@@ -72,11 +72,13 @@ def in_words(runs: Runs) -> str:
 class Cut:
     """A schedule that is made small: the runs that are left, and how many were tried."""
 
-    def __init__(self, runs: Runs, fails: Callable[[Runs], bool], most: int) -> None:
+    def __init__(self, runs: Runs, fails: Callable[[Runs], bool], most: int,
+                 is_late: Callable[[], bool] = lambda: False) -> None:
         self.runs = runs
         self.tried = 0
         self._fails = fails
         self._most = most
+        self._is_late = is_late
         while (found := self._step()) is not None:
             self.runs = found
 
@@ -85,7 +87,7 @@ class Cut:
         for runs in smaller(self.runs):
             if size(runs) >= size(self.runs):
                 continue
-            if self.tried >= self._most:
+            if self.tried >= self._most or self._is_late():
                 return None
             self.tried += 1
             if self._fails(runs):

@@ -16,6 +16,7 @@ TOP = pathlib.Path(__file__).resolve().parent.parent
 HOW_TO_BUILD = "build it by `./arena --help` at the top of the repository, or name another by --program"
 # what stands for the program's path if the proved one is asked for
 ASK_FOR_PROOF = "--proved"
+PROGRAM, MODEL = "program", "model"
 
 
 class Engine(Protocol):
@@ -72,6 +73,18 @@ def add_program(parser: argparse.ArgumentParser) -> None:
                        "else one without a proof, which is compiled in a minute or two and says so")
     named.add_argument("--proved", dest="program", action="store_const", const=ASK_FOR_PROOF,
                        help="the proved program, which is proved and built first if needed, in many minutes")
+
+
+def add_engine(parser: argparse.ArgumentParser) -> None:
+    """The options that choose the engine."""
+    parser.add_argument("--engine", choices=(PROGRAM, MODEL), default=PROGRAM, help="who plays: the program, or "
+                        "the Python model, which needs no build and proves nothing (program)")
+    add_program(parser)
+
+
+def program_of(words: argparse.Namespace) -> Optional[str]:
+    """The program that is to play, or None for the Python model."""
+    return program_at(words.program) if words.engine == PROGRAM else None
 
 
 def asked(program: str, *words: str) -> str:

@@ -20,13 +20,12 @@ from typing import Any, Dict, Iterator, List, NamedTuple, Optional, Set, Tuple
 
 from lab import finds, teams
 from lab.agent_files import NoAgent, script_of
-from lab.engines import program_at
+from lab.engines import PROGRAM, add_engine, program_at, program_of
 from lab.fixtures import Fixture
 from lab.model import AWAY, Match, Verdict, outcome_of
 from lab.pasts import NoFunction, Past, Pasts, State
 from lab.players import SLEEPS, TRAVELS, WAITS, Team
 from lab.progress import bar
-from lab.run import PROGRAM, add_engine
 from lab.schedulers import ANSWER, ARRIVE, WAKE, Choice
 from lab.schedules import schedule_of
 
@@ -257,7 +256,7 @@ def told(words: argparse.Namespace, agents: List[teams.AgentWords], all_found: L
               f"{finds.verdict_text(end.verdict)}")
         choices = worst.explorer.schedule(end.number)
         schedule = schedule_of(worst.explorer.fixture, agents, teams.origin_of(words, "explore"), choices)
-        played = finds.keep(words.keep, schedule, program_at(words.program) if words.engine == PROGRAM else None)
+        played = finds.keep(words.keep, schedule, program_of(words))
         if played.verdict() != end.verdict:
             raise NoFunction("played again it comes to another verdict: explore needs agents that are functions of "
                              "what they are told")

@@ -46,7 +46,8 @@ def write_find(folder: pathlib.Path, schedule: Schedule, played: Played, program
     (folder / REPLAY).write_bytes(played.replay)
     said = [f"{folder}: {len(schedule.choices)} choices; again by `python3 -m lab replay {folder}`"]
     if program is None:
-        return [*said, "the Python model played it, which proves nothing: the program was not asked"]
+        said.append("the Python model played it, which proves nothing: the program was not asked")
+        return said + written_page(folder, None)
     by = " (by a program that is not proved)" if is_unproved(program) else ""
     said.append(f"the program's verdict: {verdict_text(judged(program, folder / REPLAY))}{by}")
     return said + written_page(folder, program)
@@ -61,7 +62,7 @@ def keep(folder: pathlib.Path, schedule: Schedule, program: Optional[str]) -> Pl
     return played
 
 
-def written_page(folder: pathlib.Path, program: str) -> List[str]:
+def written_page(folder: pathlib.Path, program: Optional[str]) -> List[str]:
     """Writes the page, if what lays it out is installed."""
     try:
         write_page(program, folder / REPLAY, folder / PAGE)

@@ -9,68 +9,93 @@ schedule that was found after which the team fails on the same network. The same
 on every run, if the programs are functions of what they are told. Interrupted, the same command goes on behind the last
 row.
 
-A program that crashes, hangs, or sends rubbish fails its own matches. Each program runs in a folder of its own, and
-what else keeps it apart depends on who starts the command; it says so. As root, on a machine that gives it namespaces
-(as Linux does outside containers), a program is a user of its own, and sees neither other teams' files nor the other
-agents of its team. The exit status is 0 if all was graded, however teams did.
+A program that crashes, hangs, or sends rubbish fails its own matches, and so does one that is handed in with too much
+or takes too long. Each program runs in a folder of its own, and what else keeps it apart depends on the machine; the
+command says on standard error what does not. With Debian's bubblewrap and python3-seccomp a program sees neither other
+teams' files nor the other agents of its team. Black holes that are drawn, keys, and what schedulers draw come from a
+secret, which the first run draws and keeps in `secret.txt` in the folder. The exit status is 0 if all was graded,
+however teams did, and 1 if the lab itself could not play a match.
+
+For a student: with `--engine model` the command grades a course without a build of the program, and root is not needed.
 """
 import argparse
 import contextlib
 import hashlib
 import pathlib
-import shutil
 import sys
-import tempfile
-from typing import Dict, Iterator, List, NamedTuple, Optional, Sequence, Tuple
+import time
+from typing import Any, Callable, Dict, Iterator, List, NamedTuple, Optional, Sequence, Tuple
 
-from lab import cells, course, finds, league, networks, programs, report, sweep
-from lab.agent_files import digests
-from lab.cells import NETWORK, Cell, Walls
+from lab import cells, course, finds, league, networks, page, programs, report, sweep
+from lab.agent_files import NoAgent, digests
+from lab.cells import Cell, NoCell, Walls, Yard
 from lab.course import Course
 from lab.cutting import Cut, Runs, in_words, noted, runs_of
-from lab.engines import program_at
+from lab.engines import NoProgram, add_engine, program_of
 from lab.fixtures import Fixture
 from lab.grid import Case, NoSweep
+from lab.hand_in import NETWORK
 from lab.league import Failure, Row
+from lab.missing import Missing
 from lab.play import Played, play
 from lab.progress import along
-from lab.run import PROGRAM, add_engine
-from lab.schedulers import Scheduler, in_runs
+from lab.schedulers import Impossible, Scheduler, in_runs
 from lab.schedules import Schedule, schedule_of
-from lab.spread import over_processes
+from lab.spread import Job, Result, over_processes
+from lab.users import NoUser
 
-# agents of a match, whose users are numbered apart from those of other matches
-MOST_AGENTS = 64
 HANGS = "a program lets the lab wait, and what happens then depends on the machine"
 DIFFERS = ("under the same schedule the match went another way when it was played again, so the programs are no "
            "functions of what they are told; look for clocks, random numbers without a seed, and sets")
+TIME_IS_UP = "the time for this was up, so there may be a smaller one"
+# faults of the machine or of the course's file, which end the command: all others are of a match alone
+OF_ALL = (Impossible, Missing, NoAgent, NoCell, NoProgram, NoUser, OSError)
 
 
 class NotSmaller(Exception):
     """A schedule cannot be made smaller; says why."""
 
 
+class Timed(NamedTuple):
+    """What came of a match, and how many seconds it took."""
+
+    found: Any
+    seconds: float
+
+
 class Graded(NamedTuple):
-    """What plays a course's matches: the text of its file and its folder, the program or None for the Python model,
-    what keeps programs apart, and where results are written. Workers are sent it."""
+    """What plays a course's matches: the text of its file, its folder and its secret, the program or None for the
+    Python model, what keeps programs apart, and where results are written. Workers are sent it."""
 
     text: str
     folder: pathlib.Path
+    secret: str
     program: Optional[str]
-    walls: Walls
+    yard: Yard
     out: pathlib.Path
 
     @property
     def course(self) -> Course:
-        return course.course_of(self.text, self.folder)
+        return course.course_of(self.text, self.folder, self.secret)
 
-    def play(self, case: Case) -> List[str]:
+    def play(self, case: Case) -> Timed:
         """The row of a match. One that the team fails is written to a folder of its own."""
-        schedule, played = self.match(case, self.course.maker(case.scheduler)(case.seed), self.program)
+        began = time.monotonic()
+        try:
+            row = self._row(case)
+        except OF_ALL:
+            raise
+        except Exception as fault:
+            # whatever a team has brought about, other teams are graded
+            row = unplayed(self.course, case, f"{league.LAB_FAILED}: {in_a_line(fault)}")
+        return Timed(row, time.monotonic() - began)
+
+    def _row(self, case: Case) -> List[str]:
+        schedule, played = self.match(case, self.course.maker(case.scheduler)(self.course.seed(case)), self.program)
         row = sweep.row_for(case, schedule, played, self.program)
         place = self.place(case)
-        shutil.rmtree(place, ignore_errors=True)
-        if not report.is_solved(dict(zip(sweep.COLUMNS, row))):
+        cells.remove(place)
+        if played.has_failed() or row[sweep.COLUMNS.index("outcome")] != "solved":
             finds.write_find(place, schedule, played, self.program)
         return row
 
@@ -84,28 +109,40 @@ class Graded(NamedTuple):
 
     def match(self, case: Case, scheduler: Scheduler, program: Optional[str]) -> Tuple[Schedule, Played]:
         """Plays a match by this scheduler."""
-        fixture = self.course.fixture(case)
+        fixture, limits = self.course.fixture(case), self.course.limits
         agents = [case.team.words] * fixture.setup.agents
-        empty = schedule_of(fixture, agents, f"{case.scheduler} {case.seed}", [])
-        with cells_for(case, fixture, self.course.files[case.team.name], self.walls) as made:
+        empty = schedule_of(fixture, agents, f"{case.scheduler} {self.course.seed(case)}", [])
+        with self._grounds(case, fixture) as grounds:
             commands = {number: agent.words for number, agent in enumerate(agents)}
-            team = programs.Team(fixture, commands, self.course.limit, made)
+            team = programs.Team(fixture, commands, limits.line, grounds, limits.match)
             played = play(finds.engine_of(empty, program), team, scheduler, fixture)
         return empty._replace(choices=played.choices), played
 
-
-@contextlib.contextmanager
-def cells_for(case: Case, fixture: Fixture, files: Sequence[pathlib.Path], walls: Walls) -> Iterator[List[Cell]]:
-    """The cells of a match's programs."""
-    users, agents = cells.unnamed(), fixture.setup.agents
-    own = [users[(case.number * MOST_AGENTS + agent) % len(users)] for agent in range(agents)]
-    with tempfile.TemporaryDirectory() as folder:
-        path = pathlib.Path(folder) / NETWORK
-        network = networks.Network(fixture.setup.nodes, fixture.setup.links)
-        path.write_text(networks.text_of(network), encoding="utf-8")
+    @contextlib.contextmanager
+    def _grounds(self, case: Case, fixture: Fixture) -> Iterator[Sequence[programs.Ground]]:
+        """Where a match's programs run: each in a cell, unless their hand-in is refused."""
+        handed_in, agents = self.course.hand_in(case.team.name), fixture.setup.agents
+        if handed_in.refusal:
+            yield [programs.Nowhere(f"the hand-in is refused: {handed_in.refusal}")] * agents
+            return
+        network = networks.text_of(networks.Network(fixture.setup.nodes, fixture.setup.links)).encode()
         has_map = "{network}" in case.team.words.words
-        with cells.cells([*files, path] if has_map else files, own, walls) as made:
+        files = handed_in.archive(**({NETWORK: network} if has_map else {}))
+        with cells.cells(self.yard, files, agents, {"network": NETWORK} if has_map else {}) as made:
             yield made
+
+
+def in_a_line(fault: Exception) -> str:
+    """A fault of the lab that nobody has foreseen."""
+    return f"{type(fault).__name__}: {programs.plain(str(fault))}"
+
+
+def unplayed(played: Course, case: Case, fault: str) -> List[str]:
+    """The row of a match that was not played."""
+    setup = played.fixture(case).setup
+    found = (case.number, case.network, setup.nodes, len(setup.links), setup.home, case.hole, case.team.name,
+             setup.agents, case.scheduler, case.seed, league.UNPLAYED, 0, 0, 0, 0, "", " ".join(fault.split()))
+    return list(map(str, found))
 
 
 class Cutting(NamedTuple):
@@ -114,34 +151,51 @@ class Cutting(NamedTuple):
     graded: Graded
     faults: Dict[int, str]
 
-    def play(self, case: Case) -> Failure:
+    def play(self, case: Case) -> Timed:
         """What came of a failed match."""
+        began = time.monotonic()
         try:
-            said, has_smallest = self._smallest(case), True
+            said, has_smallest = self._smallest(case, began), True
         except NotSmaller as fault:
             said, has_smallest = f"not made smaller: {fault}", False
+        except OF_ALL:
+            raise
+        except Exception as fault:
+            said, has_smallest = f"not made smaller: {in_a_line(fault)}", False
+        return Timed(self.failure(case, said, has_smallest), time.monotonic() - began)
+
+    def failure(self, case: Case, said: str, has_smallest: bool = False) -> Failure:
+        """A failed match, and what is said of its smallest schedule."""
         place = self.graded.place(case)
-        choices = (place / finds.SCHEDULE).read_text(encoding="utf-8").count("\n") - 1
+        try:
+            choices = (place / finds.SCHEDULE).read_text(encoding="utf-8").count("\n") - 1
+        except FileNotFoundError:
+            choices = None
         return Failure(case.number, choices, has_smallest, said, (place / finds.PAGE).exists())
 
     def digests(self) -> Dict[str, str]:
         return self.graded.digests()
 
-    def _smallest(self, case: Case) -> str:
+    def _smallest(self, case: Case, began: float) -> str:
         """Writes the smallest schedule that was found after which the team fails; gives what is said of it."""
         check_hangs(self.faults[case.number])
         numbers: List[int] = []
         graded, place = self.graded, self.graded.place(case)
-        _, again = graded.match(case, noted(graded.course.maker(case.scheduler)(case.seed), numbers), None)
+        asked = graded.course
+        _, again = graded.match(case, noted(asked.maker(case.scheduler)(asked.seed(case)), numbers), None)
         if again.replay != (place / finds.REPLAY).read_bytes() or not again.has_failed():
             raise NotSmaller(DIFFERS)
-        cut = Cut(runs_of(numbers), lambda runs: self._fails(case, runs), graded.course.tries)
+
+        def is_late() -> bool:
+            return time.monotonic() - began > asked.limits.match
+        cut = Cut(runs_of(numbers), lambda runs: self._fails(case, runs), asked.tries, is_late)
         schedule, played = graded.match(case, in_runs(cut.runs), graded.program)
         if not played.has_failed():
             raise NotSmaller(DIFFERS)
         finds.write_find(place / league.SMALLEST, schedule, played, graded.program)
         came = league.came(*map(str, played.verdict()))
-        return f"{in_words(cut.runs)}; {len(played.choices)} choices; {'; '.join([came, *played.faults])}"
+        late = [TIME_IS_UP] if is_late() else []
+        return "; ".join([in_words(cut.runs), f"{len(played.choices)} choices", came, *played.faults, *late])
 
     def _fails(self, case: Case, runs: Runs) -> bool:
         """Whether the team fails under this schedule too."""
@@ -152,8 +206,10 @@ class Cutting(NamedTuple):
 
 def check_hangs(faults: str) -> None:
     """Refuses to make a schedule smaller under which a program lets the lab wait."""
-    if programs.SENT_NOTHING in faults or programs.READ_NOTHING in faults:
+    if any(what in faults for what in (programs.SENT_NOTHING, programs.READ_NOTHING, programs.USED_UP)):
         raise NotSmaller(HANGS)
+    if league.UNPLAYED in faults:
+        raise NotSmaller("the match was not played")
 
 
 def add_words(parser: argparse.ArgumentParser) -> None:
@@ -161,63 +217,127 @@ def add_words(parser: argparse.ArgumentParser) -> None:
     group = parser.add_argument_group("the file", course.__doc__)
     group.add_argument("file", metavar="COURSE.toml", type=pathlib.Path, help="the course")
     parser.add_argument("--out", metavar="FOLDER", type=pathlib.Path, required=True, help="write everything there")
+    parser.add_argument("--secret", metavar="FILE", type=pathlib.Path, help="take the secret that this file has, such "
+                        "as the `secret.txt` of other results, to play the same matches")
     sweep.add_workers(parser)
     add_engine(parser)
 
 
 def run(words: argparse.Namespace) -> int:
     path, walls = words.file.resolve(), cells.strongest()
-    read = course.read(words.file)
     sweep.check_workers(words)
+    read = course.read(path, "")
     course.check_networks(read)
-    course.check_walls(walls, path.parent)
+    own = [file for files in read.files.values() for file in files]
+    course.check_walls(walls, [path.parent, words.out, *own], read.tools)
     for name in read.grid.schedulers:
         read.maker(name)
     if walls is not Walls.ALL:
-        print(f"lab: {walls.value}", file=sys.stderr)
-    program = program_at(words.program) if words.engine == PROGRAM else None
-    graded = Graded(read.text, path.parent, program, walls, words.out)
-    cases = read.cases()
+        print(f"lab: {cells.weakness()}; {walls.value}", file=sys.stderr)
+    program = program_of(words)
+    secret = course.secret_in(words.out, words.secret)
+    graded = Graded(read.text, path.parent, secret, program, Yard(walls, read.tools), words.out)
+    cases = graded.course.cases()
+    prepare(graded)
     made = {"course": hashlib.sha256(read.text.encode()).hexdigest(), "engine": words.engine, "files": graded.digests()}
     done = sweep.prepared(words.out, made)
     try:
-        for team in read.grid.teams:
+        spent = {team.name: 0.0 for team in read.grid.teams}
+        for name in spent:
             # no program of a team runs while those of another do
-            left = [case for case in cases[done:] if case.team.name == team.name]
+            left = [case for case in cases[done:] if case.team.name == name]
             if left:
-                sweep.write_rows(over_processes(graded, left, words.workers), len(left), words.out)
-        return told(graded, cases, words)
+                sweep.write_rows(played_in_time(graded, left, words.workers, spent), len(left), words.out)
+        return told(graded, cases, words, spent)
     except KeyboardInterrupt:
         count = sweep.done_in(words.out / sweep.RUNS)
         print(f"interrupted; {count} of {len(cases)} matches are played: the same command goes on there")
         return 130
 
 
-def told(graded: Graded, cases: List[Case], words: argparse.Namespace) -> int:
+def prepare(graded: Graded) -> None:
+    """Does once what each process that plays would do: they are copies of this one."""
+    if graded.yard.walls is Walls.ALL:
+        graded.yard.words()
+    for network in graded.course.grid.networks.values():
+        with contextlib.suppress(Missing):
+            page.layout({"nodes": network.nodes, "links": network.links})
+
+
+def in_time(job: Job, left: Sequence[Case], workers: int, spent: Dict[str, float], instead: Callable[[Case], Any],
+            limit: int) -> Iterator[Result]:
+    """The results of a team's matches; those that come when the team's time is up are others instead."""
+    results, count, name = over_processes(job, left, workers, 1), 0, left[0].team.name
+    while spent[name] <= limit and count < len(left):
+        result = next(results)
+        count += 1
+        if result.fault:
+            yield result
+            return
+        spent[name] += result.found.seconds
+        yield Result(result.found.found, "")
+    results.close()
+    for case in left[count:]:
+        yield Result(instead(case), "")
+
+
+def time_is_up(graded: Graded) -> str:
+    """What is said of what there was no time for."""
+    return f"the matches of the team have taken the {graded.course.limits.team} s that it has"
+
+
+def played_in_time(graded: Graded, left: Sequence[Case], workers: int, spent: Dict[str, float]) -> Iterator[Result]:
+    """The rows of a team's matches."""
+    def instead(case: Case) -> List[str]:
+        return unplayed(graded.course, case, f"{league.UNPLAYED}: {time_is_up(graded)}")
+    return in_time(graded, left, workers, spent, instead, graded.course.limits.team)
+
+
+def told(graded: Graded, cases: List[Case], words: argparse.Namespace, spent: Dict[str, float]) -> int:
     """Makes the schedules of failed matches small, and writes the table and the pages."""
     rows = sweep.rows_in(words.out / sweep.RUNS)
-    failures = cut_down(graded, [cases[int(row["run"])] for row in rows if not report.is_solved(row)], rows, words)
+    failures = cut_down(graded, [cases[int(row["run"])] for row in rows if not report.is_solved(row)], rows,
+                        words.workers, spent)
     engine = "the proved program" if graded.program else "the Python model, of which nothing is proved"
     if graded.program and finds.is_unproved(graded.program):
         engine = "a build without a proof"
     standings = league.standings_of(rows, [team.name for team in graded.course.grid.teams])
     (words.out / league.TABLE).write_text("".join(map(sweep.line_of, league.table(standings))), encoding="utf-8")
-    for name, page in league.pages(graded.course.grid, rows, failures, engine).items():
-        (words.out / name).write_text(page, encoding="utf-8")
+    for name, text in league.pages(graded.course.grid, rows, failures, engine).items():
+        (words.out / name).write_text(text, encoding="utf-8")
     print(league.text_of(standings), end="")
     print(f"{len(rows)} matches on {engine}; solved {len(rows) - len(failures)}; failed {len(failures)}")
     print(f"read {words.out / league.PAGE}; the rows are in {words.out / sweep.RUNS}")
-    return 0
+    broken = [row["run"] for row in rows if any(fault.startswith(league.LAB_FAILED) for fault in row[report.FAULTS])]
+    if broken:
+        print(f"lab: the lab could not play {len(broken)} matches, such as {broken[0]}: the teams' pages say why",
+              file=sys.stderr)
+    return 1 if broken else 0
 
 
-def cut_down(graded: Graded, failed: List[Case], rows: List[Row], words: argparse.Namespace) -> Dict[int, Failure]:
-    """What came of each failed match, by its number."""
-    if not failed:
-        return {}
-    cutting = Cutting(graded, {case.number: rows[case.number]["fault"] for case in failed})
-    found = {}
-    for result in along(over_processes(cutting, failed, words.workers), len(failed), "failed match"):
+def cut_down(graded: Graded, failed: List[Case], rows: List[Row], workers: int, spent: Dict[str, float]
+             ) -> Dict[int, Failure]:
+    """What came of each failed match, by its number. Of those that failed in the same way on the same network one is
+    made smaller."""
+    cutting = Cutting(graded, {case.number: "; ".join(rows[case.number][report.FAULTS]) for case in failed})
+    first: Dict[Tuple[str, str, str], Case] = {}
+    alike = {case.number: first.setdefault((case.team.name, case.network, league.kind_of(rows[case.number])), case)
+             for case in failed}
+    found = {case.number: cutting.failure(case, f"match {alike[case.number].number} failed in the same way on the same "
+                                          "network: see there") for case in failed}
+    for result in along(cut_in_time(cutting, list(first.values()), workers, spent), len(first), "failed match"):
         if result.fault:
             raise NoSweep(result.fault)
         found[result.found.number] = result.found
     return found
+
+
+def cut_in_time(cutting: Cutting, failed: List[Case], workers: int, spent: Dict[str, float]) -> Iterator[Result]:
+    """What came of each failed match, team by team."""
+    def instead(case: Case) -> Failure:
+        return cutting.failure(case, f"not made smaller: {time_is_up(cutting.graded)}")
+    limit = cutting.graded.course.limits.team
+    for name in spent:
+        left = [case for case in failed if case.team.name == name]
+        if left:
+            yield from in_time(cutting, left, workers, spent, instead, limit)

@@ -90,11 +90,11 @@ class Grid(NamedTuple):
     bound: Optional[str]
     teams: List[TeamRow]
 
-    def cases(self) -> Iterator[Case]:
-        """All runs, in the order of their numbers."""
+    def cases(self, secret: str = "") -> Iterator[Case]:
+        """All runs, in the order of their numbers. Black holes are drawn from a secret, if there is one."""
         number = 0
         for name in self.names:
-            for holes in self._holes(name):
+            for holes in self._holes(name, secret):
                 for team in self.teams:
                     for scheduler in self.schedulers:
                         for seed in range(self.seeds):
@@ -112,16 +112,16 @@ class Grid(NamedTuple):
         words = [*(team.words.words for team in self.teams), *self.schedulers, *self.names]
         return digests([*words, str((AGENTS / "client.py").relative_to(TOP))])
 
-    def _holes(self, name: str) -> List[List[int]]:
+    def _holes(self, name: str, secret: str) -> List[List[int]]:
         """The black holes of a network: lists, out of which each seed takes its own in turn."""
         others = [node for node in range(self.networks[name].nodes) if node != self.home]
+        chance = random.Random(f"{secret}{name} {self.holes}")
         if self.holes == BY_SEED:
-            return [others]
+            return [chance.sample(others, len(others)) if secret else others]
         if self.holes == ALL:
             return [[hole] for hole in others]
         if isinstance(self.holes, int):
-            drawn = random.Random(f"{name} {self.holes}").sample(others, min(self.holes, len(others)))
-            return [[hole] for hole in sorted(drawn)]
+            return [[hole] for hole in sorted(chance.sample(others, min(self.holes, len(others))))]
         return [[hole] for hole in self.holes]
 
 

@@ -15,13 +15,12 @@ from typing import Any, Callable, Dict, NamedTuple, Optional, Sequence, Tuple
 
 from lab import finds, teams
 from lab.agent_files import NoAgent
-from lab.engines import program_at
+from lab.engines import add_engine, program_of
 from lab.fixtures import Fixture
 from lab.missing import needed
 from lab.play import Played, play
 from lab.progress import bar
 from lab.rehearsal import Rehearsal
-from lab.run import PROGRAM, add_engine
 from lab.schedulers import in_runs
 from lab.schedules import Schedule, schedule_of
 
@@ -145,7 +144,7 @@ def add_words(parser: argparse.ArgumentParser) -> None:
 
 
 def run(words: argparse.Namespace) -> int:
-    program = program_at(words.program) if words.engine == PROGRAM else None
+    program = program_of(words)
     if any(agent.kind != teams.INSIDE for agent in teams.team_of(words)):
         raise NoAgent("hunt plays agents inside the lab: name them by --agent")
     with bar(words.runs, "schedule") as shown:

@@ -1,10 +1,11 @@
 """Writes a page on which one can watch a match that has ended.
 
-    python3 -m lab page REPLAY [--out PAGE] [--twin V] [--program PATH]
+    python3 -m lab page REPLAY [--out PAGE] [--twin V] [--program PATH | --engine model]
 
 The page is one HTML file that opens without a network: REPLAY with the ending `.html`, or PAGE. With --twin it shows
 beside the match its twin whose black hole is node V. The program `arena` judges the replay, explains it and makes the
-twin; a replay that it refuses is refused here with its line and its status.
+twin; a replay that it refuses is refused here with its line and its status. With --engine model the Python model judges
+and explains, which needs no build of the program and proves nothing; it makes no twins.
 
 Networks are laid out by Debian's package python3-networkx with python3-numpy and python3-scipy, which that package
 recommends.
@@ -13,14 +14,15 @@ A page keeps of an event its kind, its agent and its port, and each text once; r
 rules of docs/MODEL.md, as `arena` has found them to be those of the replay.
 """
 import argparse
+import functools
 import html
 import json
 import pathlib
-import subprocess
 import tempfile
 from typing import Any, Dict, Iterable, List, Optional, Tuple
 
-from lab.engines import Refused, add_program, asked, program_at
+from lab.engines import NoProgram, add_engine, asked, program_of
+from lab.judging import lines_of, pasts_of, verdict_of
 from lab.missing import needed
 from lab.parts import filled, part
 
@@ -31,16 +33,6 @@ LETTERS = {
     "enter": "e", "look": "l", "leave": "q", "bad": "b", "write": "w", "depart": "d", "accuse": "a", "deliver": "v",
     "close": "c",
 }
-
-
-def lines_of(program: str, *words: str) -> Iterable[str]:
-    """The lines that the program prints for these words, one by one."""
-    with tempfile.TemporaryFile() as errors:
-        with subprocess.Popen([program, *words], stdout=subprocess.PIPE, stderr=errors) as ran:
-            yield from (line.decode() for line in ran.stdout)
-        if ran.returncode != 0:
-            errors.seek(0)
-            raise Refused(errors.read().decode(errors="replace").strip(), ran.returncode)
 
 
 class Texts:
@@ -89,20 +81,21 @@ def runs(places: Iterable[int]) -> List[List[int]]:
     return found
 
 
-def places(lines: Iterable[str]) -> Iterable[int]:
-    """The places that `arena explain` prints, one at the head of each line."""
-    return (int(line.partition(" ")[0]) for line in lines)
-
-
 def layout(head: Dict[str, Any]) -> List[List[int]]:
     """Where each node is drawn, in thousandths of the picture."""
+    return laid_out(head["nodes"], tuple((v, w) for v, _, w, _ in head["links"]))
+
+
+@functools.lru_cache(maxsize=16)
+def laid_out(nodes: int, joined: Tuple[Tuple[int, int], ...]) -> List[List[int]]:
+    """Where each node of a network is drawn, of which these are joined."""
     networkx = needed("networkx")
     needed("numpy"), needed("scipy")
     graph = networkx.Graph()
-    graph.add_nodes_from(range(head["nodes"]))
-    graph.add_edges_from((v, w) for v, _, w, _ in head["links"])
+    graph.add_nodes_from(range(nodes))
+    graph.add_edges_from(joined)
     spots = networkx.kamada_kawai_layout(graph, pos=networkx.spring_layout(graph, seed=SEED))
-    return fitted([spots[node] for node in range(head["nodes"])])
+    return fitted([spots[node] for node in range(nodes)])
 
 
 def fitted(spots: List[Tuple[float, float]]) -> List[List[int]]:
@@ -148,19 +141,21 @@ def with_twin(program: str, match: Dict[str, Any], replay: str, node: int) -> Di
     return twin
 
 
-def data_of(program: str, replay: str, twin: Optional[int]) -> Dict[str, Any]:
+def data_of(program: Optional[str], replay: pathlib.Path, twin: Optional[int]) -> Dict[str, Any]:
     """All that the page shows."""
-    verdict = asked(program, "judge", replay).strip()
+    verdict = "{} moves {} lost {}".format(*verdict_of(program, replay))
     with open(replay, encoding="utf-8", newline="\n") as lines:
         match = read(lines)
     met = {code[1:].partition(":")[0] for code in match["events"].split(",")} - {""}
-    pasts = {agent: runs(places(lines_of(program, "explain", replay, agent))) for agent in sorted(met, key=int)}
+    pasts = {str(agent): runs(past) for agent, past in pasts_of(program, replay, sorted(map(int, met))).items()}
     data = {
-        "name": pathlib.Path(replay).name, "verdict": verdict, "spots": layout(match["head"]), "pasts": pasts,
-        "match": match, "twin": None,
+        "name": replay.name, "verdict": verdict, "spots": layout(match["head"]), "pasts": pasts, "match": match,
+        "twin": None,
     }
     if twin is not None:
-        data["twin"] = with_twin(program, match, replay, twin)
+        if program is None:
+            raise NoProgram("only the program makes twins: leave out --twin, or --engine model")
+        data["twin"] = with_twin(program, match, str(replay), twin)
     return data
 
 
@@ -174,9 +169,9 @@ def page_of(data: Dict[str, Any]) -> str:
     })
 
 
-def write_page(program: str, replay: pathlib.Path, page: pathlib.Path, twin: Optional[int] = None) -> None:
+def write_page(program: Optional[str], replay: pathlib.Path, page: pathlib.Path, twin: Optional[int] = None) -> None:
     """Writes the page of a replay."""
-    page.write_text(page_of(data_of(program, str(replay), twin)), encoding="utf-8")
+    page.write_text(page_of(data_of(program, replay, twin)), encoding="utf-8")
 
 
 def add_words(parser: argparse.ArgumentParser) -> None:
@@ -184,9 +179,9 @@ def add_words(parser: argparse.ArgumentParser) -> None:
     parser.add_argument("replay", metavar="REPLAY", type=pathlib.Path, help="a replay, as the arena writes it")
     parser.add_argument("--out", metavar="PAGE", type=pathlib.Path, help="write the page there")
     parser.add_argument("--twin", metavar="V", type=int, help="show the twin whose black hole is node V beside it")
-    add_program(parser)
+    add_engine(parser)
 
 
 def run(words: argparse.Namespace) -> int:
-    write_page(program_at(words.program), words.replay, words.out or words.replay.with_suffix(".html"), words.twin)
+    write_page(program_of(words), words.replay, words.out or words.replay.with_suffix(".html"), words.twin)
     return 0

@@ -11,8 +11,7 @@ import sys
 
 from lab import finds
 from lab.agent_files import digests
-from lab.engines import program_at
-from lab.run import PROGRAM, add_engine
+from lab.engines import add_engine, program_of
 from lab.schedules import read
 
 
@@ -35,7 +34,7 @@ def run(words: argparse.Namespace) -> int:
     for file, digest in schedule.files.items():
         if now.get(file) != digest:
             print(f"lab: {file} is another file than when the schedule was made", file=sys.stderr)
-    program = program_at(words.program) if words.engine == PROGRAM else None
+    program = program_of(words)
     played = finds.played_again(schedule, program, words.limit)
     print(finds.verdict_text(played.verdict()))
     for fault in played.faults:

@@ -14,7 +14,9 @@ CONFIDENCE = 1.96
 SIZE = (7.6, 4.8)
 COLOURS = ("#0b6e99", "#c2410c", "#4d7c0f", "#7e22ce", "#a16207", "#be123c")
 
-Row = Dict[str, str]
+# of a row: its faults, and those behind the first
+FAULTS, MORE = "faults", "more"
+Row = Dict[str, Any]
 Name = Tuple[str, str, str]
 
 
@@ -192,5 +194,5 @@ def kept_line(kept: Kept) -> str:
     row = kept.row
     said = f"{row['network']}, {row['team']}, {row['scheduler']} {row['seed']}, black hole {row['hole']}"
     came = f"{row['outcome']}, {row['moves']} moves, {row['lost']} lost"
-    fault = f"; {row['fault']}" if row["fault"] else ""
+    fault = "".join(f"; {it}" for it in row[FAULTS])
     return f'<li><a href="{html.escape(kept.link)}">run {row["run"]}</a>: {html.escape(f"{said}: {came}{fault}")}</li>'

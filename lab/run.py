@@ -22,12 +22,10 @@ from typing import Counter, NamedTuple, Optional, Tuple
 
 from lab import finds, schedulers, teams
 from lab.agent_files import NoAgent, member
-from lab.engines import add_program, program_at
+from lab.engines import add_engine, program_of
 from lab.play import Played, play
 from lab.progress import bar
 from lab.schedules import Schedule, schedule_of
-
-PROGRAM, MODEL = "program", "model"
 
 
 class Best(NamedTuple):
@@ -65,13 +63,6 @@ def maker_of(name: str) -> schedulers.Maker:
     return member(name, "scheduler")
 
 
-def add_engine(parser: argparse.ArgumentParser) -> None:
-    """The options that choose the engine."""
-    parser.add_argument("--engine", choices=(PROGRAM, MODEL), default=PROGRAM, help="who plays: the program, or "
-                        "the Python model, which needs no build and proves nothing (program)")
-    add_program(parser)
-
-
 def add_words(parser: argparse.ArgumentParser) -> None:
     """The words of the command `run`."""
     teams.add_words(parser)
@@ -83,7 +74,7 @@ def add_words(parser: argparse.ArgumentParser) -> None:
 
 
 def run(words: argparse.Namespace) -> int:
-    program = program_at(words.program) if words.engine == PROGRAM else None
+    program = program_of(words)
     tally = Tally()
     try:
         with bar(words.runs, "match") as shown:

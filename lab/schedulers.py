@@ -92,11 +92,13 @@ def last_departed(seed: int) -> Scheduler:
     return choose
 
 
-def starved(agent: int) -> Scheduler:
-    """Nothing happens to this agent as long as anything else can happen; the others go on by chance."""
-    chance = random.Random(agent)
+def starved(seed: int) -> Scheduler:
+    """Nothing happens to one agent as long as anything else can happen; the others go on by chance. It is the agent
+    whose number is the seed, counted round the team."""
+    chance = random.Random(seed)
 
     def choose(choices: Sequence[Choice], state: State) -> Choice:
+        agent = seed % len(state.match.agents)
         others = [choice for choice in choices if choice.agent != agent]
         return chance.choice(others or choices)
     return choose

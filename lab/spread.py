@@ -12,6 +12,7 @@ import pickle
 import signal
 import subprocess
 import sys
+from concurrent.futures.process import BrokenProcessPool
 from typing import Any, Dict, Iterable, Iterator, List, NamedTuple, Protocol, Sequence
 
 from lab.agent_files import NoAgent
@@ -21,8 +22,9 @@ from lab.grid import Case
 from lab.missing import Missing, needed
 from lab.networks import NoNetwork
 from lab.schedulers import Impossible
+from lab.users import NoUser
 
-FAULTS = (Differs, Impossible, Missing, NoAgent, NoCell, NoNetwork, NoProgram, Refused, OSError)
+FAULTS = (Differs, Impossible, Missing, NoAgent, NoCell, NoNetwork, NoProgram, NoUser, Refused, OSError)
 # how many matches a Dask worker takes at a time, and how many seconds its scheduler may take to answer
 BATCH, SECONDS_TO_ANSWER = 20, 20
 # what a Dask worker runs: the lab, in a process of its own
@@ -63,11 +65,14 @@ def begin() -> None:
     signal.signal(signal.SIGTERM, signal.SIG_DFL)
 
 
-def over_processes(job: Job, cases: Sequence[Case], workers: int) -> Iterator[Result]:
-    """The results of all matches, in order, by this number of processes."""
+def over_processes(job: Job, cases: Sequence[Case], workers: int, at_a_time: int = 4) -> Iterator[Result]:
+    """The results of all matches, in order, by this number of processes, each of which takes some at a time."""
     pool = concurrent.futures.ProcessPoolExecutor(workers, initializer=begin)
     try:
-        yield from pool.map(functools.partial(result_of, job), cases, chunksize=4)
+        yield from pool.map(functools.partial(result_of, job), cases, chunksize=at_a_time)
+    except BrokenProcessPool:
+        yield Result(None, "a process that plays was killed, as where memory is short: start the same command again, "
+                     f"by fewer --workers than {workers}")
     finally:
         pool.shutdown(wait=True, cancel_futures=True)
 

@@ -25,12 +25,12 @@ from typing import Any, Dict, Iterable, Iterator, List, NamedTuple, Optional, Tu
 
 from lab import grid, report
 from lab.agent_files import digests
-from lab.engines import Differs, judged, program_at
+from lab.engines import Differs, add_engine, judged, program_at, program_of
 from lab.finds import engine_of, write_find
 from lab.grid import Case, Grid, NoSweep
 from lab.play import Played, play
 from lab.progress import along
-from lab.run import PROGRAM, add_engine, maker_of
+from lab.run import maker_of
 from lab.schedules import Schedule, schedule_of
 from lab.spread import Result, over_cluster, over_processes
 from lab.teams import Together
@@ -85,8 +85,9 @@ def row_for(case: Case, schedule: Schedule, played: Played, program: Optional[st
     commands = sum(agent.used for agent in match.agents)
     found = (case.number, case.network, setup.nodes, len(setup.links), setup.home, case.hole, case.team.name,
              setup.agents, case.scheduler, case.seed, verdict.outcome, verdict.moves, verdict.lost, commands,
-             len(match.log), hashlib.sha256(played.replay).hexdigest(), " ".join("; ".join(played.faults).split()))
-    return [str(value) for value in found]
+             len(match.log), hashlib.sha256(played.replay).hexdigest())
+    faults = [" ".join(fault.split()) for fault in played.faults]
+    return [*map(str, found), *(faults or [""])]
 
 
 def line_of(row: Iterable[str]) -> str:
@@ -96,9 +97,11 @@ def line_of(row: Iterable[str]) -> str:
     return text.getvalue()
 
 
-def rows_in(path: pathlib.Path) -> List[Dict[str, str]]:
+def rows_in(path: pathlib.Path) -> List[report.Row]:
+    """The rows of a file. A row ends with a field for each fault, and `faults` has them all."""
     with path.open(encoding="utf-8", newline="") as file:
-        return list(csv.DictReader(file))
+        rows = list(csv.DictReader(file, restkey=report.MORE))
+    return [{**row, report.FAULTS: [it for it in (row["fault"], *row.get(report.MORE, [])) if it]} for row in rows]
 
 
 def done_in(path: pathlib.Path) -> int:
@@ -153,7 +156,7 @@ def add_workers(parser: argparse.ArgumentParser) -> None:
 def run(words: argparse.Namespace) -> int:
     spec, text = grid.read(words.file), words.file.read_text(encoding="utf-8")
     check_workers(words)
-    work = Work(text, program_at(words.program) if words.engine == PROGRAM else None)
+    work = Work(text, program_of(words))
     for name in spec.schedulers:
         maker_of(name)
     cases = list(spec.cases())

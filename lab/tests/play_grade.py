@@ -11,13 +11,16 @@ from unittest import mock
 
 from lab import cells, league, schedulers, sweep
 from lab.__main__ import main
-from lab.cells import Cell, Walls
+from lab.cells import Cell, Walls, Yard
 from lab.engines import TOP
 from lab.grade import Graded
+from lab.hand_in import HandIn
 from lab.tests.play_programs import running
 from lab.tests.playing import AGENTS, InFolder, program
 
 EXAMPLE = TOP / "examples" / "course" / "course.toml"
+# from which the league table of the page of the examples comes
+SECRET = ["--secret", str(EXAMPLE.parent / "secret.txt")]
 MUTANT = TOP / "lab" / "mutants" / "reads_once.py"
 TESTS = TOP / "lab" / "tests"
 HEAD = 'title = "A trial"\nnetworks = ["ring:4"]\nholes = [2]\nlimit = 60\n'
@@ -68,10 +71,10 @@ class Grading(InFolder):
         return found
 
     def test_the_example_gives_the_same_bytes_three_times_and_names_the_wrong_team(self) -> None:
-        said = self.graded(EXAMPLE, "first", "--program", program())
+        said = self.graded(EXAMPLE, "first", *SECRET, "--program", program())
         self.assertEqual(said.splitlines()[:4], league_in(TOP / "examples" / "README.md"))
         first = tree(self.folder / "first")
-        self.graded(EXAMPLE, "second", "--program", program(), "--workers", "2")
+        self.graded(EXAMPLE, "second", *SECRET, "--program", program(), "--workers", "2")
         self.assertEqual(tree(self.folder / "second"), first)
         # the third was interrupted
         path = self.folder / "second" / sweep.RUNS
@@ -116,7 +119,7 @@ class Grading(InFolder):
         for how, fault in FAULTS.items():
             with self.subTest(how):
                 self.assertIn(fault, rows[how][0]["fault"])
-        self.assertEqual((self.folder / "out" / league.TABLE).read_text().splitlines()[1], "1,right,1,1,9,1")
+        self.assertEqual((self.folder / "out" / league.TABLE).read_text().splitlines()[1], "1,right,1,1,9,1,1")
 
     def test_who_hangs_is_ended_with_all_that_it_has_started(self) -> None:
         file = self.folder / "course.toml"
@@ -170,12 +173,12 @@ class Spies(unittest.TestCase):
         """What each program of the spies says that it has found there."""
         text = HEAD + team("rich", ["rich"], "true {port} {key}") + team(
             "spy", ["spy.py"], f"python3 spy.py {{key}} {self.folder} {' '.join(places)} {{port}}")
-        graded = Graded(text, self.folder, None, walls, self.folder / "out")
+        graded = Graded(text, self.folder, "a secret of the tests", None, Yard(walls), self.folder / "out")
         case = next(case for case in graded.course.cases() if case.team.name == "spy")
         _, played = graded.match(case, schedulers.fair(0), None)
         return [fault.rpartition(": ")[2] for fault in played.faults]
 
-    @unittest.skipUnless(cells.strongest() is Walls.ALL, "only root, where it may make namespaces, has walls")
+    @unittest.skipUnless(cells.strongest() is Walls.ALL, f"no walls here: {cells.weakness()}")
     def test_behind_walls_they_find_nothing(self) -> None:
         self.assertEqual(self.found(Walls.ALL, "/tmp", "/dev/shm"), ["found nothing"] * 2)
 
@@ -188,44 +191,16 @@ class Spies(unittest.TestCase):
     def test_in_one_folder_they_find_all(self) -> None:
         """The spies are good ones: in a body that runs all teams in one folder they find what they look for."""
         shutil.copy(self.folder / "rich" / "plan.txt", self.folder)
-        shared = Cell(self.folder, None, Walls.NONE)
+        shared = Cell(Yard(Walls.NONE), HandIn({}).archive(), None, self.folder, {})
         with mock.patch.object(cells, "cells", lambda *_: in_one_folder(shared)):
             for said in self.found(Walls.NONE):
                 self.assertIn("TREASURE-plan", said)
 
 
-# starts a process that leaves its group, hides whose it is, and sleeps
-LEAVES = """import ctypes, os, sys, time
-if os.fork() == 0:
-    os.setsid()
-    if os.fork() == 0:
-        ctypes.CDLL(None).prctl(4, 0, 0, 0, 0)
-        open("still-there", "w").close()
-        time.sleep(10_000)
-while not os.path.exists("still-there"):
-    time.sleep(0.01)
-sys.exit("has left one")
-"""
-
-
-class Leftovers(unittest.TestCase):
-    @unittest.skipUnless(os.geteuid() == 0, "only root can let programs be other users")
-    def test_what_a_program_leaves_is_ended(self) -> None:
-        for walls in {Walls.USER, cells.strongest()}:
-            with self.subTest(walls), tempfile.TemporaryDirectory() as folder:
-                (pathlib.Path(folder) / "leaves.py").write_text(LEAVES)
-                text = HEAD + team("a", ["leaves.py"], "python3 leaves.py {port} {key}", 1)
-                graded = Graded(text, pathlib.Path(folder), None, walls, pathlib.Path(folder) / "out")
-                _, played = graded.match(graded.course.cases()[0], schedulers.fair(0), None)
-                self.assertIn("has left one", played.faults[0])
-                self.assertEqual(running("leaves.py"), [])
-
-
 @contextlib.contextmanager
 def in_one_folder(cell: Cell) -> Iterator[List[Cell]]:
     """Cells as a careless body would make them."""
-    with mock.patch.object(Cell, "home", cell.place):
-        yield [cell, cell]
+    yield [cell, cell]
 
 
 if __name__ == "__main__":

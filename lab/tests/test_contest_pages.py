@@ -5,7 +5,8 @@ import unittest
 from unittest import mock
 
 from lab import contest_pages
-from lab.contest_pages import Judged, Shown, matches_of, page_of, write_pages
+from lab.contest_pages import Shown, matches_of, page_of, write_pages
+from lab.model import Verdict
 from lab.networks import NoNetwork
 
 TOURNAMENT = """version = 2
@@ -20,7 +21,7 @@ network = "<b>.toml"
 
 class Lists(unittest.TestCase):
     def test_matches_stand_in_the_order_of_the_table(self) -> None:
-        verdicts = [Judged("wrong", 1, 0), Judged("solved", 9, 1), Judged("guess 4", 2, 0), Judged("solved", 9, 0),
+        verdicts = [Verdict("wrong", 1, 0), Verdict("solved", 9, 1), Verdict("guess 4", 2, 0), Verdict("solved", 9, 0),
                     None]
         page = page_of("cup", [Shown(number, f"t{number}", "n", one) for number, one in enumerate(verdicts)])
         places = [page.index(f"<td>t{number}</td>") for number in (3, 1, 2, 0, 4)]
@@ -43,7 +44,7 @@ class Writes(unittest.TestCase):
 
     def test_a_match_has_a_page_if_it_has_a_replay(self) -> None:
         (self.folder / "m1.jsonl").write_text("{}\n")
-        with mock.patch.object(contest_pages, "asked", return_value="guess 2 moves 7 lost 1\n"), \
+        with mock.patch.object(contest_pages, "verdict_of", return_value=Verdict("guess 2", 7, 1)), \
                 mock.patch.object(contest_pages, "write_page", lambda program, replay, page: page.write_text("page")):
             index = write_pages("arena", self.file, str(self.folder / "m"), self.folder / "out")
         self.assertEqual(sorted(path.name for path in index.parent.iterdir()),

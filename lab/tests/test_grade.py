@@ -1,10 +1,11 @@
-"""A course's file, the league, schedules that are made small, and cells."""
+"""A course's file and its secret, the league, schedules that are made small, and what is said of programs."""
 import pathlib
+import stat
 import tempfile
 import unittest
-from typing import Dict, List
+from typing import Any, Dict, List
 
-from lab import cells, course, league, sweep
+from lab import course, league, programs, sweep
 from lab.cells import Walls
 from lab.course import Course, course_of
 from lab.cutting import Cut, Runs, in_words, runs_of, tidy
@@ -16,9 +17,14 @@ HEAD = 'title = "T"\nnetworks = ["ring:4", "ring:5"]\n'
 TEAM = '[[team]]\nname = "a"\nfiles = ["agent.py"]\ncommand = "python3 agent.py {port} {key}"\n'
 
 
-def row(run: int, team: str, moves: int, outcome: str = "solved", fault: str = "") -> Dict[str, str]:
-    values = [run, "ring:4", 4, 4, 0, 1, team, 2, "fair", run, outcome, moves, 1, 9, 9, "00", fault]
-    return dict(zip(sweep.COLUMNS, map(str, values)))
+SECRET = "0123456789abcdef"
+
+
+def row(run: int, team: str, moves: int, outcome: str = "solved", *faults: str) -> Dict[str, Any]:
+    network = "ring:4" if run % 2 == 0 else "ring:5"
+    fault = faults[0] if faults else ""
+    values = [run, network, 4, 4, 0, 1, team, 2, "fair", run, outcome, moves, 1, 9, 9, "00", fault]
+    return {**dict(zip(sweep.COLUMNS, map(str, values))), "faults": list(faults)}
 
 
 class Folder(unittest.TestCase):
@@ -29,7 +35,7 @@ class Folder(unittest.TestCase):
         (self.folder / "agent.py").write_text("pass")
 
     def course(self, middle: str = "", team: str = TEAM) -> Course:
-        return course_of(HEAD + middle + team, self.folder)
+        return course_of(HEAD + middle + team, self.folder, SECRET)
 
 
 class Files(Folder):
@@ -50,14 +56,17 @@ class Files(Folder):
 
     def test_files_are_looked_for_in_the_folder_of_the_course(self) -> None:
         (self.folder / "net.toml").write_text("nodes = 3\nlinks = [[0, 0, 1, 0], [1, 1, 2, 0], [2, 1, 0, 1]]\n")
-        found = course_of(HEAD.replace('"ring:4"', '"net.toml"') + TEAM, self.folder)
+        found = course_of(HEAD.replace('"ring:4"', '"net.toml"') + TEAM, self.folder, SECRET)
         self.assertEqual(found.grid.networks["net.toml"].nodes, 3)
-        self.assertEqual({pathlib.Path(name).name for name in found.digests()}, {"net.toml", "agent.py"})
+        self.assertEqual({pathlib.Path(name).name for name in found.digests()}, {"net.toml", "team a", "secret.txt"})
 
     def test_what_is_refused(self) -> None:
         for middle, team, said in (
                 ("", "", "team must be given"), ("size = 1\n", TEAM, "a course has no key size; its keys are board,"),
                 ("bound = 'n^2'\n", TEAM, "a course has no key bound"), ("limit = 0\n", TEAM, "limit must be a whole"),
+                ("match_limit = 0\n", TEAM, "match_limit must be"), ("team_limit = 0\n", TEAM, "team_limit must be"),
+                ("tools = ['opt']\n", TEAM, "tools has opt, which is no folder that programs may see"),
+                ("tools = ['/']\n", TEAM, "tools has /, which is no folder that programs may see"),
                 ("tries = -1\n", TEAM, "tries must be a whole number"), ("ports = 'some'\n", TEAM, "ports must be"),
                 ("holes = [4]\n", TEAM, "holes has 4, and a black hole of ring:4"),
                 ("", TEAM + TEAM, "two teams have the same name"),
@@ -76,20 +85,70 @@ class Files(Folder):
     def test_files_that_cannot_be_read(self) -> None:
         path = self.folder / "course.toml"
         with self.assertRaisesRegex(NoSweep, "course.toml: there is no such file"):
-            course.read(path)
+            course.read(path, SECRET)
         path.write_bytes(b"\xff")
         with self.assertRaisesRegex(NoSweep, "it is no text in UTF-8"):
-            course.read(path)
+            course.read(path, SECRET)
         (self.folder / "net.toml").write_text("nodes = 3\n")
         path.write_text(HEAD.replace("ring:4", "net.toml") + TEAM)
         with self.assertRaisesRegex(NoSweep, "networks has net.toml, which is no network file"):
-            course.read(path)
+            course.read(path, SECRET)
 
-    def test_a_course_among_the_systems_programs(self) -> None:
-        with self.assertRaisesRegex(NoSweep, "move the course to another folder"):
-            course.check_walls(Walls.ALL, pathlib.Path("/usr/share/course"))
-        course.check_walls(Walls.ALL, self.folder)
-        course.check_walls(Walls.NONE, pathlib.Path("/usr/share/course"))
+    def test_results_and_a_course_where_programs_look(self) -> None:
+        """Results that programs can read show them the black holes and other teams' rows."""
+        tools = [str(self.folder)]
+        for path in ("/usr/share/course", "/lib/course", self.folder / "out"):
+            with self.subTest(path), self.assertRaisesRegex(NoSweep, "teams' programs see .*: name a folder elsewhere"):
+                course.check_walls(Walls.ALL, [pathlib.Path("/srv"), pathlib.Path(path)], tools)
+        course.check_walls(Walls.ALL, [self.folder], [])
+        course.check_walls(Walls.NONE, [pathlib.Path("/usr/share/course")], tools)
+
+    def test_limits_grow_with_the_matches(self) -> None:
+        self.assertEqual(self.course().limits, (20, 60, 600))
+        self.assertEqual(self.course("seeds = 100\n").limits, (20, 60, 1000))
+        self.assertEqual(self.course("seeds = 100\nlimit = 1\nmatch_limit = 2\nteam_limit = 3\n").limits, (1, 2, 3))
+
+
+class Secrets(Folder):
+    """What a team that knows the course's file could work out, if it were not drawn from a secret."""
+
+    def drawn(self, secret: str, holes: str) -> List[int]:
+        text = HEAD.replace("ring:5", "ring:64") + f"holes = {holes}\nseeds = 4\n" + TEAM
+        return [case.hole for case in course_of(text, self.folder, secret).cases() if case.network == "ring:64"]
+
+    def test_black_holes(self) -> None:
+        for holes in ("8", '"by seed"'):
+            found = {tuple(self.drawn(f"{SECRET}{number}", holes)) for number in range(5)}
+            self.assertEqual(len(found), 5, holes)
+            self.assertEqual(self.drawn(SECRET, holes), self.drawn(SECRET, holes))
+        self.assertEqual(set(self.drawn(SECRET, "[3]")), {3})
+
+    def test_keys_and_what_schedulers_draw(self) -> None:
+        one, other = (course_of(HEAD + "seeds = 2\n" + TEAM, self.folder, f"{SECRET}{number}") for number in range(2))
+        keys = [{key for case in each.cases() for key in each.fixture(case).keys} for each in (one, other)]
+        self.assertFalse(keys[0] & keys[1])
+        seeds = [[each.seed(case) for case in each.cases()] for each in (one, other)]
+        self.assertFalse(set(seeds[0]) & set(seeds[1]))
+        self.assertEqual(seeds[0][1], seeds[0][0] + 1)
+        self.assertNotIn(0, seeds[0])
+
+    def test_teams_get_the_same_draws(self) -> None:
+        found = self.course("seeds = 2\n", TEAM + TEAM.replace('"a"', '"b"'))
+        seeds = [[found.seed(case) for case in found.cases() if case.team.name == name] for name in "ab"]
+        self.assertEqual(seeds[0], seeds[1])
+
+    def test_it_is_kept_where_the_teacher_alone_reads_it(self) -> None:
+        out, other = self.folder / "out", self.folder / "other"
+        secret = course.secret_in(out, None)
+        self.assertEqual(stat.S_IMODE((out / course.SECRET).stat().st_mode), 0o600)
+        self.assertEqual(course.secret_in(out, None), secret)
+        self.assertNotEqual(course.secret_in(other, None), secret)
+        self.assertEqual(course.secret_in(self.folder / "again", out / course.SECRET), secret)
+        with self.assertRaisesRegex(NoSweep, "is another secret than"):
+            course.secret_in(other, out / course.SECRET)
+        (self.folder / "short").write_text("guess me\n")
+        with self.assertRaisesRegex(NoSweep, "at least 16 characters"):
+            course.secret_in(self.folder / "new", self.folder / "short")
 
 
 class Leagues(Folder):
@@ -100,8 +159,44 @@ class Leagues(Folder):
         self.assertEqual(found, [(1, "d", 2, 2, 17), (2, "a", 2, 2, 18), (2, "c", 2, 2, 18), (4, "b", 2, 1, 9)])
 
     def test_a_fault_is_no_solution(self) -> None:
-        found = league.standings_of([row(0, "a", 9, fault="agent 1: has connected twice")], ["a"])
+        found = league.standings_of([row(0, "a", 9, "solved", "agent 1: has connected twice")], ["a"])
         self.assertEqual(found[0].solved, 0)
+
+    def test_each_failure_is_called_by_its_kind(self) -> None:
+        for kind, outcome, *faults in (
+                ("wrong", "wrong"), ("guess", "guess 3"), ("silent", "silent"), ("unfinished", "unfinished"),
+                ("crashed", "solved", "agent 1: has ended with status 1 in the middle of its match"),
+                ("crashed", "silent", "agent 0: cannot be started: the hand-in is refused"),
+                ("crashed", "silent", "agent 0: has taken more than 2 GB of memory with all that it has started"),
+                ("hung", "silent", "agent 0: has sent no line within 20 s", "agent 1: has connected twice"),
+                ("hung", "silent", "agent 0: has used up the time of its match, 60 s in all"),
+                ("broke a rule", "silent", "agent 0: has connected twice"),
+                ("not played", "not played", "not played: the matches of the team have taken the 3 s that it has")):
+            with self.subTest(kind):
+                self.assertEqual(league.kind_of(row(0, "a", 1, outcome, *faults)), kind)
+                self.assertIn(kind, league.KINDS)
+
+    def test_the_league_has_a_column_for_each_network_and_the_kinds_of_failures(self) -> None:
+        rows = [row(0, "a", 9), row(1, "a", 9, "wrong"), row(2, "b", 9), row(3, "b", 1)]
+        standings = league.standings_of(rows, ["a", "b"])
+        self.assertEqual(league.table(standings), [
+            ["place", "team", "matches", "solved", "moves", "lost", "ring:4", "ring:5"],
+            ["1", "b", "2", "2", "10", "2", "1", "1"], ["2", "a", "2", "1", "9", "1", "1", "0"]])
+        page = league.pages(self.course("", TEAM + TEAM.replace('"a"', '"b"')).grid, rows, {
+            1: Failure(1, 5, False, "", False)}, "it")["league.html"]
+        self.assertIn('<span class="kind wrong">1 wrong</span>', page)
+        self.assertIn("an agent accused a link that leads to no black hole", page)
+
+    def test_a_row_has_a_field_for_each_fault(self) -> None:
+        """So no program's last words can make it two faults."""
+        faults = ["agent 0: has ended with status 1: \"x\"; agent 1: forged, \\r", "agent 1: has connected twice"]
+        path = self.folder / "runs.csv"
+        path.write_text(sweep.line_of(sweep.COLUMNS) + sweep.line_of([*["0"] * 16, *faults]) + sweep.line_of([
+            *["1"] * 16, ""]))
+        self.assertEqual([found["faults"] for found in sweep.rows_in(path)], [faults, []])
+        page = league.pages(self.course().grid, [row(0, "a", 9, "silent", *faults)], {
+            0: Failure(0, 5, False, "", False)}, "it")["team-a.html"]
+        self.assertEqual(page.count("<li>agent"), 2)
 
     def test_pages_escape_what_programs_say(self) -> None:
         rows = [row(0, "a", 9, "silent", "agent 0: <script>"), row(1, "a", 4)]
@@ -141,44 +236,18 @@ class Small(unittest.TestCase):
                          "of the agents that can go on, the first 7 times, then the second once, then always the first")
 
 
-class Cells(Folder):
-    def test_each_has_a_copy_and_none_the_links_ends(self) -> None:
-        (self.folder / "secret").write_text("secret")
-        team = self.folder / "team"
-        (team / "more").mkdir(parents=True)
-        (team / "more" / "it.txt").write_text("it")
-        (team / "link").symlink_to(self.folder / "secret")
-        with cells.cells([team, self.folder / "agent.py"], cells.unnamed()[:2], Walls.NONE) as made:
-            for cell in made:
-                self.assertEqual((cell.home / "more" / "it.txt").read_text(), "it")
-                self.assertTrue((cell.home / "agent.py").is_file() and (cell.home / "link").is_symlink())
-                self.assertEqual(cell.home.stat().st_mode & 0o777, 0o700)
-                self.assertEqual((cell.home / "agent.py").stat().st_mode & 0o077, 0)
-            (made[0].home / "agent.py").write_text("changed")
-            self.assertEqual((made[1].home / "agent.py").read_text(), "pass")
-        self.assertFalse(made[0].home.exists())
-        self.assertEqual((self.folder / "agent.py").read_text(), "pass")
+class Words(unittest.TestCase):
+    def test_what_is_shown_changes_nothing_where_it_is_shown(self) -> None:
+        self.assertEqual(programs.plain("\x1b[2J\x07 \x9b31m \u202e \u2028 \x00 \x7f \ufeff é = ☃ 'it'"),
+                         "\\x1b[2J\\x07 \\x9b31m \\u202e \\u2028 \\x00 \\x7f \\ufeff é = ☃ 'it'")
 
-    def test_nothing_is_written_through_a_link_of_a_team(self) -> None:
-        """Root copies: a team's link must not choose what it overwrites."""
-        (self.folder / "secret").write_text("secret")
-        (self.folder / "elsewhere").mkdir()
-        for name in ("bad", "more"):
-            (self.folder / name).mkdir()
-        (self.folder / "bad" / "agent.py").symlink_to(self.folder / "secret")
-        (self.folder / "bad" / "inside").symlink_to(self.folder / "elsewhere")
-        (self.folder / "more" / "inside").mkdir()
-        (self.folder / "more" / "inside" / "it.txt").write_text("it")
-        files = [self.folder / name for name in ("bad", "agent.py", "more")]
-        with cells.cells(files, cells.unnamed()[:1], Walls.NONE) as made:
-            self.assertEqual((made[0].home / "agent.py").read_text(), "pass")
-            self.assertEqual((made[0].home / "inside" / "it.txt").read_text(), "it")
-        self.assertEqual((self.folder / "secret").read_text(), "secret")
-        self.assertEqual(list((self.folder / "elsewhere").iterdir()), [])
-
-    def test_users_have_no_names(self) -> None:
-        self.assertGreater(len(cells.unnamed()), 1000)
-        self.assertNotIn(0, cells.unnamed())
+    def test_a_match_has_a_time_of_its_own(self) -> None:
+        clock = programs.Clock(5, 7)
+        self.assertEqual(clock.says("has sent no line within"), "has sent no line within 5 s")
+        clock.waited = 3
+        self.assertIn("has used up the time of its match, 7 s in all", clock.says("has sent no line within"))
+        with programs.Clock(0.01, 1) as until, clock as later:
+            self.assertGreater(later - until, 3)
 
 
 if __name__ == "__main__":

@@ -1,0 +1,445 @@
+"""Programs that want to win, or to stop a course, by other ways than by playing: as root with walls between programs,
+as root without, and as a user without rights."""
+import contextlib
+import io
+import os
+import pathlib
+import shutil
+import subprocess
+import tempfile
+import threading
+import time
+import unittest
+from typing import Any, Dict, List, Optional
+from unittest import mock
+
+from lab import cells, course, schedulers, sweep, watch
+from lab.__main__ import main
+from lab.cells import Walls, Yard
+from lab.engines import TOP
+from lab.grade import Graded
+from lab.missing import DEBIANS_PYTHON
+from lab.play import Played
+from lab.tests.play_programs import running
+from lab.tests.playing import AGENTS
+
+HAS_WALLS = cells.strongest() is Walls.ALL
+IS_ROOT = os.geteuid() == 0
+# all that can keep programs apart for who runs the tests
+ALL_WALLS = [Walls.ALL] * HAS_WALLS + [Walls.USER] * IS_ROOT + [Walls.NONE] * (not IS_ROOT)
+SECRET = "a secret of the tests"
+HEAD = 'title = "A trial"\nnetworks = ["ring:4"]\nholes = [2]\nlimit = 60\n'
+WALLED = unittest.skipUnless(HAS_WALLS, f"no walls here: {cells.weakness()}")
+
+# begins an agent's program: `ask` plays, by the port and the key that stand first in the command
+BEGINS = """import json, os, socket, sys, time
+def connect():
+    server = socket.create_connection(("127.0.0.1", int(sys.argv[1])))
+    lines = server.makefile("rw", newline="\\n")
+    def ask(**command):
+        lines.write(json.dumps(command) + "\\n")
+        lines.flush()
+        return lines.readline()
+    return ask
+"""
+ENTERS = BEGINS + """ask = connect()
+ask(do="enter", key=sys.argv[2])
+"""
+
+
+def team(name: str, files: List[str], command: str, agents: int = 1) -> str:
+    return f'[[team]]\nname = "{name}"\nagents = {agents}\nfiles = {files}\ncommand = "{command}"\n'
+
+
+HONEST = team("right", [str(AGENTS / "client.py"), str(AGENTS / "ring.py")],
+              "python3 ring.py {host} {port} {key} {nodes}", 2)
+EVIL = "python3 evil.py {port} {key}"
+
+
+class Course(unittest.TestCase):
+    """A course of one team, whose program a test writes."""
+
+    def setUp(self) -> None:
+        folder = tempfile.mkdtemp()
+        os.chmod(folder, 0o755)
+        self.addCleanup(subprocess.run, ["rm", "-rf", folder])
+        self.addCleanup(os.chdir, os.getcwd())
+        os.chdir(TOP)
+        self.folder = pathlib.Path(folder)
+        self.team = self.folder / "evil"
+        self.team.mkdir()
+
+    def played(self, walls: Walls, code: str, agents: int = 1, head: str = HEAD, tools: Any = ()) -> Played:
+        """A match of the team."""
+        (self.team / "evil.py").write_text(code)
+        course.read_once.cache_clear()
+        text = head + team("evil", ["evil"], EVIL, agents)
+        graded = Graded(text, self.folder, SECRET, None, Yard(walls, tuple(tools)), self.folder / "out")
+        return graded.match(graded.course.cases()[0], schedulers.fair(0), None)[1]
+
+    def said(self, walls: Walls, code: str, agents: int = 1, tools: Any = ()) -> List[str]:
+        """The last words of the team's programs, each of which ends before it connects."""
+        faults = self.played(walls, code, agents, tools=tools).faults
+        return [fault.partition("before it connected: ")[2] for fault in faults]
+
+    def graded(self, text: str, out: str = "out", status: int = 0) -> Dict[str, List[Dict[str, Any]]]:
+        """Grades a course by the command, and gives the rows of each team."""
+        file = self.folder / "course.toml"
+        file.write_text(text)
+        with contextlib.redirect_stdout(io.StringIO()), contextlib.redirect_stderr(io.StringIO()):
+            self.assertEqual(main(["grade", str(file), "--out", str(self.folder / out), "--engine", "model",
+                                   "--workers", "2"]), status)
+        found: Dict[str, List[Dict[str, Any]]] = {}
+        for row in sweep.rows_in(self.folder / out / sweep.RUNS):
+            found.setdefault(row["team"], []).append(row)
+        return found
+
+
+class Stopping(Course):
+    """Nothing that a team does or hands in ends the command."""
+
+    def test_folders_in_folders(self) -> None:
+        """1,200 of them were not removed by a call that goes down into each, and no course went on after that."""
+        before = set(os.listdir(tempfile.gettempdir()))
+        for walls in ALL_WALLS:
+            with self.subTest(walls):
+                said = self.said(walls, "import os, sys\nfor _ in range(1200):\n    os.mkdir('d')\n    os.chdir('d')\n"
+                                 "sys.exit('has made them')")
+                self.assertEqual(said, ["has made them"])
+        left = [name for name in set(os.listdir(tempfile.gettempdir())) - before if name.startswith("lab-cell")]
+        self.assertEqual(left, [])
+
+    def test_hand_ins(self) -> None:
+        names = ["deep", "large", "linked", "closed"]
+        for name in names:
+            (self.folder / name).mkdir()
+            (self.folder / name / "evil.py").write_text("raise SystemExit('ran')")
+        place = os.open(self.folder / "deep", os.O_RDONLY)
+        for _ in range(1200):
+            os.mkdir("d", dir_fd=place)
+            place, above = os.open("d", os.O_RDONLY, dir_fd=place), place
+            os.close(above)
+        os.close(place)
+        with open(self.folder / "large" / "file", "wb") as file:
+            file.truncate(200 << 30)
+        (self.folder / "linked" / "log").symlink_to("/proc/kmsg")
+        (self.folder / "closed" / "file").write_text("x")
+        (self.folder / "closed" / "file").chmod(0)
+        rows = self.graded(HEAD + "".join(team(name, [name], EVIL) for name in names) + HONEST)
+        self.assertEqual(rows["right"][0]["outcome"], "solved")
+        self.assertIn("its folders are more than 32 deep", rows["deep"][0]["fault"])
+        self.assertIn("its files have more than 32 MB", rows["large"][0]["fault"])
+        self.assertIn("ran", rows["linked"][0]["fault"])
+        self.assertIn("ran" if IS_ROOT else "its files cannot be read", rows["closed"][0]["fault"])
+
+    def test_a_match_that_the_lab_cannot_play(self) -> None:
+        """Whatever it is, the others are graded; the status says that something is wrong."""
+        (self.team / "evil.py").write_text("pass")
+        play = Graded.match
+
+        def match(graded: Graded, case: Any, *given: Any) -> Any:
+            if case.team.name == "evil":
+                raise RecursionError("so deep")
+            return play(graded, case, *given)
+        with mock.patch.object(Graded, "match", match):
+            rows = self.graded(HEAD + team("evil", ["evil"], EVIL) + HONEST, status=1)
+        self.assertEqual(rows["evil"][0]["fault"], "not played, as the lab failed: RecursionError: so deep")
+        self.assertEqual(rows["right"][0]["outcome"], "solved")
+
+
+class TwoCommands(Course):
+    @unittest.skipUnless(IS_ROOT, "only root can let programs be other users")
+    def test_they_do_not_end_each_others_programs(self) -> None:
+        """The same match twice at a time: whoever kills by user must not share it."""
+        for walls in {Walls.USER, cells.strongest()}:
+            with self.subTest(walls):
+                found: List[Played] = []
+                code = ENTERS + "time.sleep(0.5)\nask(do='look')\nask(do='leave')\n"
+
+                def play() -> None:
+                    found.append(self.played(walls, code))
+                threads = [threading.Thread(target=play) for _ in range(3)]
+                for thread in threads:
+                    thread.start()
+                    time.sleep(0.2)
+                for thread in threads:
+                    thread.join()
+                self.assertEqual([played.faults for played in found], [[]] * 3)
+
+
+class Guessing(Course):
+    def test_a_programs_user_does_not_tell_its_match(self) -> None:
+        code = "import os, sys\nsys.exit(f'{os.getuid()} {os.getgid()} {os.getcwd()}')"
+        if HAS_WALLS:
+            self.assertEqual(self.said(Walls.ALL, code, 2), ["1000 1000 /agent"] * 2)
+        if IS_ROOT:
+            told = {tuple(self.said(Walls.USER, code, 2)) for _ in range(3)}
+            self.assertEqual(len(told), 3)
+
+
+# tries one way after another by which programs that share files of the system may talk, and says which are open
+WAYS = r"""import ctypes, fcntl, os, signal, socket, struct, sys
+signal.signal(signal.SIGIO, signal.SIG_IGN)
+libc = ctypes.CDLL(None, use_errno=True)
+libc.syscall.restype = ctypes.c_long
+file = os.open("/usr/bin/env", os.O_RDONLY)
+buffer = ctypes.create_string_buffer(4096)
+lock = struct.pack("hhqqi", fcntl.F_RDLCK, 0, 0, 0, 0)
+def call(number, *given):
+    if libc.syscall(number, *given) < 0:
+        raise OSError(ctypes.get_errno(), "refused")
+def in_a_child(way):
+    def ran():
+        child = os.fork()
+        if child == 0:
+            try:
+                way()
+            except OSError:
+                os._exit(1)
+            os._exit(0)
+        if os.waitpid(child, 0)[1]:
+            raise OSError
+    return ran
+def touches(file):
+    def ran():
+        before = os.stat(file).st_mtime_ns
+        os.utime(file)
+        if os.stat(file).st_mtime_ns == before:
+            raise OSError
+    return ran
+def reads(path):
+    return lambda: open(path, "rb").read(1)
+def writes(path):
+    return lambda: open(path, "wb").close()
+def counts(path):
+    found = os.listdir(path)
+    if not found:
+        raise OSError
+ways = {
+    "flock": lambda: fcntl.flock(file, fcntl.LOCK_SH), "lock": lambda: fcntl.fcntl(file, fcntl.F_SETLK, lock),
+    "ask for locks": lambda: fcntl.fcntl(file, fcntl.F_GETLK, lock),
+    "lock by file": lambda: fcntl.fcntl(file, 37, lock),
+    "lease": lambda: fcntl.fcntl(file, fcntl.F_SETLEASE, fcntl.F_RDLCK),
+    "notes of a folder": lambda: fcntl.fcntl(os.open("/usr/bin", os.O_RDONLY), fcntl.F_NOTIFY, 1),
+    "inotify": lambda: call(294, 0), "old inotify": lambda: call(253), "fanotify": lambda: call(300, 0, 0),
+    "add_key": lambda: call(248, b"user", b"k", b"v", 1, -3), "keyctl": lambda: call(250, 0, -3, 0),
+    "request_key": lambda: call(249, b"user", b"k", None, -3),
+    "shared memory": lambda: call(29, 1, 4096, 0o1666), "semaphores": lambda: call(64, 1, 1, 0o1666),
+    "messages": lambda: call(68, 1, 0o1666), "queue": lambda: call(240, b"q", 0o102, 0o666, None),
+    "ptrace": in_a_child(lambda: call(101, 0, 0, 0, 0)),
+    "memory of others": lambda: call(310, os.getpid(), None, 0, None, 0, 0),
+    "perf": lambda: call(298, buffer, 0, -1, -1, 0), "userfaultfd": lambda: call(323, 1),
+    "bpf": lambda: call(321, 0, buffer, 64),
+    "io_uring": lambda: call(425, 4, buffer), "memfd": lambda: call(319, b"x", 0), "sysinfo": lambda: call(99, buffer),
+    "cached pages": lambda: os.preadv(file, [bytearray(1)], 0, os.RWF_NOWAIT),
+    "cachestat": lambda: call(451, file, buffer, buffer, 0), "futex_wake": lambda: call(454, buffer, 1, 1, 2),
+    "new user": in_a_child(lambda: call(272, 0x10000000)),
+    "new disk": in_a_child(lambda: call(272, 0x10020000)),
+    "load": reads("/proc/loadavg"), "counts": reads("/proc/stat"), "memory": reads("/proc/meminfo"),
+    "locks": reads("/proc/locks"), "keys": reads("/proc/keys"), "up": reads("/proc/uptime"),
+    "settings": lambda: counts("/proc/sys"), "pressure": lambda: counts("/proc/pressure"),
+    "root": writes("/x"), "dev": writes("/dev/x"), "etc": writes("/etc/x"), "usr": writes("/usr/local/x"),
+    "opt": lambda: os.stat("/opt"), "run": lambda: os.stat("/run"), "passwd": lambda: os.stat("/etc/passwd"),
+    "lock past a filter": lambda: call(72, file, (1 << 32) + fcntl.F_SETLK, lock),
+    "hint": lambda: call(72, file, 1036, buffer), "its hint": lambda: call(72, file, 1035, buffer),
+    "flags": lambda: call(16, file, 0x80086601, buffer), "touch": touches("/dev/null"),
+    "touch input": touches(0), "touch output": touches(1),
+    "abstract socket": lambda: socket.socket(socket.AF_UNIX).connect("\0lab"),
+}
+found = []
+for name, way in ways.items():
+    try:
+        way()
+        found.append(name)
+    except OSError:
+        pass
+sys.exit(f"{len(found)} open, shut are {', '.join(set(ways) - set(found))}" if found else "all are shut")
+"""
+
+
+@WALLED
+class Talking(Course):
+    """Agents of a team, each behind walls, have nothing in common by which they could talk."""
+
+    def test_ways_are_closed(self) -> None:
+        self.assertEqual(self.said(Walls.ALL, WAYS), ["all are shut"])
+
+    def test_the_ways_are_good_ones(self) -> None:
+        """Without walls they are open, so that the test above would show it if one were."""
+        said = self.said(Walls.USER if IS_ROOT else Walls.NONE, WAYS)[0]
+        self.assertRegex(said, "^[345][0-9] open")
+        shut = set(said.partition("shut are ")[2].split(", "))
+        self.assertFalse(shut & {"flock", "lock", "inotify", "shared memory", "load", "counts", "memfd", "touch"})
+
+    def test_pipes_and_sockets_among_tools(self) -> None:
+        """A pipe can be written to where files cannot."""
+        tools = self.folder / "tools"
+        (tools / "deep").mkdir(parents=True)
+        os.mkfifo(tools / "deep" / "pipe")
+        os.chmod(tools / "deep" / "pipe", 0o666)
+        code = f"""import os, stat, sys
+mode = os.stat("{tools}/deep/pipe").st_mode
+try:
+    open("{tools}/x", "w")
+except OSError as fault:
+    sys.exit(f"pipe {{stat.S_ISFIFO(mode)}} {{fault.strerror}}")
+"""
+        self.assertEqual(self.said(Walls.ALL, code, tools=[str(tools)]), ["pipe False Read-only file system"])
+
+    def test_programs_of_a_match_have_no_file_in_common(self) -> None:
+        """Each leaves a file where it may write, waits for the other, and looks for files of others."""
+        code = """import os, sys, time
+for place in (".", "/tmp", "/dev/shm"):
+    open(f"{place}/{sys.argv[2]}", "w").close()
+time.sleep(0.5)
+sys.exit(str([len(os.listdir(place)) for place in (".", "/tmp", "/dev/shm")]))
+"""
+        self.assertEqual(self.said(Walls.ALL, code, 2), ["[2, 1, 1]"] * 2)
+
+
+class Stalling(Course):
+    def test_a_match_has_a_time(self) -> None:
+        code = ENTERS + "while True:\n    time.sleep(0.3)\n    ask(do='look')\n"
+        for walls in ALL_WALLS:
+            with self.subTest(walls):
+                began = time.monotonic()
+                played = self.played(walls, code, head=HEAD + "match_limit = 2\n")
+                self.assertEqual(played.faults, ["agent 0: has used up the time of its match, 2 s in all, as the lab "
+                                                 "waited for its programs"])
+                self.assertLess(time.monotonic() - began, 8)
+
+    def test_a_team_has_a_time(self) -> None:
+        (self.team / "evil.py").write_text(BEGINS + "time.sleep(0.7)\nsys.exit('slow')")
+        rows = self.graded(HEAD + "seeds = 8\nteam_limit = 1\n" + team("evil", ["evil"], EVIL) + HONEST.replace(
+            "right", "right"))
+        self.assertIn("slow", rows["evil"][0]["fault"])
+        self.assertEqual(rows["evil"][-1]["fault"],
+                         "not played: the matches of the team have taken the 1 s that it has")
+        self.assertEqual(rows["evil"][-1]["outcome"], "not played")
+        self.assertIn("solved", [row["outcome"] for row in rows["right"]])
+        page = (self.folder / "out" / "team-evil.html").read_text()
+        self.assertIn("not made smaller: the matches of the team have taken the 1 s that it has", page)
+
+
+class Taking(Course):
+    def test_memory_of_all_that_a_program_starts(self) -> None:
+        """Each of three takes what one may take."""
+        code = BEGINS + """for _ in range(3):
+    if os.fork() == 0:
+        taken = bytearray(100 << 20)
+        for place in range(0, len(taken), 4096):
+            taken[place] = 1
+        time.sleep(100)
+time.sleep(100)
+"""
+        with mock.patch.object(watch, "MOST", 200 << 20):
+            for walls in ALL_WALLS:
+                with self.subTest(walls):
+                    began = time.monotonic()
+                    self.assertEqual(self.played(walls, code).faults, [f"agent 0: {watch.TOO_MUCH}"])
+                    self.assertLess(time.monotonic() - began, 30)
+
+    @WALLED
+    def test_disk(self) -> None:
+        """A folder in memory has its size; a file for each byte is memory too."""
+        code = """import sys
+wrote = 0
+try:
+    for number in range(12):
+        with open(str(number), "wb") as file:
+            for _ in range(63):
+                wrote += file.write(bytes(1 << 20))
+except OSError as fault:
+    sys.exit(f"{wrote >> 20 <= 64} {fault.strerror}")
+"""
+        self.assertEqual(self.said(Walls.ALL, code), ["True No space left on device"])
+        many = "import time\nfor number in range(200_000):\n    open(str(number), 'w').close()\ntime.sleep(100)"
+        with mock.patch.object(watch, "MOST", 100 << 20):
+            self.assertEqual(self.played(Walls.ALL, many).faults, [f"agent 0: {watch.TOO_MUCH}"])
+
+
+class Timing(Course):
+    def test_who_does_not_read_and_ends_is_heard_to_the_end(self) -> None:
+        """A function of what it is told, which says all at once: to node 1, back, to node 3, and what it has found."""
+        code = BEGINS + """server = socket.create_connection(("127.0.0.1", int(sys.argv[1])))
+said = [{"do": "enter", "key": sys.argv[2]}, *({"do": "depart", "port": port} for port in (0, 1, 1))]
+said.append({"do": "accuse", "port": 1})
+server.sendall("".join(json.dumps(command) + "\\n" for command in said).encode())
+"""
+        for walls in ALL_WALLS:
+            with self.subTest(walls):
+                for _ in range(3):
+                    played = self.played(walls, code)
+                    self.assertEqual((played.faults, tuple(played.verdict())), ([], ("solved", 3, 0)))
+
+    def test_sets_have_the_same_order_on_each_run(self) -> None:
+        code = "import sys\nsys.exit(str({'a', 'b', 'c', 'd', 'e', 'f', 'g'}))"
+        for walls in ALL_WALLS:
+            self.assertEqual(len({self.said(walls, code)[0] for _ in range(3)}), 1)
+        (self.folder / "it.py").write_text(code + "\n")
+        told = set()
+        for _ in range(3):
+            with contextlib.redirect_stdout(io.StringIO()) as out:
+                main(["run", "--network", "ring:4", "--agents", "1", "--engine", "model", "--command",
+                      f"python3 {self.folder}/it.py {{port}} {{key}}"])
+            told.add(out.getvalue())
+        self.assertEqual(len(told), 1)
+
+
+class Saying(Course):
+    def test_last_words_are_one_fault_and_do_nothing_to_a_terminal(self) -> None:
+        code = ('import os, sys\nsys.stderr.buffer.write("first\\n\\x1b]0;it\\x07\\x9b31m\\u202e\\x00; agent 1: forged'
+                '\\r\\u2028".encode() + b"\\xff\\n")\nsys.exit(3)')
+        (self.team / "evil.py").write_text(code)
+        rows = self.graded(HEAD + team("evil", ["evil"], EVIL))
+        said = "\\x1b]0;it\\x07\\x9b31m\\u202e\\x00; agent 1: forged\\r\\u2028\ufffd"
+        self.assertEqual(rows["evil"][0]["faults"], [f"agent 0: has ended with status 3 before it connected: {said}"])
+        page = (self.folder / "out" / "team-evil.html").read_text(encoding="utf-8")
+        self.assertEqual(page.count("<li>agent"), 1)
+        for char in "\x1b\x9b\u202e\u2028\x00":
+            self.assertNotIn(char, page)
+
+
+class Staying(Course):
+    def test_what_leaves_its_group_is_ended(self) -> None:
+        """Without walls and without root it stays, as the command says."""
+        code = """import ctypes, os, sys, time
+if os.fork() == 0:
+    os.setsid()
+    if os.fork() == 0:
+        ctypes.CDLL(None).prctl(4, 0, 0, 0, 0)
+        open("still-there", "w").close()
+        time.sleep(10_000)
+while not os.path.exists("still-there"):
+    time.sleep(0.01)
+open("/tmp/left-by-a-program", "w").close()
+sys.exit("has left one")
+"""
+        for walls in set(ALL_WALLS) - {Walls.NONE}:
+            with self.subTest(walls):
+                self.assertEqual(self.said(walls, code), ["has left one"])
+                self.assertEqual(running(f"evil.py {os.getpid()}"), [])
+                self.assertEqual(running("evil.py"), [])
+                self.assertFalse(os.path.exists("/tmp/left-by-a-program"))
+        self.assertIn("stay when a match has ended", Walls.NONE.value)
+
+
+class NotAsRoot(unittest.TestCase):
+    @unittest.skipUnless(IS_ROOT, "these tests are run as a user without rights anyway")
+    def test_a_user_without_rights_is_as_safe(self) -> None:
+        """The tests above, as nobody."""
+        nobody = ["setpriv", "--reuid=65534", "--regid=65534", "--clear-groups"]
+        seen = subprocess.run([*nobody, "test", "-r", __file__]).returncode == 0
+        if not seen or os.environ.get("ARENA_AS_NOBODY"):
+            self.skipTest(f"who has no rights cannot read {TOP}")
+        with tempfile.TemporaryDirectory() as home:
+            os.chmod(home, 0o777)
+            ran = subprocess.run(
+                [*nobody, DEBIANS_PYTHON, "-B", "-m", "unittest", "lab.tests.play_attacks"], cwd=TOP,
+                env={**os.environ, "ARENA_AS_NOBODY": "yes", "HOME": home, "TMPDIR": home}, capture_output=True,
+                text=True, timeout=300)
+        self.assertEqual(ran.returncode, 0, ran.stderr)
+
+
+if __name__ == "__main__":
+    unittest.main()
