@@ -44,6 +44,7 @@ COMMANDS = {
     "sweep": Command("lab.sweep", "play teams over a grid of networks and schedules, and write a report"),
     "grade": Command("lab.grade", "grade the programs of a course: a league table, and a page for each team"),
     "page": Command("lab.page", "write a page on which one watches a match that has ended"),
+    "watch": Command("lab.projector", "show a contest that goes on, for a projector"),
     "pages": Command("lab.contest_pages", "write a page of each match of a contest, and one that lists them"),
 }
 

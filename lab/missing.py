@@ -5,7 +5,7 @@ from types import ModuleType
 PACKAGES = {
     "greenlet": "python3-greenlet", "hypothesis": "python3-hypothesis", "tqdm": "python3-tqdm",
     "networkx": "python3-networkx", "numpy": "python3-numpy", "scipy": "python3-scipy",
-    "matplotlib": "python3-matplotlib", "distributed": "python3-distributed",
+    "matplotlib": "python3-matplotlib", "distributed": "python3-distributed", "aiohttp": "python3-aiohttp",
 }
 DEBIANS_PYTHON = "/usr/bin/python3"
 

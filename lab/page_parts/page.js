@@ -1,11 +1,16 @@
 // The page: which event, seen by whom.
-const data = JSON.parse(document.getElementById("data").textContent);
 const byId = (id) => document.getElementById(id);
-const match = new Match(data.match);
-const twin = data.twin && new Match(data.twin);
-const last = match.events.length;
 const pasts = new Map();
-let place = 0, eyes = -1, playing = null, pictures = [];
+let data, match, twin, last, place = 0, eyes = -1, playing = null, pictures = [];
+
+function take(given) {
+  data = given;
+  match = new Match(data.match);
+  twin = data.twin && new Match(data.twin);
+  last = match.events.length;
+  pasts.clear();
+  byId("slider").max = last;
+}
 
 // the places of an agent's causal past, as a mark for each event
 function pastOf(agent) {
@@ -154,7 +159,7 @@ function play() {
   if (playing) { clearInterval(playing); playing = null; }
   else {
     if (place === last) place = 0;
-    playing = setInterval(() => { go(place + 1); if (place === last) play(); }, 400);
+    playing = setInterval(() => { go(place + 1); if (place === last) play(); }, 400 / Number(byId("speed").value));
   }
   byId("play").textContent = playing ? "Stop" : "Play";
 }
@@ -169,13 +174,28 @@ document.addEventListener("keydown", (pressed) => {
   pressed.preventDefault();
   KEYS[key](pressed.shiftKey ? 10 : 1);
 });
-byId("slider").max = last;
+// a match that goes on: who looks at its last event sees the next ones as they come
+async function follow() {
+  const atEnd = place === last, answer = await fetch(`${data.news}/data`);
+  if (!answer.ok) return;
+  take(await answer.json());
+  about();
+  figures();
+  track();
+  go(atEnd ? last : place);
+}
+byId("speed").addEventListener("change", () => { if (playing) { play(); play(); } });
 byId("slider").addEventListener("input", () => go(Number(byId("slider").value)));
 byId("back").addEventListener("click", () => go(place - 1));
 byId("next").addEventListener("click", () => go(place + 1));
 byId("play").addEventListener("click", play);
 byId("eyes").addEventListener("change", () => look(Number(byId("eyes").value)));
 window.addEventListener("resize", track);
+take(JSON.parse(byId("data").textContent));
 about();
 choices();
 look(twin ? 0 : -1);
+if (data.news) {
+  go(last);
+  new EventSource(`${data.news}/news`).onmessage = follow;
+}

@@ -1,0 +1,50 @@
+// The standings of a contest, as the server tells them.
+"use strict";
+const byId = (id) => document.getElementById(id);
+let told = null, skew = 0;
+
+const minutes = (seconds) => `${Math.floor(seconds / 60)}:${String(Math.floor(seconds % 60)).padStart(2, "0")}`;
+const now = () => Date.now() / 1000 + skew;
+
+function cell(line, text, kind, link) {
+  const made = document.createElement("td");
+  if (link) {
+    const anchor = document.createElement("a");
+    anchor.href = link;
+    anchor.textContent = text;
+    made.append(anchor);
+  } else made.textContent = text;
+  if (kind) made.className = kind;
+  line.append(made);
+}
+function left(row) {
+  if (!told.turns) return "";
+  const turns = Math.max(0, Math.ceil(told.turns - (now() - row.since) * 1000 / told.pause));
+  return `, about ${turns} turns left`;
+}
+function words(row) {
+  if (row.state === "is over") return row.outcome;
+  return row.state === "runs" ? `runs for ${minutes(Math.max(0, now() - row.since))}${left(row)}` : row.state;
+}
+function show() {
+  if (!told) return;
+  byId("rows").replaceChildren(...told.rows.map((row) => {
+    const line = document.createElement("tr"), isOver = row.state === "is over";
+    const link = (row.page || told.open) && row.state !== "has not begun" ? `/match/${row.match}` : null;
+    cell(line, row.team);
+    cell(line, words(row), isOver ? (row.outcome === "solved" ? "solved" : "failed") : "runs", link);
+    cell(line, row.agents ? `${row.entered} of ${row.agents}` : "");
+    cell(line, isOver ? row.moves : "");
+    cell(line, isOver ? row.lost : "");
+    return line;
+  }));
+  const over = told.rows.filter((row) => row.state === "is over").length;
+  byId("about").textContent = `${over} of ${told.rows.length} matches are over`;
+  byId("note").textContent = told.open ? "Pages of matches show the black holes while they go on."
+    : over === told.rows.length ? "Each outcome leads to the page of its match."
+    : "Pages of matches come when all are over.";
+}
+const events = new EventSource("/standings");
+events.onmessage = (event) => { told = JSON.parse(event.data); skew = told.now - Date.now() / 1000; show(); };
+events.onerror = () => { byId("about").textContent = "The lab does not answer; trying again"; };
+setInterval(show, 1000);
