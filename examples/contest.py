@@ -1,7 +1,7 @@
 #!/usr/bin/env python3
 """Plays a contest on this machine: the server, four teams of the sample agents, and the table.
 
-    python3 examples/contest.py [--proved] [--keep FOLDER] [--pages FOLDER] [--kill]
+    python3 examples/contest.py [--proved] [--keep FOLDER] [--pages FOLDER] [--watch] [--kill]
 
 Starts the server on examples/contest.toml, and then the agents of each team as programs of their own, as teams would
 do. Waits for the server to end, and prints its table and which teams solved their networks. All of them must: else the
@@ -13,10 +13,12 @@ a contest whose results count asks for that.
 
 With --kill the agents of the team green are killed in the middle of their search, and the other teams must solve
 theirs. Files go to a temporary folder; --keep has the replays of the matches written to a folder, --pages also a page
-of each and a list of them (python3 -m lab pages). ARENA in the environment names another server, as
+of each and a list of them (python3 -m lab pages). With --watch a browser shows the contest while it goes on (python3 -m
+lab watch); turns are slower then, and the page stays until you press Enter. ARENA in the environment names another server, as
 ARENA="python3 -m lab" for one in Python, which needs neither a build nor the toolchain.
 """
 import argparse
+import contextlib
 import itertools
 import os
 import pathlib
@@ -27,7 +29,8 @@ import subprocess
 import sys
 import tempfile
 import time
-from typing import Dict, List
+import webbrowser
+from typing import Dict, Iterator, List
 
 TOP = pathlib.Path(__file__).resolve().parent.parent
 sys.path.insert(0, str(TOP))
@@ -47,6 +50,8 @@ PATIENCE = 20
 VICTIM = "green"
 LIFE = 1.5
 SLOW_PAUSE = 12
+# milliseconds of a turn that one can follow on a screen
+WATCHED_PAUSE = 60
 # pages are laid out by a package of Debian, which another Python does not see
 DEBIANS_PYTHON = "/usr/bin/python3"
 RING = ["8"]
@@ -113,11 +118,11 @@ def start_server(server: List[str], port: int, replays: str, pause: int) -> subp
     return started
 
 
-def play(command: List[str], folder: pathlib.Path, replays: str, kills: bool) -> str:
+def play(command: List[str], folder: pathlib.Path, replays: str, pause: int, kills: bool) -> str:
     """Plays the contest, and answers the server's table. The agents of one team may be killed meanwhile."""
     build(folder)
     port = free_port()
-    server = start_server(command, port, replays, SLOW_PAUSE if kills else PAUSE)
+    server = start_server(command, port, replays, pause)
     agents = {
         team: [subprocess.Popen(command_of(agent, f"{team}-{number}", port, folder), stderr=subprocess.DEVNULL,
                                 stdout=subprocess.DEVNULL) for number, agent in enumerate(programs)]
@@ -128,7 +133,7 @@ def play(command: List[str], folder: pathlib.Path, replays: str, kills: bool) ->
             time.sleep(LIFE)
             for agent in agents[VICTIM]:
                 agent.kill()
-        printed, _ = server.communicate(timeout=PATIENCE)
+        printed, _ = server.communicate(timeout=PATIENCE * max(1, pause // SLOW_PAUSE))
     except subprocess.TimeoutExpired:
         raise SystemExit(f"contest: the server did not end within {PATIENCE} seconds") from None
     finally:
@@ -154,12 +159,32 @@ def write_pages(command: List[str], replays: str, folder: pathlib.Path) -> None:
     subprocess.run(tool, cwd=TOP, check=True)
 
 
+@contextlib.contextmanager
+def watched(replays: str, pause: int) -> Iterator[None]:
+    """Shows the contest in a browser while it goes on, and until Enter is pressed."""
+    port = free_port()
+    words = [TOURNAMENT, replays, "--port", port, "--turns", TURNS, "--pause", pause]
+    with subprocess.Popen([DEBIANS_PYTHON, "-m", "lab", "watch", *map(str, words)], cwd=TOP, stdout=subprocess.PIPE,
+                          text=True) as child:
+        try:
+            line = child.stdout.readline()
+            if not line:
+                raise SystemExit("contest: the page cannot be shown")
+            print(line, end="", flush=True)
+            webbrowser.open(line.split()[1])
+            yield
+            input("press Enter to end the page")
+        finally:
+            child.kill()
+
+
 def main() -> int:
     parser = argparse.ArgumentParser(description=__doc__, formatter_class=argparse.RawDescriptionHelpFormatter)
     parser.add_argument("--proved", action="store_true", help="prove and build the program first, if needed")
     parser.add_argument("--keep", metavar="FOLDER", type=pathlib.Path, help="write the replays there")
     parser.add_argument("--pages", metavar="FOLDER", type=pathlib.Path,
                         help="write a page of each match there, and a list of them")
+    parser.add_argument("--watch", action="store_true", help="show the contest in a browser while it goes on")
     parser.add_argument("--kill", action="store_true", help=f"kill the agents of {VICTIM} after a second")
     words = parser.parse_args()
     command = server_words(words.proved)
@@ -167,8 +192,10 @@ def main() -> int:
         kept = words.keep or words.pages or pathlib.Path(name)
         kept.mkdir(parents=True, exist_ok=True)
         replays = str(kept.resolve() / "match")
-        table = play(command, pathlib.Path(name), replays, words.kill)
-        print(table, end="", flush=True)
+        pause = WATCHED_PAUSE if words.watch else SLOW_PAUSE if words.kill else PAUSE
+        with watched(replays, pause) if words.watch else contextlib.nullcontext():
+            table = play(command, pathlib.Path(name), replays, pause, words.kill)
+            print(table, end="", flush=True)
         found = outcomes(table)
         judged = [team for team in TEAMS if not (words.kill and team == VICTIM)]
         failed = [team for team in judged if found.get(team) != "solved"]

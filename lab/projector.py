@@ -50,11 +50,11 @@ class Contest:
     def __init__(self, matches: List[Shown], prefix: str, is_open: bool) -> None:
         self.is_open = is_open
         self.version = 0
-        self.rows: List[Dict[str, Any]] = []
         self._matches = matches
         self._feeds = feeds(prefix, len(matches))
         self._changed = asyncio.Condition()
         self._grown = [0] * len(matches)
+        self.rows = self._standings()
 
     def feed(self, number: int) -> Optional[Feed]:
         return self._feeds[number] if number < len(self._feeds) else None
@@ -73,7 +73,7 @@ class Contest:
             changed = [number for number, feed in enumerate(self._feeds) if feed.look()]
             for number in changed:
                 self._grown[number] += 1
-            rows = standings([self._watched(number) for number in range(len(self._feeds))]) if changed else self.rows
+            rows = self._standings() if changed else self.rows
             if rows != self.rows or changed and self.is_open:
                 self.rows, self.version = rows, self.version + 1
                 async with self._changed:
@@ -85,9 +85,9 @@ class Contest:
         async with self._changed:
             await self._changed.wait_for(lambda: self.version != version)
 
-    def _watched(self, number: int) -> Watched:
-        feed = self._feeds[number]
-        return Watched(self._matches[number].team, feed.match, None if feed.since is None else int(feed.since))
+    def _standings(self) -> List[Dict[str, Any]]:
+        return standings([Watched(match.team, feed.match, None if feed.since is None else int(feed.since))
+                          for match, feed in zip(self._matches, self._feeds)])
 
 
 def data_of(name: str, match: Match) -> Dict[str, Any]:

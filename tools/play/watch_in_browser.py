@@ -1,0 +1,105 @@
+"""Shows a contest of the sample agents in headless Chromium while it goes on, and looks at what the pages say.
+
+    /usr/bin/python3 tools/play/watch_in_browser.py PROGRAM [FOLDER]
+
+Starts the server PROGRAM and `lab watch` on examples/contest.toml, plays the sample agents, and compares the standings
+with the server's table. Opens a page of a match once all are over, plays it to its end, and finds no error in the
+console. Screenshots go to the folder. tools/play/test_pages.sh installs what it needs.
+"""
+import os
+import pathlib
+import subprocess
+import sys
+import tempfile
+import time
+from typing import List
+
+from selenium import webdriver
+from selenium.webdriver.support.ui import WebDriverWait
+
+TOP = pathlib.Path(__file__).resolve().parents[2]
+sys.path[:0] = [str(TOP), str(TOP / "examples")]
+
+import contest  # noqa: E402
+
+SIZES = {"wide": (1600, 1000), "tablet": (800, 1000), "phone": (400, 850)}
+SECONDS = 60
+
+
+def browser() -> webdriver.Chrome:
+    options = webdriver.ChromeOptions()
+    for word in ("--headless=new", "--no-sandbox", "--disable-gpu"):
+        options.add_argument(word)
+    options.set_capability("goog:loggingPrefs", {"browser": "ALL"})
+    return webdriver.Chrome(options=options)
+
+
+def rows(page: webdriver.Chrome) -> List[List[str]]:
+    return page.execute_script("return [...document.querySelectorAll('#rows tr')].map(line => "
+                               "[...line.children].map(cell => cell.textContent))")
+
+
+def shoot(page: webdriver.Chrome, folder: pathlib.Path, name: str) -> None:
+    for size, (width, height) in SIZES.items():
+        page.set_window_size(width, height)
+        page.save_screenshot(str(folder / f"{name}-{size}.png"))
+        if page.execute_script("return document.documentElement.scrollWidth > document.documentElement.clientWidth"):
+            sys.exit(f"{name}: the page is wider than {width} pixels")
+
+
+def main() -> int:
+    if len(sys.argv) not in (2, 3):
+        sys.exit((__doc__ or "").strip())
+    program = str(pathlib.Path(sys.argv[1]).resolve())
+    shots = pathlib.Path(sys.argv[2] if len(sys.argv) == 3 else tempfile.mkdtemp())
+    shots.mkdir(parents=True, exist_ok=True)
+    with tempfile.TemporaryDirectory() as name:
+        folder, port, web = pathlib.Path(name), contest.free_port(), contest.free_port()
+        subprocess.run(["cc", "-O2", "-o", folder / "ring", contest.AGENTS / "ring.c"], check=True)
+        serves = [program, "serve", contest.TOURNAMENT, "--port", port, "--sessions", 100, "--turns", 20_000, "--pause", 2,
+                  "--replay", folder / "m", "--gather", 10_000, "--early"]
+        server = subprocess.Popen(list(map(str, serves)), cwd=TOP, stdout=subprocess.PIPE, text=True)
+        assert server.stdout is not None
+        server.stdout.readline()
+        watch = subprocess.Popen([sys.executable, "-m", "lab", "watch", contest.TOURNAMENT, str(folder / "m"), "--port",
+                                  str(web), "--turns", "20000", "--pause", "2"], cwd=TOP, stdout=subprocess.PIPE, text=True)
+        assert watch.stdout is not None
+        watch.stdout.readline()
+        page = browser()
+        try:
+            page.get(f"http://127.0.0.1:{web}/")
+            WebDriverWait(page, SECONDS).until(lambda it: len(rows(it)) == 4)
+            shoot(page, shots, "begins")
+            agents = [subprocess.Popen(contest.command_of(agent, f"{team}-{number}", port, folder))
+                      for team, members in contest.TEAMS.items() for number, agent in enumerate(members)]
+            WebDriverWait(page, SECONDS).until(lambda it: any(row[2].startswith("2 of") for row in rows(it)))
+            shoot(page, shots, "runs")
+            WebDriverWait(page, SECONDS).until(lambda it: "4 of 4" in it.find_element("id", "about").text)
+            shoot(page, shots, "over")
+            table = [line.split() for line in server.communicate(timeout=SECONDS)[0].splitlines()[1:]]
+            found = [[row[0], *row[1].split(), row[3], row[4]] for row in rows(page)]
+            if found != [row[1:] for row in table]:
+                sys.exit(f"the page shows {found}, and the table is {table}")
+            time.sleep(1)
+            page.find_element("css selector", "#rows a").click()
+            page.execute_script("document.getElementById('speed').value = '20'")
+            page.find_element("id", "play").click()
+            WebDriverWait(page, SECONDS).until(lambda it: it.find_element("id", "play").text == "Play")
+            shoot(page, shots, "reveal")
+            errors = [entry["message"] for entry in page.get_log("browser") if entry["level"] == "SEVERE"]
+            if any("favicon" not in error for error in errors):
+                sys.exit(f"the console says {errors}")
+            for agent in agents:
+                agent.wait()
+        finally:
+            page.quit()
+            for child in (watch, server):
+                child.kill()
+                child.wait()
+    print(f"the standings are those of the table; screenshots are in {shots}")
+    return 0
+
+
+if __name__ == "__main__":
+    os.chdir(TOP)
+    sys.exit(main())
