@@ -45,6 +45,10 @@ def shoot(page: webdriver.Chrome, folder: pathlib.Path, name: str) -> None:
         page.save_screenshot(str(folder / f"{name}-{size}.png"))
         if page.execute_script("return document.documentElement.scrollWidth > document.documentElement.clientWidth"):
             sys.exit(f"{name}: the page is wider than {width} pixels")
+    for scheme in ("dark", "light"):
+        page.execute_cdp_cmd("Emulation.setEmulatedMedia",
+                             {"features": [{"name": "prefers-color-scheme", "value": scheme}]})
+        page.save_screenshot(str(folder / f"{name}-{scheme}.png"))
 
 
 def main() -> int:
