@@ -1,7 +1,8 @@
 use super::super::triangle::{network, setup};
-use bhs_deal::{Dealer, Drawn, Held, draw};
+use bhs_deal::{Dealer, Drawn, Held, Waits, deliver, draw, draw_oblivious};
 use bhs_match::Match;
 use bhs_model::{Command, Event};
+use bhs_time::Delays;
 use std::alloc::Global;
 use std::test::Fail;
 
@@ -80,5 +81,53 @@ fn two_agents_play_until_their_quotas_are_spent(rt: HostRuntime) -> Result<(), F
     assert!(rt; somebody_arrived && game.log().len() > 4);
     game.apply(Event::Close);
     assert!(rt; game.closed());
+    Ok(())
+}
+
+/// A delivery is of the agent that is named, whoever else is on a link.
+#[test]
+fn an_agent_is_delivered_by_its_number(rt: HostRuntime) -> Result<(), Fail> {
+    let (mut game, held) = triangle(rt.alloc(), &[(0, 1)])?;
+    for agent in 0..2 {
+        game.apply(tell(agent, Command::Enter));
+    }
+    assert_eq!(rt; deliver(&mut game, &held, 1), Drawn::Nobody);
+    game.apply(depart(0, 1));
+    game.apply(depart(1, 0));
+    assert_eq!(rt; deliver(&mut game, &held, 0), Drawn::Stays);
+    assert_eq!(rt; deliver(&mut game, &held, 1), Drawn::Delivered { agent: 1 });
+    assert_eq!(rt; deliver(&mut game, &held, 1), Drawn::Nobody);
+    assert_eq!(rt; deliver(&mut game, &held, 2), Drawn::Nobody);
+    assert_eq!(rt; (game.log().len(), game.pool().len(), game.news(1)), (5, 1, [4].as_slice()));
+    Ok(())
+}
+
+/// Words 0 to 3 of a seed of zeros on stream 0 pick the agents 0, 1, 1, 1 of two. The word of agent 1 for turn 0 is
+/// 0x78dcb1f2: of 16 scales and odds, scale 2, with a delay of 4 turns and word / 16 mod 4 more, which is 7.
+#[test]
+fn an_oblivious_turn_waits_for_the_delay(rt: HostRuntime) -> Result<(), Fail> {
+    let (mut game, held) = triangle(rt.alloc(), &[])?;
+    for agent in 0..2 {
+        game.apply(tell(agent, Command::Enter));
+    }
+    game.apply(depart(1, 0));
+    let mut dealer = Dealer::new([0; 32], 0);
+    let delays = Delays::new(16, 16);
+    for turn in 0..7 {
+        let waits = Waits {
+            delays,
+            turn,
+            departed: &[0, 0],
+        };
+        assert_eq!(rt; draw_oblivious(&mut game, &held, &mut dealer, &waits), Drawn::Nobody);
+    }
+    let mut later = Dealer::new([0; 32], 0);
+    let waits = Waits {
+        delays,
+        turn: 7,
+        departed: &[0, 0],
+    };
+    assert_eq!(rt; draw_oblivious(&mut game, &held, &mut later, &waits), Drawn::Nobody);
+    assert_eq!(rt; draw_oblivious(&mut game, &held, &mut later, &waits), Drawn::Delivered { agent: 1 });
     Ok(())
 }

@@ -14,10 +14,12 @@ enum Call {
     FeedCopied(u16, &'static str),
     End(u16),
     Draw(u32),
+    Deliver(u16),
 }
 
-/// Two agents enter and write, the second too late; one departs and arrives, and the other leaves at its end.
-const CALLS: [(Call, u16, &str); 8] = [
+/// Two agents enter and write, the second too late; one departs and arrives, by a word and by its number, and the
+/// other leaves at its end.
+const CALLS: [(Call, u16, &str); 10] = [
     (
         Call::Feed(0, "{\"do\":\"enter\",\"key\":\"ka\"}\n"),
         0,
@@ -50,6 +52,12 @@ const CALLS: [(Call, u16, &str); 8] = [
         "{\"board\":\"\",\"from\":0,\"ok\":\"here\",\"ports\":2}\n{\"board\":\"\",\"from\":0,\"ok\":\"here\",\"ports\":2}
 {\"board\":\"\",\"from\":0,\"ok\":\"here\",\"ports\":2}\n",
     ),
+    (Call::Feed(0, ":\"depart\",\"port\":0}\n"), 0, "{\"ok\":\"gone\"}\n"),
+    (
+        Call::Deliver(0),
+        0,
+        "{\"board\":\"a\",\"from\":0,\"ok\":\"here\",\"ports\":2}\n",
+    ),
     (Call::End(1), 1, ""),
 ];
 
@@ -59,6 +67,7 @@ fn made(stage: &mut Rehearsal<'static>, call: Call) -> Result<Option<Out>, Rehea
         Call::FeedCopied(conn, text) => stage.feed_copied(conn, text.as_bytes()),
         Call::End(conn) => stage.end(conn),
         Call::Draw(word) => stage.draw(0, word),
+        Call::Deliver(agent) => stage.deliver(0, agent),
     }
 }
 

@@ -1,0 +1,117 @@
+#!/usr/bin/env python3
+"""Measures what an agent learns by waiting: how many turns its moves take while the other agent of its match stands at
+home, was destroyed, or is on a held link.
+
+    ./arena --help            # builds the program, if it is not built yet
+    python3 bench/waits.py [--moves N] [--pause MS]
+
+Two agents are served on a ring of eight nodes. The first stands, or departs for the black hole or over a held link; then
+the second goes to a node and back, N moves in all, and each move is timed. Turns are times divided by the pause. Under
+the adaptive schedule the rows differ; under the oblivious one they are equal within their errors, with and without
+delays. The program is ./arena, or what ARENA names.
+"""
+import argparse
+import json
+import pathlib
+import socket
+import statistics
+import sys
+import tempfile
+import time
+from typing import List, NamedTuple, TextIO
+
+from inputs import ring
+from servers import Failed, free_port, started, words
+
+NODES = 8
+TURNS = 1_000_000
+LIMIT = 60
+# where the first agent is, with the black hole and the held links of the match
+PLACES = {"stands": (1, "[]"), "destroyed": (1, "[]"), "held": (4, "[[0, 0]]")}
+SCHEDULES = {
+    "adaptive": "",
+    "oblivious": 'schedule = "oblivious"\ndelay_scales = 0\ndelay_odds = 1\n',
+    "with delays": 'schedule = "oblivious"\ndelay_scales = 5\ndelay_odds = 32\n',
+}
+
+
+class Agent(NamedTuple):
+    """An agent that has entered."""
+    connection: socket.socket
+    lines: TextIO
+
+    def says(self, **command: object) -> dict:
+        """What it is answered to a command."""
+        self.connection.sendall(json.dumps(command).encode() + b"\n")
+        return self.hears()
+
+    def hears(self) -> dict:
+        line = self.lines.readline()
+        if not line:
+            raise Failed("a session ended before its time")
+        return json.loads(line)
+
+    def goes(self, port: int) -> None:
+        """Departs and waits for its arrival."""
+        if self.says(do="depart", port=port) != {"ok": "gone"} or self.hears().get("ok") != "here":
+            raise Failed("an agent could not move")
+
+
+def entered(port: int, key: str) -> Agent:
+    connection = socket.create_connection(("127.0.0.1", port), timeout=LIMIT)
+    connection.setsockopt(socket.IPPROTO_TCP, socket.TCP_NODELAY, 1)
+    agent = Agent(connection, connection.makefile("r"))
+    if agent.says(do="enter", key=key).get("ok") != "here":
+        raise Failed(f"the agent with the key {key} could not enter")
+    return agent
+
+
+def tournament(network: pathlib.Path, place: str, schedule: str) -> str:
+    hole, held = PLACES[place]
+    return (f'version = 3\nseed = "{"07" * 32}"\n{SCHEDULES[schedule]}[[match]]\nteam = "red"\nnetwork = "{network}"\n'
+            f'home = 0\nholes = [{hole}]\nquota = 1000\nboard = 8\nkeys = ["a", "b"]\nheld = {held}\n')
+
+
+def waits(place: str, schedule: str, moves: int, pause: int) -> List[float]:
+    """How many turns each move of the second agent took."""
+    with tempfile.TemporaryDirectory() as name:
+        folder = pathlib.Path(name)
+        network, rules = folder / "ring.toml", folder / "cup.toml"
+        network.write_text(ring(NODES))
+        rules.write_text(tournament(network, place, schedule))
+        port = free_port()
+        with started(words(rules, port, 8, TURNS, pause, folder / "match"), port, folder / "errors"):
+            first, second = entered(port, "a"), entered(port, "b")
+            if place != "stands":
+                first.says(do="depart", port=0)
+                time.sleep(50 * pause / 1000)
+            taken = []
+            for move in range(moves):
+                began = time.monotonic()
+                second.goes(1 if move % 2 == 0 else 0)
+                taken.append((time.monotonic() - began) * 1000 / pause)
+            first.connection.close()
+            second.connection.close()
+            return taken
+
+
+def main(arguments: List[str]) -> int:
+    parser = argparse.ArgumentParser(description=__doc__, formatter_class=argparse.RawDescriptionHelpFormatter)
+    parser.add_argument("--moves", type=int, default=400, help="how many moves are timed (default: 400)")
+    parser.add_argument("--pause", type=int, default=5, help="milliseconds before each turn (default: 5)")
+    given = parser.parse_args(arguments)
+    print("| schedule | the other agent | turns of a move | error | longest |\n| --- | --- | --- | --- | --- |")
+    for schedule in SCHEDULES:
+        for place in PLACES:
+            try:
+                taken = waits(place, schedule, given.moves, given.pause)
+            except (Failed, OSError) as fault:
+                print(f"{schedule}, {place}: {fault}", file=sys.stderr)
+                return 1
+            error = statistics.stdev(taken) / len(taken) ** 0.5
+            print(f"| {schedule} | {place} | {statistics.mean(taken):.2f} | {error:.2f} | {max(taken):.1f} |", flush=True)
+    return 0
+
+
+if __name__ == "__main__":
+    sys.exit(main(sys.argv[1:]))
