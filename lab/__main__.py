@@ -6,7 +6,6 @@ import signal
 import sys
 from typing import List, NamedTuple, Optional
 
-from lab.cells import NoCell
 from lab.engines import Differs, NoProgram, Refused
 from lab.grid import NoSweep
 from lab.missing import Missing
@@ -17,6 +16,7 @@ from lab.schedules import NoSchedule
 from lab.spread import NoCluster
 from lab.agent_files import NoAgent
 from lab.users import NoUser
+from lab.walls import NoCell
 
 FAULTS = (Differs, Impossible, Missing, NoAgent, NoCell, NoCluster, NoFunction, NoNetwork, NoProgram, NoSchedule,
           NoSweep, NoUser)

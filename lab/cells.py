@@ -24,35 +24,19 @@ import sys
 import tempfile
 from typing import Any, Dict, Iterator, List, NamedTuple, Optional, Sequence, Tuple
 
-from lab import users
+from lab import users, walls
 from lab.cell_start import READY
 from lab.hand_in import HandIn
 from lab.missing import DEBIANS_PYTHON
 from lab.programs import NoStart, Started
+from lab.walls import HOME, PATH, PORT, SPACES, NoCell
 from lab.watch import Watch, memory_of, processes_below, space_of
 
-STARTER, FILTER = (pathlib.Path(__file__).resolve().parent / name for name in ("cell_start.py", "cell_filter.py"))
-# where a program's folder stands behind walls, where it connects, and who it is there
-HOME, PORT, USER = "/agent", 4000, "1000"
-PATH = "/usr/local/bin:/usr/bin:/bin"
-# what a program sees of the disk, to read
-TOP = ("bin", "lib", "lib32", "lib64", "libx32")
-SEEN = ("/usr/bin", "/usr/include", "/usr/lib", "/usr/lib32", "/usr/lib64", "/usr/libexec", "/usr/libx32", "/usr/local",
-        "/usr/share")
-SETTINGS = ("alternatives", "fonts", "hosts", "java*", "ld.so.*", "localtime", "mime.types", "nsswitch.conf",
-            "os-release", "protocols", "python3*", "services", "ssl/certs", "ssl/openssl.cnf")
-# what it sees of /proc besides its processes: the rest tells how busy the machine is
-PROCESSES = {"self", "thread-self", "mounts", "net", "cpuinfo", "filesystems", "version"}
-# where it can write, in memory, and how many bytes each of these takes
-SPACES, SPACE = (HOME, "/tmp", "/dev/shm"), 64 << 20
+STARTER = pathlib.Path(__file__).resolve().parent / "cell_start.py"
 # how long a machine with much other work may take to begin a cell
 SECONDS_TO_BEGIN = 60
 PACKAGES = "apt-get install bubblewrap python3-seccomp"
 NOTHING = HandIn({}).archive()
-
-
-class NoCell(Exception):
-    """A program cannot be kept apart; says what to change."""
 
 
 class Walls(enum.Enum):
@@ -70,20 +54,6 @@ class Yard(NamedTuple):
 
     walls: Walls
     tools: Tuple[str, ...] = ()
-
-    def words(self) -> List[str]:
-        """The command that puts up walls, up to the command that is to run behind them."""
-        words = ["bwrap", "--unshare-all", "--unshare-user", "--disable-userns", "--uid", USER, "--gid", USER,
-                 "--hostname", "cell", "--die-with-parent", "--new-session", "--clearenv", "--setenv", "PATH", PATH,
-                 "--setenv", "TMPDIR", "/tmp", "--setenv", "COUNTED", "yes"]
-        words += [*disk_words(), "--proc", "/proc", *proc_words(), "--dev", "/dev"]
-        for path in SPACES:
-            words += ["--size", str(SPACE), "--tmpfs", path]
-        for path in self.tools:
-            words += ["--ro-bind", path, path]
-        for path in meeting_places((*SEEN, *self.tools)):
-            words += ["--ro-bind", os.devnull, path]
-        return [*words, "--remount-ro", "/dev", "--remount-ro", "/", "--chdir", HOME]
 
 
 class Cell:
@@ -107,8 +77,8 @@ class Cell:
             given, command, port = [theirs.fileno(), files], self._before(), 0
             if self.place is None:
                 port = PORT
-                given.append(opened.enter_context(in_memory(system_filter())))
-                command += [*self.yard.words(), "--seccomp", str(given[-1])]
+                given.append(opened.enter_context(in_memory(walls.system_filter())))
+                command += [*walls.words(self.yard.tools), "--seccomp", str(given[-1])]
             command += [python(), "-I", "-S", "-c", STARTER.read_text(encoding="utf-8"), str(theirs.fileno()),
                         str(files), str(port), *words]
             path = PATH if self.user is not None else os.environ.get("PATH", PATH)
@@ -247,15 +217,6 @@ def python() -> str:
 
 
 @functools.lru_cache(maxsize=1)
-def system_filter() -> bytes:
-    """The filter of system calls, as bubblewrap takes it."""
-    ran = subprocess.run([DEBIANS_PYTHON, str(FILTER)], capture_output=True)
-    if ran.returncode != 0:
-        raise NoCell(f"the filter of system calls cannot be made: {ran.stderr.decode(errors='replace').strip()}")
-    return ran.stdout
-
-
-@functools.lru_cache(maxsize=1)
 def weakness() -> str:
     """Why there are no walls here, or nothing if there are."""
     if shutil.which("bwrap") is None or not os.path.exists(DEBIANS_PYTHON) or subprocess.run(
@@ -274,46 +235,3 @@ def strongest() -> Walls:
     if not weakness():
         return Walls.ALL
     return Walls.USER if os.geteuid() == 0 else Walls.NONE
-
-
-def disk_words() -> List[str]:
-    """What all programs see of the system's disk."""
-    words = []
-    for name in TOP:
-        if os.path.islink(f"/{name}"):
-            words += ["--symlink", os.readlink(f"/{name}"), f"/{name}"]
-        elif os.path.isdir(f"/{name}"):
-            words += ["--ro-bind", f"/{name}", f"/{name}"]
-    for path in SEEN:
-        words += ["--ro-bind-try", path, path]
-    for pattern in SETTINGS:
-        for found in sorted(pathlib.Path("/etc").glob(pattern)):
-            words += ["--ro-bind-try", str(found), str(found)]
-    return words
-
-
-def proc_words() -> List[str]:
-    """What hides all of /proc that is of no process."""
-    words = []
-    for name in sorted(os.listdir("/proc")):
-        if not name.isdigit() and name not in PROCESSES:
-            path = f"/proc/{name}"
-            words += ["--tmpfs", path, "--remount-ro", path] if os.path.isdir(path) else ["--ro-bind", os.devnull, path]
-    return words
-
-
-@functools.lru_cache(maxsize=4)
-def meeting_places(folders: Sequence[str]) -> List[str]:
-    """The pipes and sockets in these folders, by which programs that only read could talk."""
-    ran = subprocess.run(["find", *filter(os.path.isdir, folders), "(", "-type", "p", "-o", "-type", "s", ")",
-                          "-print0"], capture_output=True)
-    return [os.fsdecode(path) for path in ran.stdout.split(b"\0") if path]
-
-
-def seen_at(path: pathlib.Path, tools: Sequence[str]) -> Optional[str]:
-    """The folder that programs behind walls see, and that has this path or is in it; None if they do not see it."""
-    real = path.resolve()
-    for seen in (*map("/{}".format, TOP), *SEEN, *tools):
-        if real.is_relative_to(pathlib.Path(seen).resolve()):
-            return seen
-    return None

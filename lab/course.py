@@ -43,7 +43,7 @@ import secrets
 import shlex
 from typing import Any, Dict, List, NamedTuple, Optional, Sequence, Tuple
 
-from lab import cells, grid, hand_in, networks
+from lab import grid, hand_in, networks, walls
 from lab.cells import Walls
 from lab.fixtures import Fixture
 from lab.grid import Case, Grid, NoSweep, is_count, is_text, is_texts, taken
@@ -215,10 +215,10 @@ def files_of(names: List[str], team: str, folder: pathlib.Path) -> List[pathlib.
     return found
 
 
-def check_walls(walls: Walls, paths: Sequence[pathlib.Path], tools: Sequence[str]) -> None:
+def check_walls(strongest: Walls, paths: Sequence[pathlib.Path], tools: Sequence[str]) -> None:
     """Refuses a course and results that teams' programs could read in spite of the walls."""
     for path in paths:
-        seen = cells.seen_at(path, tools) if walls is Walls.ALL else None
+        seen = walls.seen_at(path, tools) if strongest is Walls.ALL else None
         if seen:
             raise NoSweep(f"{path}: teams' programs see {seen}, to find what they run by: name a folder elsewhere")
 

@@ -26,9 +26,9 @@ import sys
 import time
 from typing import Any, Callable, Dict, Iterator, List, NamedTuple, Optional, Sequence, Tuple
 
-from lab import cells, course, finds, league, networks, page, programs, report, sweep
+from lab import cells, course, finds, league, networks, page, programs, report, sweep, walls
 from lab.agent_files import NoAgent, digests
-from lab.cells import Cell, NoCell, Walls, Yard
+from lab.cells import NoCell, Walls, Yard
 from lab.course import Course
 from lab.cutting import Cut, Runs, in_words, noted, runs_of
 from lab.engines import NoProgram, add_engine, program_of
@@ -224,19 +224,19 @@ def add_words(parser: argparse.ArgumentParser) -> None:
 
 
 def run(words: argparse.Namespace) -> int:
-    path, walls = words.file.resolve(), cells.strongest()
+    path, strongest = words.file.resolve(), cells.strongest()
     sweep.check_workers(words)
     read = course.read(path, "")
     course.check_networks(read)
     own = [file for files in read.files.values() for file in files]
-    course.check_walls(walls, [path.parent, words.out, *own], read.tools)
+    course.check_walls(strongest, [path.parent, words.out, *own], read.tools)
     for name in read.grid.schedulers:
         read.maker(name)
-    if walls is not Walls.ALL:
-        print(f"lab: {cells.weakness()}; {walls.value}", file=sys.stderr)
+    if strongest is not Walls.ALL:
+        print(f"lab: {cells.weakness()}; {strongest.value}", file=sys.stderr)
     program = program_of(words)
     secret = course.secret_in(words.out, words.secret)
-    graded = Graded(read.text, path.parent, secret, program, Yard(walls, read.tools), words.out)
+    graded = Graded(read.text, path.parent, secret, program, Yard(strongest, read.tools), words.out)
     cases = graded.course.cases()
     prepare(graded)
     made = {"course": hashlib.sha256(read.text.encode()).hexdigest(), "engine": words.engine, "files": graded.digests()}
@@ -258,7 +258,7 @@ def run(words: argparse.Namespace) -> int:
 def prepare(graded: Graded) -> None:
     """Does once what each process that plays would do: they are copies of this one."""
     if graded.yard.walls is Walls.ALL:
-        graded.yard.words()
+        walls.words(graded.yard.tools)
     for network in graded.course.grid.networks.values():
         with contextlib.suppress(Missing):
             page.layout({"nodes": network.nodes, "links": network.links})

@@ -12,7 +12,7 @@ Schedulers:
     slow-agents     some agents are answered late for the whole match, and some arrive late
     slow-links      some links are slow for the whole match
     last-departed   links are last in, first out
-    starved         agent SEED waits as long as anything else can happen
+    starved         agent SEED, counted round the team, waits as long as anything else can happen
     FILE.py:NAME    your own: a function of the seed that gives a function of (choices, state) that gives a choice
 """
 import argparse

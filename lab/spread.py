@@ -16,13 +16,13 @@ from concurrent.futures.process import BrokenProcessPool
 from typing import Any, Dict, Iterable, Iterator, List, NamedTuple, Protocol, Sequence
 
 from lab.agent_files import NoAgent
-from lab.cells import NoCell
 from lab.engines import TOP, Differs, NoProgram, Refused
 from lab.grid import Case
 from lab.missing import Missing, needed
 from lab.networks import NoNetwork
 from lab.schedulers import Impossible
 from lab.users import NoUser
+from lab.walls import NoCell
 
 FAULTS = (Differs, Impossible, Missing, NoAgent, NoCell, NoNetwork, NoProgram, NoUser, Refused, OSError)
 # how many matches a Dask worker takes at a time, and how many seconds its scheduler may take to answer

@@ -363,8 +363,9 @@ class Timing(Course):
         """A function of what it is told, which says all at once: to node 1, back, to node 3, and what it has found."""
         code = BEGINS + """server = socket.create_connection(("127.0.0.1", int(sys.argv[1])))
 said = [{"do": "enter", "key": sys.argv[2]}, *({"do": "depart", "port": port} for port in (0, 1, 1))]
-said.append({"do": "accuse", "port": 1})
+said += [{"do": "look"}] * 200 + [{"do": "accuse", "port": 1}]
 server.sendall("".join(json.dumps(command) + "\\n" for command in said).encode())
+os._exit(0)
 """
         for walls in ALL_WALLS:
             with self.subTest(walls):

@@ -9,7 +9,7 @@ import unittest
 from typing import Dict, Iterator, List
 from unittest import mock
 
-from lab import cells, league, schedulers, sweep
+from lab import cells, engines, league, schedulers, sweep
 from lab.__main__ import main
 from lab.cells import Cell, Walls, Yard
 from lab.engines import TOP
@@ -83,6 +83,15 @@ class Grading(InFolder):
         self.graded(EXAMPLE, "second", "--program", program())
         self.assertEqual(tree(self.folder / "second"), first)
         self.check_pages(self.folder / "first")
+
+    def test_a_student_grades_and_watches_without_the_program(self) -> None:
+        with mock.patch.object(engines, "program_at", side_effect=AssertionError("the program is asked for")):
+            said = self.graded(EXAMPLE, "home", *SECRET, "--engine", "model")
+            self.assertEqual(said.splitlines()[:4], league_in(TOP / "examples" / "README.md"))
+            match = self.folder / "home" / "failed" / "cedar-9"
+            page = (match / "match0.html").read_bytes()
+            self.assertEqual(main(["page", str(match / "match0.jsonl"), "--engine", "model"]), 0)
+            self.assertEqual((match / "match0.html").read_bytes(), page)
 
     def check_pages(self, folder: pathlib.Path) -> None:
         """The wrong team's page leads to its failed matches and their smallest schedules."""
