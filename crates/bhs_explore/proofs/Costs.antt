@@ -13,7 +13,7 @@ use Rattle.bhs_model.specs.Runs.{Position, Bound, State, changed, heard, told, n
 use Rattle.bhs_model.proofs.StepLemmas.{by_cases, next_heard, next_unheard, next_arrived, next_no_arrival}
 use Rattle.bhs_referee.specs.Findings.{Findings, moves_by, findings}
 use Rattle.bhs_explore.specs.Schedules.{Trial, Scene, state_of, Makes, Wakes, done}
-use Rattle.bhs_explore.specs.Spending.{Potential, moves_in, used_in, Pays}
+use Rattle.bhs_explore.specs.Spending.{moves_in, used_in}
 use Rattle.bhs_explore.specs.Certificates.{one_if}
 use Rattle.bhs_explore.proofs.Turns.{run_more, found_more}
 
@@ -61,25 +61,26 @@ tell_uses world state agent command k =
     (λ it. subst (λ (after : State). used_of after k ≤ used_of state k + cost_of agent command k)
     (sym (next_unheard world state agent command it)) (omega arith))
 
--- a command is paid for
-pub tell_pays : (trial : Trial) (scene : Scene) (agent : ℕ) (command : Command) (potential rest : Potential)
-    → gone_of (reply trial.world (state_of trial scene) (Tell agent command)) + rest.moves ≤ potential.moves
-    → ((k : ℕ) → cost_of agent command k + rest.commands k ≤ potential.commands k)
-    → Pays trial scene potential (done trial scene agent (Makes (Tell agent command))) rest
-tell_pays trial scene agent command potential rest moves commands =
+-- what a turn of an agent costs: so many moves, and at most so many commands of its quota
+pub record Spends (trial : Trial) (old new : Scene) (agent gone counted : ℕ) : Type 0 where
+  pub moves : moves_in trial new ≡ moves_in trial old + gone
+  pub commands : (k : ℕ) → used_in trial new k ≤ used_in trial old k + (if k == agent then counted else 0)
+
+pub tell_spends : (trial : Trial) (scene : Scene) (agent : ℕ) (command : Command) →
+    Spends trial scene (done trial scene agent (Makes (Tell agent command))) agent
+    (gone_of (reply trial.world (state_of trial scene) (Tell agent command))) (one_if (counts command))
+tell_spends trial scene agent command =
     let world : World = trial.world in
     let event : Event = Tell agent command in
     let state : State = state_of trial scene in
     let new : Scene = done trial scene agent (Makes event) in
     let more : state_of trial new ≡ next world state event = run_more world scene.events event in
-    let found : moves_in trial new ≡ moves_in trial scene + gone_of (reply world state event) =
-    ap (λ (it : Findings). it.moves) (found_more world scene.events event)
-    ∙ moves_said (reply world state event) (moves_in trial scene) in
     record {
-      moves = omega (arith, found, moves);
+      moves = ap (λ (it : Findings). it.moves) (found_more world scene.events event)
+          ∙ moves_said (reply world state event) (moves_in trial scene);
       commands = λ k. let after : used_in trial new k ≡ used_of (next world state event) k =
           ap (λ (it : State). used_of it k) more in
-          omega (arith, after, tell_uses world state agent command k, commands k);
+          omega (arith, after, tell_uses world state agent command k);
     }
 
 delivered_uses : (world : World) (state : State) (agent k : ℕ) (position : Position)
@@ -99,10 +100,9 @@ deliver_uses world state agent k =
     (λ it. ap (λ (after : State). used_of after k) (next_no_arrival world state agent it))
 
 -- an arrival costs nothing
-pub arrival_pays : (trial : Trial) (scene : Scene) (agent : ℕ) (potential rest : Potential) → rest.moves ≤ potential.moves
-    → ((k : ℕ) → rest.commands k ≤ potential.commands k)
-    → Pays trial scene potential (done trial scene agent (Makes (Deliver agent))) rest
-arrival_pays trial scene agent potential rest moves commands =
+pub arrival_spends : (trial : Trial) (scene : Scene) (agent counted : ℕ) →
+    Spends trial scene (done trial scene agent (Makes (Deliver agent))) agent 0 counted
+arrival_spends trial scene agent counted =
     let world : World = trial.world in
     let event : Event = Deliver agent in
     let state : State = state_of trial scene in
@@ -111,16 +111,13 @@ arrival_pays trial scene agent potential rest moves commands =
     let found : moves_in trial new ≡ moves_in trial scene =
     ap (λ (it : Findings). it.moves) (found_more world scene.events event) in
     record {
-      moves = omega (arith, found, moves);
+      moves = omega (arith, found);
       commands = λ k. let after : used_in trial new k ≡ used_of state k =
           ap (λ (it : State). used_of it k) more ∙ deliver_uses world state agent k in
-          omega (arith, after, commands k);
+          omega (arith, after);
     }
 
 -- nor does it cost anything to wake
-pub wake_pays : (trial : Trial) (scene : Scene) (agent : ℕ) (potential rest : Potential) → rest.moves ≤ potential.moves
-    → ((k : ℕ) → rest.commands k ≤ potential.commands k) → Pays trial scene potential (done trial scene agent Wakes) rest
-wake_pays trial scene agent potential rest moves commands = record {
-  moves = omega (arith, moves);
-  commands = λ k. omega (arith, commands k);
-}
+pub wake_spends : (trial : Trial) (scene : Scene) (agent counted : ℕ) →
+    Spends trial scene (done trial scene agent Wakes) agent 0 counted
+wake_spends trial scene agent counted = record { moves = omega arith; commands = λ k. omega arith }

@@ -1,6 +1,5 @@
 pub mod Closed
 pub mod Turns
-pub mod Tabled
 pub mod Losses
 pub mod Spent
 pub mod Costs
@@ -9,5 +8,7 @@ pub mod Playing
 pub mod Scenes
 pub mod Leading
 pub mod Closing
-pub mod Walking
+pub mod Verdicts
+pub mod Schedules
+pub mod Told
 pub mod Whole

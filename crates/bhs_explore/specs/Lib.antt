@@ -5,6 +5,7 @@ pub mod Machines
 pub mod Spending
 pub mod Answers
 pub mod Certificates
+pub mod Walks
 pub mod Knowing
 pub mod Telling
 pub mod Laws

@@ -33,7 +33,7 @@ use Rattle.bhs_world.proofs.TellLemmas.{none_shown}
 -- a Deliver
 
 -- of an agent that is on this link, the match being open
-pub arrives_bound : (world : World) (state : State) (agent node port : ℕ) → state.closed ≡ false
+arrives_bound : (world : World) (state : State) (agent node port : ℕ) → state.closed ≡ false
     → state.position agent ≡ Bound node port → arrives world state agent ≡ not (doomed world node port)
 arrives_bound world state agent node port is_open at =
     ap (λ (closed : Bool). not closed && is_let_through world (state.position agent)) is_open
@@ -198,7 +198,7 @@ destroyed_played table log agent node port stood within is_open on is_doomed_lin
     replied tt stood.last (none_shown world state (written world (events_of log)) (Deliver agent) replied))
 
 -- an agent that arrives
-pub arrived_agents : (table : Table) (log : List Kept) (state : State) (lost : ℕ → Bool) (agent node label : ℕ)
+arrived_agents : (table : Table) (log : List Kept) (state : State) (lost : ℕ → Bool) (agent node label : ℕ)
     → Agrees table log state lost → agent < length table.agents →
     (k : ℕ) → IsCourseOf (agent_at (slice_set table.agents agent
     (record {
@@ -294,7 +294,7 @@ arrived_played table log agent node port stood within is_open on is_safe =
     replied)
 
 -- who is on a link is an agent
-pub bound_within : (table : Table) (agent node port : ℕ) → (agent_at table.agents agent).position ≡ Bound node port
+bound_within : (table : Table) (agent node port : ℕ) → (agent_at table.agents agent).position ≡ Bound node port
     → agent < length table.agents
 bound_within table agent node port on = elim (lt_tells agent (length table.agents)) [
   | inl h ↦ h.1

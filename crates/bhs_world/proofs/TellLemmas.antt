@@ -81,7 +81,7 @@ tests_hold true false false h = cc
 tests_hold false y z h = cc
 
 -- who is heard is an agent
-pub below_of : (table : Table) (agent : ℕ) (command : Command) → IsSound table → heard_in table agent command ≡ true
+below_of : (table : Table) (agent : ℕ) (command : Command) → IsSound table → heard_in table agent command ≡ true
     → agent < length table.agents
 below_of table agent command sound heard_it =
     let below : agent < table.setup.agents = lt_holds agent table.setup.agents
@@ -109,7 +109,7 @@ command_named table log state lost agent command agrees =
     (told_named table.setup.board (world_in table) state.last_write log table.boards
     (agent_at table.agents agent).position command agrees.boards) tt)) tt
 
-pub limits_of : (table : Table) → IsSound table → HasLimit table.setup.board table.net table.boards
+limits_of : (table : Table) → IsSound table → HasLimit table.setup.board table.net table.boards
 limits_of table sound node within = sound.limits node (omega (arith, sound.boards))
 
 known_of : (net : Network) (setup : Setup) (view : View) (position : Position)
@@ -120,7 +120,7 @@ known_of net setup view (Bound node port) knows = tt
 known_of net setup view After knows = tt
 
 -- what is read of a command that is heard
-pub heard_reads : (table : Table) (log : List Kept) (state : State) (lost : ℕ → Bool) (agent : ℕ) (command : Command)
+heard_reads : (table : Table) (log : List Kept) (state : State) (lost : ℕ → Bool) (agent : ℕ) (command : Command)
     → IsSound table → Agrees table log state lost → AllLegal (world_in table) state →
     heard (world_in table) state agent command ≡ true → hears_in table agent command ≡ true →
     Some (read log (mark_heard table log agent command)) ≡ rep table.setup.board
@@ -193,7 +193,7 @@ told_agents table log state lost agent command agrees within =
       lost = (agrees.agents k).lost;
     })
 
-pub told_agrees : (table : Table) (log : List Kept) (state : State) (lost : ℕ → Bool) (agent : ℕ) (command : Command)
+told_agrees : (table : Table) (log : List Kept) (state : State) (lost : ℕ → Bool) (agent : ℕ) (command : Command)
     (mark : Option Mark) → IsSound table → Agrees table log state lost → AllLegal (world_in table) state
     → agent < length table.agents →
     Agrees (table_heard table log agent command) (grown log (Tell agent command) mark)
