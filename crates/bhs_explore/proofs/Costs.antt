@@ -61,7 +61,7 @@ tell_uses world state agent command k =
     (λ it. subst (λ (after : State). used_of after k ≤ used_of state k + cost_of agent command k)
     (sym (next_unheard world state agent command it)) (omega arith))
 
--- what a turn of an agent costs: so many moves, and at most so many commands of its quota
+-- what a turn of an agent costs: `gone` moves, and at most `counted` commands of its quota
 pub record Spends (trial : Trial) (old new : Scene) (agent gone counted : ℕ) : Type 0 where
   pub moves : moves_in trial new ≡ moves_in trial old + gone
   pub commands : (k : ℕ) → used_in trial new k ≤ used_in trial old k + (if k == agent then counted else 0)

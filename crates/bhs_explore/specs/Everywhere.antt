@@ -5,7 +5,7 @@ use Rattle.bhs_referee.specs.declared.verdicts.Outcome.{Outcome}
 use Rattle.bhs_referee.specs.declared.verdicts.Outcome.TheVariants.{Solved}
 use Rattle.bhs_explore.specs.Schedules.{Trial, under, IsAtRest, verdict}
 
--- the match is solved, in at most so many moves, and at most so many agents are lost
+-- the match is solved, in at most `most_moves` moves, and at most `most_lost` agents are lost
 pub record IsSolvedWithin (most_moves most_lost : ℕ) (verdict : Verdict) : Type 0 where
   pub outcome : verdict.outcome ≡ Solved
   pub moves : verdict.moves ≤ most_moves
