@@ -1,5 +1,6 @@
 -- What a turn costs: a move where the answer is Gone, and a command that counts.
-use Rattle.std.proofs.Common.{ℕ, ◌+◌, ◌≡◌, ◌≤◌, Bool, true, false, Option, Some, None, List, [], ◌∷◌, ◌++◌, ◌==◌, refl, sym, ap}
+use Rattle.std.proofs.Common.{ℕ, ◌+◌, ◌≡◌, ◌≤◌, Bool, true, false, Option, Some, None, List, [], ◌∷◌, ◌++◌, ◌==◌, refl}
+use Rattle.std.proofs.Common.{sym, ap}
 use Rattle.std.proofs.Common.{◌∙◌, subst, if◌then◌else◌, inl, inr, arith}
 use Rattle.std.proofs.lemmas.Bool.Decides.{eqb_tells}
 use Rattle.bhs_model.specs.declared.commands.Command.{Command}
@@ -9,7 +10,8 @@ use Rattle.bhs_model.specs.declared.replies.Reply.{Reply}
 use Rattle.bhs_model.specs.declared.replies.Reply.TheVariants.{Here, Written, Changed, Gone, Noted, Bye, Over, No}
 use Rattle.bhs_model.specs.Views.{View, Told, used, counts}
 use Rattle.bhs_model.specs.Worlds.{World}
-use Rattle.bhs_model.specs.Runs.{Position, Bound, State, changed, heard, told, next, arrives, delivered, run, reply, glance}
+use Rattle.bhs_model.specs.Runs.{Position, Bound, State, changed, heard, told, next, arrives, delivered, run, reply}
+use Rattle.bhs_model.specs.Runs.{glance}
 use Rattle.bhs_model.proofs.StepLemmas.{by_cases, next_heard, next_unheard, next_arrived, next_no_arrival}
 use Rattle.bhs_referee.specs.Findings.{Findings, moves_by, findings}
 use Rattle.bhs_explore.specs.Schedules.{Trial, Scene, state_of, Makes, Wakes, done}

@@ -1,5 +1,6 @@
 -- What a turn makes of a match: an event more, and where it is no move nothing that anybody could know.
-use Rattle.std.proofs.Common.{ℕ, ◌≡◌, Bool, true, false, not, ◌&&◌, Option, Some, None, List, [], ◌∷◌, ◌++◌, ◌==◌, nat_lt}
+use Rattle.std.proofs.Common.{ℕ, ◌≡◌, Bool, true, false, not, ◌&&◌, Option, Some, None, List, [], ◌∷◌, ◌++◌, ◌==◌}
+use Rattle.std.proofs.Common.{nat_lt}
 use Rattle.std.proofs.Common.{refl, sym, ap, ◌∙◌, subst, inl, inr, if◌then◌else◌}
 use Rattle.std.specs.Prelude.{count_by, bytes_eq}
 use Rattle.std.specs.List.{range_with_len}
@@ -11,7 +12,8 @@ use Rattle.bhs_model.specs.declared.events.Event.{Event}
 use Rattle.bhs_model.specs.declared.events.Event.TheVariants.{Tell, Deliver, Close}
 use Rattle.bhs_model.specs.declared.replies.Reply.{Reply}
 use Rattle.bhs_model.specs.Worlds.{World}
-use Rattle.bhs_model.specs.Runs.{Position, Before, At, Bound, After, State, initial, changed, is_doomed, is_bound, arrives}
+use Rattle.bhs_model.specs.Runs.{Position, Before, At, Bound, After, State, initial, changed, is_doomed, is_bound}
+use Rattle.bhs_model.specs.Runs.{arrives}
 use Rattle.bhs_model.specs.Runs.{next, run, run_from, reply}
 use Rattle.bhs_model.specs.Kept.{nobody, lost, lost_after}
 use Rattle.bhs_model.specs.Draws.{Held}
@@ -59,7 +61,8 @@ verdict_by world position found marks = record {
 }
 
 same_verdict : (world : World) (one two : State) (found other : Findings) (marks known : ℕ → Bool) → one ≡ two
-    → found ≡ other → marks ≡ known → verdict_by world one.position found marks ≡ verdict_by world two.position other known
+    → found ≡ other → marks ≡ known
+    → verdict_by world one.position found marks ≡ verdict_by world two.position other known
 same_verdict world one two found other marks known same same_found same_marks i =
     verdict_by world (same i).position (same_found i) (same_marks i)
 

@@ -104,10 +104,12 @@ abbrev pub MachinesPlay : Type 0
 MachinesPlay =
     (memory_at scouts 1 (Woke ∷ Heard Gone ∷ []) ≡ 12)
     × (memory_at scouts 1 (Heard Gone ∷ Woke ∷ []) ≡ 12)
-    × (moves_left (record { world = triangle; held = none_held; naps = 0; minds = minds_of scouts }) (0 ∷ 1 ∷ 0 ∷ 1 ∷ 0 ∷ 0 ∷ [])
+    × (moves_left (record { world = triangle; held = none_held; naps = 0; minds = minds_of scouts })
+    (0 ∷ 1 ∷ 0 ∷ 1 ∷ 0 ∷ 0 ∷ [])
     ≡ (false, false))
     × (verdict (record { world = triangle; held = none_held; naps = 0; minds = minds_of scouts })
-    (under (record { world = triangle; held = none_held; naps = 0; minds = minds_of scouts }) (1 ∷ 1 ∷ 1 ∷ 0 ∷ 0 ∷ 0 ∷ 0 ∷ []))
+    (under (record { world = triangle; held = none_held; naps = 0; minds = minds_of scouts })
+    (1 ∷ 1 ∷ 1 ∷ 0 ∷ 0 ∷ 0 ∷ 0 ∷ []))
     ≡ record { outcome = Solved; moves = 2; lost = 1 })
 
 -- an Enter is not counted, a Depart and an Accuse are
