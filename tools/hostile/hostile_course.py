@@ -34,19 +34,19 @@ from lab import sweep  # noqa: E402
 
 AGENTS, MUTANT = TOP / "examples" / "agents", TOP / "lab" / "mutants" / "reads_once.py"
 HEAD = """title = "A hostile course"
-networks = ["ring:24", "ring:32", "ring:48"]
+networks = ["ring:12", "ring:16", "ring:24"]
 holes = 2
 schedulers = ["fair", "slow-agents"]
 seeds = {seeds}
 limit = 4
-match_limit = 8
+match_limit = 5
 team_limit = {team_limit}
 tries = 20
 """
 # of a team with hostile ones, how many times as long as an honest team takes alone
 MORE = 1.5
 HONEST = {
-    "amber": ([AGENTS / "client.py", AGENTS / "ring.py"], "python3 ring.py {host} {port} {key} {nodes}"),
+    "amber": ([AGENTS / "client.py", AGENTS / "map.py"], "python3 map.py {host} {port} {key} {nodes} {links}"),
     "birch": ([AGENTS / "client.py", AGENTS / "known_map.py"],
               "python3 known_map.py {host} {port} {key} {network} {home}"),
     "cedar": ([AGENTS / "ring.c"], "./ring {port} {key} {nodes}"),
@@ -137,7 +137,9 @@ sys.exit(3)
 
 
 def team(name: str, files: Sequence[Any], command: str) -> str:
-    return f'[[team]]\nname = "{name}"\nfiles = {list(map(str, files))}\ncommand = "{command}"\n'
+    agents = '"degree"' if "map.py" in command else "2"
+    return (f'[[team]]\nname = "{name}"\nagents = {agents}\nfiles = {list(map(str, files))}\n'
+            f'command = "{command}"\n')
 
 
 def honest(folder: pathlib.Path) -> List[str]:
@@ -227,7 +229,7 @@ class Grading:
 def main() -> int:
     parser = argparse.ArgumentParser(description=__doc__, formatter_class=argparse.RawDescriptionHelpFormatter)
     parser.add_argument("--program", help="the program that plays, instead of the Python model")
-    parser.add_argument("--seeds", type=int, default=5, help="seeds of each scheduler (5)")
+    parser.add_argument("--seeds", type=int, default=4, help="seeds of each scheduler (4)")
     parser.add_argument("--workers", type=int, nargs="+", default=[1, 4], help="numbers of workers (1 4)")
     words = parser.parse_args()
     with tempfile.TemporaryDirectory(prefix="course-") as place, tempfile.TemporaryDirectory() as temporary:
