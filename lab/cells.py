@@ -16,6 +16,7 @@ import enum
 import functools
 import os
 import pathlib
+import select
 import shutil
 import signal
 import socket
@@ -67,17 +68,19 @@ class Cell:
         self.facts = facts
         self._files = files
         self._child: Optional["subprocess.Popen[bytes]"] = None
+        # the first process behind walls, as a file
+        self._first: Optional[int] = None
         self._fault = ""
 
     def start(self, words: Sequence[str], errors: Any) -> Started:
         """Starts a program."""
         ours, theirs = socket.socketpair()
-        with theirs, contextlib.ExitStack() as opened:
-            files = opened.enter_context(in_memory(self._files))
+        with theirs, contextlib.ExitStack() as held:
+            files = held.enter_context(in_memory(self._files))
             given, command, port = [theirs.fileno(), files], self._before(), 0
             if self.place is None:
                 port = PORT
-                given.append(opened.enter_context(in_memory(walls.system_filter())))
+                given.append(held.enter_context(in_memory(walls.system_filter())))
                 command += [*walls.words(self.yard.tools), "--seccomp", str(given[-1])]
             command += [python(), "-I", "-S", "-c", STARTER.read_text(encoding="utf-8"), str(theirs.fileno()),
                         str(files), str(port), *words]
@@ -102,6 +105,8 @@ class Cell:
             with channel:
                 channel.settimeout(SECONDS_TO_BEGIN)
                 _, sent, _, _ = socket.recv_fds(channel, len(READY), 1)
+                if self.place is None:
+                    self._first = opened(processes_below(child.pid)[1:2])
                 return socket.socket(fileno=sent[0])
         except (OSError, IndexError) as fault:
             self.kill(child)
@@ -116,12 +121,13 @@ class Cell:
 
     def kill(self, child: "subprocess.Popen[bytes]") -> None:
         """Ends the program, and all that it has started."""
-        if self.place is None and child.poll() is None:
-            # the first process behind walls takes all others with it, and bubblewrap waits for it
-            first = processes_below(child.pid)[1:2]
-            with contextlib.suppress(ProcessLookupError, subprocess.TimeoutExpired):
-                os.kill(first[0] if first else child.pid, signal.SIGKILL)
-                child.wait(SECONDS_TO_BEGIN)
+        if self._first is not None:
+            # the first process behind walls takes all others with it, and has ended when they have
+            with contextlib.suppress(ProcessLookupError):
+                signal.pidfd_send_signal(self._first, signal.SIGKILL)
+            select.select([self._first], [], [], SECONDS_TO_BEGIN)
+            os.close(self._first)
+            self._first = None
         elif self.place is not None and self.user is not None:
             users.end_all_of(self.user)
         with contextlib.suppress(ProcessLookupError):
@@ -151,6 +157,13 @@ class Cell:
         for process in processes_below(self._child.pid)[1:] if self.place is None else [self._child.pid]:
             with contextlib.suppress(ProcessLookupError):
                 os.kill(process, signal.SIGKILL)
+
+
+def opened(processes: Sequence[int]) -> Optional[int]:
+    """A process as a file, unless there is none or it has ended."""
+    with contextlib.suppress(ProcessLookupError):
+        return os.pidfd_open(processes[0]) if processes else None
+    return None
 
 
 @contextlib.contextmanager

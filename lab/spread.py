@@ -6,6 +6,7 @@ import concurrent.futures
 import functools
 import hashlib
 import io
+import multiprocessing
 import os
 import pathlib
 import pickle
@@ -53,27 +54,38 @@ class NoCluster(Exception):
 
 
 def result_of(job: Job, case: Case) -> Result:
+    if is_over is not None and is_over.is_set():
+        return Result(None, f"run {case.number}: it is not played any more")
     try:
         return Result(job.play(case), "")
     except FAULTS as fault:
         return Result(None, f"run {case.number}: {fault}")
 
 
-def begin() -> None:
+# of a worker: whether the command takes no more results
+is_over: Any = None
+
+
+def begin(over: Any) -> None:
     """Begins a worker. Who interrupts the command interrupts it alone; it ends its workers."""
+    global is_over
+    is_over = over
     signal.signal(signal.SIGINT, signal.SIG_IGN)
     signal.signal(signal.SIGTERM, signal.SIG_DFL)
 
 
 def over_processes(job: Job, cases: Sequence[Case], workers: int, at_a_time: int = 4) -> Iterator[Result]:
     """The results of all matches, in order, by this number of processes, each of which takes some at a time."""
-    pool = concurrent.futures.ProcessPoolExecutor(workers, initializer=begin)
+    over = multiprocessing.Event()
+    pool = concurrent.futures.ProcessPoolExecutor(workers, initializer=begin, initargs=(over,))
     try:
         yield from pool.map(functools.partial(result_of, job), cases, chunksize=at_a_time)
     except BrokenProcessPool:
         yield Result(None, "a process that plays was killed, as where memory is short: start the same command again, "
                      f"by fewer --workers than {workers}")
     finally:
+        # also those that wait in the pipe of a worker, which cannot be cancelled
+        over.set()
         pool.shutdown(wait=True, cancel_futures=True)
 
 

@@ -1,11 +1,13 @@
 """A course's file and its secret, the league, schedules that are made small, and what is said of programs."""
+import os
 import pathlib
 import stat
 import tempfile
 import unittest
 from typing import Any, Dict, List
+from unittest import mock
 
-from lab import course, league, programs, sweep
+from lab import course, league, programs, sweep, users
 from lab.cells import Walls
 from lab.course import Course, course_of
 from lab.cutting import Cut, Runs, in_words, runs_of, tidy
@@ -234,6 +236,20 @@ class Small(unittest.TestCase):
         self.assertEqual(in_words([]), "of the agents that can go on, always the first")
         self.assertEqual(in_words([(0, 7), (1, 1)]),
                          "of the agents that can go on, the first 7 times, then the second once, then always the first")
+
+
+class Users(unittest.TestCase):
+    def test_they_have_no_names(self) -> None:
+        self.assertGreater(len(users.unnamed()), 1000)
+        self.assertNotIn(0, users.unnamed())
+
+    @unittest.skipUnless(os.geteuid() == 0, "only root can let programs be other users")
+    def test_nobody_gets_one_that_another_has(self) -> None:
+        with mock.patch.object(users, "unnamed", lambda: users.USERS[:2]):
+            with users.claimed() as one, users.claimed() as other:
+                self.assertEqual({one, other}, set(users.USERS[:2]))
+                with self.assertRaisesRegex(users.NoUser, "are taken"), users.claimed():
+                    pass
 
 
 class Words(unittest.TestCase):

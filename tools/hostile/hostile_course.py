@@ -12,7 +12,7 @@ A line for each check says how it went, and the last line counts. The exit statu
 number of workers:
 
 - The honest teams get the same rows as alone, byte for byte but for the number of the match.
-- It takes less than three times as long.
+- It takes less than three times as long. Each team has one and a half times the time that an honest one takes alone.
 - The command ends with status 0, and no hostile team solves a match but the one that does not read.
 - Nothing is left of it in the folder for temporary files.
 
@@ -34,17 +34,19 @@ from lab import sweep  # noqa: E402
 
 AGENTS, MUTANT = TOP / "examples" / "agents", TOP / "lab" / "mutants" / "reads_once.py"
 HEAD = """title = "A hostile course"
-networks = ["ring:12", "ring:24", "ring:32"]
+networks = ["ring:12", "ring:16", "ring:24"]
 holes = 2
 schedulers = ["fair", "slow-agents"]
 seeds = {seeds}
 limit = 4
-match_limit = 8
+match_limit = 5
 team_limit = {team_limit}
 tries = 20
 """
+# of a team with hostile ones, how many times as long as an honest team takes alone
+MORE = 1.5
 HONEST = {
-    "amber": ([AGENTS / "client.py", AGENTS / "ring.py"], "python3 ring.py {host} {port} {key} {nodes}"),
+    "amber": ([AGENTS / "client.py", AGENTS / "map.py"], "python3 map.py {host} {port} {key} {nodes} {links}"),
     "birch": ([AGENTS / "client.py", AGENTS / "known_map.py"],
               "python3 known_map.py {host} {port} {key} {network} {home}"),
     "cedar": ([AGENTS / "ring.c"], "./ring {port} {key} {nodes}"),
@@ -115,8 +117,8 @@ ask(do="enter", key=key)
 time.sleep(100)
 """,
     "look": """found = []
-for top in ("/opt", "/srv", "/tmp", "/var", "/home", "/root", "/work", "/run", os.pardir):
-    for folder, _, names in os.walk(top):
+for top in set(os.listdir("/")) - {"usr", "lib", "proc"}:
+    for folder, _, names in os.walk(f"/{top}"):
         found += [f"{folder}/{name}" for name in names if name in ("runs.csv", "secret.txt", "course.toml")]
 ask(do="enter", key=key)
 sys.exit(f"finds {', '.join(found) or 'nothing'}")
@@ -135,7 +137,9 @@ sys.exit(3)
 
 
 def team(name: str, files: Sequence[Any], command: str) -> str:
-    return f'[[team]]\nname = "{name}"\nfiles = {list(map(str, files))}\ncommand = "{command}"\n'
+    agents = '"degree"' if "map.py" in command else "2"
+    return (f'[[team]]\nname = "{name}"\nagents = {agents}\nfiles = {list(map(str, files))}\n'
+            f'command = "{command}"\n')
 
 
 def honest(folder: pathlib.Path) -> List[str]:
@@ -207,6 +211,8 @@ class Grading:
     def with_hostile(self, workers: int, alone: Dict[str, List[List[str]]], took_alone: float) -> None:
         """Grades all twelve teams."""
         out = f"hostile-{workers}"
+        text = (self.folder / "teams").read_text().format(team_limit=round(MORE * workers * took_alone / len(HONEST)))
+        (self.folder / "all.toml").write_text(text)
         took = self.graded("all.toml", out, workers)
         self.compare(out, alone)
         self.check(f"{out}: {took:.1f} s, {took / took_alone:.2f} times as long as alone", took < 3 * took_alone)
@@ -223,7 +229,7 @@ class Grading:
 def main() -> int:
     parser = argparse.ArgumentParser(description=__doc__, formatter_class=argparse.RawDescriptionHelpFormatter)
     parser.add_argument("--program", help="the program that plays, instead of the Python model")
-    parser.add_argument("--seeds", type=int, default=5, help="seeds of each scheduler (5)")
+    parser.add_argument("--seeds", type=int, default=4, help="seeds of each scheduler (4)")
     parser.add_argument("--workers", type=int, nargs="+", default=[1, 4], help="numbers of workers (1 4)")
     words = parser.parse_args()
     with tempfile.TemporaryDirectory(prefix="course-") as place, tempfile.TemporaryDirectory() as temporary:
@@ -231,11 +237,11 @@ def main() -> int:
         tempfile.tempdir = temporary
         engine = ["--program", words.program] if words.program else ["--engine", "model"]
         grading = Grading(folder, engine)
-        head = HEAD.format(seeds=words.seeds, team_limit=words.seeds * 24)
         good, bad = honest(folder), hostile(folder)
-        (folder / "honest.toml").write_text(head + "".join(good))
+        (folder / "honest.toml").write_text(HEAD.format(seeds=words.seeds, team_limit=10_000) + "".join(good))
         mixed = [text for number, own in enumerate(good) for text in [*bad[2 * number:2 * number + 2], own]]
-        (folder / "all.toml").write_text(head + "".join(mixed))
+        teams = "".join(mixed).replace("{", "{{").replace("}", "}}")
+        (folder / "teams").write_text(HEAD.format(seeds=words.seeds, team_limit="{team_limit}") + teams)
         for workers in words.workers:
             took = grading.graded("honest.toml", f"honest-{workers}", workers)
             alone = grading.rows(f"honest-{workers}")
