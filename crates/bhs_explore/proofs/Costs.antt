@@ -1,5 +1,5 @@
 -- What a turn costs: a move where the answer is Gone, and a command that counts.
-use Rattle.std.proofs.Common.{ℕ, ◌+◌, ◌≡◌, ◌≤◌, Bool, true, false, Option, Some, None, List, [], ◌∷◌, ◌++◌, ◌==◌, refl}
+use Rattle.std.proofs.Common.{ℕ, ◌+◌, ◌≡◌, ◌≤◌, Bool, true, false, Option, Some, None, ◌==◌, refl}
 use Rattle.std.proofs.Common.{sym, ap}
 use Rattle.std.proofs.Common.{◌∙◌, subst, if◌then◌else◌, inl, inr, arith}
 use Rattle.std.proofs.lemmas.Bool.Decides.{eqb_tells}
@@ -8,12 +8,11 @@ use Rattle.bhs_model.specs.declared.events.Event.{Event}
 use Rattle.bhs_model.specs.declared.events.Event.TheVariants.{Tell, Deliver}
 use Rattle.bhs_model.specs.declared.replies.Reply.{Reply}
 use Rattle.bhs_model.specs.declared.replies.Reply.TheVariants.{Here, Written, Changed, Gone, Noted, Bye, Over, No}
-use Rattle.bhs_model.specs.Views.{View, Told, used, counts}
+use Rattle.bhs_model.specs.Views.{used, counts}
 use Rattle.bhs_model.specs.Worlds.{World}
-use Rattle.bhs_model.specs.Runs.{Position, Bound, State, changed, heard, told, next, arrives, delivered, run, reply}
-use Rattle.bhs_model.specs.Runs.{glance}
+use Rattle.bhs_model.specs.Runs.{Position, Bound, State, heard, told, next, arrives, delivered, reply}
 use Rattle.bhs_model.proofs.StepLemmas.{by_cases, next_heard, next_unheard, next_arrived, next_no_arrival}
-use Rattle.bhs_referee.specs.Findings.{Findings, moves_by, findings}
+use Rattle.bhs_referee.specs.Findings.{Findings, moves_by}
 use Rattle.bhs_explore.specs.Schedules.{Trial, Scene, state_of, Makes, Wakes, done}
 use Rattle.bhs_explore.specs.Spending.{moves_in, used_in}
 use Rattle.bhs_explore.specs.Certificates.{one_if}

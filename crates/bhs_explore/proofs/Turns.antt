@@ -1,13 +1,12 @@
 -- What a turn makes of a match: an event more, and where it is no move nothing that anybody could know.
-use Rattle.std.proofs.Common.{ℕ, ◌≡◌, Bool, true, false, not, ◌&&◌, Option, Some, None, List, [], ◌∷◌, ◌++◌, ◌==◌}
+use Rattle.std.proofs.Common.{ℕ, ◌≡◌, Bool, true, false, not, ◌&&◌, Option, Some, None, List, [], ◌∷◌, ◌++◌}
 use Rattle.std.proofs.Common.{nat_lt}
-use Rattle.std.proofs.Common.{refl, sym, ap, ◌∙◌, subst, inl, inr, if◌then◌else◌}
+use Rattle.std.proofs.Common.{refl, sym, ap, ◌∙◌, inl, inr, if◌then◌else◌}
 use Rattle.std.specs.Prelude.{count_by, bytes_eq}
 use Rattle.std.specs.List.{range_with_len}
 use Rattle.std.proofs.lemmas.Bool.{eq-eqb, true≢false}
 use Rattle.std.proofs.lemmas.Bool.Decides.{eqb_tells}
 use Rattle.std.proofs.lemmas.Slice.Eq.{bytes_eq-Decides}
-use Rattle.bhs_model.specs.declared.commands.Command.{Command}
 use Rattle.bhs_model.specs.declared.events.Event.{Event}
 use Rattle.bhs_model.specs.declared.events.Event.TheVariants.{Tell, Deliver, Close}
 use Rattle.bhs_model.specs.declared.replies.Reply.{Reply}
@@ -25,7 +24,7 @@ use Rattle.bhs_referee.specs.Findings.{Findings, nothing_found, reached_by, foun
 use Rattle.bhs_referee.specs.Verdicts.{outcome_of}
 use Rattle.bhs_explore.specs.declared.minds.Step.{Step}
 use Rattle.bhs_explore.specs.declared.minds.Step.TheVariants.{Says, Sleeps, Stops}
-use Rattle.bhs_explore.specs.Minds.{History, hearing}
+use Rattle.bhs_explore.specs.Minds.{hearing}
 use Rattle.bhs_explore.specs.Schedules.{Trial, Scene, state_of, position_of, Deed, Makes, Wakes, Rests, deed_at, deed}
 use Rattle.bhs_explore.specs.Schedules.{faced, is_same_sight, shown_to, faces_same, done, turn, is_move, can_move}
 use Rattle.bhs_explore.specs.Schedules.{verdict}

@@ -1,7 +1,6 @@
 -- What is said of all schedules.
 use Rattle.std.specs.Prelude.{ℕ, ◌≡◌, ◌≤◌, ◌≢◌, List}
 use Rattle.bhs_referee.specs.declared.verdicts.Verdict.{Verdict}
-use Rattle.bhs_referee.specs.declared.verdicts.Outcome.{Outcome}
 use Rattle.bhs_referee.specs.declared.verdicts.Outcome.TheVariants.{Solved}
 use Rattle.bhs_explore.specs.Schedules.{Trial, under, IsAtRest, verdict}
 

@@ -1,15 +1,13 @@
 -- Worked examples on the triangle: what each shows is checked by computing the definitions.
-use Rattle.std.specs.Prelude.{ℕ, ◌≡◌, Bool, true, false, Option, Some, None, List, [], ◌∷◌, codes, if◌then◌else◌, ◌==◌}
-use Rattle.std.specs.Prelude.{◌&&◌, ◌||◌, ◌+◌}
+use Rattle.std.specs.Prelude.{ℕ, ◌≡◌, Bool, true, false, Some, None, List, [], ◌∷◌, codes, if◌then◌else◌, ◌==◌}
+use Rattle.std.specs.Prelude.{◌||◌, ◌+◌}
 use Rattle.bhs_model.specs.declared.commands.Command.TheVariants.{Enter, Write, Depart, Accuse, Leave}
 use Rattle.bhs_model.specs.declared.replies.Reply.TheVariants.{Here, Written, Gone}
-use Rattle.bhs_model.specs.Draws.{Held}
 use Rattle.bhs_model.specs.Examples.{triangle, none_held}
-use Rattle.bhs_referee.specs.declared.verdicts.Verdict.{Verdict}
 use Rattle.bhs_referee.specs.declared.verdicts.Outcome.TheVariants.{Solved, Silent}
 use Rattle.bhs_explore.specs.declared.minds.Step.{Step}
 use Rattle.bhs_explore.specs.declared.minds.Step.TheVariants.{Says, Sleeps, Stops}
-use Rattle.bhs_explore.specs.Minds.{Item, Heard, Woke, History, Mind, Minds}
+use Rattle.bhs_explore.specs.Minds.{Heard, Woke, Mind, Minds}
 use Rattle.bhs_explore.specs.Schedules.{Trial, under, can_move, verdict}
 use Rattle.bhs_explore.specs.Machines.{Machines, memory_at, minds_of}
 use Rattle.bhs_explore.specs.Spending.{used_in}

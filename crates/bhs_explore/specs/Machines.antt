@@ -1,5 +1,5 @@
 -- Agents as machines: what they do next depends on what they hold, and what they hold on what happens to them.
-use Rattle.std.specs.Prelude.{ℕ, List, [], ◌∷◌}
+use Rattle.std.specs.Prelude.{ℕ, [], ◌∷◌}
 use Rattle.bhs_explore.specs.declared.minds.Step.{Step}
 use Rattle.bhs_explore.specs.Minds.{Item, History, Minds}
 

@@ -1,5 +1,5 @@
 -- What a match becomes that is played by minds under a schedule.
-use Rattle.std.specs.Prelude.{ℕ, ◌+◌, Bool, true, false, not, ◌&&◌, ◌||◌, Option, Some, None, List, [], ◌∷◌, ◌++◌, ◌≡◌}
+use Rattle.std.specs.Prelude.{ℕ, ◌+◌, Bool, true, false, not, ◌&&◌, Option, Some, None, List, [], ◌∷◌, ◌++◌, ◌≡◌}
 use Rattle.std.specs.Prelude.{if◌then◌else◌, ◌==◌, nat_lt, bytes_eq}
 use Rattle.bhs_model.specs.declared.events.Event.{Event}
 use Rattle.bhs_model.specs.declared.events.Event.TheVariants.{Tell, Deliver, Close}
@@ -11,7 +11,7 @@ use Rattle.bhs_referee.specs.declared.verdicts.Verdict.{Verdict}
 use Rattle.bhs_referee.specs.Rest.{verdict_after}
 use Rattle.bhs_explore.specs.declared.minds.Step.{Step}
 use Rattle.bhs_explore.specs.declared.minds.Step.TheVariants.{Says, Sleeps, Stops}
-use Rattle.bhs_explore.specs.Minds.{Item, Woke, History, Minds, hearing}
+use Rattle.bhs_explore.specs.Minds.{Woke, History, Minds, hearing}
 
 -- a match that is played, which links are held, how often an agent may wake again though nothing has changed, and how
 -- each mind plays
