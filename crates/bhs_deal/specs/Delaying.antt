@@ -16,7 +16,7 @@ abbrev pub delay_stream : (stream agent : ℕ) → ℕ
 delay_stream stream agent = (stream + 2 ^ 32 * (agent + 1)) % 2 ^ 64
 
 -- the words of the match of a stream: the turn at this place picks by the word there, and an agent that departs after
--- so many turns is delayed by the word at that place of its own stream
+-- this many turns is delayed by the word at that place of its own stream
 abbrev pub words_of : (seed : List ℕ) (stream : ℕ) → Words
 words_of seed stream = record {
   picks = λ turn. word_of seed stream turn;
@@ -27,7 +27,7 @@ words_of seed stream = record {
 abbrev pub schedule_of : (seed : List ℕ) (stream agents : ℕ) → DelayLaw → Schedule
 schedule_of seed stream agents law = oblivious (words_of seed stream) agents law
 
--- the word for the delay of an agent that departs after so many turns
+-- the word for the delay of an agent that departs after this many turns
 abbrev pub delay_word : ChaCha → (agent departed : ℕ) → ℕ
 delay_word dealer agent departed =
     word_at double_rounds dealer.key (delay_stream dealer.stream agent) (departed % words_of_a_stream)

@@ -53,7 +53,7 @@ impl Dealer {
         self.words.next_word()
     }
 
-    /// The word for the delay of an agent that departs after so many turns. It is of the agent's own stream, and the
+    /// The word for the delay of an agent that departs after this many turns. It is of the agent's own stream, and the
     /// dealer stays where it is.
     pub fn delay_word(&self, agent: u16, departed: u32) -> u32
         ensures { result ≡ delay_word self.now agent departed }

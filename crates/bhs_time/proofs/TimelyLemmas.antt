@@ -60,7 +60,7 @@ stays_or_ends world (At node came) room command bound hears_it through = absurd 
 stays_or_ends world After room command bound hears_it through = absurd (false≢true bound)
 
 module _ (world : World) (held : Held) (schedule : Schedule) where
-  -- what is asked of an agent with this past at this position, when so many turns have passed
+  -- what is asked of an agent with this past at this position, when this many turns have passed
   pub record Fares (agent turn : ℕ) (closed : Bool) (past : TimedView) (position : Position) : Type 0 where
     pub arrived : IsPunctual schedule agent past
     pub begun : departed_at past ≤ turn
