@@ -6,16 +6,21 @@ The function is `search` unless another is named. It takes an agent, its key, an
 `{nodes}` and `{links}` stand for the network's numbers and `{home}` for the home base. A parameter `sleep` behind the
 words gets a function to wait by. For agents that have a map, parameters `network` and `home` get the network's links as
 (node, port, node, port) and the home base.
+
+Each agent of each match has modules of its own, as a program outside has: its file, what it imports from beside it, and
+`random`, which begins with the agent's number as its seed. So agents share no variable with each other, nor with an
+earlier match.
 """
 import functools
 import hashlib
 import importlib
 import importlib.util
 import inspect
+import os
 import pathlib
 import sys
 from types import ModuleType
-from typing import Any, Callable, Dict, List, Sequence
+from typing import Any, Callable, Collection, Dict, List, Sequence, Tuple
 
 from lab.model import Setup
 
@@ -40,10 +45,18 @@ def loaded(path: pathlib.Path) -> ModuleType:
     for folder in (str(AGENTS), str(path.parent.resolve())):
         if folder not in sys.path:
             sys.path.insert(0, folder)
+    return executed(path)
+
+
+def executed(path: pathlib.Path) -> ModuleType:
+    """The module in a file, which is executed now."""
     spec = importlib.util.spec_from_file_location(f"lab_agent_{path.stem}", path)
     module = importlib.util.module_from_spec(spec)
     sys.modules[spec.name] = module
-    spec.loader.exec_module(module)
+    try:
+        spec.loader.exec_module(module)
+    except SyntaxError as fault:
+        raise NoAgent(f"{fault.filename}, line {fault.lineno}: {fault.msg}") from None
     return module
 
 
@@ -67,18 +80,47 @@ def numbers_of(words: Sequence[str], setup: Setup) -> List[int]:
                       "{home}") from None
 
 
+# the client of the sample agents keeps nothing, so all share it
+CLIENT = str(AGENTS / "client.py")
+
+
+def own_names(folders: Collection[str]) -> List[str]:
+    """The names of the loaded modules that stand in these folders, and of `random`; none of the lab's."""
+    files = {name: getattr(module, "__file__", None) or "" for name, module in sys.modules.items()}
+    return [name for name, file in files.items() if name == "random" or not name.startswith("lab.")
+            and os.path.dirname(file) in folders and file != CLIENT]
+
+
+def loaded_anew(path: pathlib.Path, seed: int) -> Tuple[ModuleType, ModuleType]:
+    """The module in a file, and the client that it imports, loaded for one agent alone. If they or what they import from
+    beside them draw by `random`, that begins with this seed."""
+    folders = {str(path.parent.resolve()), str(AGENTS)}
+    shared = {name: sys.modules.pop(name) for name in own_names(folders)}
+    try:
+        module = executed(path)
+        client = importlib.import_module("client")
+        if "random" in sys.modules:
+            sys.modules["random"].seed(seed)
+        return module, client
+    finally:
+        for name in own_names(folders):
+            del sys.modules[name]
+        sys.modules.update(shared)
+
+
 def script_of(words: str, setup: Setup) -> Script:
     """The agent that these words name, as it plays this match."""
     file, *rest = words.split()
-    search = member(file, "search")
+    name = file.partition(":")[2] or "search"
+    path = pathlib.Path(file.partition(":")[0])
     numbers = numbers_of(rest, setup)
-    asked = list(inspect.signature(search).parameters)[2 + len(numbers):]
-    client = importlib.import_module("client")
+    asked = list(inspect.signature(member(file, "search")).parameters)[2 + len(numbers):]
 
     def play(lines: Any, key: str, sleep: Sleep) -> None:
         given = {"sleep": sleep, "network": tuple(setup.links), "home": setup.home}
+        module, client = loaded_anew(path, lines.number)
         try:
-            search(client.Agent(lines), key, *numbers, **{name: given[name] for name in asked if name in given})
+            getattr(module, name)(client.Agent(lines), key, *numbers, **{name: given[name] for name in asked if name in given})
         except client.MatchOver:
             pass
     return play

@@ -9,8 +9,8 @@ states there are and the most moves of all schedules. It stops at the first sche
 else the one with the most moves, to a folder. The exit status is 1 if a schedule fails.
 
 It explores the Python model, and nothing is proved of that; the program plays what is kept. Agents must run inside the
-lab (--agent) and be functions of what they are told: an agent that draws numbers needs a seed of its own. A sleeper is
-woken once after each change of the whiteboard in front of it.
+lab (--agent) and be functions of what they are told; what they draw by `random` is, as it begins with the agent's number.
+A sleeper is woken once after each change of the whiteboard in front of it.
 """
 import argparse
 import pathlib
@@ -154,7 +154,8 @@ class Explorer:
         lost = sum(past.agent.lost for past in state.pasts)
         verdict = Verdict(outcome_of(match), sum(past.moves for past in state.pasts), lost)
         stuck = any(past.state == SLEEPS for past in state.pasts)
-        has_failed = verdict.outcome != "solved" or stuck or any(past.fault for past in state.pasts)
+        ended = [own.closed(past) if past.state == TRAVELS else past for own, past in zip(self._pasts, state.pasts)]
+        has_failed = verdict.outcome != "solved" or stuck or any(past.fault for past in ended)
         end = End(has_failed, verdict, number)
         if self.worst is None or end.rank() > self.worst.rank():
             self.worst = end

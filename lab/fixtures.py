@@ -8,6 +8,7 @@ from lab import networks
 from lab.model import Object, Place, Setup, command_of, text_of
 
 SEED = "0" * 64
+MOST_AGENTS = 64
 
 
 class Fixture(NamedTuple):
@@ -20,9 +21,38 @@ class Fixture(NamedTuple):
     held: List[Place] = []
 
 
+class NoMatch(networks.NoNetwork):
+    """No match is set up so; says why."""
+
+
+def twice(found: Sequence[Any]) -> List[Any]:
+    """What stands more than once."""
+    return [one for place, one in enumerate(found) if one in found[:place]]
+
+
+def checked(setup: Setup) -> Setup:
+    """A setup, if the program takes its nodes, links and agents; quotas and whiteboards may be larger here."""
+    ports = {(v, p): (w, q) for v, p, w, q in setup.links} | {(w, q): (v, p) for v, p, w, q in setup.links}
+    unknown = [place for place in setup.dark if place not in ports]
+    ends = [min(place, ports.get(place, place)) for place in setup.dark]
+    if not 1 <= setup.agents <= MOST_AGENTS:
+        raise NoMatch(f"a match has 1 to {MOST_AGENTS} agents, and not {setup.agents}")
+    if not 0 <= setup.home < setup.nodes:
+        raise NoMatch(f"the home base {setup.home} does not exist: nodes are 0 to {setup.nodes - 1}")
+    if any(hole == setup.home or not 0 <= hole < setup.nodes for hole in setup.holes):
+        raise NoMatch(f"black holes are nodes from 0 to {setup.nodes - 1} other than the home base {setup.home}")
+    if twice(setup.holes):
+        raise NoMatch(f"node {twice(setup.holes)[0]} is named as a black hole twice")
+    if unknown:
+        raise NoMatch(f"node {unknown[0][0]} has no port {unknown[0][1]}, so no dark link is there")
+    if twice(ends):
+        raise NoMatch("a dark link is named twice: name it by one of its ends")
+    return setup
+
+
 def fixture_of(setup: Setup) -> Fixture:
     """A fixture with keys of its own."""
-    return Fixture("lab", setup, [f"k{agent}" for agent in range(setup.agents)])
+    return Fixture("lab", checked(setup), [f"k{agent}" for agent in range(setup.agents)])
 
 
 def enters_as_another(fixture: Fixture, number: int, line: bytes) -> bool:
@@ -40,8 +70,11 @@ class Tournament(NamedTuple):
 
 def read_tournament(path: str) -> Tournament:
     """The tournament of a file, which must be right: ask `arena check`."""
-    found = tomllib.loads(pathlib.Path(path).read_text(encoding="utf-8"))
-    return Tournament(found["seed"], [fixture_in(row) for row in found["match"]])
+    try:
+        found = tomllib.loads(pathlib.Path(path).read_text(encoding="utf-8"))
+        return Tournament(found["seed"], [fixture_in(row) for row in found["match"]])
+    except (ValueError, KeyError, TypeError) as fault:
+        raise NoMatch(f"{path}: it is no tournament ({networks.fault_text(fault)}); `arena check` says more") from None
 
 
 def fixture_in(row: Dict[str, Any]) -> Fixture:
@@ -50,7 +83,7 @@ def fixture_in(row: Dict[str, Any]) -> Fixture:
     holes = row["holes"] if "holes" in row else [row["hole"]] if row["hole"] != "none" else []
     dark = [tuple(place) for place in row.get("dark", [])]
     setup = Setup(network.nodes, network.links, row["home"], holes, len(row["keys"]), row["quota"], row["board"], dark)
-    return Fixture(row["team"], setup, row["keys"], [tuple(place) for place in row.get("held", [])])
+    return Fixture(row["team"], checked(setup), row["keys"], [tuple(place) for place in row.get("held", [])])
 
 
 def match_text(fixture: Fixture, network: str) -> str:

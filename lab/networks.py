@@ -46,6 +46,10 @@ class NoNetwork(Exception):
     """A name that names no network; says what does."""
 
 
+class NoNetworkFile(NoNetwork, ValueError):
+    """A file that is of another kind."""
+
+
 def ring(nodes: int) -> Network:
     return Network(nodes, [(v, 0, (v + 1) % nodes, 1) for v in range(nodes)])
 
@@ -153,8 +157,16 @@ def numbered(nodes: int, pairs: List[Tuple[int, int]], chance: random.Random) ->
 
 def in_file(path: str) -> Network:
     """The network of a file, which must be right: ask `arena check`."""
-    found = tomllib.loads(pathlib.Path(path).read_text(encoding="utf-8"))
-    return Network(found["nodes"], [tuple(link) for link in found["links"]])
+    try:
+        found = tomllib.loads(pathlib.Path(path).read_text(encoding="utf-8"))
+        return Network(found["nodes"], [tuple(link) for link in found["links"]])
+    except (ValueError, KeyError, TypeError) as fault:
+        raise NoNetworkFile(f"{path}: it is no network file ({fault_text(fault)}); `arena check` says more") from None
+
+
+def fault_text(fault: Exception) -> str:
+    """What is wrong with a file of TOML, by the exception of its reader."""
+    return f"it has no key {fault}" if isinstance(fault, KeyError) else str(fault)
 
 
 def named(name: str) -> Network:

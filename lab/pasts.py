@@ -9,7 +9,8 @@ from typing import Dict, FrozenSet, List, NamedTuple, Optional, OrderedDict, Tup
 
 from lab.agent_files import Script
 from lab.fixtures import Fixture, enters_as_another
-from lab.model import AWAY, GONE, AgentState, Place, command_of, text_of
+from lab.model import AWAY, GONE, OVER, AgentState, Place, command_of, spelled, text_of
+from lab.play import IS_REFUSED, MOST_REFUSED, REFUSED
 from lab.players import DONE, SLEEPS, TRAVELS, WAITS, Player, Team
 from lab.rehearsal import Rehearsal
 
@@ -36,11 +37,19 @@ class Past:
         self.accused: Tuple[Place, ...] = before.accused if before else ()
         self.reached: FrozenSet[int] = before.reached if before else frozenset()
         self.moves: int = before.moves if before else 0
+        self.refused = refused_in_a_row(before.refused if before else 0, heard)
         self.is_local = False
         self.number = 0
         self.later: Dict[Tuple[str, ...], "Past"] = {}
         # what comes of the agent's next step, by the text of the whiteboard that it meets: its past, and the text then
         self.steps: Dict[str, Tuple["Past", str]] = {}
+
+
+def refused_in_a_row(before: int, heard: Tuple[str, ...]) -> int:
+    """How often an agent was refused in a row, once it has heard these lines too."""
+    for line in heard:
+        before = before + 1 if line.startswith(REFUSED) else 0
+    return before
 
 
 class Pasts:
@@ -87,7 +96,14 @@ class Pasts:
         else:
             said = alone.feed(number, past.line)
         heard = tuple(line for _, line in said)
+        if refused_in_a_row(past.refused, heard) >= MOST_REFUSED:
+            alone.end(number)
         return self._next(past, heard, alone.match.agents[number], alone.is_seated(number)), alone.match.boards[ahead]
+
+    def closed(self, past: Past) -> Past:
+        """What comes of an agent on a link once it is told that the match is over."""
+        self._alone.set_alone(self._number, copy.copy(past.agent), past.is_seated, "")
+        return self._next(past, (spelled(OVER),), past.agent, past.is_seated)
 
     def _next(self, past: Past, heard: Tuple[str, ...], agent: AgentState, is_seated: bool) -> Past:
         """The past after this one in which the agent has heard these lines, or has woken."""
@@ -110,6 +126,8 @@ class Pasts:
         """Tells the player what it heard last, and keeps what it does next."""
         if before is not None:
             move(player, before, past.heard)
+            if past.refused >= MOST_REFUSED:
+                player.stop(IS_REFUSED)
         past.number, self.count = self.count, self.count + 1
         past.state, past.line, past.fault = player.state, player.line, player.fault
         past.is_local = self._is_local(past)

@@ -3,7 +3,7 @@ from typing import Dict, List, NamedTuple, Optional, Protocol, Sequence, Tuple
 
 from lab.engines import Engine
 from lab.fixtures import Fixture, enters_as_another
-from lab.model import AWAY, Match, Object, Verdict, command_of, judge, text_of
+from lab.model import AWAY, OUTSIDE, Match, Object, Verdict, command_of, judge, text_of
 from lab.players import DONE, SLEEPS, TRAVELS, WAITS, faults_of
 from lab.rehearsal import Said
 from lab.schedulers import ANSWER, ARRIVE, WAKE, Choice, Ended, Impossible, Scheduler
@@ -11,6 +11,7 @@ from lab.schedulers import ANSWER, ARRIVE, WAKE, Choice, Ended, Impossible, Sche
 # a session that was refused so often in a row is ended by the lab: no rule of the arena ends it
 MOST_REFUSED = 1000
 REFUSED = '{"no":'
+IS_REFUSED = f"was refused {MOST_REFUSED} times in a row"
 
 
 class Player(Protocol):
@@ -52,6 +53,11 @@ class Played(NamedTuple):
     def has_failed(self) -> bool:
         """Whether the team has not solved its network, or one of its agents has a fault."""
         return bool(self.faults) or self.verdict().outcome != "solved"
+
+
+def changes_board(event: Object) -> bool:
+    """Whether an event of a log changes a whiteboard: a write of the text that stands there does not."""
+    return event["do"] == "write" and event["reply"] == {"ok": "written"} and event["put"] != event["expect"]
 
 
 class Run:
@@ -135,13 +141,14 @@ class Run:
     def _seen(self, number: int) -> Tuple[int, int]:
         """The whiteboard in front of an agent, and how often it was written. A sleeper wakes once after each change of
         it, since it can see nothing else."""
-        node = self.engine.match.agents[number].node
+        agent = self.engine.match.agents[number]
+        node = self._fixture.setup.home if agent.standing == OUTSIDE else agent.node
         return node, self._writes.get(node, 0)
 
     def _note_writes(self) -> None:
         log = self.engine.match.log
         for event in log[self._read:]:
-            if event["do"] == "write" and event["reply"] == {"ok": "written"}:
+            if changes_board(event):
                 node = self.engine.match.agents[event["agent"]].node
                 self._writes[node] = self._writes.get(node, 0) + 1
         self._read = len(log)
@@ -154,7 +161,7 @@ class Run:
             player.hear(line)
             self._refused[number] = self._refused.get(number, 0) + 1 if line.startswith(REFUSED) else 0
             if self._refused[number] >= MOST_REFUSED:
-                player.stop(f"was refused {MOST_REFUSED} times in a row")
+                player.stop(IS_REFUSED)
                 self.engine.end(number)
 
 
@@ -168,6 +175,10 @@ def play(engine: Engine, team: Team, scheduler: Scheduler, fixture: Fixture) -> 
                 choice = scheduler(choices, run)
             except Ended:
                 break
+            except Impossible:
+                raise
+            except Exception as fault:
+                raise Impossible(f"the scheduler raises {type(fault).__name__}: {fault}") from fault
             if choice not in choices:
                 raise Impossible(f"the scheduler chooses {choice!r}, which is not among the choices")
             run.happen(choice)

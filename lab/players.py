@@ -37,6 +37,7 @@ class Player:
         self._team = team
         self._heard: Deque[str] = deque()
         self._is_over = False
+        self._is_closed = False
         self._thread = needed("greenlet").greenlet(lambda: self._run(script, key))
 
     def hear(self, line: str) -> None:
@@ -58,7 +59,13 @@ class Player:
         self._thread.throw()
 
     def send(self, line: str) -> None:
+        if self._is_closed:
+            raise ConnectionError("the agent has closed its connection")
         self.line = line.encode(errors="replace")
+
+    def close(self) -> None:
+        """Closes the agent's connection, as a program outside may."""
+        self._is_closed = True
 
     def receive(self) -> str:
         if not self._heard:

@@ -5,7 +5,7 @@ from typing import List, NamedTuple, Optional, Sequence
 
 from lab import networks
 from lab.agent_files import NoAgent, script_of
-from lab.fixtures import Fixture, fixture_of, read_tournament
+from lab.fixtures import Fixture, MOST_AGENTS, NoMatch, fixture_of, read_tournament
 from lab.model import Place, Setup
 from lab.play import Team
 from lab.players import Team as Inside
@@ -91,7 +91,9 @@ def team_of(words: argparse.Namespace) -> List[AgentWords]:
     if words.tournament:
         wanted = len(read_fixture(words).keys)
     else:
-        wanted = words.agents or max(2, len(named))
+        wanted = max(2, len(named)) if words.agents is None else words.agents
+        if not 1 <= wanted <= MOST_AGENTS:
+            raise NoMatch(f"a match has 1 to {MOST_AGENTS} agents, and not {wanted}")
     if len(named) == 1:
         named = named * wanted
     if len(named) != wanted:
@@ -122,8 +124,6 @@ def fixture_for(words: argparse.Namespace, seed: int, home: Optional[int] = None
         raise networks.NoNetwork(f"{words.network}: it has no node {home}")
     others = [v for v in range(network.nodes) if v != home]
     holes = words.hole or ([] if words.dark else [others[seed % len(others)]])
-    if not set(holes) <= set(others):
-        raise networks.NoNetwork(f"{words.network}: black holes are nodes other than the home base")
     agents = len(team_of(words))
     return fixture_of(Setup(network.nodes, network.links, home, sorted(holes), agents, words.quota, words.board,
                             words.dark))

@@ -3,7 +3,10 @@ import random
 import unittest
 
 from lab import schedulers
-from lab.tests.playing import MAP, RING, network_fixture, played, ring_fixture
+from lab.agent_files import NoAgent
+from lab.networks import ring
+from lab.teams import INSIDE, AgentWords
+from lab.tests.playing import MAP, RING, InFolder, fixture, network_fixture, played, ring_fixture
 
 RINGS = range(3, 33)
 NETWORKS = 60
@@ -31,6 +34,35 @@ class SampleAgents(unittest.TestCase):
                 for agent, given in ((RING, ring_fixture(12, 1 + seed, chance)), (MAP, network_fixture(chance))):
                     with self.subTest(scheduler=name, seed=seed, agent=agent.words):
                         self.assertFalse(played(given, agent, seed, maker).has_failed())
+
+
+ALONE = """
+import random
+import helper
+
+def search(agent, key):
+    agent.enter(key)
+    helper.KEYS.append(key)
+    raise ValueError(f"{helper.KEYS} {random.random()}")
+"""
+
+
+class Modules(InFolder):
+    def test_agents_share_no_module_with_each_other_or_an_earlier_match(self) -> None:
+        (self.folder / "helper.py").write_text("KEYS = []\n", encoding="utf-8")
+        (self.folder / "alone.py").write_text(ALONE, encoding="utf-8")
+        agent = AgentWords(INSIDE, str(self.folder / "alone.py"))
+        first, second = (played(fixture(ring(3), 1), agent, 0).faults for _ in range(2))
+        self.assertEqual(first, second)
+        self.assertEqual([fault.partition(" 0.")[0] for fault in first],
+                         ["agent 0: raises ValueError: ['k0']", "agent 1: raises ValueError: ['k1']"])
+        self.assertEqual(len({fault.partition("] ")[2] for fault in first}), 2)
+
+    def test_a_file_that_does_not_parse_is_told(self) -> None:
+        (self.folder / "broken.py").write_text("def search(agent, key:\n", encoding="utf-8")
+        agent = AgentWords(INSIDE, str(self.folder / "broken.py"))
+        with self.assertRaisesRegex(NoAgent, r"broken.py, line 1: '\(' was never closed"):
+            played(fixture(ring(3), 1), agent, 0)
 
 
 if __name__ == "__main__":

@@ -27,7 +27,7 @@ from ring import Search, Walker
 
 def drawn(agent, key, nodes):
     walker = Walker(agent, agent.enter(key))
-    for _ in range(random.randrange(5)):
+    for _ in range(random.SystemRandom().randrange(5)):
         agent.look()
     Search(walker, nodes).run()
 

@@ -1,6 +1,8 @@
-"""What `explore` finds of agents that sleep, and of links that are held: a search that forgets a wake, that wakes nobody
-at a write, or that crosses a held link comes to other ends."""
+"""What `run` and `explore` find of agents that sleep, crash or are refused, and of links that are held: a search that
+forgets a wake, that wakes nobody at a write, or that crosses a held link comes to other ends."""
 import argparse
+import contextlib
+import io
 import pathlib
 import tempfile
 import unittest
@@ -8,7 +10,7 @@ from typing import Dict, List
 from unittest import mock
 
 from lab import explore
-from lab.__main__ import parser
+from lab.__main__ import main, parser
 from lab.tests.playing import RING
 
 # The black hole of ring:3 is node 1. One agent walks by node 2, writes x and then y at home, and accuses.
@@ -61,6 +63,54 @@ def goes(agent, key):
     agent.enter(key)
     agent.depart(1)
     agent.leave()
+
+def solves(agent, key):
+    agent.enter(key)
+    agent.depart(1)
+    agent.accuse(1)
+
+def crashes_when_it_is_over(agent, key):
+    agent.enter(key)
+    try:
+        agent.depart(0)
+    except Exception:
+        raise AttributeError("nothing was seen")
+
+def retries(agent, key):
+    agent.enter(key)
+    while True:
+        try:
+            agent.depart(7)
+        except Exception:
+            pass
+
+def closes(agent, key):
+    agent.enter(key)
+    agent.close()
+
+def touches(agent, key):
+    agent.enter(key)
+    agent.write("", "")
+    agent.write("", "ready")
+    agent.depart(1)
+    agent.accuse(1)
+
+def wants_news_at_each_wake(agent, key, sleep):
+    agent.enter(key)
+    sleep(1)
+    if not agent.look().board:
+        sleep(1)
+        if agent.look().board != "ready":
+            raise RuntimeError("woken without news")
+    agent.leave()
+
+def sleeps_before_it_enters(agent, key, sleep):
+    sleep(1)
+    if not agent.enter(key).board:
+        sleep(1)
+        if agent.look().board != "ready":
+            raise RuntimeError("woken without news")
+    agent.leave()
 '''
 
 HELD = """version = 2
@@ -85,10 +135,12 @@ class Sleepers(unittest.TestCase):
         self.folder = pathlib.Path(folder.name)
         (self.folder / "agents.py").write_text(AGENTS, encoding="utf-8")
 
+    def agents(self, names: List[str]) -> List[str]:
+        return [word for name in names for word in ("--agent", f"{self.folder}/agents.py:{name}")]
+
     def worst(self, names: List[str], *words: str) -> explore.End:
         """The worst end of a match of these agents."""
-        agents = [word for name in names for word in ("--agent", f"{self.folder}/agents.py:{name}")]
-        given: argparse.Namespace = parser().parse_args(["explore", *words, *agents])
+        given: argparse.Namespace = parser().parse_args(["explore", *words, *self.agents(names)])
         fixture = explore.fixtures_for(given)[-1]
         end = explore.explored(fixture, explore.teams.team_of(given), given, mock.Mock()).explorer.worst
         assert end is not None
@@ -101,6 +153,21 @@ class Sleepers(unittest.TestCase):
             with self.subTest(name):
                 end = self.worst([name, "works"], "--network", "ring:3", "--hole", "1")
                 self.assertEqual((end.has_failed, end.verdict.outcome), wanted)
+
+    def test_both_call_the_same_a_failure(self) -> None:
+        agents = {"crashes_when_it_is_over": ("solves", True), "retries": ("solves", True), "closes": ("solves", False),
+                  "wants_news_at_each_wake": ("touches", False), "sleeps_before_it_enters": ("touches", False)}
+        for name, (other, fails) in agents.items():
+            for match in (["--hole", "1"], ["--home", "1", "--hole", "2"]):
+                with self.subTest(name, match=match):
+                    words = ["--network", "ring:3", *match]
+                    self.assertEqual(self.worst([name, other], *words).has_failed, fails)
+                    self.assertEqual(self.has_failed([name, other], *words), fails)
+
+    def has_failed(self, names: List[str], *words: str) -> bool:
+        """Whether some of twenty drawn schedules fails."""
+        with contextlib.redirect_stdout(io.StringIO()):
+            return main(["run", *words, *self.agents(names), "--runs", "20", "--engine", "model"]) == 1
 
     def test_nobody_arrives_over_a_held_link(self) -> None:
         (self.folder / "ring.toml").write_text(

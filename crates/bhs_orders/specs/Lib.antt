@@ -12,3 +12,4 @@ pub mod Interactive
 pub mod Players
 pub mod InteractiveTournaments
 pub mod Answered
+pub mod Naming

@@ -1,9 +1,10 @@
 //! Parts: what stands in files of the replays of matches that go on, so that a server that is killed loses no results.
 
-ghost use Rattle.std.specs.Prelude.{◌≡◌, IfOk, IfErr};
+ghost use Rattle.std.specs.Prelude.{◌≡◌, IfOk, IfErr, string_bytes};
 ghost use Rattle.bhs_replay.specs.Parts.{IsOfPart};
 ghost use Rattle.bhs_orders.specs.Fault.{IsOfFault};
 ghost use Rattle.bhs_orders.specs.Parts.{IsRecovered};
+ghost use Rattle.bhs_orders.specs.Naming.{part_name};
 ghost use Rattle.bhs_orders.specs.Showing.{PrintsByLine, Reports};
 
 use crate::faults::{Fault, report};
@@ -22,7 +23,9 @@ use std::io::{ErrorKind, Write};
 use std::rt::Files;
 
 /// The name of the file that has the part of a match's replay: that of the replay's file with `.part`.
-pub fn part_name(alloc: Global, prefix: &str, number: usize) -> Result<String, Memory> {
+pub fn part_name(alloc: Global, prefix: &str, number: usize) -> Result<String, Memory>
+    ensures { IfOk result (λ name. string_bytes name ≡ part_name prefix.now number) }
+{
     format!(in alloc; "{prefix}{number}.jsonl.part")
 }
 

@@ -1,6 +1,6 @@
 //! Reading the replays that words name, and writing those of a rehearsal.
 
-ghost use Rattle.std.specs.Prelude.{◌≡◌, ◌⊎◌, IfOk, IfErr, OnOk, map};
+ghost use Rattle.std.specs.Prelude.{◌≡◌, ◌⊎◌, IfOk, IfErr, OnOk, map, string_bytes};
 ghost use Rattle.std.specs.List.{AllByRecursion};
 ghost use Rattle.bhs_stream.specs.Streams.{known_takes};
 ghost use Rattle.bhs_stream.specs.Sending.{PutsAll};
@@ -8,6 +8,7 @@ ghost use Rattle.bhs_rehearsal.specs.Rehearsing.{game_of};
 ghost use Rattle.bhs_replay.specs.Replay.{replay_of};
 ghost use Rattle.bhs_orders.specs.Fault.{IsOfFault};
 ghost use Rattle.bhs_orders.specs.Filing.{first_status};
+ghost use Rattle.bhs_orders.specs.Naming.{replay_name};
 ghost use Rattle.bhs_orders.specs.Playing.{StopsPlaying};
 ghost use Rattle.bhs_orders.specs.Rehearsal.{IsFiled};
 ghost use Rattle.bhs_orders.specs.Reports.{IsReplayed};
@@ -140,7 +141,9 @@ fn write_numbered<F: Files, E: Write>(
 }
 
 /// The name of the file of a match's replay.
-pub(crate) fn file_name(alloc: Global, prefix: &str, number: usize) -> Result<String, Memory> {
+pub(crate) fn file_name(alloc: Global, prefix: &str, number: usize) -> Result<String, Memory>
+    ensures { IfOk result (λ name. string_bytes name ≡ replay_name prefix.now number) }
+{
     format!(in alloc; "{prefix}{number}.jsonl")
 }
 

@@ -1,3 +1,4 @@
 pub mod Contests
 pub mod Program
 pub mod Recording
+pub mod Telling

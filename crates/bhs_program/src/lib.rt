@@ -10,6 +10,7 @@ mod machines;
 mod orders;
 mod recording;
 mod serving;
+mod telling;
 mod words;
 
 pub use hosting::host;

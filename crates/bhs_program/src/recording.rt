@@ -1,13 +1,16 @@
 //! What is kept and told of a contest while it goes on: the parts of its replays in files, and lines for the operator.
 
-ghost use Rattle.std.specs.Prelude.{◌≡◌, IfOk, string_bytes};
+ghost use Rattle.std.specs.Prelude.{◌≡◌, IfOk, string_bytes, true, false};
 ghost use Rattle.bhs_program.specs.Recording.{full_line, lines_of};
 
 use crate::judged::{FEW, TIMES, judged};
 use crate::keeping::Keep;
+use crate::telling::{
+    judged_line, part_line, played_line, plays_line, sessions_line, unjudged_line, unplayed_line,
+};
 use bhs_lock::{Cell, Copied};
 use bhs_net::Memory;
-use bhs_orders::{Fault, part_name, verdict_line};
+use bhs_orders::{Fault, part_name};
 use bhs_replay::line_of;
 use bhs_server::Watch;
 use bhs_session::Ended;
@@ -80,6 +83,16 @@ impl<'a, R> Recorder<'a, R> {
     }
 }
 
+impl<R: Keep + Wait + Eprint> Recorder<'_, R> {
+    // Tells a text, if there was memory to make it.
+    fn tell(&self, made: Result<String, Memory>) {
+        if let Ok(text) = made {
+            let text = text.as_str();
+            let _ = eprint!(self.rt; "{text}");
+        }
+    }
+}
+
 impl<R: Keep + Wait + Eprint> Watch for Recorder<'_, R> {
     fn came(&self, session: u32, peer: SocketAddr) {
         let mut going = self.going.lock(self.rt);
@@ -92,37 +105,32 @@ impl<R: Keep + Wait + Eprint> Watch for Recorder<'_, R> {
     fn let_in(&self, session: u32, game: u32, agent: u16) {
         if self.is_telling {
             let _going = self.going.lock(self.rt);
-            let _ = eprintln!(self.rt; "serve: session {session} plays match {game} agent {agent}");
+            self.tell(plays_line(self.alloc, session, game, agent));
         }
     }
 
     fn ended(&self, session: u32, ended: Ended, played: Option<(u32, u16)>) {
         let mut going = self.going.lock(self.rt);
         going.sessions = going.sessions.saturating_sub(1);
-        if !self.is_telling {
-            return;
+        if self.is_telling {
+            self.tell(match played {
+                Some((game, agent)) => played_line(self.alloc, session, game, agent, ended),
+                None => unplayed_line(self.alloc, session, ended),
+            });
         }
-        let how = told(ended);
-        let _ = match played {
-            Some((game, agent)) => {
-                eprintln!(self.rt;
-                    "serve: session {session} played match {game} agent {agent}: {how}"
-                )
-            }
-            None => eprintln!(self.rt; "serve: session {session} played nobody: {how}"),
-        };
     }
 
     fn closed(&self, game: u32, turns: u32, cell: &Cell) {
-        if !self.is_telling {
-            return;
+        if self.is_telling {
+            let judged = judged(self.rt, self.alloc, cell);
+            let _going = self.going.lock(self.rt);
+            self.tell(match judged {
+                Ok(Some((events, verdict))) => {
+                    judged_line(self.alloc, game, turns, events, verdict)
+                }
+                _ => unjudged_line(self.alloc, game, turns),
+            });
         }
-        let end = end_of(self.rt, self.alloc, cell);
-        let end = end
-            .as_ref()
-            .map_or("and no memory to judge it\n", String::as_str);
-        let _going = self.going.lock(self.rt);
-        let _ = eprint!(self.rt; "serve: match {game} closed: turns {turns} {end}");
     }
 
     fn look(&self, cells: &[Cell]) {
@@ -142,42 +150,11 @@ impl<R: Keep + Wait + Eprint> Watch for Recorder<'_, R> {
         going.looks = going.looks.saturating_add(1);
         if self.is_telling && going.looks >= LOOKS {
             going.looks = 0;
-            tell_progress(self.rt, going.sessions, parts);
+            self.tell(sessions_line(self.alloc, going.sessions));
+            for (game, part) in parts.iter().enumerate() {
+                self.tell(part_line(self.alloc, game, part.events));
+            }
         }
-    }
-}
-
-// How a session ended, in words.
-fn told(ended: Ended) -> &'static str {
-    match ended {
-        Ended::Bye => "its agent left",
-        Ended::Noted => "its agent accused",
-        Ended::Over => "its match was over",
-        Ended::Denied => "it was denied",
-        Ended::InputEnded => "its input ended",
-        Ended::ReadFault => "a read failed",
-        Ended::WriteFault => "a write failed",
-        Ended::Memory => "memory ran out",
-        Ended::Turns => "it read too often",
-    }
-}
-
-// What is told of a match that was closed: how many events it has, and the verdict.
-fn end_of<R: Wait>(rt: &R, alloc: Global, cell: &Cell) -> Result<String, Memory> {
-    let Some((events, verdict)) = judged(rt, alloc, cell)? else {
-        return Err(Memory);
-    };
-    let verdict = verdict_line(alloc, verdict)?;
-    let verdict = verdict.as_str();
-    format!(in alloc; "events {events}, {verdict}")
-}
-
-// Tells how many sessions go on, and how many events each part has.
-fn tell_progress<R: Eprint>(rt: &R, sessions: u32, parts: &[Part]) {
-    let _ = eprintln!(rt; "serve: {sessions} sessions go on");
-    for (game, part) in parts.iter().enumerate() {
-        let events = part.events;
-        let _ = eprintln!(rt; "serve: match {game} has {events} events");
     }
 }
 
@@ -189,7 +166,10 @@ fn written_on<R: Keep + Wait + Eprint>(
     game: usize,
     cell: &Cell,
     part: Part,
-) -> Part {
+) -> Part
+    ensures left { part.has_failed ≡ true → result ≡ part }
+    ensures synced { result.synced ≡ part.synced }
+{
     if part.has_failed {
         return part;
     }
@@ -200,7 +180,11 @@ fn written_on<R: Keep + Wait + Eprint>(
 }
 
 // The part of a match once its file is on the disk.
-fn synced<R: Keep + Eprint>(rt: &R, alloc: Global, prefix: &str, game: usize, part: Part) -> Part {
+fn synced<R: Keep + Eprint>(rt: &R, alloc: Global, prefix: &str, game: usize, part: Part) -> Part
+    ensures left { part.has_failed ≡ true → result ≡ part }
+    ensures events { result.events ≡ part.events }
+    ensures synced { result.has_failed ≡ false → result.synced ≡ part.events }
+{
     if part.has_failed || part.synced == part.events {
         return part;
     }
@@ -214,7 +198,9 @@ fn synced<R: Keep + Eprint>(rt: &R, alloc: Global, prefix: &str, game: usize, pa
 }
 
 // A part that could not be written on, which is told.
-fn failed<R: Eprint>(rt: &R, game: usize, part: Part, fault: Fault) -> Part {
+fn failed<R: Eprint>(rt: &R, game: usize, part: Part, fault: Fault) -> Part
+    ensures { result ≡ record part { has_failed = true } }
+{
     let events = part.events;
     let _ = eprintln!(rt; "serve: the part of match {game} ends after {events} events: {fault}");
     Part {

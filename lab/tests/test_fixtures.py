@@ -1,0 +1,49 @@
+"""What the lab refuses of a match, as the program does."""
+import pathlib
+import tempfile
+import unittest
+
+from lab.fixtures import NoMatch, checked, read_tournament
+from lab.model import Setup
+from lab.networks import NoNetwork, in_file, ring
+
+NETWORK = ring(4)
+RIGHT = Setup(4, NETWORK.links, 0, [2], 2, 1000, 4096)
+
+
+class Setups(unittest.TestCase):
+    def test_a_right_one_is_taken(self) -> None:
+        for setup in (RIGHT, RIGHT._replace(holes=[1, 3]), RIGHT._replace(holes=[], dark=[(0, 0), (0, 1)])):
+            self.assertEqual(checked(setup), setup)
+
+    def test_what_is_refused(self) -> None:
+        wrong = {
+            "1 to 64 agents, and not 65": RIGHT._replace(agents=65),
+            "1 to 64 agents, and not 0": RIGHT._replace(agents=0),
+            "the home base 4 does not exist": RIGHT._replace(home=4),
+            "other than the home base 0": RIGHT._replace(holes=[0]),
+            "nodes from 0 to 3": RIGHT._replace(holes=[4]),
+            "node 2 is named as a black hole twice": RIGHT._replace(holes=[2, 2]),
+            "node 0 has no port 5": RIGHT._replace(dark=[(0, 5)]),
+            "a dark link is named twice": RIGHT._replace(dark=[(0, 0), (1, 1)]),
+        }
+        for why, setup in wrong.items():
+            with self.subTest(why), self.assertRaisesRegex(NoMatch, why):
+                checked(setup)
+
+
+class Files(unittest.TestCase):
+    def test_files_of_another_kind_are_told(self) -> None:
+        with tempfile.TemporaryDirectory() as name:
+            file = pathlib.Path(name) / "file"
+            for text, why in (("# words", "it has no key 'nodes'"), ("nodes = 3\nlinks = 4", "not iterable"),
+                              ("nodes", "Expected '=' after a key")):
+                file.write_text(text, encoding="utf-8")
+                with self.subTest(text), self.assertRaisesRegex(NoNetwork, why):
+                    in_file(str(file))
+                with self.subTest(text), self.assertRaisesRegex(NoMatch, "it is no tournament"):
+                    read_tournament(str(file))
+
+
+if __name__ == "__main__":
+    unittest.main()

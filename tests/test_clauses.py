@@ -1,0 +1,43 @@
+"""The functions that have no clause are those that docs/PROOFS.md lists."""
+import pathlib
+import re
+import sys
+import unittest
+from typing import Dict, Set
+
+TOP = pathlib.Path(__file__).resolve().parents[1]
+sys.path.insert(0, str(TOP / "tools" / "prove"))
+
+from clauses import contract_of, crates_given, functions_in, without_clause  # noqa: E402
+
+HEADING = "## Functions without a clause"
+
+
+def listed() -> Dict[str, Set[str]]:
+    """The functions in the table, by their crates."""
+    section = (TOP / "docs" / "PROOFS.md").read_text().partition(HEADING)[2].partition("\n## ")[0]
+    found: Dict[str, Set[str]] = {}
+    for crate, functions in re.findall(r"^\| `(bhs_\w+)` \| ([^|]*) \|", section, re.M):
+        found.setdefault(crate, set()).update(re.findall(r"`([^`]+)`", functions))
+    return found
+
+
+class ClausesTest(unittest.TestCase):
+    def test_the_table_has_each_function_without_a_clause(self) -> None:
+        found: Dict[str, Set[str]] = {}
+        for one in without_clause(crates_given([])):
+            found.setdefault(one.crate, set()).add(one.name)
+        self.assertEqual(listed(), found)
+
+    def test_a_contract_ends_at_the_body(self) -> None:
+        lines = ["fn one(", "    a: u8,", ") -> u8", "    ensures { result ≡ a }", "{", "    a", "}"]
+        self.assertIn("ensures", contract_of(lines, 0))
+        self.assertNotIn("ensures", contract_of(["fn one() {", "}", "fn two()", "    ensures { x }", "{"], 0))
+
+    def test_methods_are_named_by_their_types(self) -> None:
+        names = {one.name for one in functions_in("bhs_server", TOP / "crates/bhs_server/src/connections.rt")}
+        self.assertLessEqual({"Connection::new", "Guest::let_in", "Incoming::read"}, names)
+
+
+if __name__ == "__main__":
+    unittest.main()

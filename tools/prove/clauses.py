@@ -1,0 +1,112 @@
+#!/usr/bin/env python3
+"""Lists the functions of the crates that have no clause: any body of such a function is proved to meet its contract.
+
+    tools/prove/clauses.py [CRATE ..]
+
+A clause is an `ensures` of the function itself, or of the method of a trait of this repository that it implements.
+`From`, `Clone` and `PartialEq` have theirs in ghost members beside the method. Not listed are the benchmark and `main`.
+docs/PROOFS.md says of each function in this list which test fails for a wrong body of it; tests/test_clauses.py
+compares the two.
+"""
+import pathlib
+import re
+import sys
+from typing import Iterator, List, NamedTuple, Optional, Set
+
+TOP = pathlib.Path(__file__).resolve().parents[2]
+CRATES = TOP / "crates"
+# programs by themselves
+LEFT_OUT = {"bhs_bench", "bhs_main"}
+# traits of the standard library whose clauses stand in ghost members
+WITH_GHOSTS = {"From", "Clone", "PartialEq"}
+HEAD = re.compile(r"^( *)(?:pub(?:\([a-z]+\))? )?(?:const )?(?:unsafe )?fn (\w+)")
+BLOCK = re.compile(r"^(impl|pub trait|trait|pub\(crate\) trait)\b(.*)")
+NAMES = re.compile(r"(?:(?P<trait>[\w:]+)(?:<.*>)? for )?&?(?P<type>\w+)")
+
+
+class Function(NamedTuple):
+    """A function: its crate, its file, its name with that of its type, and whether it has a clause."""
+    crate: str
+    file: str
+    name: str
+    trait: Optional[str]
+    has_clause: bool
+
+
+def without_parameters(head: str) -> str:
+    """What stands behind `impl`, without the type parameters."""
+    if not head.lstrip().startswith("<"):
+        return head.strip()
+    depth = 0
+    for place, letter in enumerate(head):
+        depth += (letter == "<") - (letter == ">" and head[place - 1] != "-")
+        if letter == ">" and depth == 0:
+            return head[place + 1:].strip()
+    return head.strip()
+
+
+def contract_of(lines: List[str], at: int) -> str:
+    """The text from a function's head to its body, or to the `;` that ends it."""
+    found = []
+    indent = len(lines[at]) - len(lines[at].lstrip())
+    for line in lines[at:]:
+        found.append(line)
+        text = line.rstrip()
+        opens = text.endswith("{") and not text.lstrip().startswith(("ensures", "requires"))
+        if opens and len(line) - len(line.lstrip()) == indent or text.endswith(";"):
+            break
+    return "\n".join(found)
+
+
+def functions_in(crate: str, path: pathlib.Path) -> Iterator[Function]:
+    """The functions of a file, in order."""
+    lines, trait, kind = path.read_text().split("\n"), None, ""
+    for at, line in enumerate(lines):
+        block = BLOCK.match(line)
+        if block:
+            head = without_parameters(block[2])
+            named = NAMES.match(head)
+            is_trait = block[1] != "impl"
+            trait = head.split("{")[0].split(":")[0].split("<")[0].strip() if is_trait else named and named["trait"]
+            kind = "" if is_trait else (named["type"] if named else "")
+            kind = trait if is_trait else kind
+        elif line.startswith("}"):
+            trait, kind = None, ""
+        head = HEAD.match(line)
+        if head:
+            owner = kind if head[1] else ""
+            yield Function(crate, path.stem, f"{owner}::{head[2]}" if owner else head[2], trait if head[1] else None,
+                           "ensures" in contract_of(lines, at))
+
+
+def all_functions(crates: List[str]) -> List[Function]:
+    """The functions of these crates."""
+    return [one for crate in crates for path in sorted((CRATES / crate / "src").glob("*.rt"))
+            for one in functions_in(crate, path)]
+
+
+def without_clause(crates: List[str]) -> List[Function]:
+    """Those of the functions that have no clause, neither of their own nor of a trait of this repository."""
+    everywhere = all_functions(sorted(path.name for path in CRATES.iterdir() if (path / "src").is_dir()))
+    promised: Set[str] = {one.name for one in everywhere
+                          if one.trait and one.name.startswith(f"{one.trait}::") and one.has_clause}
+    return [one for one in everywhere if one.crate in crates and not one.has_clause and one.trait not in WITH_GHOSTS
+            and not (one.trait and f"{one.trait.rpartition('::')[2]}::{one.name.rpartition('::')[2]}" in promised)]
+
+
+def crates_given(given: List[str]) -> List[str]:
+    """The crates that are named, or all but those that are programs by themselves."""
+    return given or [it.name for it in sorted(CRATES.iterdir()) if (it / "src").is_dir() and it.name not in LEFT_OUT]
+
+
+def main(given: List[str]) -> int:
+    if given in (["-h"], ["--help"]):
+        print(__doc__.strip())
+        return 0
+    for one in without_clause(crates_given(given)):
+        print(f"{one.crate} {one.file} {one.name}")
+    return 0
+
+
+if __name__ == "__main__":
+    sys.exit(main(sys.argv[1:]))
