@@ -4,7 +4,7 @@ import unittest
 from typing import List, Sequence, Set
 
 import program_contests
-from program_contests import SIDES, Side, made_by, words_of
+from program_contests import ADAPTIVE, OBLIVIOUS, SIDES, Rule, Side, made_by, words_of
 from lab.model import PRESENT, Match, Place, Setup
 
 COMMANDS = {"0": {"do": "depart", "port": 0}, "1": {"do": "depart", "port": 1}, "a": {"do": "accuse", "port": 0},
@@ -24,23 +24,25 @@ def steps_of(match: Match, left: List[str], chance: random.Random) -> None:
             left[agent] = steps[1:]
 
 
-def turn(match: Match, held: Set[Place], word: int) -> None:
-    if match.pool:
-        agent = match.pool[word % len(match.pool)]
-        if (match.agents[agent].node, match.agents[agent].port) not in held:
+def turn(match: Match, held: Set[Place], word: int, rule: Rule) -> None:
+    among = match.pool if rule is ADAPTIVE else range(len(match.agents))
+    if among:
+        agent = among[word % len(among)]
+        if agent in match.pool and (match.agents[agent].node, match.agents[agent].port) not in held:
             match.deliver(agent)
 
 
-def replay(side: Side, words: Sequence[int], held: Set[Place], seed: int, idle: int = 7) -> str:
+def replay(side: Side, words: Sequence[int], held: Set[Place], seed: int, idle: int = 7,
+           rule: Rule = ADAPTIVE) -> str:
     """The replay of a match whose agents come after some turns, with these words."""
     chance, match, left = random.Random(seed), match_of(side), list(side.agents)
     for word in words[:idle]:
-        turn(match, held, word)
+        turn(match, held, word, rule)
     for agent in range(len(left)):
         match.tell(agent, {"do": "enter"})
     steps_of(match, left, chance)
     for word in words[idle:]:
-        turn(match, held, word)
+        turn(match, held, word, rule)
         steps_of(match, left, chance)
     match.close()
     return match.replay()
@@ -51,9 +53,16 @@ class Words(unittest.TestCase):
         for number, side in enumerate(SIDES):
             for seed in range(3):
                 text = replay(side, words_of(number), {side.held}, seed, idle=seed * 100)
-                self.assertTrue(made_by(text, {side.held}, words_of(number)))
-                self.assertFalse(made_by(text, {side.held}, words_of(1 - number)))
-                self.assertFalse(made_by(text, {side.held}, [0] * program_contests.TURNS))
+                self.assertTrue(made_by(ADAPTIVE, text, {side.held}, words_of(number)))
+                self.assertFalse(made_by(ADAPTIVE, text, {side.held}, words_of(1 - number)))
+                self.assertFalse(made_by(ADAPTIVE, text, {side.held}, [0] * program_contests.TURNS))
+
+    def test_each_schedule_makes_its_own(self) -> None:
+        for number, side in enumerate(SIDES):
+            for rule, other in ((ADAPTIVE, OBLIVIOUS), (OBLIVIOUS, ADAPTIVE)):
+                text = replay(side, words_of(number), {side.held}, 1, rule=rule)
+                self.assertTrue(made_by(rule, text, {side.held}, words_of(number)))
+                self.assertFalse(made_by(other, text, {side.held}, words_of(number)))
 
     def test_wrong_bodies_make_others(self) -> None:
         for number, side in enumerate(SIDES):
@@ -64,7 +73,7 @@ class Words(unittest.TestCase):
                                      ("no link is held", words, set()),
                                      ("the other match's link is held", words, {SIDES[1 - number].held})):
                 with self.subTest(body=name, team=side.team):
-                    self.assertFalse(made_by(replay(side, used, held, 1), {side.held}, words))
+                    self.assertFalse(made_by(ADAPTIVE, replay(side, used, held, 1), {side.held}, words))
 
 
 if __name__ == "__main__":

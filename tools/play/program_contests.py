@@ -2,8 +2,8 @@
 
 Both matches have one seed. In each, several agents are on links at the same time, one of them on a link that is held,
 and one is destroyed. Which turn a delivery was made at depends on the clock, but not who arrives: each turn takes the
-next word of its match's stream, and the word picks out of the pool. So the log of a match is compared with those words,
-whenever its clients may have come.
+next word of its match's stream, and the word picks out of the pool, or under the oblivious schedule out of all agents.
+So the log of a match is compared with those words, whenever its clients may have come.
 """
 import contextlib
 import pathlib
@@ -11,7 +11,7 @@ import socket
 import subprocess
 import sys
 import threading
-from typing import Iterator, List, NamedTuple, Optional, Sequence, Set, Tuple
+from typing import Callable, Iterator, List, NamedTuple, Optional, Sequence, Set, Tuple
 
 from chacha8_words import word
 from program_cases import case
@@ -65,35 +65,54 @@ STEPS = {"0": '{"do":"depart","port":0}', "1": '{"do":"depart","port":1}', "a": 
 
 # What the words say of a replay.
 
-def delivered(match: Match, held: Set[Place], number: int) -> Optional[int]:
-    """The agent whose Deliver is kept if a turn has this word, if there is one."""
-    if not match.pool:
-        return None
-    picked = match.pool[number % len(match.pool)]
+def kept(match: Match, held: Set[Place], picked: int) -> Optional[int]:
+    """The agent that a turn picks, if its Deliver is kept."""
     agent = match.agents[picked]
     place = (agent.node, agent.port)
     return None if place in held or (agent.lost and match.doomed(*place)) else picked
 
 
-def may_be(match: Match, held: Set[Place], words: Sequence[int], turns: Set[int]) -> Set[int]:
+def drawn(match: Match, held: Set[Place], number: int) -> Optional[int]:
+    """The agent whose Deliver is kept if a turn draws this word out of the pool, if there is one."""
+    return kept(match, held, match.pool[number % len(match.pool)]) if match.pool else None
+
+
+def picked_blindly(match: Match, held: Set[Place], number: int) -> Optional[int]:
+    """The same if a turn picks one of all agents by this word, and links have no delay."""
+    picked = number % len(match.agents)
+    return kept(match, held, picked) if picked in match.pool else None
+
+
+class Rule(NamedTuple):
+    """A schedule: how its tournament begins, and whom a word delivers."""
+    head: str
+    delivered: Callable[[Match, Set[Place], int], Optional[int]]
+
+
+ADAPTIVE = Rule("version = 2\n", drawn)
+OBLIVIOUS = Rule('version = 3\nschedule = "oblivious"\ndelay_scales = 0\ndelay_odds = 1\n', picked_blindly)
+
+
+def may_be(rule: Rule, match: Match, held: Set[Place], words: Sequence[int], turns: Set[int]) -> Set[int]:
     """The numbers of turns that may have been taken before the next event, by those before the last one."""
     found, new = set(turns), set(turns)
     while new:
-        new = {turn + 1 for turn in new if turn < len(words) and delivered(match, held, words[turn]) is None} - found
+        new = {turn + 1 for turn in new
+               if turn < len(words) and rule.delivered(match, held, words[turn]) is None} - found
         found |= new
     return found
 
 
-def made_by(replay: str, held: Set[Place], words: Sequence[int]) -> bool:
+def made_by(rule: Rule, replay: str, held: Set[Place], words: Sequence[int]) -> bool:
     """Whether turns with these words, all of them and in their order, can have made the deliveries of a replay, and no
     others."""
     head, *events = objects_of(replay)
     match, turns = begun(head), {0}
     for event in events:
-        turns = may_be(match, held, words, turns)
+        turns = may_be(rule, match, held, words, turns)
         if event["do"] == "deliver":
             turns = {turn + 1 for turn in turns
-                     if turn < len(words) and delivered(match, held, words[turn]) == event["agent"]}
+                     if turn < len(words) and rule.delivered(match, held, words[turn]) == event["agent"]}
         match.play(event)
     return len(words) in turns
 
@@ -153,11 +172,11 @@ def played(stage: Stage, port: int) -> Tuple[Run, List[List[str]]]:
     return Run(child.returncode, printed, told), heard
 
 
-def contest(stage: Stage) -> Heard:
+def contest(stage: Stage, rule: Rule) -> Heard:
     for side in SIDES:
         (stage.folder / f"{side.team}.toml").write_text(side.network())
     fixtures = "".join(side.fixture() for side in SIDES)
-    (stage.folder / "cup.toml").write_text(f'version = 2\nseed = "{SEED.hex()}"\n{fixtures}')
+    (stage.folder / "cup.toml").write_text(f'{rule.head}seed = "{SEED.hex()}"\n{fixtures}')
     for old in stage.folder.glob("*.jsonl"):
         old.unlink()
     run, heard = played(stage, free_port())
@@ -192,10 +211,10 @@ def told_to(match: Match, agent: int) -> str:
     return "".join(f"{spelled(reply)}\n" for reply in replies)
 
 
-def check_side(number: int, side: Side, replay: str, heard: Sequence[str]) -> Match:
+def check_side(rule: Rule, number: int, side: Side, replay: str, heard: Sequence[str]) -> Match:
     """The match of a side, with what its clients heard and who arrived in it."""
     match = match_of(side, replay)
-    if not made_by(replay, {side.held}, words_of(number)):
+    if not made_by(rule, replay, {side.held}, words_of(number)):
         raise Wrong(f"the words of stream {number} do not make the deliveries of {side.team}")
     lost, held = len(side.agents) - 2, len(side.agents) - 1
     if any(event["do"] == "deliver" and event["agent"] == held for event in match.log):
@@ -211,10 +230,10 @@ def check_side(number: int, side: Side, replay: str, heard: Sequence[str]) -> Ma
     return match
 
 
-def is_telling(replays: Sequence[str]) -> bool:
+def is_telling(rule: Rule, replays: Sequence[str]) -> bool:
     """Whether other words do not make the deliveries: those of another match's stream, and equal ones."""
     others = [[words_of(1 - number), [0] * TURNS] for number in range(len(SIDES))]
-    return not any(made_by(replay, {side.held}, words)
+    return not any(made_by(rule, replay, {side.held}, words)
                    for side, replay, wrong in zip(SIDES, replays, others) for words in wrong)
 
 
@@ -229,12 +248,22 @@ def check_table(stage: Stage, printed: bytes, matches: Sequence[Match]) -> None:
     expect(Run(0, printed, b""), table(rows).encode())
 
 
-@case("who arrives in a contest is who the words of the match's stream pick, and nobody over a held link")
-def words_are_dealt(stage: Stage) -> None:
+def check_contest(stage: Stage, rule: Rule) -> None:
     for _ in range(TRIES):
-        found = contest(stage)
-        matches = [check_side(number, *each) for number, each in enumerate(zip(SIDES, found.replays, found.heard))]
+        found = contest(stage, rule)
+        sides = zip(SIDES, found.replays, found.heard)
+        matches = [check_side(rule, number, *each) for number, each in enumerate(sides)]
         check_table(stage, found.run.printed, matches)
-        if is_telling(found.replays):
+        if is_telling(rule, found.replays):
             return
     raise Wrong("other words make the deliveries, too: the machine is too slow")
+
+
+@case("who arrives in a contest is who the words of the match's stream pick, and nobody over a held link")
+def words_are_dealt(stage: Stage) -> None:
+    check_contest(stage, ADAPTIVE)
+
+
+@case("under the oblivious schedule the words pick among all agents of the match")
+def words_pick_among_all(stage: Stage) -> None:
+    check_contest(stage, OBLIVIOUS)
