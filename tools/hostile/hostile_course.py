@@ -137,7 +137,7 @@ sys.exit(3)
 
 
 def team(name: str, files: Sequence[Any], command: str) -> str:
-    agents = '"degree"' if "map.py" in command else "2"
+    agents = '"degree"' if " map.py" in command else "2"
     return (f'[[team]]\nname = "{name}"\nagents = {agents}\nfiles = {list(map(str, files))}\n'
             f'command = "{command}"\n')
 
