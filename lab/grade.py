@@ -242,13 +242,13 @@ def run(words: argparse.Namespace) -> int:
     made = {"course": hashlib.sha256(read.text.encode()).hexdigest(), "engine": words.engine, "files": graded.digests()}
     done = sweep.prepared(words.out, made)
     try:
-        spent = {team.name: 0.0 for team in read.grid.teams}
-        for name in spent:
+        budget = Budget(graded.course.limits.team, {team.name: 0.0 for team in read.grid.teams})
+        for name in budget.spent:
             # no program of a team runs while those of another do
             left = [case for case in cases[done:] if case.team.name == name]
             if left:
-                sweep.write_rows(played_in_time(graded, left, words.workers, spent), len(left), words.out)
-        return told(graded, cases, words, spent)
+                sweep.write_rows(played_in_time(graded, left, words.workers, budget), len(left), words.out)
+        return told(graded, cases, words, budget)
     except KeyboardInterrupt:
         count = sweep.done_in(words.out / sweep.RUNS)
         print(f"interrupted; {count} of {len(cases)} matches are played: the same command goes on there")
@@ -264,40 +264,46 @@ def prepare(graded: Graded) -> None:
             page.layout({"nodes": network.nodes, "links": network.links})
 
 
-def in_time(job: Job, left: Sequence[Case], workers: int, spent: Dict[str, float], instead: Callable[[Case], Any],
-            limit: int) -> Iterator[Result]:
+class Budget(NamedTuple):
+    """How many seconds all matches of a team may take, and how many those of each team have taken."""
+
+    limit: int
+    spent: Dict[str, float]
+
+    def says(self) -> str:
+        """What is said of what there was no time for."""
+        return f"the matches of the team have taken the {self.limit} s that it has"
+
+
+def in_time(job: Job, left: Sequence[Case], workers: int, budget: Budget, instead: Callable[[Case], Any]
+            ) -> Iterator[Result]:
     """The results of a team's matches; those that come when the team's time is up are others instead."""
     results, count, name = over_processes(job, left, workers, 1), 0, left[0].team.name
-    while spent[name] <= limit and count < len(left):
+    while budget.spent[name] <= budget.limit and count < len(left):
         result = next(results)
         count += 1
         if result.fault:
             yield result
             return
-        spent[name] += result.found.seconds
+        budget.spent[name] += result.found.seconds
         yield Result(result.found.found, "")
     results.close()
     for case in left[count:]:
         yield Result(instead(case), "")
 
 
-def time_is_up(graded: Graded) -> str:
-    """What is said of what there was no time for."""
-    return f"the matches of the team have taken the {graded.course.limits.team} s that it has"
-
-
-def played_in_time(graded: Graded, left: Sequence[Case], workers: int, spent: Dict[str, float]) -> Iterator[Result]:
+def played_in_time(graded: Graded, left: Sequence[Case], workers: int, budget: Budget) -> Iterator[Result]:
     """The rows of a team's matches."""
     def instead(case: Case) -> List[str]:
-        return unplayed(graded.course, case, f"{league.UNPLAYED}: {time_is_up(graded)}")
-    return in_time(graded, left, workers, spent, instead, graded.course.limits.team)
+        return unplayed(graded.course, case, f"{league.UNPLAYED}: {budget.says()}")
+    return in_time(graded, left, workers, budget, instead)
 
 
-def told(graded: Graded, cases: List[Case], words: argparse.Namespace, spent: Dict[str, float]) -> int:
+def told(graded: Graded, cases: List[Case], words: argparse.Namespace, budget: Budget) -> int:
     """Makes the schedules of failed matches small, and writes the table and the pages."""
     rows = sweep.rows_in(words.out / sweep.RUNS)
     failures = cut_down(graded, [cases[int(row["run"])] for row in rows if not report.is_solved(row)], rows,
-                        words.workers, spent)
+                        words.workers, budget)
     engine = "the proved program" if graded.program else "the Python model, of which nothing is proved"
     if graded.program and finds.is_unproved(graded.program):
         engine = "a build without a proof"
@@ -315,8 +321,7 @@ def told(graded: Graded, cases: List[Case], words: argparse.Namespace, spent: Di
     return 1 if broken else 0
 
 
-def cut_down(graded: Graded, failed: List[Case], rows: List[Row], workers: int, spent: Dict[str, float]
-             ) -> Dict[int, Failure]:
+def cut_down(graded: Graded, failed: List[Case], rows: List[Row], workers: int, budget: Budget) -> Dict[int, Failure]:
     """What came of each failed match, by its number. Of those that failed in the same way on the same network one is
     made smaller."""
     cutting = Cutting(graded, {case.number: "; ".join(rows[case.number][report.FAULTS]) for case in failed})
@@ -325,19 +330,18 @@ def cut_down(graded: Graded, failed: List[Case], rows: List[Row], workers: int, 
              for case in failed}
     found = {case.number: cutting.failure(case, f"match {alike[case.number].number} failed in the same way on the same "
                                           "network: see there") for case in failed}
-    for result in along(cut_in_time(cutting, list(first.values()), workers, spent), len(first), "failed match"):
+    for result in along(cut_in_time(cutting, list(first.values()), workers, budget), len(first), "failed match"):
         if result.fault:
             raise NoSweep(result.fault)
         found[result.found.number] = result.found
     return found
 
 
-def cut_in_time(cutting: Cutting, failed: List[Case], workers: int, spent: Dict[str, float]) -> Iterator[Result]:
+def cut_in_time(cutting: Cutting, failed: List[Case], workers: int, budget: Budget) -> Iterator[Result]:
     """What came of each failed match, team by team."""
     def instead(case: Case) -> Failure:
-        return cutting.failure(case, f"not made smaller: {time_is_up(cutting.graded)}")
-    limit = cutting.graded.course.limits.team
-    for name in spent:
+        return cutting.failure(case, f"not made smaller: {budget.says()}")
+    for name in budget.spent:
         left = [case for case in failed if case.team.name == name]
         if left:
-            yield from in_time(cutting, left, workers, spent, instead, limit)
+            yield from in_time(cutting, left, workers, budget, instead)

@@ -29,8 +29,8 @@ class NoCell(Exception):
 
 
 def words(tools: Sequence[str]) -> List[str]:
-    """The command of bubblewrap that puts up walls, up to the command that is to run behind them. These folders are seen
-    besides the system's."""
+    """The command of bubblewrap that puts up walls, up to the command that is to run behind them. These folders are
+    seen besides the system's."""
     found = ["bwrap", "--unshare-all", "--unshare-user", "--disable-userns", "--uid", USER, "--gid", USER,
              "--hostname", "cell", "--die-with-parent", "--new-session", "--clearenv", "--setenv", "PATH", PATH,
              "--setenv", "TMPDIR", "/tmp", "--setenv", "COUNTED", "yes"]

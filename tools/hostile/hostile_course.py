@@ -13,7 +13,8 @@ number of workers:
 
 - The honest teams get the same rows as alone, byte for byte but for the number of the match.
 - It takes less than three times as long. Each team has one and a half times the time that an honest one takes alone.
-- The command ends with status 0, and no hostile team solves a match but the one that does not read.
+- The command ends with status 0. No hostile team solves a match but the one that does not read, and by chance the one
+  that guesses.
 - Nothing is left of it in the folder for temporary files.
 
 Then two commands grade the honest teams at the same time, and again the rows are the same. A run takes some minutes.
@@ -34,7 +35,7 @@ from lab import sweep  # noqa: E402
 
 AGENTS, MUTANT = TOP / "examples" / "agents", TOP / "lab" / "mutants" / "reads_once.py"
 HEAD = """title = "A hostile course"
-networks = ["ring:12", "ring:16", "ring:24"]
+networks = ["ring:24", "ring:48", "ring:64"]
 holes = 2
 schedulers = ["fair", "slow-agents"]
 seeds = {seeds}
@@ -46,7 +47,7 @@ tries = 20
 # of a team with hostile ones, how many times as long as an honest team takes alone
 MORE = 1.5
 HONEST = {
-    "amber": ([AGENTS / "client.py", AGENTS / "map.py"], "python3 map.py {host} {port} {key} {nodes} {links}"),
+    "amber": ([AGENTS / "client.py", AGENTS / "ring.py"], "python3 ring.py {host} {port} {key} {nodes}"),
     "birch": ([AGENTS / "client.py", AGENTS / "known_map.py"],
               "python3 known_map.py {host} {port} {key} {network} {home}"),
     "cedar": ([AGENTS / "ring.c"], "./ring {port} {key} {nodes}"),
@@ -137,9 +138,7 @@ sys.exit(3)
 
 
 def team(name: str, files: Sequence[Any], command: str) -> str:
-    agents = '"degree"' if "map.py" in command else "2"
-    return (f'[[team]]\nname = "{name}"\nagents = {agents}\nfiles = {list(map(str, files))}\n'
-            f'command = "{command}"\n')
+    return f'[[team]]\nname = "{name}"\nfiles = {list(map(str, files))}\ncommand = "{command}"\n'
 
 
 def honest(folder: pathlib.Path) -> List[str]:
@@ -205,7 +204,8 @@ class Grading:
             self.check(f"{out}: the rows of {name} are the same", rows[name] == alone[name], f" but for {others[:2]}")
         for name in set(HOSTILE) & set(rows) - {"blind"}:
             solved = sum(row[9] == "solved" for row in rows[name])
-            self.check(f"{out}: {name} solves {solved} of {len(rows[name])}", solved == 0)
+            by_chance = len(rows[name]) // 4 if name == "guess" else 0
+            self.check(f"{out}: {name} solves {solved} of {len(rows[name])}", solved <= by_chance)
             print("   ", {fault for row in rows[name] for fault in row[15:] if fault})
 
     def with_hostile(self, workers: int, alone: Dict[str, List[List[str]]], took_alone: float) -> None:
