@@ -28,6 +28,11 @@ TOP = pathlib.Path(__file__).resolve().parent.parent
 # where the client is that sample agents share, for agents that have no copy beside them
 AGENTS = TOP / "examples" / "agents"
 
+# the names that stand for numbers in words, and the parameters that get what is no number
+FACTS = ("nodes", "links", "home")
+GIVEN = ("sleep", "network", "home")
+PLAIN = (inspect.Parameter.POSITIONAL_ONLY, inspect.Parameter.POSITIONAL_OR_KEYWORD)
+
 Sleep = Callable[[float], None]
 # plays one agent: by what sends and receives lines, the agent's key, and what it waits by
 Script = Callable[[Any, str, Sleep], None]
@@ -114,7 +119,7 @@ def script_of(words: str, setup: Setup) -> Script:
     name = file.partition(":")[2] or "search"
     path = pathlib.Path(file.partition(":")[0])
     numbers = numbers_of(rest, setup)
-    asked = list(inspect.signature(member(file, "search")).parameters)[2 + len(numbers):]
+    asked = asked_behind(words, inspect.signature(member(file, "search")), len(numbers))
 
     def play(lines: Any, key: str, sleep: Sleep) -> None:
         given = {"sleep": sleep, "network": tuple(setup.links), "home": setup.home}
@@ -124,6 +129,19 @@ def script_of(words: str, setup: Setup) -> Script:
         except client.MatchOver:
             pass
     return play
+
+
+def asked_behind(words: str, signature: inspect.Signature, count: int) -> List[str]:
+    """The parameters behind the agent, its key and this many numbers, if the function takes these words."""
+    parameters = list(signature.parameters.values())[2:]
+    plain = [it.name for it in parameters if it.kind in PLAIN and it.name not in GIVEN]
+    needed = [it.name for it in parameters if it.name in plain and it.default is it.empty]
+    if count < len(needed):
+        raise NoAgent(f"{words}: it wants {', '.join(needed)} behind the file, as `{words} "
+                      f"{' '.join('{' + name + '}' if name in FACTS else '1' for name in needed[count:])}`")
+    if count > len(plain) and all(it.kind is not it.VAR_POSITIONAL for it in parameters):
+        raise NoAgent(f"{words}: it takes {', '.join(plain) or 'no numbers'} behind the file, and {count} are named")
+    return [it.name for it in parameters[count:]]
 
 
 def digests(words: Sequence[str]) -> Dict[str, str]:

@@ -15,6 +15,7 @@ import tempfile
 from typing import Any, List, Tuple
 
 from lab import networks, schedulers
+from lab.counts import at_least_one
 from lab.engines import Differs, Engine, Program, Refused, add_program, judged, program_at
 from lab.fixtures import Fixture
 from lab.model import OVER, Object, Setup, judge, played, spelled
@@ -140,7 +141,7 @@ def compare(program: str, seeds: range) -> Tuple[int, List[str]]:
 
 def add_words(parser: argparse.ArgumentParser) -> None:
     """The words of the command `compare`."""
-    parser.add_argument("--matches", metavar="N", type=int, default=1000, help="how many matches (1000)")
+    parser.add_argument("--matches", metavar="N", type=at_least_one, default=1000, help="how many matches (1000)")
     parser.add_argument("--seed", metavar="S", type=int, default=0, help="the first match's seed (0)")
     add_program(parser)
 

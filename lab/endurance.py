@@ -12,6 +12,7 @@ import itertools
 from typing import List, NamedTuple
 
 from lab import schedulers
+from lab.counts import at_least_one
 from lab.engines import TOP
 from lab.fixtures import Fixture, fixture_of
 from lab.model import Setup
@@ -66,7 +67,7 @@ def fault_of(seed: int) -> str:
 
 def add_words(parser: argparse.ArgumentParser) -> None:
     """The words of the command `endure`."""
-    parser.add_argument("--runs", metavar="N", type=int, default=RUNS, help=f"how many matches ({RUNS})")
+    parser.add_argument("--runs", metavar="N", type=at_least_one, default=RUNS, help=f"how many matches ({RUNS})")
     parser.add_argument("--seed", metavar="S", type=int, default=0, help="the first seed (0)")
 
 

@@ -10,7 +10,8 @@ else the one with the most moves, to a folder. The exit status is 1 if a schedul
 
 It explores the Python model, and nothing is proved of that; the program plays what is kept. Agents must run inside the
 lab (--agent) and be functions of what they are told; what they draw by `random` is, as it begins with the agent's number.
-A sleeper is woken once after each change of the whiteboard in front of it.
+A sleeper wakes once after each change of the whiteboard in front of it, and --naps times more: a team that waits by
+counting, as for a timeout, fails once another agent is slower than it counts.
 """
 import argparse
 import pathlib
@@ -20,6 +21,7 @@ from typing import Any, Dict, Iterator, List, NamedTuple, Optional, Set, Tuple
 
 from lab import finds, teams
 from lab.agent_files import NoAgent, script_of
+from lab.counts import at_least_one
 from lab.engines import PROGRAM, add_engine, program_at, program_of
 from lab.fixtures import Fixture
 from lab.model import AWAY, Match, Verdict, outcome_of
@@ -103,7 +105,7 @@ class Explorer:
     def _start(self) -> State:
         """How the match stands before anything has happened."""
         return State(tuple(it.start for it in self._pasts), ("",) * self.fixture.setup.nodes,
-                     (False,) * len(self._pasts))
+                     (0,) * len(self._pasts))
 
     def _new(self, state: State, before: int, agent: int) -> bool:
         """Numbers a state; answers whether it was not seen before."""
@@ -124,11 +126,11 @@ class Explorer:
         movers = [agent for agent, past in enumerate(state.pasts) if self._can_move(past, state.woken[agent])]
         return next(([agent] for agent in movers if state.pasts[agent].is_local), movers)
 
-    def _can_move(self, past: Past, is_woken: bool) -> bool:
+    def _can_move(self, past: Past, woken: int) -> bool:
         if past.state == TRAVELS:
             agent = past.agent
             return agent.standing == AWAY and not agent.lost and (agent.node, agent.port) not in self._held
-        return past.state == WAITS or past.state == SLEEPS and not is_woken
+        return past.state == WAITS or past.state == SLEEPS and woken <= self.fixture.naps
 
     def _after(self, state: State, agent: int) -> State:
         """The state after the next step of an agent."""
@@ -138,10 +140,10 @@ class Explorer:
         new, put = self._pasts[agent].step(past, text)
         pasts = (*state.pasts[:agent], new, *state.pasts[agent + 1:])
         woken = list(state.woken)
-        woken[agent] = past.state == SLEEPS or woken[agent] and past.state != TRAVELS
+        woken[agent] = 0 if past.state == TRAVELS else woken[agent] + (past.state == SLEEPS)
         if put == text:
             return State(pasts, state.boards, tuple(woken))
-        woken = [it and other.agent.node != ahead for it, other in zip(woken, pasts)]
+        woken = [0 if other.agent.node == ahead else it for it, other in zip(woken, pasts)]
         return State(pasts, (*state.boards[:ahead], put, *state.boards[ahead + 1:]), tuple(woken))
 
     def _end(self, state: State, number: int) -> bool:
@@ -199,8 +201,8 @@ def fixtures_for(words: argparse.Namespace) -> List[Fixture]:
 def add_words(parser: argparse.ArgumentParser) -> None:
     """The words of the command `explore`."""
     teams.add_words(parser)
-    parser.add_argument("--states", metavar="N", type=int, default=MOST_STATES, help="the most states of a match to "
-                        f"visit ({MOST_STATES}); a million take about half a gigabyte")
+    parser.add_argument("--states", metavar="N", type=at_least_one, default=MOST_STATES, help="the most states of a "
+                        f"match to visit ({MOST_STATES}); a million take about half a gigabyte")
     parser.add_argument("--keep", metavar="FOLDER", type=pathlib.Path, default=FOLDER, help="write the schedule that "
                         f"is told there ({FOLDER})")
     add_engine(parser)

@@ -12,13 +12,14 @@ MOST_AGENTS = 64
 
 
 class Fixture(NamedTuple):
-    """A match to be played: whose it is, its setup, the key of each agent, and the links over which nobody arrives,
-    each as (node, port) of the departure."""
+    """A match to be played: whose it is, its setup, the key of each agent, the links over which nobody arrives, each as
+    (node, port) of the departure, and how often an agent may wake again though nothing has changed in front of it."""
 
     team: str
     setup: Setup
     keys: List[str]
     held: List[Place] = []
+    naps: int = 0
 
 
 class NoMatch(networks.NoNetwork):

@@ -15,6 +15,7 @@ from typing import Any, Callable, Dict, NamedTuple, Optional, Sequence, Tuple
 
 from lab import finds, teams
 from lab.agent_files import NoAgent
+from lab.counts import at_least_one
 from lab.engines import add_engine, program_of
 from lab.fixtures import Fixture
 from lab.missing import needed
@@ -115,7 +116,8 @@ class Hunter:
         """What is looked for and of whom: Hypothesis keeps its examples by this."""
         words = self.words
         network = words.tournament, words.match, words.network, words.home, words.hole, words.dark
-        return repr((network, words.quota, words.board, self.agents, words.looked_for, words.any_home)).encode()
+        drawn = words.quota, words.board, words.naps, words.looked_for, words.any_home
+        return repr((network, drawn, self.agents)).encode()
 
 
 def hunted(hunter: Hunter) -> None:
@@ -134,7 +136,7 @@ def add_words(parser: argparse.ArgumentParser) -> None:
     parser.add_argument("--for", dest="looked_for", choices=(FAILURE, MOVES, LOST), default=FAILURE, help="look for a "
                         "team that fails, or for the most moves or lost agents (failure)")
     parser.add_argument("--any-home", action="store_true", help="draw the home base too")
-    parser.add_argument("--runs", metavar="N", type=int, default=RUNS, help=f"how many schedules to try ({RUNS})")
+    parser.add_argument("--runs", metavar="N", type=at_least_one, default=RUNS, help=f"how many schedules to try ({RUNS})")
     parser.add_argument("--seed", metavar="S", type=int, default=0, help="the search's seed (0)")
     parser.add_argument("--database", metavar="FOLDER", type=pathlib.Path, default=DATABASE, help="where earlier finds "
                         f"are kept, which are tried first ({DATABASE})")

@@ -40,6 +40,7 @@ def on_cube(*explored: str) -> Plan:
 PLANS: Dict[str, Plan] = {
     "accuses_at_once": on_ring(4), "divides_unevenly": on_ring(6), "forgets_to_mark": on_ring(4),
     "reads_once": on_ring(4),
+    "counts_naps": on_cube("--network", "ring:3", "--agents", "3"),
     "counts_nodes_alone": on_cube("--network", "complete:4", "--agents", "4"),
     "overwrites": on_cube("--network", "ring:3", "--agents", "3"),
     "trusts_order": on_cube("--network", "complete:4", "--agents", "4"),

@@ -178,9 +178,9 @@ def move(player: Player, before: Past, heard: Tuple[str, ...]) -> None:
 
 
 class State(NamedTuple):
-    """How a match stands: the past of each agent, each whiteboard's text, and of each agent whether it has woken since
-    the whiteboard in front of it changed."""
+    """How a match stands: the past of each agent, each whiteboard's text, and how often each agent has woken since the
+    whiteboard in front of it changed."""
 
     pasts: Tuple[Past, ...]
     boards: Tuple[str, ...]
-    woken: Tuple[bool, ...]
+    woken: Tuple[int, ...]

@@ -69,8 +69,9 @@ class Run:
         self.choices: List[Choice] = []
         self._fixture = fixture
         self._held = set(fixture.held)
-        # of each agent the whiteboard's node, and how often it was written, when the agent woke last
-        self._woke: Dict[int, Tuple[int, int]] = {}
+        # of each agent the whiteboard's node, and how often it was written, when the agent woke last; and how often it
+        # has woken since
+        self._woke: Dict[int, Tuple[Tuple[int, int], int]] = {}
         self._writes: Dict[int, int] = {}
         self._refused: Dict[int, int] = {}
         self._read = 0
@@ -98,7 +99,7 @@ class Run:
             self._woke.pop(choice.agent, None)
             self._tell(self.engine.draw(self.engine.match.pool.index(choice.agent)))
         elif choice.do == WAKE:
-            self._woke[choice.agent] = self._seen(choice.agent)
+            self._woke[choice.agent] = self._seen(choice.agent), self._wakings(choice.agent) + 1
             player.go_on()
         else:
             self._answer(player)
@@ -130,7 +131,7 @@ class Run:
             return Choice(ANSWER, number)
         if player.state == TRAVELS and self._may_arrive(number):
             return Choice(ARRIVE, number)
-        if player.state == SLEEPS and self._woke.get(number) != self._seen(number):
+        if player.state == SLEEPS and self._wakings(number) <= self._fixture.naps:
             return Choice(WAKE, number)
         return None
 
@@ -138,9 +139,14 @@ class Run:
         agent = self.engine.match.agents[number]
         return agent.standing == AWAY and not agent.lost and (agent.node, agent.port) not in self._held
 
+    def _wakings(self, number: int) -> int:
+        """How often an agent has woken since the whiteboard in front of it changed. It can see nothing else, so it wakes
+        once after each change, and again as often as it may nap."""
+        seen, times = self._woke.get(number, (None, 0))
+        return times if seen == self._seen(number) else 0
+
     def _seen(self, number: int) -> Tuple[int, int]:
-        """The whiteboard in front of an agent, and how often it was written. A sleeper wakes once after each change of
-        it, since it can see nothing else."""
+        """The whiteboard in front of an agent, and how often it was written."""
         agent = self.engine.match.agents[number]
         node = self._fixture.setup.home if agent.standing == OUTSIDE else agent.node
         return node, self._writes.get(node, 0)

@@ -18,10 +18,11 @@ Schedulers:
 import argparse
 import collections
 import pathlib
-from typing import Counter, NamedTuple, Optional, Tuple
+from typing import Counter, List, NamedTuple, Optional, Tuple
 
 from lab import finds, schedulers, teams
 from lab.agent_files import NoAgent, member
+from lab.counts import at_least_one
 from lab.engines import add_engine, program_of
 from lab.play import Played, play
 from lab.progress import bar
@@ -68,7 +69,7 @@ def add_words(parser: argparse.ArgumentParser) -> None:
     teams.add_words(parser)
     parser.add_argument("--scheduler", metavar="NAME", default="fair", help="who chooses what happens next (fair)")
     parser.add_argument("--seed", metavar="S", type=int, default=0, help="the first seed (0)")
-    parser.add_argument("--runs", metavar="N", type=int, default=1, help="how many seeds (1)")
+    parser.add_argument("--runs", metavar="N", type=at_least_one, default=1, help="how many seeds (1)")
     parser.add_argument("--keep", metavar="FOLDER", type=pathlib.Path, help="write the match that is told there")
     add_engine(parser)
 
@@ -87,6 +88,13 @@ def run(words: argparse.Namespace) -> int:
         return 130
     report(words, tally, tally.best, program)
     return 1 if tally.failed else 0
+
+
+def spent_in(played: Played) -> List[str]:
+    """Which agents have no commands left of their quota."""
+    quota = played.match.setup.quota
+    return [f"agent {number}: has used all of its {quota} commands" for number, agent in enumerate(played.match.agents)
+            if agent.used == quota]
 
 
 def play_seed(words: argparse.Namespace, seed: int, program: Optional[str]) -> Tuple[Schedule, Played]:
@@ -108,7 +116,7 @@ def report(words: argparse.Namespace, tally: Tally, best: Best, program: Optiona
     told = "the shortest that failed" if tally.failed else "the most moves"
     print(f"{told}: seed {best.seed}, home {setup.home}, holes {setup.holes}, "
           f"{finds.verdict_text(best.played.verdict())}")
-    for fault in best.played.faults:
+    for fault in [*best.played.faults, *spent_in(best.played)]:
         print(fault)
     if words.keep:
         print("\n".join(finds.write_find(words.keep, best.schedule, best.played, program)))

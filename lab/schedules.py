@@ -45,7 +45,8 @@ def text_of(schedule: Schedule) -> str:
     setup = {name: value for name, value in fixture.setup._asdict().items()}
     head: Object = {
         "agents": [f"{agent.kind} {agent.words}" for agent in schedule.agents], "files": schedule.files,
-        "fixture": {"team": fixture.team, "keys": fixture.keys, "held": pairs(fixture.held), **setup},
+        "fixture": {"team": fixture.team, "keys": fixture.keys, "held": pairs(fixture.held), "naps": fixture.naps,
+                    **setup},
         "lab": VERSION, "origin": schedule.origin, "schedule": 1,
     }
     return "".join([spelled(head) + "\n", *(f"{choice.do} {choice.agent}\n" for choice in schedule.choices)])
@@ -60,7 +61,8 @@ def read(path: pathlib.Path) -> Schedule:
         team, keys, held = (given.pop(name) for name in ("team", "keys", "held"))
         for name in ("links", "dark"):
             given[name] = [tuple(it) for it in given[name]]
-        fixture = Fixture(team, Setup(**given), keys, [tuple(it) for it in held])
+        naps = given.pop("naps", 0)
+        fixture = Fixture(team, Setup(**given), keys, [tuple(it) for it in held], naps)
         agents = [agent_of(line) for line in head["agents"]]
         return Schedule(fixture, agents, head["origin"], choices_of(path, lines[1:]), head["files"])
     except (KeyError, TypeError, ValueError, AttributeError):

@@ -13,6 +13,7 @@ import time
 from typing import Callable, Dict, List, Optional
 
 from lab import explore, schedulers
+from lab.counts import at_least_one
 from lab.engines import TOP, add_program, is_unproved, program_at
 from lab.finds import engine_of
 from lab.fixtures import Fixture, fixture_of
@@ -62,7 +63,8 @@ def rate(count: Callable[[int], int], rounds: int) -> int:
 
 def add_words(parser: argparse.ArgumentParser) -> None:
     """The words of the command `speed`."""
-    parser.add_argument("--rounds", metavar="N", type=int, default=ROUNDS, help=f"how often to measure each ({ROUNDS})")
+    parser.add_argument("--rounds", metavar="N", type=at_least_one, default=ROUNDS, help="how often to measure each "
+                        f"({ROUNDS})")
     add_program(parser)
 
 

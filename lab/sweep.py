@@ -25,6 +25,7 @@ from typing import Any, Dict, Iterable, Iterator, List, NamedTuple, Optional, Tu
 
 from lab import grid, report
 from lab.agent_files import digests
+from lab.counts import at_least_one
 from lab.engines import Differs, add_engine, judged, program_at, program_of
 from lab.finds import engine_of, write_find
 from lab.grid import Case, Grid, NoSweep
@@ -149,7 +150,7 @@ def add_words(parser: argparse.ArgumentParser) -> None:
 
 def add_workers(parser: argparse.ArgumentParser) -> None:
     """The option that says how many processes play."""
-    parser.add_argument("--workers", metavar="N", type=int, default=os.cpu_count() or 1, help="how many processes play "
+    parser.add_argument("--workers", metavar="N", type=at_least_one, default=os.cpu_count() or 1, help="how many processes play "
                         "(as many as there are processors)")
 
 

@@ -5,6 +5,7 @@ from typing import List, NamedTuple, Optional, Sequence
 
 from lab import networks
 from lab.agent_files import NoAgent, script_of
+from lab.counts import not_negative
 from lab.fixtures import Fixture, MOST_AGENTS, NoMatch, fixture_of, read_tournament
 from lab.model import Place, Setup
 from lab.play import Team
@@ -14,6 +15,7 @@ from lab.programs import Team as Outside
 INSIDE, OUTSIDE = "agent", "command"
 QUOTA, BOARD = 1000, 4096
 NETWORK = "ring:8"
+NAPS = 2
 
 
 class AgentWords(NamedTuple):
@@ -81,6 +83,8 @@ def add_words(parser: argparse.ArgumentParser) -> None:
     team.add_argument("--agents", metavar="N", type=int, help="how many agents there are (2, or as many as are named)")
     team.add_argument("--limit", metavar="SECONDS", type=float, default=5, help="how long an agent may take to send "
                       "or to wait (5)")
+    team.add_argument("--naps", metavar="N", type=not_negative, default=NAPS, help="how often an agent inside that sleeps may "
+                      f"wake again though nothing has changed in front of it ({NAPS})")
 
 
 def team_of(words: argparse.Namespace) -> List[AgentWords]:
@@ -117,7 +121,7 @@ def read_fixture(words: argparse.Namespace) -> Fixture:
 def fixture_for(words: argparse.Namespace, seed: int, home: Optional[int] = None) -> Fixture:
     """The match that the words name. If they name nothing that destroys, the seed chooses the black hole."""
     if words.tournament:
-        return read_fixture(words)
+        return read_fixture(words)._replace(naps=words.naps)
     network = networks.named(words.network)
     home = words.home if home is None else home
     if not 0 <= home < network.nodes:
@@ -125,5 +129,5 @@ def fixture_for(words: argparse.Namespace, seed: int, home: Optional[int] = None
     others = [v for v in range(network.nodes) if v != home]
     holes = words.hole or ([] if words.dark else [others[seed % len(others)]])
     agents = len(team_of(words))
-    return fixture_of(Setup(network.nodes, network.links, home, sorted(holes), agents, words.quota, words.board,
-                            words.dark))
+    setup = Setup(network.nodes, network.links, home, sorted(holes), agents, words.quota, words.board, words.dark)
+    return fixture_of(setup)._replace(naps=words.naps)

@@ -3,7 +3,7 @@ import random
 import unittest
 
 from lab import schedulers
-from lab.agent_files import NoAgent
+from lab.agent_files import NoAgent, script_of
 from lab.networks import ring
 from lab.teams import INSIDE, AgentWords
 from lab.tests.playing import MAP, RING, InFolder, fixture, network_fixture, played, ring_fixture
@@ -57,6 +57,14 @@ class Modules(InFolder):
         self.assertEqual([fault.partition(" 0.")[0] for fault in first],
                          ["agent 0: raises ValueError: ['k0']", "agent 1: raises ValueError: ['k1']"])
         self.assertEqual(len({fault.partition("] ")[2] for fault in first}), 2)
+
+    def test_words_that_the_function_does_not_take_are_told(self) -> None:
+        setup = fixture(ring(4), 2).setup
+        for words, said in ((RING.words.replace(" {nodes}", ""), "it wants nodes behind the file"),
+                            (RING.words + " {links}", "it takes nodes behind the file, and 2 are named"),
+                            (MAP.words.replace(" {links}", ""), "it wants nodes, links behind the file")):
+            with self.subTest(words), self.assertRaisesRegex(NoAgent, said):
+                script_of(words, setup)
 
     def test_a_file_that_does_not_parse_is_told(self) -> None:
         (self.folder / "broken.py").write_text("def search(agent, key:\n", encoding="utf-8")

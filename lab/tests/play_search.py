@@ -181,11 +181,18 @@ class Hunting(Searches):
 
 class Mutants(Searches):
     def test_two_are_caught(self) -> None:
-        for name in ("reads_once", "counts_nodes_alone"):
+        for name in ("reads_once", "counts_nodes_alone", "counts_naps"):
             with self.subTest(name):
                 for found in mutation.caught(name, program()):
                     self.assertTrue(found.is_caught)
                     self.assertNotEqual(found.verdict.split()[0], "solved")
+
+    def test_a_timeout_fails_under_a_scheduler_if_agents_may_nap(self) -> None:
+        agent = f"{mutation.FOLDER / 'counts_naps.py'} {{nodes}} {{links}}"
+        words = ["run", "--network", "ring:8", "--agents", "3", "--agent", agent, "--runs", "10", "--engine", "model"]
+        self.assertEqual(self.command(*words, "--naps", "1"), 0)
+        self.assertEqual(self.command(*words, *self.kept()[:2]), 1)
+        self.assertEqual(self.command("replay", self.folder / "find", "--engine", "model"), 0)
 
     def test_each_has_a_plan(self) -> None:
         self.assertEqual(sorted(path.stem for path in mutation.FOLDER.glob("*.py")), sorted(mutation.PLANS))

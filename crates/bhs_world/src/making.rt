@@ -110,7 +110,7 @@ pub(crate) fn in_order(
     })
 }
 
-/// As many agents; no agent has entered.
+/// As many agents, none of which has entered.
 pub(crate) fn newcomers(alloc: Global, count: u16) -> Result<Vec<Agent>, AllocError>
     ensures { IfOk result (λ agents. agents.items ≡ replicate count newcomer) }
 {
@@ -121,7 +121,7 @@ pub(crate) fn newcomers(alloc: Global, count: u16) -> Result<Vec<Agent>, AllocEr
     Ok(agents)
 }
 
-/// As many whiteboards, each with the empty text.
+/// As many whiteboards, each of which shows the empty text.
 pub(crate) fn empty_boards(alloc: Global, count: u16, limit: u16) -> Result<Vec<Board>, AllocError>
     ensures { IfOk result (λ boards. boards.items ≡ replicate count (record { limit = limit; last = None })) }
 {
