@@ -29,8 +29,7 @@ from typing import Callable, Dict, List, Mapping, NamedTuple, Sequence, Tuple
 
 from lab import grid, report, sweep
 from lab.__main__ import main as lab
-from lab.engines import TOP, is_unproved, program_at
-from lab.run import PROGRAM, add_engine
+from lab.engines import PROGRAM, TOP, add_engine, is_unproved, program_at
 
 EXPERIMENTS = TOP / "experiments"
 DOCUMENT = TOP / "docs" / "EXPERIMENTS.md"
