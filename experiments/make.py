@@ -32,8 +32,7 @@ from experiments.division import Table, bound, of_ring, of_ring3, ring3
 from experiments.turns import played
 from lab import grid, report, sweep
 from lab.__main__ import main as lab
-from lab.engines import TOP, is_unproved, program_at
-from lab.run import PROGRAM, add_engine
+from lab.engines import PROGRAM, TOP, add_engine, is_unproved, program_at
 
 EXPERIMENTS = TOP / "experiments"
 DOCUMENT = TOP / "docs" / "EXPERIMENTS.md"
