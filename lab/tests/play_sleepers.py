@@ -1,5 +1,5 @@
 """What `run` and `explore` find of agents that sleep, crash or are refused, and of links that are held: a search that
-forgets a wake, that wakes nobody at a write, or that crosses a held link comes to other ends."""
+forgets a wake or a nap, that wakes nobody at a write, or that crosses a held link comes to other ends."""
 import argparse
 import contextlib
 import io
@@ -128,6 +128,10 @@ held = [[0, 1]]
 """
 
 
+# sleepers wake once after each change alone
+WITHOUT_NAPS = ("--naps", "0")
+
+
 class Sleepers(unittest.TestCase):
     def setUp(self) -> None:
         folder = tempfile.TemporaryDirectory()
@@ -140,7 +144,7 @@ class Sleepers(unittest.TestCase):
 
     def worst(self, names: List[str], *words: str) -> explore.End:
         """The worst end of a match of these agents."""
-        given: argparse.Namespace = parser().parse_args(["explore", *words, *self.agents(names)])
+        given: argparse.Namespace = parser().parse_args(["explore", *WITHOUT_NAPS, *words, *self.agents(names)])
         fixture = explore.fixtures_for(given)[-1]
         end = explore.explored(fixture, explore.teams.team_of(given), given, mock.Mock()).explorer.worst
         assert end is not None
@@ -167,7 +171,15 @@ class Sleepers(unittest.TestCase):
     def has_failed(self, names: List[str], *words: str) -> bool:
         """Whether some of twenty drawn schedules fails."""
         with contextlib.redirect_stdout(io.StringIO()):
-            return main(["run", *words, *self.agents(names), "--runs", "20", "--engine", "model"]) == 1
+            return main(["run", *WITHOUT_NAPS, *words, *self.agents(names), "--runs", "20", "--engine", "model"]) == 1
+
+    def test_sleepers_that_may_nap_wake_without_a_change(self) -> None:
+        for name in ("wants_news_at_each_wake", "sleeps_before_it_enters"):
+            for naps, fails in (("0", False), ("1", True)):
+                with self.subTest(name, naps=naps):
+                    words = ["--network", "ring:3", "--hole", "1", "--naps", naps]
+                    self.assertEqual(self.worst([name, "touches"], *words).has_failed, fails)
+                    self.assertEqual(self.has_failed([name, "touches"], *words), fails)
 
     def test_nobody_arrives_over_a_held_link(self) -> None:
         (self.folder / "ring.toml").write_text(
