@@ -5,10 +5,10 @@ home, was destroyed, or is on a held link.
     ./arena --help            # builds the program, if it is not built yet
     python3 bench/waits.py [--moves N] [--pause MS]
 
-Two agents are served on a ring of eight nodes. The first stands, or departs for the black hole or over a held link; then
-the second goes to a node and back, N moves in all, and each move is timed. Turns are times divided by the pause. Under
-the adaptive schedule the rows differ; under the oblivious one they are equal within their errors, with and without
-delays. The program is ./arena, or what ARENA names.
+Two agents are served on a ring of eight nodes. The first stands, or departs for the black hole or over a held link;
+then the second goes to a node and back, N moves in all, and each move is timed. Turns are times divided by the pause.
+Under the adaptive schedule the rows differ; under the oblivious one they are equal within their errors, with and
+without delays. The program is ./arena, or what ARENA names.
 """
 import argparse
 import json
@@ -109,7 +109,8 @@ def main(arguments: List[str]) -> int:
                 print(f"{schedule}, {place}: {fault}", file=sys.stderr)
                 return 1
             error = statistics.stdev(taken) / len(taken) ** 0.5
-            print(f"| {schedule} | {place} | {statistics.mean(taken):.2f} | {error:.2f} | {max(taken):.1f} |", flush=True)
+            mean = statistics.mean(taken)
+            print(f"| {schedule} | {place} | {mean:.2f} | {error:.2f} | {max(taken):.1f} |", flush=True)
     return 0
 
 

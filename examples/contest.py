@@ -14,8 +14,8 @@ a contest whose results count asks for that.
 With --kill the agents of the team green are killed in the middle of their search, and the other teams must solve
 theirs. Files go to a temporary folder; --keep has the replays of the matches written to a folder, --pages also a page
 of each and a list of them (python3 -m lab pages). With --watch a browser shows the contest while it goes on (python3 -m
-lab watch); turns are slower then, and the page stays until you press Enter. ARENA in the environment names another server, as
-ARENA="python3 -m lab" for one in Python, which needs neither a build nor the toolchain.
+lab watch); turns are slower then, and the page stays until you press Enter. ARENA in the environment names another
+server, as ARENA="python3 -m lab" for one in Python, which needs neither a build nor the toolchain.
 """
 import argparse
 import contextlib

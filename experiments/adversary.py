@@ -1,5 +1,5 @@
-"""A scheduler that makes the search by thirds move most, as experiments/division.py counts it. For N nodes the black hole
-must be at the node that
+"""A scheduler that makes the search by thirds move most, as experiments/division.py counts it. For N nodes the black
+hole must be at the node that
 
     /usr/bin/python3 -m experiments.division attain N
 

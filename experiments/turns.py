@@ -1,5 +1,6 @@
-"""A small world in which two agents of a ring search act by turns: each goes on until it is on its link into a node that
-nobody has reached. There is no black hole: it is the last node that nobody has reached, before which an agent waits."""
+"""A small world in which two agents of a ring search act by turns: each goes on until it is on its link into a node
+that nobody has reached. There is no black hole: it is the last node that nobody has reached, before which an agent
+waits."""
 from typing import Any, Dict, List, NamedTuple, Sequence, Set, Tuple
 
 from greenlet import greenlet

@@ -97,8 +97,8 @@ def own_names(folders: Collection[str]) -> List[str]:
 
 
 def loaded_anew(path: pathlib.Path, seed: int) -> Tuple[ModuleType, ModuleType]:
-    """The module in a file, and the client that it imports, loaded for one agent alone. If they or what they import from
-    beside them draw by `random`, that begins with this seed."""
+    """The module in a file, and the client that it imports, loaded for one agent alone. If they or what they import
+    from beside them draw by `random`, that begins with this seed."""
     folders = {str(path.parent.resolve()), str(AGENTS)}
     shared = {name: sys.modules.pop(name) for name in own_names(folders)}
     try:
@@ -122,10 +122,11 @@ def script_of(words: str, setup: Setup) -> Script:
     asked = asked_behind(words, inspect.signature(member(file, "search")), len(numbers))
 
     def play(lines: Any, key: str, sleep: Sleep) -> None:
-        given = {"sleep": sleep, "network": tuple(setup.links), "home": setup.home}
+        values = {"sleep": sleep, "network": tuple(setup.links), "home": setup.home}
+        given = {word: values[word] for word in asked if word in values}
         module, client = loaded_anew(path, lines.number)
         try:
-            getattr(module, name)(client.Agent(lines), key, *numbers, **{name: given[name] for name in asked if name in given})
+            getattr(module, name)(client.Agent(lines), key, *numbers, **given)
         except client.MatchOver:
             pass
     return play

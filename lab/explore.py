@@ -9,9 +9,9 @@ states there are and the most moves of all schedules. It stops at the first sche
 else the one with the most moves, to a folder. The exit status is 1 if a schedule fails.
 
 It explores the Python model, and nothing is proved of that; the program plays what is kept. Agents must run inside the
-lab (--agent) and be functions of what they are told; what they draw by `random` is, as it begins with the agent's number.
-A sleeper wakes once after each change of the whiteboard in front of it, and --naps times more: a team that waits by
-counting, as for a timeout, fails once another agent is slower than it counts.
+lab (--agent) and be functions of what they are told; what they draw by `random` is, as it begins with the agent's
+number. A sleeper wakes once after each change of the whiteboard in front of it, and --naps times more: a team that
+waits by counting, as for a timeout, fails once another agent is slower than it counts.
 """
 import argparse
 import pathlib

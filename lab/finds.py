@@ -1,6 +1,7 @@
 """Finds: a schedule worth keeping, played by the program and written with all that shows it."""
 import contextlib
 import pathlib
+import tempfile
 from typing import List, Optional
 
 from lab.engines import Engine, Program, is_unproved, judged
@@ -10,7 +11,7 @@ from lab.model import Verdict
 from lab.page import write_page
 from lab.play import Played, play
 from lab.rehearsal import Rehearsal
-from lab.schedulers import recorded
+from lab.schedulers import Impossible, recorded
 from lab.schedules import Schedule, text_of
 from lab.teams import Together
 
@@ -29,7 +30,12 @@ def engine_of(schedule: Schedule, program: Optional[str]) -> Engine:
 def played_again(schedule: Schedule, program: Optional[str], seconds: float = 5) -> Played:
     """The schedule, played."""
     team = Together(schedule.agents, schedule.fixture, seconds)
-    return play(engine_of(schedule, program), team, recorded(schedule.choices), schedule.fixture)
+    played = play(engine_of(schedule, program), team, recorded(schedule.choices), schedule.fixture)
+    count = len(played.choices)
+    if count < len(schedule.choices):
+        surplus = schedule.choices[count]
+        raise Impossible(f"choice {count + 1} is `{surplus.do} {surplus.agent}`, and nothing may happen there")
+    return played
 
 
 def verdict_text(verdict: Verdict) -> str:
@@ -51,6 +57,21 @@ def write_find(folder: pathlib.Path, schedule: Schedule, played: Played, program
     by = " (by a program that is not proved)" if is_unproved(program) else ""
     said.append(f"the program's verdict: {verdict_text(judged(program, folder / REPLAY))}{by}")
     return said + written_page(folder, program)
+
+
+def changed_in(folder: pathlib.Path, schedule: Schedule, played: Played, program: Optional[str]) -> List[str]:
+    """The files of a find that are not as they would be written now. A page may be missing."""
+    with tempfile.TemporaryDirectory() as name:
+        fresh = pathlib.Path(name)
+        write_find(fresh, schedule, played, program)
+        names = sorted(path.name for path in fresh.iterdir() if path.name not in (SCHEDULE, REPLAY))
+        return [name for name in names if bytes_of(folder / name) != bytes_of(fresh / name)
+                and (name != PAGE or (folder / name).exists())]
+
+
+def bytes_of(path: pathlib.Path) -> Optional[bytes]:
+    """What is in a file, if it is there."""
+    return path.read_bytes() if path.exists() else None
 
 
 def keep(folder: pathlib.Path, schedule: Schedule, program: Optional[str]) -> Played:

@@ -38,6 +38,8 @@ def checked(setup: Setup) -> Setup:
     ends = [min(place, ports.get(place, place)) for place in setup.dark]
     if not 1 <= setup.agents <= MOST_AGENTS:
         raise NoMatch(f"a match has 1 to {MOST_AGENTS} agents, and not {setup.agents}")
+    if any(not 0 <= node < setup.nodes for v, _, w, _ in setup.links for node in (v, w)):
+        raise NoMatch(f"a link has an end that does not exist: nodes are 0 to {setup.nodes - 1}")
     if not 0 <= setup.home < setup.nodes:
         raise NoMatch(f"the home base {setup.home} does not exist: nodes are 0 to {setup.nodes - 1}")
     if any(hole == setup.home or not 0 <= hole < setup.nodes for hole in setup.holes):

@@ -136,7 +136,8 @@ def add_words(parser: argparse.ArgumentParser) -> None:
     parser.add_argument("--for", dest="looked_for", choices=(FAILURE, MOVES, LOST), default=FAILURE, help="look for a "
                         "team that fails, or for the most moves or lost agents (failure)")
     parser.add_argument("--any-home", action="store_true", help="draw the home base too")
-    parser.add_argument("--runs", metavar="N", type=at_least_one, default=RUNS, help=f"how many schedules to try ({RUNS})")
+    parser.add_argument("--runs", metavar="N", type=at_least_one, default=RUNS,
+                        help=f"how many schedules to try ({RUNS})")
     parser.add_argument("--seed", metavar="S", type=int, default=0, help="the search's seed (0)")
     parser.add_argument("--database", metavar="FOLDER", type=pathlib.Path, default=DATABASE, help="where earlier finds "
                         f"are kept, which are tried first ({DATABASE})")

@@ -140,8 +140,8 @@ class Run:
         return agent.standing == AWAY and not agent.lost and (agent.node, agent.port) not in self._held
 
     def _wakings(self, number: int) -> int:
-        """How often an agent has woken since the whiteboard in front of it changed. It can see nothing else, so it wakes
-        once after each change, and again as often as it may nap."""
+        """How often an agent has woken since the whiteboard in front of it changed. It can see nothing else, so it
+        wakes once after each change, and again as often as it may nap."""
         seen, times = self._woke.get(number, (None, 0))
         return times if seen == self._seen(number) else 0
 

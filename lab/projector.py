@@ -5,10 +5,10 @@
 TOURNAMENT is the file that `arena serve` serves, and PREFIX what its --replay names. Start it before the contest or at
 any time in it; it reads the parts of the replays as they grow, and goes on when the server is started again.
 
-While a match runs the page shows its team, since when it runs, and how many of its agents have entered, and nothing that
-would tell an agent more than it has met. Once it is closed its verdict is shown; once all are closed each match has its
-page, on which it is played from its start to its end at the speed that you choose. With --turns and --pause, as `serve`
-has them, the page says about how many turns are left.
+While a match runs the page shows its team, since when it runs, and how many of its agents have entered, and nothing
+that would tell an agent more than it has met. Once it is closed its verdict is shown; once all are closed each match
+has its page, on which it is played from its start to its end at the speed that you choose. With --turns and --pause, as
+`serve` has them, the page says about how many turns are left.
 
 With --open each match has its page at once, and the page follows it: everybody sees the black holes, so this is for
 practice and talks alone.
@@ -37,7 +37,8 @@ from lab.screen import Watched, standings
 EVERY, MOST_WATCHERS = 0.5, 500
 # seconds after which a watcher that was told nothing new is asked whether it is there
 QUIET = 15
-STRICT = "default-src 'none'; style-src 'self'; script-src 'self'; connect-src 'self'; base-uri 'none'; form-action 'none'"
+STRICT = ("default-src 'none'; style-src 'self'; script-src 'self'; connect-src 'self'; base-uri 'none'; "
+          "form-action 'none'")
 # the page of a match has its style and its script in itself
 WHOLE = ("default-src 'none'; style-src 'unsafe-inline'; script-src 'unsafe-inline'; connect-src 'self'; "
          "base-uri 'none'; form-action 'none'")

@@ -3,16 +3,18 @@
     python3 -m lab replay FOLDER|SCHEDULE [--against REPLAY]
 
 FOLDER is one that `run`, `hunt` or `explore` wrote. The command plays its schedule and compares the replay with the one
-in the folder. The exit status is 1 if they differ. You may change a schedule by hand: it has one choice a line.
+in the folder, and the files beside it with what would be written now. The exit status is 1 if something differs, or if
+the agents' files are others. You may change a schedule by hand: it has one choice a line.
 """
 import argparse
 import pathlib
 import sys
+from typing import List
 
 from lab import finds
 from lab.agent_files import digests
 from lab.engines import add_engine, program_of
-from lab.schedules import read
+from lab.schedules import Schedule, read
 
 
 def add_words(parser: argparse.ArgumentParser) -> None:
@@ -27,13 +29,13 @@ def add_words(parser: argparse.ArgumentParser) -> None:
 
 def run(words: argparse.Namespace) -> int:
     path, against = words.schedule, words.against
-    if path.is_dir():
-        path, against = path / finds.SCHEDULE, against or path / finds.REPLAY
+    folder = path if path.is_dir() else None
+    if folder:
+        path, against = folder / finds.SCHEDULE, against or folder / finds.REPLAY
     schedule = read(path)
-    now = digests([agent.words for agent in schedule.agents])
-    for file, digest in schedule.files.items():
-        if now.get(file) != digest:
-            print(f"lab: {file} is another file than when the schedule was made", file=sys.stderr)
+    others = other_files(schedule)
+    for file in others:
+        print(f"lab: {file} is another file than when the schedule was made", file=sys.stderr)
     program = program_of(words)
     played = finds.played_again(schedule, program, words.limit)
     print(finds.verdict_text(played.verdict()))
@@ -45,4 +47,13 @@ def run(words: argparse.Namespace) -> int:
         return 1 if played.has_failed() else 0
     same = against.read_bytes() == played.replay
     print(f"the replay is {'the same' if same else 'another one'}, byte for byte: {against}")
-    return 0 if same else 1
+    changed = finds.changed_in(folder, schedule, played, program) if folder else []
+    for name in changed:
+        print(f"{folder / name} is not what belongs to this schedule")
+    return 0 if same and not others and not changed else 1
+
+
+def other_files(schedule: Schedule) -> List[str]:
+    """The files of agents that are others than when the schedule was made, or that its head does not name."""
+    now = digests([agent.words for agent in schedule.agents])
+    return sorted(file for file in {*now, *schedule.files} if now.get(file) != schedule.files.get(file))

@@ -15,7 +15,7 @@ from typing import Dict, List, NamedTuple
 
 from lab import VERSION
 from lab.agent_files import digests
-from lab.fixtures import Fixture, pairs
+from lab.fixtures import Fixture, NoMatch, checked, pairs
 from lab.model import Object, Setup, spelled
 from lab.schedulers import ANSWER, ARRIVE, WAKE, Choice
 from lab.teams import INSIDE, OUTSIDE, AgentWords
@@ -62,9 +62,14 @@ def read(path: pathlib.Path) -> Schedule:
         for name in ("links", "dark"):
             given[name] = [tuple(it) for it in given[name]]
         naps = given.pop("naps", 0)
-        fixture = Fixture(team, Setup(**given), keys, [tuple(it) for it in held], naps)
+        fixture = Fixture(team, checked(Setup(**given)), keys, [tuple(it) for it in held], naps)
         agents = [agent_of(line) for line in head["agents"]]
+        if not len(agents) == len(keys) == fixture.setup.agents:
+            raise NoSchedule(f"{path}: its head names {len(agents)} agents and {len(keys)} keys, and the match has "
+                             f"{fixture.setup.agents} agents")
         return Schedule(fixture, agents, head["origin"], choices_of(path, lines[1:]), head["files"])
+    except NoMatch as fault:
+        raise NoSchedule(f"{path}: its head names no match: {fault}") from None
     except (KeyError, TypeError, ValueError, AttributeError):
         raise NoSchedule(f"{path}: its first line is no head of a schedule") from None
 

@@ -1,9 +1,9 @@
-"""What a screen may show of a contest that goes on. Students see it who play, so it tells no more than all of them know.
+"""What a screen may show of a contest that goes on: no more than all who play know, since they look at it.
 
 Of a match that is not closed: whose it is, that it runs, and how many of its agents have entered. That is the same in
 two matches that no agent can tell apart: where the black holes are, who is lost, and who is on a link does not count.
-Once a match is closed, its verdict is shown. The page of a match shows the black holes, which others may still look for,
-so pages come when all matches are closed.
+Once a match is closed, its verdict is shown. The page of a match shows the black holes, which others may still look
+for, so pages come when all matches are closed.
 """
 from typing import Any, Dict, List, NamedTuple, Optional, Sequence
 

@@ -150,8 +150,8 @@ def add_words(parser: argparse.ArgumentParser) -> None:
 
 def add_workers(parser: argparse.ArgumentParser) -> None:
     """The option that says how many processes play."""
-    parser.add_argument("--workers", metavar="N", type=at_least_one, default=os.cpu_count() or 1, help="how many processes play "
-                        "(as many as there are processors)")
+    parser.add_argument("--workers", metavar="N", type=at_least_one, default=os.cpu_count() or 1,
+                        help="how many processes play (as many as there are processors)")
 
 
 def run(words: argparse.Namespace) -> int:

@@ -162,7 +162,8 @@ class Search:
         return True
 
     def claim(self) -> None:
-        """Goes to the box and claims the middle; or finds that the other has claimed it, and so has explored its part."""
+        """Goes to the box and claims the middle; or finds that the other has claimed it, and so has explored its
+        part."""
         self.go(self.box)
         while fields(self.walker.board).get(BOX) != self.label:
             if self.walker.write(BOX, self.label):

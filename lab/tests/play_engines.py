@@ -3,6 +3,7 @@ import contextlib
 import io
 import pathlib
 import random
+import re
 import subprocess
 import tempfile
 import unittest
@@ -17,6 +18,20 @@ from lab.tests.playing import AGENTS, MAP, RING, fixture, network_fixture, playe
 from lab.networks import ring
 
 MATCHES = 60
+# changes of a find: the file, what is replaced in it by what, the status, and what is said
+CHANGES = (
+    ("schedule.txt", r"\n$", "\nanswer 0\n", 1, "is `answer 0`, and nothing may happen there"),
+    ("schedule.txt", r"(\n\w+ \d){2}\n$", "\n", 1, "the replay is another one"),
+    ("schedule.txt", r'"files":\{[^}]*\}', '"files":{}', 1, "is another file than when the schedule was made"),
+    ("schedule.txt", '"nodes":8', '"nodes":3', 2, "a link has an end that does not exist: nodes are 0 to 2"),
+    ("schedule.txt", '"agents":2', '"agents":3', 2, "its head names 2 agents and 2 keys, and the match has 3 agents"),
+    ("schedule.txt", '"quota":1000', '"quota":999', 1, "tournament.toml is not what belongs to this schedule"),
+    ("match0.jsonl", '"holes":.4.', '"holes":[5]', 1, "the replay is another one"),
+    ("script.txt", "draw 0 0", "draw 0 1", 1, "script.txt is not what belongs to this schedule"),
+    ("tournament.toml", "holes = .4.", "holes = [5]", 1, "tournament.toml is not what belongs to this schedule"),
+    ("network.toml", "nodes = 8", "nodes = 9", 1, "network.toml is not what belongs to this schedule"),
+    ("match0.html", "</body>", "<p></p></body>", 1, "match0.html is not what belongs to this schedule"),
+)
 
 
 class Engines(unittest.TestCase):
@@ -111,8 +126,22 @@ class Schedules(unittest.TestCase):
         words = ["run", "--engine", "model", "--agent", f"{agent} 8", "--keep", self.folder / "kept"]
         self.assertEqual(self.command(*words), 0)
         agent.write_text(agent.read_text(encoding="utf-8") + "\n", encoding="utf-8")
-        self.command("replay", self.folder / "kept", "--engine", "model")
+        self.assertEqual(self.command("replay", self.folder / "kept", "--engine", "model"), 1)
         self.assertIn("is another file than when the schedule was made", self.said.getvalue())
+
+    def test_each_change_of_what_was_kept_is_told(self) -> None:
+        kept = self.folder / "kept"
+        words = ["run", "--engine", "model", "--agent", RING.words, "--hole", "4", "--keep", kept]
+        self.assertEqual(self.command(*words), 0)
+        for file, old, new, status, said in CHANGES:
+            with self.subTest(file, new=new):
+                text = (kept / file).read_text(encoding="utf-8")
+                self.assertRegex(text, old)
+                (kept / file).write_text(re.sub(old, new, text, count=1), encoding="utf-8")
+                self.assertEqual(self.command("replay", kept, "--engine", "model"), status)
+                self.assertIn(said, self.said.getvalue())
+                (kept / file).write_text(text, encoding="utf-8")
+        self.assertEqual(self.command("replay", kept, "--engine", "model"), 0)
 
 
 if __name__ == "__main__":

@@ -100,7 +100,8 @@ class Experiments(unittest.TestCase):
             halves, thirds = of_ring(nodes), Table(nodes, of_ring3).moves()
             with self.subTest(nodes=nodes):
                 self.assertEqual((row[3], row[6]), (str(halves), str(thirds)))
-                self.assertEqual(row[8:], [f"{bound(nodes):.0f}", f"{thirds / bound(nodes):.2f}", f"{thirds / halves:.2f}"])
+                shares = [f"{thirds / bound(nodes):.2f}", f"{thirds / halves:.2f}"]
+                self.assertEqual(row[8:], [f"{bound(nodes):.0f}", *shares])
                 played = [int(cell) for cell in (row[4], row[5]) if cell != "–"]
                 self.assertTrue(all(moves <= thirds for moves in played))
                 self.assertTrue(all(int(cell) <= halves for cell in (row[1], row[2]) if cell != "–"))

@@ -128,7 +128,8 @@ class Grading(InFolder):
         for how, fault in FAULTS.items():
             with self.subTest(how):
                 self.assertIn(fault, rows[how][0]["fault"])
-        self.assertRegex((self.folder / "out" / league.TABLE).read_text().splitlines()[1], "^1,right,1,1,[0-9]+,[01],1$")
+        table = (self.folder / "out" / league.TABLE).read_text().splitlines()
+        self.assertRegex(table[1], "^1,right,1,1,[0-9]+,[01],1$")
 
     def test_who_hangs_is_ended_with_all_that_it_has_started(self) -> None:
         file = self.folder / "course.toml"

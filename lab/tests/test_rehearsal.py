@@ -124,7 +124,7 @@ class CommandLine(unittest.TestCase):
         for words, said in ((["run", "--engine", "model"], "name a team"),
                             (["run", *agent, "--network", "star:3"], "a network is ring:N"),
                             (["run", *agent, "--scheduler", "unfair"], "there is no such scheduler; there are fair"),
-                            (["run", *agent, "--hole", "0"], "black holes are nodes from 0 to 7 other than the home base 0"),
+                            (["run", *agent, "--hole", "0"], "black holes are nodes from 0 to 7 other than the home"),
                             (["run", "--engine", "model", "--agent", "nowhere.py"], "there is no such file"),
                             (["run", "--engine", "model", "--agent", "examples/agents/ring.py x"], "are whole numbers"),
                             (["replay", "/nowhere", "--engine", "model"], "No such file"),

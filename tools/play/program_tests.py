@@ -7,8 +7,8 @@ PROGRAM is the built program. With a folder only the rows of its files are playe
 benchmark. program_rows.py says how rows are read and played; the other cases are in program_cases.py,
 interactive_cases.py, contest_cases.py, serving_cases.py, replay_cases.py, traced_files.py, program_contests.py and
 program_rehearsals.py. Each row and each case is played in a fresh temporary folder; nothing in the repository is
-overwritten. For each that fails a line names the file and the title, what was wanted and what came. The last line reads `N passed, M failed`, and the exit
-status is 1 if one failed.
+overwritten. For each that fails a line names the file and the title, what was wanted and what came. The last line reads
+`N passed, M failed`, and the exit status is 1 if one failed.
 """
 import concurrent.futures
 import functools

@@ -53,7 +53,8 @@ def long_replays(stage: Stage) -> None:
     (stage.folder / "part").write_bytes(b"".join(lines[:-2]))
     expect(stage.run(["recover", "part"]), text)
     expect(stage.run(["judge", "m0.jsonl"]), b"guess 1 moves 0 lost 0\n")
-    expect(stage.run(["table", "red=m0.jsonl"]), f"{TABLE_HEAD}\n  1 red              guess 1         0    0\n".encode())
+    table = f"{TABLE_HEAD}\n  1 red              guess 1         0    0\n"
+    expect(stage.run(["table", "red=m0.jsonl"]), table.encode())
     expect(stage.run(["explain", "m0.jsonl", "0"]),
            b"".join(b"%d %b" % (place, line) for place, line in enumerate(lines[1:-2])))
     expect(stage.run(["twin", "m0.jsonl", "1"]), text.replace(b'"holes":[2]', b'"holes":[1]'))

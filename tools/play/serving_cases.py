@@ -111,8 +111,8 @@ def log_endings(stage: Stage) -> None:
             late.sendall(LOOK)
             answers.read()
         server.hears(b"")
-        wants(told_lines(server), "played match 0 agent 0: its input ended", "played match 1 agent 0: its match was over",
-              "played nobody: its input ended")
+        wants(told_lines(server), "played match 0 agent 0: its input ended",
+              "played match 1 agent 0: its match was over", "played nobody: its input ended")
 
 
 @case("the last of 64 agents is let in")

@@ -60,13 +60,14 @@ def main() -> int:
     with tempfile.TemporaryDirectory() as name:
         folder, port, web = pathlib.Path(name), contest.free_port(), contest.free_port()
         subprocess.run(["cc", "-O2", "-o", folder / "ring", contest.AGENTS / "ring.c"], check=True)
-        serves = [program, "serve", contest.TOURNAMENT, "--port", port, "--sessions", 100, "--turns", 20_000, "--pause", 2,
-                  "--replay", folder / "m", "--gather", 10_000, "--early"]
+        serves = [program, "serve", contest.TOURNAMENT, "--port", port, "--sessions", 100, "--turns", 20_000,
+                  "--pause", 2, "--replay", folder / "m", "--gather", 10_000, "--early"]
         server = subprocess.Popen(list(map(str, serves)), cwd=TOP, stdout=subprocess.PIPE, text=True)
         assert server.stdout is not None
         server.stdout.readline()
-        watch = subprocess.Popen([sys.executable, "-m", "lab", "watch", contest.TOURNAMENT, str(folder / "m"), "--port",
-                                  str(web), "--turns", "20000", "--pause", "2"], cwd=TOP, stdout=subprocess.PIPE, text=True)
+        watches = [sys.executable, "-m", "lab", "watch", contest.TOURNAMENT, str(folder / "m"), "--port", str(web),
+                   "--turns", "20000", "--pause", "2"]
+        watch = subprocess.Popen(watches, cwd=TOP, stdout=subprocess.PIPE, text=True)
         assert watch.stdout is not None
         watch.stdout.readline()
         page = browser()
