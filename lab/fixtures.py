@@ -2,9 +2,10 @@
 import json
 import pathlib
 import tomllib
-from typing import Any, Dict, Iterable, List, NamedTuple, Sequence, Tuple
+from typing import Any, Dict, Iterable, List, NamedTuple, Optional, Sequence, Tuple
 
 from lab import networks
+from lab.delays import OBLIVIOUS, Delays
 from lab.model import Object, Place, Setup, command_of, text_of
 
 SEED = "0" * 64
@@ -65,19 +66,25 @@ def enters_as_another(fixture: Fixture, number: int, line: bytes) -> bool:
 
 
 class Tournament(NamedTuple):
-    """A tournament's file: its seed and its fixtures."""
+    """A tournament's file: its seed, its fixtures, and its delays if its schedule is the oblivious one."""
 
     seed: str
     fixtures: List[Fixture]
+    delays: Optional[Delays] = None
 
 
 def read_tournament(path: str) -> Tournament:
     """The tournament of a file, which must be right: ask `arena check`."""
     try:
         found = tomllib.loads(pathlib.Path(path).read_text(encoding="utf-8"))
-        return Tournament(found["seed"], [fixture_in(row) for row in found["match"]])
+        return Tournament(found["seed"], [fixture_in(row) for row in found["match"]], delays_in(found))
     except (ValueError, KeyError, TypeError) as fault:
         raise NoMatch(f"{path}: it is no tournament ({networks.fault_text(fault)}); `arena check` says more") from None
+
+
+def delays_in(found: Object) -> Optional[Delays]:
+    """The delays of a tournament whose schedule is the oblivious one."""
+    return Delays(found["delay_scales"], found["delay_odds"]) if found.get("schedule") == OBLIVIOUS else None
 
 
 def fixture_in(row: Dict[str, Any]) -> Fixture:
@@ -101,9 +108,13 @@ def match_text(fixture: Fixture, network: str) -> str:
     return "\n[[match]]\n" + "".join(f"{key} = {json.dumps(value)}\n" for key, value in rows.items())
 
 
-def tournament_text(seed: str, matches: Iterable[Tuple[Fixture, str]]) -> str:
-    """The file of a tournament: its seed, and its matches with the files of their networks."""
-    return f'version = 2\nseed = "{seed}"\n' + "".join(match_text(*match) for match in matches)
+def tournament_text(seed: str, matches: Iterable[Tuple[Fixture, str]], delays: Optional[Delays] = None) -> str:
+    """The file of a tournament: its seed, the delays of the oblivious schedule if it has that one, and its matches with
+    the files of their networks."""
+    head = f'version = {3 if delays else 2}\nseed = "{seed}"\n'
+    if delays:
+        head += f'schedule = "{OBLIVIOUS}"\ndelay_scales = {delays.scales}\ndelay_odds = {delays.odds}\n'
+    return head + "".join(match_text(*match) for match in matches)
 
 
 def write_tournament(fixture: Fixture, folder: pathlib.Path) -> pathlib.Path:

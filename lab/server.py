@@ -4,10 +4,10 @@
         [--grace MS] [--gather MS] [--early]
 
 takes the words of `arena serve` and does what it does: it listens on 127.0.0.1, prints `listening N`, serves up to S
-sessions on the matches of tournament T, lets an agent on a link arrive by chance K times with MS milliseconds between,
-closes the matches, ends as the arena does, writes the replays to P0.jsonl, P1.jsonl and so on, and prints a table. It
-is not the arena: nothing of it is proved, it judges no contest, it writes no parts, and its deliveries are other ones
-for the same seed.
+sessions on the matches of tournament T, takes K turns by the tournament's schedule with MS milliseconds between, closes
+the matches, ends as the arena does, writes the replays to P0.jsonl, P1.jsonl and so on, and prints a table. It is not
+the arena: nothing of it is proved, it judges no contest, it writes no parts, and its deliveries are other ones for the
+same seed.
 """
 import argparse
 import pathlib
@@ -15,8 +15,9 @@ import random
 import socket
 import threading
 import time
-from typing import Any, Dict, List, Tuple
+from typing import Any, Dict, List, Optional, Tuple
 
+from lab.delays import Delays, Travels
 from lab.fixtures import Fixture, read_tournament
 from lab.model import (ENDED, GONE, LAST, MAX_LINE, OUTSIDE, OVER, Match, Object, Verdict, command_of, denial, judge,
                        spelled, text_of)
@@ -27,11 +28,12 @@ RANKS = ["solved", "guess", "unfinished", "silent", "wrong"]
 class Game:
     """One match under its lock, with its held links and the arrivals that were not told yet."""
 
-    def __init__(self, fixture: Fixture, seed: str) -> None:
+    def __init__(self, fixture: Fixture, seed: str, delays: Optional[Delays]) -> None:
         self.team = fixture.team
         self.match = Match(fixture.setup)
         self.held = set(fixture.held)
         self.chance = random.Random(seed)
+        self.travels = Travels(delays, seed) if delays else None
         self.changed = threading.Condition()
         self.arrivals: Dict[int, Object] = {}
 
@@ -39,6 +41,8 @@ class Game:
         """The reply to a command; one that departs is answered twice, and waits for the second by `arrival`."""
         with self.changed:
             reply = self.match.tell(agent, command)
+            if reply == GONE and self.travels:
+                self.travels.departs(agent)
             self.changed.notify_all()
             return reply
 
@@ -48,16 +52,27 @@ class Game:
             return self.arrivals.pop(agent, OVER)
 
     def turn(self) -> None:
-        """Lets an agent by chance arrive, if its link is not held."""
+        """Lets the agent that the turn picks arrive, if its link is not held."""
         with self.changed:
-            if not self.match.pool:
+            number = self.picked()
+            if number is None:
                 return
-            number = self.chance.choice(self.match.pool)
             agent = self.match.agents[number]
             reply = None if (agent.node, agent.port) in self.held else self.match.deliver(number)
             if reply:
                 self.arrivals[number] = reply
                 self.changed.notify_all()
+
+    def picked(self) -> Optional[int]:
+        """The agent on a link that may arrive at this turn: under the adaptive schedule one of those on links; under the
+        oblivious one any agent is picked, and it may arrive if it is on a link and has been there for its delay."""
+        pool = self.match.pool
+        if self.travels is None:
+            return self.chance.choice(pool) if pool else None
+        number = self.chance.randrange(len(self.match.agents))
+        is_due = self.travels.is_due(number)
+        self.travels.turn += 1
+        return number if number in pool and is_due else None
 
     def is_gathered(self) -> bool:
         """Whether all agents have entered."""
@@ -150,7 +165,7 @@ def games_of(path: str) -> Tuple[List[Game], Dict[str, Tuple[Game, int]]]:
     tournament = read_tournament(path)
     games, keys = [], {}
     for number, fixture in enumerate(tournament.fixtures):
-        game = Game(fixture, f"{tournament.seed} {number}")
+        game = Game(fixture, f"{tournament.seed} {number}", tournament.delays)
         games.append(game)
         keys.update({key: (game, agent) for agent, key in enumerate(fixture.keys)})
     return games, keys

@@ -4,7 +4,9 @@
 
 The folder gets the file of the tournament, a file for each network, and a sheet of keys for each team. Keys and the
 tournament's seed are drawn by the operating system's source of secrets. So are black holes, unless you name them by
---hole or ask for all of them. On one network with one black hole all teams play the same match.
+--hole or ask for all of them. On one network with one black hole all teams play the same match. The tournament has the
+oblivious schedule, under which no agent learns by waiting what others do; examples/README.md says how to choose its
+delays and how many turns a match takes.
 
 Give each team its own sheet and no other file of the folder. A file of a network has no black hole: a team may have it
 if its agents are to know the map. Run `arena check tournament.toml` and `arena serve tournament.toml` in the folder.
@@ -13,9 +15,10 @@ import argparse
 import pathlib
 import re
 import secrets
-from typing import Dict, List, NamedTuple, Sequence, Tuple
+from typing import Dict, List, NamedTuple, Optional, Sequence, Tuple
 
 from lab import networks
+from lab.delays import ADAPTIVE, OBLIVIOUS, ODDS, SCALES, Delays
 from lab.fixtures import Fixture, tournament_text
 from lab.model import Setup
 from lab.network import add_ports, network_for
@@ -23,6 +26,7 @@ from lab.networks import Network, NoNetwork
 
 ALL, DEGREE = "all", "degree"
 MOST_MATCHES, MOST_AGENTS = 64, 64
+MOST_SCALES, MOST_ODDS = 24, 65_535
 TOURNAMENT = "tournament.toml"
 QUOTA, BOARD = 1000, 4096
 
@@ -61,6 +65,16 @@ def check_limits(words: argparse.Namespace) -> None:
         raise NoNetwork(f"an agent has 1 to {QUOTA} commands, and not {words.quota}: name another number by --quota")
     if not 0 <= words.board <= BOARD:
         raise NoNetwork(f"a whiteboard has 0 to {BOARD} bytes, and not {words.board}: name another number by --board")
+
+
+def check_delays(words: argparse.Namespace) -> None:
+    """Refuses delays that no tournament may have."""
+    if not 0 <= words.delay_scales <= MOST_SCALES:
+        raise NoNetwork(f"delays have 0 to {MOST_SCALES} scales, and not {words.delay_scales}: name another number by "
+                        "--delay-scales")
+    if not max(1, words.delay_scales) <= words.delay_odds <= MOST_ODDS:
+        raise NoNetwork(f"with {words.delay_scales} scales --delay-odds is a number from {max(1, words.delay_scales)} to "
+                        f"{MOST_ODDS}, and not {words.delay_odds}")
 
 
 def entries_of(words: argparse.Namespace) -> List[Entry]:
@@ -137,12 +151,19 @@ def add_words(parser: argparse.ArgumentParser) -> None:
                         "team has; `degree` is one more than the network's greatest degree (2)")
     parser.add_argument("--quota", metavar="N", type=int, default=QUOTA, help=f"commands that an agent has ({QUOTA})")
     parser.add_argument("--board", metavar="N", type=int, default=BOARD, help=f"bytes of a whiteboard ({BOARD})")
+    parser.add_argument("--schedule", choices=(OBLIVIOUS, ADAPTIVE), default=OBLIVIOUS, help="how turns choose whom they "
+                        "deliver; under the oblivious schedule no agent learns by waiting what others do (oblivious)")
+    parser.add_argument("--delay-scales", metavar="N", type=int, default=SCALES, help="an agent is on a link for less "
+                        f"than 2^N turns and a few picks ({SCALES})")
+    parser.add_argument("--delay-odds", metavar="N", type=int, default=ODDS, help="of N moves one takes 1 turn more, one "
+                        f"2 or 3, one 4 to 7, and so on ({ODDS})")
     parser.add_argument("--out", metavar="FOLDER", type=pathlib.Path, required=True, help="write it there; the folder "
                         "must not have a tournament")
 
 
 def run(words: argparse.Namespace) -> int:
     check_limits(words)
+    check_delays(words)
     path = words.out / TOURNAMENT
     if path.exists():
         raise NoNetwork(f"{path}: there is a tournament, whose keys teams may have: name another folder by --out")
@@ -151,18 +172,23 @@ def run(words: argparse.Namespace) -> int:
     for file, setup in {entry.file: entry.fixture.setup for entry in entries}.items():
         text = networks.text_of(networks.Network(setup.nodes, setup.links))
         (words.out / file).write_text(text, encoding="utf-8")
-    for file, text in secret_files(words.team, entries).items():
+    for file, text in secret_files(words.team, entries, delays_of(words)).items():
         write_secret(words.out / file, text)
     print(f"{path}: {len(entries)} matches of {len(words.team)} teams; try `arena check {TOURNAMENT}` in the folder")
     print("give each team its sheet: " + ", ".join(str(words.out / sheet_name(team)) for team in words.team))
     return 0
 
 
-def secret_files(teams: Sequence[str], entries: Sequence[Entry]) -> Dict[str, str]:
+def delays_of(words: argparse.Namespace) -> Optional[Delays]:
+    """The delays of the oblivious schedule, if the tournament is to have it."""
+    return Delays(words.delay_scales, words.delay_odds) if words.schedule == OBLIVIOUS else None
+
+
+def secret_files(teams: Sequence[str], entries: Sequence[Entry], delays: Optional[Delays]) -> Dict[str, str]:
     """The files that have keys, by name."""
     rows: List[Tuple[Fixture, str]] = [(entry.fixture, entry.file) for entry in entries]
     sheets = {sheet_name(team): sheet_of(team, entries) for team in teams}
-    return {**sheets, TOURNAMENT: tournament_text(secrets.token_hex(32), rows)}
+    return {**sheets, TOURNAMENT: tournament_text(secrets.token_hex(32), rows, delays)}
 
 
 def sheet_name(team: str) -> str:
