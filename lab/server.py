@@ -64,8 +64,8 @@ class Game:
                 self.changed.notify_all()
 
     def picked(self) -> Optional[int]:
-        """The agent on a link that may arrive at this turn: under the adaptive schedule one of those on links; under the
-        oblivious one any agent is picked, and it may arrive if it is on a link and has been there for its delay."""
+        """The agent on a link that may arrive at this turn. The adaptive schedule picks one of those on links. The
+        oblivious one picks any agent, which may arrive if it is on a link and has been there for its delay."""
         pool = self.match.pool
         if self.travels is None:
             return self.chance.choice(pool) if pool else None

@@ -73,8 +73,8 @@ def check_delays(words: argparse.Namespace) -> None:
         raise NoNetwork(f"delays have 0 to {MOST_SCALES} scales, and not {words.delay_scales}: name another number by "
                         "--delay-scales")
     if not max(1, words.delay_scales) <= words.delay_odds <= MOST_ODDS:
-        raise NoNetwork(f"with {words.delay_scales} scales --delay-odds is a number from {max(1, words.delay_scales)} to "
-                        f"{MOST_ODDS}, and not {words.delay_odds}")
+        raise NoNetwork(f"with {words.delay_scales} scales --delay-odds is from {max(1, words.delay_scales)} to {MOST_ODDS}, "
+                        f"and not {words.delay_odds}")
 
 
 def entries_of(words: argparse.Namespace) -> List[Entry]:
@@ -151,12 +151,12 @@ def add_words(parser: argparse.ArgumentParser) -> None:
                         "team has; `degree` is one more than the network's greatest degree (2)")
     parser.add_argument("--quota", metavar="N", type=int, default=QUOTA, help=f"commands that an agent has ({QUOTA})")
     parser.add_argument("--board", metavar="N", type=int, default=BOARD, help=f"bytes of a whiteboard ({BOARD})")
-    parser.add_argument("--schedule", choices=(OBLIVIOUS, ADAPTIVE), default=OBLIVIOUS, help="how turns choose whom they "
-                        "deliver; under the oblivious schedule no agent learns by waiting what others do (oblivious)")
+    parser.add_argument("--schedule", choices=(OBLIVIOUS, ADAPTIVE), default=OBLIVIOUS, help="how turns choose whom "
+                        "they deliver; under the oblivious schedule no agent learns by waiting what others do (oblivious)")
     parser.add_argument("--delay-scales", metavar="N", type=int, default=SCALES, help="an agent is on a link for less "
                         f"than 2^N turns and a few picks ({SCALES})")
-    parser.add_argument("--delay-odds", metavar="N", type=int, default=ODDS, help="of N moves one takes 1 turn more, one "
-                        f"2 or 3, one 4 to 7, and so on ({ODDS})")
+    parser.add_argument("--delay-odds", metavar="N", type=int, default=ODDS, help="of N moves one takes 1 turn more, "
+                        f"one 2 or 3, one 4 to 7, and so on ({ODDS})")
     parser.add_argument("--out", metavar="FOLDER", type=pathlib.Path, required=True, help="write it there; the folder "
                         "must not have a tournament")
 
