@@ -72,9 +72,10 @@ def check_delays(words: argparse.Namespace) -> None:
     if not 0 <= words.delay_scales <= MOST_SCALES:
         raise NoNetwork(f"delays have 0 to {MOST_SCALES} scales, and not {words.delay_scales}: name another number by "
                         "--delay-scales")
-    if not max(1, words.delay_scales) <= words.delay_odds <= MOST_ODDS:
-        raise NoNetwork(f"with {words.delay_scales} scales --delay-odds is from {max(1, words.delay_scales)} to {MOST_ODDS}, "
-                        f"and not {words.delay_odds}")
+    least = max(1, words.delay_scales)
+    if not least <= words.delay_odds <= MOST_ODDS:
+        raise NoNetwork(f"with {words.delay_scales} scales --delay-odds is from {least} to {MOST_ODDS}, and not "
+                        f"{words.delay_odds}")
 
 
 def entries_of(words: argparse.Namespace) -> List[Entry]:
@@ -152,7 +153,7 @@ def add_words(parser: argparse.ArgumentParser) -> None:
     parser.add_argument("--quota", metavar="N", type=int, default=QUOTA, help=f"commands that an agent has ({QUOTA})")
     parser.add_argument("--board", metavar="N", type=int, default=BOARD, help=f"bytes of a whiteboard ({BOARD})")
     parser.add_argument("--schedule", choices=(OBLIVIOUS, ADAPTIVE), default=OBLIVIOUS, help="how turns choose whom "
-                        "they deliver; under the oblivious schedule no agent learns by waiting what others do (oblivious)")
+                        "they deliver; by the oblivious schedule no agent learns by waiting what others do (oblivious)")
     parser.add_argument("--delay-scales", metavar="N", type=int, default=SCALES, help="an agent is on a link for less "
                         f"than 2^N turns and a few picks ({SCALES})")
     parser.add_argument("--delay-odds", metavar="N", type=int, default=ODDS, help="of N moves one takes 1 turn more, "
