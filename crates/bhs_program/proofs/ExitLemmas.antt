@@ -4,6 +4,7 @@ use Rattle.std.specs.Prelude.{◌==◌, if◌then◌else◌}
 use Rattle.bhs_match.specs.Matches.{Play}
 use Rattle.bhs_lock.specs.declared.settling.Unsettled.{Unsettled}
 use Rattle.bhs_lineup.specs.declared.lineups.Ready.{Ready}
+use Rattle.bhs_time.specs.declared.kinds.ScheduleKind.{ScheduleKind}
 use Rattle.bhs_stream.specs.Streams.{Chunk, Taken}
 use Rattle.bhs_rehearsal.specs.Stages.{Stage}
 use Rattle.bhs_command_line.specs.declared.orders.Order.{Order}
@@ -66,13 +67,13 @@ module _ {P O : Type 0} (files : P → List ℕ → Taken → P → Type 0) (tak
       of_text takes flushes output output' code _ table
   of_table teams settled output output' code (untabled fault why is kept) = inr (inr (fault, is))
 
-  of_host : (matches : List Ready) (output output' : O) (code : ℕ)
-      → Hosts files takes flushes matches output output' code → IsStatus code
-  of_host matches output output' code (fares settled fared ended) =
+  of_host : (schedule : ScheduleKind) (matches : List Ready) (output output' : O) (code : ℕ)
+      → Hosts files takes flushes schedule matches output output' code → IsStatus code
+  of_host schedule matches output output' code (fares settled fared ended) =
       rw ended.coded (of_either (ended.filed == DONE) ended.filed ended.printed
       (of_files settled ended.filed ended.writes)
       (of_table _ settled output output' ended.printed ended.tables))
-  of_host matches output output' code (fails is kept) = inr (inr (Memory, is))
+  of_host schedule matches output output' code (fails is kept) = inr (inr (Memory, is))
 
 module _ {P I O : Type 0} (files : P → List ℕ → Taken → P → Type 0) (gives : I → Chunk → I → Type 0)
     (takes : O → List ℕ → Taken → O → Type 0)
@@ -102,7 +103,8 @@ module _ {P I O : Type 0} (files : P → List ℕ → Taken → P → Type 0) (g
   of_named_interaction prefix (tournament_refused fault is rests) = inr (inr (fault, is))
 
   of_served : (port : ℕ) → Serves files takes flushes port output output' code → IsStatus code
-  of_served port (serves_on lineup assembled heard shows hosts) = of_host files takes flushes _ heard output' code hosts
+  of_served port (serves_on lineup assembled heard shows hosts) =
+      of_host files takes flushes _ _ heard output' code hosts
   of_served port (goes_unheard lineup assembled is print) = inr (inr (Write, is))
   of_served port (refuses_contest fault is kept) = inr (inr (fault, is))
 
