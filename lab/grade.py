@@ -111,7 +111,9 @@ class Graded(NamedTuple):
         """Plays a match by this scheduler."""
         fixture, limits = self.course.fixture(case), self.course.limits
         agents = [case.team.words] * fixture.setup.agents
-        empty = schedule_of(fixture, agents, f"{case.scheduler} {self.course.seed(case)}", [])
+        files = self.course.hand_in(case.team.name).digests(case.team.words.words)
+        origin = f"{case.scheduler} {self.course.seed(case)}"
+        empty = schedule_of(fixture, agents, origin, [])._replace(files=files)
         with self._grounds(case, fixture) as grounds:
             commands = {number: agent.words for number, agent in enumerate(agents)}
             team = programs.Team(fixture, commands, limits.line, grounds, limits.match)

@@ -44,6 +44,12 @@ class HandIn(NamedTuple):
                 found.update(b"%d:" % len(part) + part)
         return found.hexdigest()
 
+    def digests(self, words: str) -> Dict[str, str]:
+        """The SHA-256 of each of its files that these words of a command name."""
+        names = {str(pathlib.PurePath(word.partition(":")[0])) for word in words.split()}
+        return {name: hashlib.sha256(entry.content).hexdigest() for name, entry in self.entries.items()
+                if name in names and entry.kind == tarfile.REGTYPE}
+
     def archive(self, **more: bytes) -> bytes:
         """All of it as a tar archive, and more files by their names."""
         entries = dict(self.entries)
