@@ -1,6 +1,8 @@
-"""How long agents are on links under the oblivious schedule, as docs/MODEL.md has it."""
-import random
-from typing import Dict, NamedTuple
+"""The schedules of contests, as docs/MODEL.md has them: whom each turn picks, and how long agents are on links. They use
+the words of the arena, so a seed gives the same picks and delays here and there."""
+from typing import Dict, NamedTuple, Optional, Sequence
+
+from lab.chacha8 import delay_word, turn_word
 
 ADAPTIVE, OBLIVIOUS = "adaptive", "oblivious"
 SCALES, ODDS = 10, 32
@@ -18,20 +20,30 @@ class Delays(NamedTuple):
         return 2 ** scale + word // self.odds % 2 ** scale if scale < self.scales else 0
 
 
-class Travels:
-    """When the agents of a match may arrive. Each has words of its own; they are not those of the arena."""
+class Turns:
+    """The turns of a match. Under the adaptive schedule, which has no delays, each turn picks one of the agents on
+    links. Under the oblivious one it picks any agent, which may arrive if it is on a link and has been there for its
+    delay."""
 
-    def __init__(self, delays: Delays, seed: str) -> None:
+    def __init__(self, delays: Optional[Delays], seed: str, match: int) -> None:
         self.turn = 0
         self._delays = delays
-        self._seed = seed
+        self._seed = bytes.fromhex(seed)
+        self._match = match
         self._due: Dict[int, int] = {}
 
     def departs(self, agent: int) -> None:
         """Notes that an agent has departed."""
-        word = random.Random(f"{self._seed} {agent} {self.turn}").getrandbits(32)
-        self._due[agent] = self.turn + self._delays.by_word(word)
+        if self._delays:
+            word = delay_word(self._seed, self._match, agent, self.turn)
+            self._due[agent] = self.turn + self._delays.by_word(word)
 
-    def is_due(self, agent: int) -> bool:
-        """Whether an agent on a link has been there for its delay."""
-        return self._due.get(agent, 0) <= self.turn
+    def take(self, agents: int, pool: Sequence[int]) -> Optional[int]:
+        """Takes a turn of a match with this number of agents, of which these are on links in the order of their
+        departures: gives the agent that may arrive now, if there is one."""
+        word, turn = turn_word(self._seed, self._match, self.turn), self.turn
+        self.turn += 1
+        if self._delays is None:
+            return pool[word % len(pool)] if pool else None
+        agent = word % agents
+        return agent if agent in pool and self._due.get(agent, 0) <= turn else None

@@ -13,6 +13,8 @@ Schedulers:
     slow-links      some links are slow for the whole match
     last-departed   links are last in, first out
     starved         agent SEED, counted round the team, waits as long as anything else can happen
+    oblivious       the oblivious schedule of a contest whose seed is SEED, with 10 scales and odds of 32, for agents
+                    that answer within their turn
     FILE.py:NAME    your own: a function of the seed that gives a function of (choices, state) that gives a choice
 """
 import argparse

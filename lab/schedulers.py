@@ -10,8 +10,9 @@ of a whole number that gives a scheduler. The command line names makers: `fair`,
 """
 import itertools
 import random
-from typing import Callable, Dict, List, NamedTuple, Optional, Protocol, Sequence, Tuple
+from typing import Callable, Dict, List, NamedTuple, Optional, Protocol, Sequence, Set, Tuple
 
+from lab.delays import ODDS, SCALES, Delays, Turns
 from lab.model import Match, Object, Place
 
 ANSWER, ARRIVE, WAKE = "answer", "arrive", "wake"
@@ -104,6 +105,50 @@ def starved(seed: int) -> Scheduler:
     return choose
 
 
+class Oblivious:
+    """The oblivious schedule of a contest's first match, for agents that answer within their turn: between two turns
+    all are answered, by their numbers, and each that sleeps wakes once if it may. The contest's seed is this number, in
+    64 hexadecimal digits."""
+
+    def __init__(self, seed: int, delays: Delays = Delays(SCALES, ODDS)) -> None:
+        self._turns = Turns(delays, f"{seed:064x}", 0)
+        self._departed: Set[int] = set()
+        self._awake: Set[int] = set()
+
+    def __call__(self, choices: Sequence[Choice], state: State) -> Choice:
+        pool = state.match.pool
+        for agent in sorted(set(pool) - self._departed):
+            self._turns.departs(agent)
+        self._departed = set(pool)
+        answers = [choice for choice in choices if choice.do == ANSWER]
+        return answers[0] if answers else self._woken(choices) or self._arrival(choices, state)
+
+    def _woken(self, choices: Sequence[Choice]) -> Optional[Choice]:
+        """The first that sleeps and has not woken since the last turn."""
+        for choice in choices:
+            if choice.do == WAKE and choice.agent not in self._awake:
+                self._awake.add(choice.agent)
+                return choice
+        return None
+
+    def _arrival(self, choices: Sequence[Choice], state: State) -> Choice:
+        """Takes turns until an agent arrives, or one that sleeps may wake again."""
+        may_arrive = [choice.agent for choice in choices if choice.do == ARRIVE]
+        while True:
+            self._awake.clear()
+            agent = self._turns.take(len(state.match.agents), state.match.pool)
+            if agent in may_arrive:
+                return Choice(ARRIVE, agent)
+            woken = self._woken(choices)
+            if woken:
+                return woken
+
+
+def oblivious(seed: int) -> Scheduler:
+    """The oblivious schedule of a contest, with the delays that `lab tournament` gives it."""
+    return Oblivious(seed)
+
+
 def in_runs(runs: Sequence[Tuple[int, int]]) -> Scheduler:
     """A scheduler of (which of the choices, how often in a row); if only one thing can happen, nothing is used up,
     and behind the last run it is always the first."""
@@ -140,5 +185,5 @@ def recorded(schedule: Sequence[Choice]) -> Scheduler:
 
 NAMED: Dict[str, Maker] = {
     "fair": fair, "slow-agents": slow_agents, "slow-links": slow_links, "last-departed": last_departed,
-    "starved": starved,
+    "starved": starved, "oblivious": oblivious,
 }

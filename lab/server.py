@@ -5,19 +5,18 @@
 
 takes the words of `arena serve` and does what it does: it listens on 127.0.0.1, prints `listening N`, serves up to S
 sessions on the matches of tournament T, takes K turns by the tournament's schedule with MS milliseconds between, closes
-the matches, ends as the arena does, writes the replays to P0.jsonl, P1.jsonl and so on, and prints a table. It is not
-the arena: nothing of it is proved, it judges no contest, it writes no parts, and its deliveries are other ones for the
-same seed.
+the matches, ends as the arena does, writes the replays to P0.jsonl, P1.jsonl and so on, and prints a table. Each turn
+delivers the agent that it would deliver in the arena. It is not the arena: nothing of it is proved, it judges no contest
+and it writes no parts.
 """
 import argparse
 import pathlib
-import random
 import socket
 import threading
 import time
-from typing import Any, Dict, List, Optional, Tuple
+from typing import Any, Dict, List, Tuple
 
-from lab.delays import Delays, Travels
+from lab.delays import Turns
 from lab.fixtures import Fixture, read_tournament
 from lab.model import (ENDED, GONE, LAST, MAX_LINE, OUTSIDE, OVER, Match, Object, Verdict, command_of, denial, judge,
                        spelled, text_of)
@@ -28,12 +27,11 @@ RANKS = ["solved", "guess", "unfinished", "silent", "wrong"]
 class Game:
     """One match under its lock, with its held links and the arrivals that were not told yet."""
 
-    def __init__(self, fixture: Fixture, seed: str, delays: Optional[Delays]) -> None:
+    def __init__(self, fixture: Fixture, turns: Turns) -> None:
         self.team = fixture.team
         self.match = Match(fixture.setup)
         self.held = set(fixture.held)
-        self.chance = random.Random(seed)
-        self.travels = Travels(delays, seed) if delays else None
+        self.turns = turns
         self.changed = threading.Condition()
         self.arrivals: Dict[int, Object] = {}
 
@@ -41,8 +39,8 @@ class Game:
         """The reply to a command; one that departs is answered twice, and waits for the second by `arrival`."""
         with self.changed:
             reply = self.match.tell(agent, command)
-            if reply == GONE and self.travels:
-                self.travels.departs(agent)
+            if reply == GONE:
+                self.turns.departs(agent)
             self.changed.notify_all()
             return reply
 
@@ -54,7 +52,7 @@ class Game:
     def turn(self) -> None:
         """Lets the agent that the turn picks arrive, if its link is not held."""
         with self.changed:
-            number = self.picked()
+            number = self.turns.take(len(self.match.agents), self.match.pool)
             if number is None:
                 return
             agent = self.match.agents[number]
@@ -62,17 +60,6 @@ class Game:
             if reply:
                 self.arrivals[number] = reply
                 self.changed.notify_all()
-
-    def picked(self) -> Optional[int]:
-        """The agent on a link that may arrive at this turn. The adaptive schedule picks one of those on links. The
-        oblivious one picks any agent, which may arrive if it is on a link and has been there for its delay."""
-        pool = self.match.pool
-        if self.travels is None:
-            return self.chance.choice(pool) if pool else None
-        number = self.chance.randrange(len(self.match.agents))
-        is_due = self.travels.is_due(number)
-        self.travels.turn += 1
-        return number if number in pool and is_due else None
 
     def is_gathered(self) -> bool:
         """Whether all agents have entered."""
@@ -165,7 +152,7 @@ def games_of(path: str) -> Tuple[List[Game], Dict[str, Tuple[Game, int]]]:
     tournament = read_tournament(path)
     games, keys = [], {}
     for number, fixture in enumerate(tournament.fixtures):
-        game = Game(fixture, f"{tournament.seed} {number}", tournament.delays)
+        game = Game(fixture, Turns(tournament.delays, tournament.seed, number))
         games.append(game)
         keys.update({key: (game, agent) for agent, key in enumerate(fixture.keys)})
     return games, keys

@@ -7,11 +7,11 @@ import tempfile
 import tomllib
 import unittest
 
-import chacha8_words
 import compare
 import contest
 import inputs
 import rehearse
+from lab import chacha8
 from lab.model import Verdict
 from lab.server import table
 
@@ -59,7 +59,7 @@ class Inputs(unittest.TestCase):
 class Words(unittest.TestCase):
     def test_the_first_words_of_the_zero_seed(self) -> None:
         published = bytes.fromhex("3e00ef2f895f40d67f5bb8e81f09a5a12c840ec3ce9a7f3b181be188ef711a1e")
-        words = list(chacha8_words.block(bytes(32), 0, 0))[:8]
+        words = list(chacha8.block(bytes(32), 0, 0))[:8]
         self.assertEqual(b"".join(word.to_bytes(4, "little") for word in words), published)
 
 

@@ -2,9 +2,12 @@
 
 Run: python3 tools/play/bench_counts.py N
 """
+import pathlib
 import sys
 
-from chacha8_words import block
+sys.path.insert(0, str(pathlib.Path(__file__).resolve().parents[2]))
+
+from lab.chacha8 import block  # noqa: E402
 
 SIDE, AGENTS, QUOTA, EVENTS_OF_A_MATCH = 16, 16, 1000, 28_000
 

@@ -13,7 +13,6 @@ import sys
 import threading
 from typing import Callable, Iterator, List, NamedTuple, Optional, Sequence, Set, Tuple
 
-from chacha8_words import word
 from program_cases import case
 from program_rows import PATIENCE, Run, Stage, Wrong, expect
 
@@ -21,6 +20,7 @@ TOP = pathlib.Path(__file__).resolve().parents[2]
 sys.path[:0] = [str(TOP), str(TOP / "examples")]
 
 from contest import free_port  # noqa: E402
+from lab.chacha8 import word  # noqa: E402
 from lab.model import AWAY, OVER, Match, Object, Place, begun, judge, objects_of, spelled  # noqa: E402
 from lab.server import table  # noqa: E402
 
