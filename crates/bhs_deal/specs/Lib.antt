@@ -4,4 +4,5 @@ pub mod Links
 pub mod Marking
 pub mod Drawing
 pub mod Delaying
+pub mod Lateness
 pub mod Examples

@@ -32,7 +32,8 @@ impl Model for Dealer {
 }
 
 impl Dealer {
-    ghost use Rattle.bhs_deal.specs.Dealer.{dealer_at, next_word, moved_on};
+    ghost use Rattle.std.specs.Prelude.{◌%◌};
+    ghost use Rattle.bhs_deal.specs.Dealer.{dealer_at, next_word, moved_on, words_of_a_stream};
     ghost use Rattle.bhs_deal.specs.Delaying.{delay_word};
 
     /// The dealer at the start of a stream of the seed.
@@ -51,6 +52,19 @@ impl Dealer {
         ensures moved { self.new ≡ moved_on self.old }
     {
         self.words.next_word()
+    }
+
+    /// A dealer of the same seed and stream that stands at this place.
+    pub fn at(&self, place: u32) -> Dealer
+        ensures { result ≡ record self.now { word_pos = place % words_of_a_stream } }
+    {
+        let mut words = ChaCha8Rng::from_seed(self.seed);
+        words.set_stream(self.words.get_stream());
+        words.set_word_pos(u128::from(place));
+        Dealer {
+            seed: self.seed,
+            words,
+        }
     }
 
     /// The word for the delay of an agent that departs after this many turns. It is of the agent's own stream, and the

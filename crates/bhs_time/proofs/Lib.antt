@@ -8,3 +8,4 @@ pub mod SlowTimeLemmas
 pub mod ContestLemmas
 pub mod WaitLemmas
 pub mod DelayLemmas
+pub mod LogTimeLemmas

@@ -37,7 +37,7 @@ away_at (At node came) = refl
 away_at (Bound node port) = refl
 away_at After = refl
 
-away_by_past : (world : World) (timed : TimedState) (agent : ℕ) → IsStamped timed → AllLegal world timed.state →
+pub away_by_past : (world : World) (timed : TimedState) (agent : ℕ) → IsStamped timed → AllLegal world timed.state →
     is_away (standing (bare (timed.pasts agent))) ≡ is_bound (timed.state.position agent)
 away_by_past world timed agent stamped legal =
     ap (λ (view : View). is_away (standing view)) (stamped.pasts agent)

@@ -13,6 +13,7 @@ ghost use Rattle.bhs_time.specs.Rows.{
   ThePoolTells,
   WhoIsReleased,
 };
+ghost use Rattle.bhs_time.specs.Stamps.{DeliveriesInTimeArrivePunctually, EqualWaitsInLogs, TurnsSayWhatWasMet};
 ghost use Rattle.bhs_time.specs.Laws.{
   ArrivalsAreByTheWords,
   ClocksOnlyStamp,
@@ -71,6 +72,22 @@ pub fn holes_look_slow_in_time()
 /// A match among others is as it is alone, with its turns.
 pub fn matches_are_apart_in_time()
     ensures { MatchesAreApartInTime }
+{}
+
+/// The events of a match with their turns say all that its agents met, and when.
+pub fn turns_say_what_was_met()
+    ensures { TurnsSayWhatWasMet }
+{}
+
+/// In a log whose deliveries were made in time, each arrival was at the first turn that released its agent.
+pub fn deliveries_in_time_arrive_punctually()
+    ensures { DeliveriesInTimeArrivePunctually }
+{}
+
+/// Agents with equal timed views arrive after equally many turns, in one log as in another, if the deliveries of both
+/// were made in time.
+pub fn equal_waits_in_logs()
+    ensures { EqualWaitsInLogs }
 {}
 
 /// What the definitions give on a triangle, worked out by hand.
