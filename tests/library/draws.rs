@@ -4,6 +4,7 @@
 use bhs_deal::{Dealer, pick};
 use std::process::Abort;
 
+mod lateness;
 mod links;
 mod matches;
 

@@ -2,11 +2,12 @@
 
 use super::cells::cell;
 use super::triangle::{network, setup};
-use bhs_deal::Dealer;
+use bhs_deal::{Dealer, Held};
 use bhs_lock::{Cell, Dispute, Hall, Open, Parts, Pass};
 use bhs_match::Match;
 use bhs_model::{Command, Reply, Text, Why};
 use bhs_net::{Link, Net};
+use bhs_time::ScheduleKind;
 use std::alloc::Global;
 use std::process::Abort;
 use std::sync::Wait;
@@ -81,6 +82,28 @@ fn a_pass_of_another_hall_is_no_agent(rt: HostRuntime) -> Result<(), Fail> {
     Ok(())
 }
 
+/// The turn of each event stands beside the log: the number of turns that had passed before it.
+#[test]
+fn each_event_has_its_turn(rt: HostRuntime) -> Result<(), Fail> {
+    let alloc = rt.alloc();
+    let net = network(alloc)?;
+    let held = Held::new(alloc, &net, &[])?;
+    let play = Match::new(alloc, net, setup(alloc)?)?;
+    let (mut hall, mut passes) = Hall::new(alloc, 0, play)?;
+    let mut dealer = Dealer::new([0; 32], 0);
+    hall.turn(&held, ScheduleKind::Adaptive, &mut dealer);
+    hall.told(&mut passes[0], Command::Enter)?;
+    hall.turn(&held, ScheduleKind::Adaptive, &mut dealer);
+    hall.turn(&held, ScheduleKind::Adaptive, &mut dealer);
+    // what is not heard has no turn
+    hall.told(&mut passes[0], Command::Enter)?;
+    hall.told(&mut passes[0], Command::Depart { port: 0 })?;
+    hall.turn(&held, ScheduleKind::Adaptive, &mut dealer);
+    hall.told(&mut passes[0], Command::Leave)?;
+    assert_eq!(rt; hall.turns(), [1, 3, 3, 4].as_slice());
+    Ok(())
+}
+
 /// A cell on which agent 0 entered and departed, and its pass.
 fn on_its_way<R: Abort + Wait>(rt: &R, alloc: Global) -> Result<(Cell, Pass), Fail> {
     let shared = cell(alloc, 0, 2, 10)?;
@@ -101,7 +124,7 @@ fn ended<R: Abort + Wait>(rt: &R, alloc: Global) -> Result<(Parts, Vec<Pass>), F
 /// Why parts do not settle, and how many events and passes come back.
 fn why(parts: Parts, passes: Vec<Pass>) -> (Option<Dispute>, usize, usize) {
     match parts.settle(passes) {
-        Ok(sealed) => (None, sealed.log().len(), 0),
+        Ok(settlement) => (None, settlement.sealed.log().len(), 0),
         Err(unsettled) => (
             Some(unsettled.why),
             unsettled.hall.state().log().len(),

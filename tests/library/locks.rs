@@ -66,7 +66,7 @@ fn tell<R: Wait>(rt: &R, cell: &Cell, pass: &mut Pass, command: Command) -> &'st
 /// in, and those that are left, claimed or not.
 fn outcome(cell: Cell, passes: Vec<Pass>) -> (usize, Option<Dispute>, usize, usize) {
     match settle(cell, passes) {
-        Ok(sealed) => (sealed.log().len(), None, 0, 0),
+        Ok(settlement) => (settlement.sealed.log().len(), None, 0, 0),
         Err(unsettled) => (
             unsettled.hall.state().log().len(),
             Some(unsettled.why),

@@ -245,8 +245,8 @@ fn settled<R: Wait>(
     let mut kept: u64 = 0;
     for (cell, passes) in cells.into_iter().zip(handed) {
         cell.close(rt);
-        let sealed = settle(cell, passes).map_err(|_| BenchFault::Unsettled)?;
-        kept = kept.saturating_add(sealed.log().len() as u64);
+        let settlement = settle(cell, passes).map_err(|_| BenchFault::Unsettled)?;
+        kept = kept.saturating_add(settlement.sealed.log().len() as u64);
     }
     Ok(kept)
 }

@@ -8,7 +8,7 @@ ghost use Rattle.bhs_deal.specs.Lateness.{whole_schedule, stamps_in, is_first, n
 ghost use Rattle.bhs_deal.specs.Lateness.{late_in, IsFirstLate};
 
 use crate::dealers::Dealer;
-use bhs_match::{Match, Site};
+use bhs_match::{Sealed, Site};
 use bhs_model::{Command, Event, Kept};
 use bhs_net::Memory;
 use bhs_time::Delays;
@@ -112,30 +112,30 @@ fn note(departures: &mut [u32], event: &Event, site: Option<u16>, turn: u32)
     }
 }
 
-/// The place of the first delivery in the log that was not made in time, where each event happened after this many
+/// The place of the first delivery of a match that was not made in time, where each event happened after this many
 /// turns: not at the first turn since its agent's departure that released the agent. None if all were.
 pub fn first_late(
     alloc: Global,
-    play: &Match,
+    sealed: &Sealed,
     turns: &[u32],
     delays: Delays,
     dealer: &Dealer,
 ) -> Result<Option<usize>, Memory>
-    requires { length turns.now ≡ length play.now.log }
+    requires { length turns.now ≡ length sealed.now.log }
     ensures found { IfOk result (λ place. place
-        ≡ late_in (whole_schedule dealer.now play.now.setup.agents delays) play.now turns.now) }
+        ≡ late_in (whole_schedule dealer.now sealed.now.setup.agents delays) sealed.now turns.now) }
     ensures late { IfOk result (λ place. MatchOption place
-        (AreInTime (whole_schedule dealer.now play.now.setup.agents delays) (world_in play.now)
-        (stamps_in play.now.log turns.now))
-        (IsFirstLate (whole_schedule dealer.now play.now.setup.agents delays) (world_in play.now)
-        (stamps_in play.now.log turns.now))) }
+        (AreInTime (whole_schedule dealer.now sealed.now.setup.agents delays) (world_in sealed.now)
+        (stamps_in sealed.now.log turns.now))
+        (IsFirstLate (whole_schedule dealer.now sealed.now.setup.agents delays) (world_in sealed.now)
+        (stamps_in sealed.now.log turns.now))) }
 {
-    let agents = play.setup().agents;
+    let agents = sealed.setup().agents;
     let schedule = Schedule {
         dealer,
         delays,
         agents,
     };
     let mut departures = Vec::from_elem(alloc, 0, usize::from(agents))?;
-    Ok(schedule.first_late(&mut departures, play.log(), play.sites(), turns))
+    Ok(schedule.first_late(&mut departures, sealed.log(), sealed.sites(), turns))
 }

@@ -21,3 +21,4 @@ mod FoundLemmas
 pub mod PastLogLemmas
 pub mod LoopLemmas
 mod OnePassLemmas
+pub mod TurnLemmas

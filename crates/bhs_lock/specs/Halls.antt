@@ -1,5 +1,5 @@
 -- What stands under the lock, and what a command makes of it and of a pass.
-use Rattle.std.specs.Prelude.{ℕ, ◌≡◌, Bool, true, false, ◌&&◌, not, Option, Some, None, List, ◌==◌, nat_lt}
+use Rattle.std.specs.Prelude.{ℕ, ◌≡◌, Bool, true, false, ◌&&◌, not, Option, Some, None, List, [], ◌==◌, nat_lt}
 use Rattle.std.specs.Prelude.{if◌then◌else◌, length, slice_get, ◌-◌, replicate, is_some}
 use Rattle.bhs_model.specs.declared.commands.Command.{Command}
 use Rattle.bhs_model.specs.declared.events.Event.TheVariants.{Tell}
@@ -16,16 +16,17 @@ use Rattle.bhs_lock.specs.declared.model.Answer.{Answer}
 use Rattle.bhs_lock.specs.declared.model.Receipt.{Receipt}
 use Rattle.bhs_lock.specs.declared.model.Spare.{Spare}
 use Rattle.bhs_lock.specs.declared.model.Tally.{Tally}
-use Rattle.bhs_lock.specs.Timing.{Timed, at_first, told_at}
+use Rattle.bhs_lock.specs.Timing.{Timed, at_first, told_at, stamped_to}
 use Rattle.bhs_lock.specs.Tallies.{tally_of, nothing}
 use Rattle.bhs_lock.specs.Passes.{Passed, tally_in, kept_command, gained}
 
--- the number of the match, the match, of each agent its two numbers, and the turns
+-- the number of the match, the match, of each agent its two numbers, the times, and the turn of each event of the log
 pub record Housed : Type 0 where
   pub game : ℕ
   pub play : Play
   pub tallies : List Tally
   pub times : Timed
+  pub turns : List ℕ
 
 -- what stands under the lock at first
 abbrev pub empty_hall : (game : ℕ) → Play → Housed
@@ -34,6 +35,7 @@ empty_hall game play = record {
   play = play;
   tallies = replicate play.setup.agents nothing;
   times = at_first play.setup.agents;
+  turns = [];
 }
 
 -- whether two truth values are the same
@@ -100,6 +102,7 @@ pub record IsHeardBy (hall : Housed) (pass : Passed) (command : Command) (answer
   pub game : hall'.game ≡ hall.game
   pub times : hall'.times ≡ (if is_some answer.place
       then told_at (is_bound ((state_of hall.play).position pass.agent)) pass.agent hall.times else hall.times)
+  pub turns : hall'.turns ≡ stamped_to (length hall'.play.log) hall.times.turn hall.turns
 
 -- a pass that does not agree is no agent's, and nothing changes
 pub record IsStranger (hall : Housed) (pass : Passed) (answer : Answer) (hall' : Housed) (pass' : Passed) : Type 0 where

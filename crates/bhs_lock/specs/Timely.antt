@@ -16,7 +16,7 @@ use Rattle.bhs_deal.specs.Delaying.{schedule_of, departed_in}
 use Rattle.bhs_deal.specs.Drawing.{IsPlayedIf}
 use Rattle.bhs_lock.specs.declared.model.Answer.{Answer}
 use Rattle.bhs_lock.specs.Passes.{Passed}
-use Rattle.bhs_lock.specs.Timing.{turned, arrived_by, event_of_turn, drawn_in_turn}
+use Rattle.bhs_lock.specs.Timing.{turned, stamped_to, arrived_by, event_of_turn, drawn_in_turn}
 use Rattle.bhs_lock.specs.Halls.{Housed, empty_hall, agrees, IsHeardBy}
 
 -- what is fixed of a match under the oblivious schedule: its words, the law of its delays, and its held links
@@ -48,12 +48,14 @@ pub record IsTurnCall (terms : TurnTerms) (hall hall' : Housed) : Type 0 where
       (event_of_turn (Oblivious terms.law) terms.held hall.play hall.times
       (dealer_at terms.seed terms.stream hall.times.turn)) hall'.play
   pub times : hall'.times ≡ turned (arrived_by (state_of hall'.play) drawn) hall.times
+  pub turns : hall'.turns ≡ stamped_to (length hall'.play.log) hall.times.turn hall.turns
 
 -- the end of the match, as `Hall::close` says it
 pub record IsCloseCall (hall hall' : Housed) : Type 0 where
   pub answer : MatchAnswer
   pub played : IsPlayed hall.play Close answer hall'.play
   pub times : hall'.times ≡ hall.times
+  pub turns : hall'.turns ≡ stamped_to (length hall'.play.log) hall.times.turn hall.turns
 
 abbrev pub IsCall : TurnTerms → TimedAct → Housed → Housed → Type 0
 IsCall terms (Says agent command) hall hall' = IsToldCall hall agent command hall'

@@ -1,5 +1,5 @@
 -- The turns of a match under its lock, and whom a turn delivers.
-use Rattle.std.specs.Prelude.{ℕ, ◌+◌, ◌-◌, ◌^◌, min, Bool, Option, Some, None, List, length, nat_lt}
+use Rattle.std.specs.Prelude.{ℕ, ◌≡◌, ◌≤◌, ◌+◌, ◌-◌, ◌^◌, min, Bool, Option, Some, None, List, [], ◌∷◌, ◌++◌, length, nat_lt}
 use Rattle.std.specs.Prelude.{if◌then◌else◌, replicate, slice_set}
 use Rattle.rand_chacha.specs.ChaCha.{ChaCha}
 use Rattle.bhs_model.specs.declared.events.Event.{Event}
@@ -8,7 +8,7 @@ use Rattle.bhs_model.specs.Draws.{Held, draw}
 use Rattle.bhs_time.specs.declared.kinds.ScheduleKind.{ScheduleKind}
 use Rattle.bhs_time.specs.declared.kinds.ScheduleKind.TheVariants.{Adaptive, Oblivious}
 use Rattle.bhs_time.specs.TimedRuns.{delivery_in}
-use Rattle.bhs_match.specs.Matches.{Play, state_of}
+use Rattle.bhs_match.specs.Matches.{Play, state_of, most_kept}
 use Rattle.bhs_deal.specs.Dealer.{next_word}
 use Rattle.bhs_deal.specs.Delaying.{schedule_by, departed_in, drawn_in}
 use Rattle.bhs_deal.specs.Drawing.{drawn}
@@ -42,6 +42,16 @@ stepped_if (Some agent) timed = stepped agent timed
 abbrev pub turned : Option ℕ → Timed → Timed
 turned arrived timed =
     record (stepped_if arrived timed) { turn = min ((stepped_if arrived timed).turn + 1) (2 ^ 32 - 1) }
+
+-- The turns of the events of a log, when the log has this many events and this many turns have passed. There is one
+-- turn more, if there is one event more.
+abbrev pub stamped_to : (events turn : ℕ) → List ℕ → List ℕ
+stamped_to events turn turns = if nat_lt (length turns) events then turns ++ turn ∷ [] else turns
+
+-- each event of the log has its turn, and there is room for the turns of all that may still be kept
+pub record HaveTurns (play : Play) (turns room : ℕ) : Type 0 where
+  pub count : turns ≡ length play.log
+  pub room_for : most_kept play.setup.agents play.setup.quota ≤ room
 
 -- the agent that arrived by what was drawn, if one did, where the match then stands like this
 abbrev pub arrived_by : State → Drawn → Option ℕ

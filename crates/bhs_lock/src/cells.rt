@@ -1,6 +1,7 @@
 //! A match that threads share.
 
-ghost use Rattle.std.specs.Prelude.{◌≡◌, ◌↔◌, [], IfOk, IfSome, IsTrue, OnErr, replicate, vec_len};
+ghost use Rattle.std.specs.Prelude.{◌≡◌, ◌≤◌, ◌↔◌, [], IfOk, IfSome, IsTrue, OnErr, replicate, vec_capacity, vec_len};
+ghost use Rattle.bhs_match.specs.Matches.{most_kept};
 ghost use Rattle.bhs_match.specs.Decided.{AreAllDone, HaveAllEntered};
 ghost use Rattle.bhs_deal.specs.Dealer.{moved_on};
 ghost use Rattle.bhs_lock.specs.Recording.{IsSubmitted};
@@ -14,7 +15,7 @@ ghost use Rattle.bhs_lock.specs.Settling.{IsOfWorld};
 
 use crate::copies::{Copied, copies};
 use crate::gates::Gate;
-use crate::hall::{Hall, unheard};
+use crate::hall::{Hall, no_turns, unheard};
 use crate::model::{Answer, Tally};
 use crate::networks::is_of_world;
 use crate::parts::Parts;
@@ -66,8 +67,8 @@ impl Model for Cell {
 impl Cell {
     ghost use Rattle.bhs_lock.specs.Cells.{Given};
 
-    /// The cell of a match with an empty log, whose turns are of this schedule and let nobody arrive over the held links.
-    /// It keeps a copy of the network and the setup. All memory that the match and its passes need is taken here.
+    /// The cell of a match with an empty log, whose turns are of this schedule and let nobody arrive over the held
+    /// links. It keeps a copy of the network and the setup. All memory that the match and its passes need is taken here.
     pub fn new(
         alloc: Global,
         game: u32,
@@ -86,10 +87,11 @@ impl Cell {
             unclaimed,
             tallies,
             times,
+            turns,
         } = Frame::new(alloc, game, &play)?;
         Ok(Cell {
             game,
-            hall: Mutex::new(Hall::alone(game, play, tallies, times)),
+            hall: Mutex::new(Hall::alone(game, play, tallies, times, turns)),
             unclaimed: Mutex::new(unclaimed),
             news,
             held,
@@ -111,6 +113,13 @@ impl Cell {
         ensures { result.now ≡ self.now.setup }
     {
         &self.setup
+    }
+
+    /// How the turns of the match choose whom they deliver.
+    pub fn schedule(&self) -> ScheduleKind
+        ensures { result ≡ self.now.schedule }
+    {
+        self.schedule
     }
 
     /// The pass of an agent in this match, once; None for a number without an agent, and for an agent whose pass was
@@ -275,6 +284,7 @@ struct Frame {
     unclaimed: Unclaimed,
     tallies: Vec<Tally>,
     times: Times,
+    turns: Vec<u32>,
 }
 
 impl Frame {
@@ -284,11 +294,14 @@ impl Frame {
         ensures setup { IfOk result (λ frame. frame.setup ≡ play.now.setup) }
         ensures tallies { IfOk result (λ frame. frame.tallies.items ≡ replicate play.now.setup.agents nothing) }
         ensures times { IfOk result (λ frame. frame.times ≡ at_first play.now.setup.agents) }
+        ensures turns { IfOk result (λ frame. (frame.turns.items ≡ [])
+            × (most_kept play.now.setup.agents play.now.setup.quota ≤ vec_capacity frame.turns)) }
         ensures news { IfOk result (λ frame. vec_len frame.news ≡ play.now.setup.agents) }
     {
         let agents = play.setup().agents;
         let tallies = unheard(alloc, agents)?;
         let times = Times::new(alloc, agents)?;
+        let turns = no_turns(alloc, play.setup())?;
         let news = bells(alloc, agents)?;
         let setup = play.setup().try_clone()?;
         let net = play.net().try_clone(alloc)?;
@@ -299,6 +312,7 @@ impl Frame {
             news,
             tallies,
             times,
+            turns,
         })
     }
 }

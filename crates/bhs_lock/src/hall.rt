@@ -1,22 +1,22 @@
 //! What stands under the lock of a match.
 
-ghost use Rattle.std.specs.Prelude.{◌≡◌, [], true, IfOk, IfSome, OnErr, replicate};
+ghost use Rattle.std.specs.Prelude.{◌≡◌, ◌≤◌, [], true, IfOk, IfSome, OnErr, length, replicate, vec_capacity};
 ghost use Rattle.bhs_lock.specs.Halls.{agrees, same_tally, is_below, empty_hall, IsAnswered};
 ghost use Rattle.bhs_lock.specs.Tallies.{IsLegalHistory, nothing};
 ghost use Rattle.bhs_lock.specs.Recording.{IsSubmitted};
 ghost use Rattle.bhs_lock.specs.Passes.{passes_of};
 ghost use Rattle.bhs_lock.specs.Arrivals.{is_here, IsGiven};
-ghost use Rattle.bhs_match.specs.Matches.{state_of};
+ghost use Rattle.bhs_match.specs.Matches.{state_of, most_kept};
 ghost use Rattle.bhs_match.specs.Games.{IsPlayed};
 ghost use Rattle.bhs_match.specs.declared.answers.Answer.{Answer as MatchAnswer};
 ghost use Rattle.bhs_deal.specs.Dealer.{moved_on};
 ghost use Rattle.bhs_deal.specs.Links.{held_in};
 ghost use Rattle.bhs_deal.specs.Drawing.{IsPlayedIf};
-ghost use Rattle.bhs_lock.specs.Timing.{at_first, turned, arrived_by, event_of_turn, drawn_in_turn};
+ghost use Rattle.bhs_lock.specs.Timing.{at_first, turned, stamped_to, arrived_by, event_of_turn, drawn_in_turn};
 
 use crate::model::{Answer, Receipt, Tally};
 use crate::pass::Pass;
-use crate::times::{Times, arrived, deliver_by};
+use crate::times::{Times, arrived, deliver_by, stamp};
 use bhs_deal::{Dealer, Drawn, Held};
 use bhs_match::{Match, Sealed};
 use bhs_model::{Command, Event, Reply, Setup, Why};
@@ -32,6 +32,8 @@ pub struct Hall {
     play: Match,
     tallies: Vec<Tally>,
     times: Times,
+    /// The turn of each event of the log.
+    turns: Vec<u32>,
 }
 
 impl Model for Hall {
@@ -46,12 +48,15 @@ impl Model for Hall {
       play = hall.play;
       tallies = hall.tallies.items;
       times = hall.times;
+      turns = hall.turns.items;
     } };
 
-    ghost use Rattle.std.specs.Prelude.{◌≡◌, length};
+    ghost use Rattle.std.specs.Prelude.{◌≡◌, length, vec_capacity};
+    ghost use Rattle.bhs_lock.specs.Timing.{HaveTurns};
 
     ghost invariant = { λ hall. (IsLegalHistory hall.play hall.tallies.items × AreFit hall.play)
-        × (length hall.times.departed ≡ hall.play.setup.agents) };
+        × ((length hall.times.departed ≡ hall.play.setup.agents)
+        × HaveTurns hall.play (length hall.turns.items) (vec_capacity hall.turns)) };
 }
 
 impl Hall {
@@ -64,14 +69,22 @@ impl Hall {
     {
         let (tallies, passes) = unheard_and_passes(alloc, game, play.setup())?;
         let times = Times::new(alloc, play.setup().agents)?;
-        Ok((Hall::alone(game, play, tallies, times), passes))
+        let turns = no_turns(alloc, play.setup())?;
+        Ok((Hall::alone(game, play, tallies, times, turns), passes))
     }
 
     /// The hall of a match with an empty log, with the tallies of agents that were never heard. It takes no memory.
-    pub(crate) fn alone(game: u32, play: Match, tallies: Vec<Tally>, times: Times) -> Hall
+    pub(crate) fn alone(
+        game: u32,
+        play: Match,
+        tallies: Vec<Tally>,
+        times: Times,
+        turns: Vec<u32>,
+    ) -> Hall
         requires log { play.log ≡ [] }
         requires tallies { tallies.items ≡ replicate play.setup.agents nothing }
         requires times { times ≡ at_first play.setup.agents }
+        requires turns { (turns.items ≡ []) × (most_kept play.setup.agents play.setup.quota ≤ vec_capacity turns) }
         ensures { result ≡ empty_hall game play }
     {
         // The proof needs what the log says of itself.
@@ -81,6 +94,7 @@ impl Hall {
             play,
             tallies,
             times,
+            turns,
         }
     }
 
@@ -92,19 +106,30 @@ impl Hall {
         &self.play
     }
 
-    /// The match for reading alone, if it has ended. Takes no memory.
-    pub(crate) fn into_sealed(self) -> Sealed
+    /// The turn of each event of the log.
+    pub fn turns(&self) -> &[u32]
+        ensures turns { result.now ≡ self.now.turns }
+        ensures count { length result.now ≡ length self.now.play.log }
+    {
+        &self.turns
+    }
+
+    /// The match for reading alone, and the turn of each event of its log, if it has ended. Takes no memory.
+    pub(crate) fn into_sealed(self) -> (Sealed, Vec<u32>)
         requires { (state_of self.play).closed ≡ true }
-        ensures { result ≡ self.play }
+        ensures sealed { result.0 ≡ self.play }
+        ensures turns { result.1.items ≡ self.turns }
+        ensures count { length result.1.items ≡ length self.play.log }
     {
         let Hall {
             game: _,
             play,
             tallies: _,
             times: _,
+            turns,
         } = self;
         match play.sealed() {
-            Ok(sealed) => sealed,
+            Ok(sealed) => (sealed, turns),
             Err(_) => unreachable!(),
         }
     }
@@ -145,7 +170,8 @@ impl Hall {
         let _order = pass.receipts();
         let step = pass.submit_to(&mut self.play, command)?;
         // The proof needs what the log says of itself.
-        let _legal = self.play.log();
+        let legal = self.play.log();
+        stamp(&mut self.turns, legal.len(), self.times.turn());
         if step.place.is_some() {
             self.tallies[usize::from(agent)] = pass.tally();
             self.times.told(agent, was_away);
@@ -163,12 +189,14 @@ impl Hall {
         ensures played { IsPlayedIf self.old.play
             (event_of_turn schedule (held_in held.now) self.old.play self.old.times dealer.old) self.new.play }
         ensures times { self.new.times ≡ turned (arrived_by (state_of self.new.play) result) self.old.times }
+        ensures turns { self.new.turns ≡ stamped_to (length self.new.play.log) self.old.times.turn self.old.turns }
         ensures dealer { dealer.new ≡ moved_on dealer.old }
         ensures game { self.new.game ≡ self.old.game }
     {
         let drawn = deliver_by(&mut self.play, held, schedule, dealer, &self.times);
         // The proof needs what the log says of itself.
-        let _legal = self.play.log();
+        let legal = self.play.log();
+        stamp(&mut self.turns, legal.len(), self.times.turn());
         let arrived = arrived(&self.play, drawn);
         self.times.pass(arrived);
         drawn
@@ -179,10 +207,12 @@ impl Hall {
         ensures closed { (answer : MatchAnswer) × IsPlayed self.old.play Event.Close answer self.new.play }
         ensures game { self.new.game ≡ self.old.game }
         ensures times { self.new.times ≡ self.old.times }
+        ensures turns { self.new.turns ≡ stamped_to (length self.new.play.log) self.old.times.turn self.old.turns }
     {
         self.play.apply(Event::Close);
         // The proof needs what the log says of itself.
-        let _legal = self.play.log();
+        let legal = self.play.log();
+        stamp(&mut self.turns, legal.len(), self.times.turn());
     }
 
     /// Gives a pass its agent's next arrival, which is answered; None if there is none.
@@ -208,6 +238,16 @@ fn unheard_and_passes(
     let tallies = unheard(alloc, setup.agents)?;
     let passes = empty_passes(alloc, game, setup.quota, setup.agents)?;
     Ok((tallies, passes))
+}
+
+/// No turns, with room for the turn of each event that a match may keep.
+pub(crate) fn no_turns(alloc: Global, setup: &Setup) -> Result<Vec<u32>, Memory>
+    ensures items { IfOk result (λ turns. turns.items ≡ []) }
+    ensures room { IfOk result (λ turns. most_kept setup.now.agents setup.now.quota ≤ vec_capacity turns) }
+{
+    let agents = usize::from(setup.agents);
+    let quota = usize::from(setup.quota);
+    Vec::with_capacity(alloc, agents * (2 * quota + 2) + 1)
 }
 
 /// What stands under the lock of agents that were not heard yet.

@@ -1,6 +1,6 @@
 //! The settlement of a match that no thread shares any more.
 
-ghost use Rattle.std.specs.Prelude.{◌≡◌, IfOk, IfErr, MatchOption};
+ghost use Rattle.std.specs.Prelude.{◌≡◌, IfOk, IfErr, MatchOption, length};
 ghost use Rattle.bhs_lock.specs.Disputes.{account_of, AreInAccord, IsDispute, IsSettled, IsRefused, HasRefused};
 
 use crate::cells::Cell;
@@ -37,12 +37,21 @@ pub struct Unsettled {
     pub passes: Vec<Pass>,
 }
 
+/// A match that settles.
+#[derive(Debug, Drop)]
+pub struct Settlement {
+    pub sealed: Sealed,
+    /// The turn of each event of its log.
+    pub turns: Vec<u32>,
+}
+
 /// The match of a cell that no thread shares any more, for reading alone, if the passes agree with it: each claimed
 /// pass is among them, and each has the heard commands of its agent and its first arrivals, with places and replies.
 /// Otherwise the first dispute, in the order of `Dispute`, of the least agent and there of the least index; the parts
 /// come back. Takes no memory. Any pass may be handed in.
-pub fn settle(cell: Cell, passes: Vec<Pass>) -> Result<Sealed, Unsettled>
-    ensures settled { IfOk result (λ sealed. AreInAccord cell sealed passes.items) }
+pub fn settle(cell: Cell, passes: Vec<Pass>) -> Result<Settlement, Unsettled>
+    ensures settled { IfOk result (λ settlement. AreInAccord cell settlement.sealed passes.items) }
+    ensures turns { IfOk result (λ settlement. length settlement.turns.items ≡ length settlement.sealed.log) }
     ensures refused { IfErr result (λ unsettled. HasRefused cell passes unsettled) }
 {
     cell.into_parts().settle(passes)
@@ -51,8 +60,11 @@ pub fn settle(cell: Cell, passes: Vec<Pass>) -> Result<Sealed, Unsettled>
 impl Parts {
     /// The match for reading alone, if the passes agree with it and with the parts; otherwise the first dispute, and
     /// the parts. Takes no memory.
-    pub fn settle(self, passes: Vec<Pass>) -> Result<Sealed, Unsettled>
-        ensures settled { IfOk result (λ sealed. (sealed ≡ self.hall.play) × IsSettled (account_of self passes.items)) }
+    pub fn settle(self, passes: Vec<Pass>) -> Result<Settlement, Unsettled>
+        ensures settled { IfOk result (λ settlement. (settlement.sealed ≡ self.hall.play)
+            × IsSettled (account_of self passes.items)) }
+        ensures turns { IfOk result (λ settlement. settlement.turns.items ≡ self.hall.turns) }
+        ensures count { IfOk result (λ settlement. length settlement.turns.items ≡ length settlement.sealed.log) }
         ensures refused { IfErr result (λ unsettled. IsRefused self passes unsettled) }
     {
         let dispute = self.first_dispute(&passes);
@@ -66,7 +78,10 @@ impl Parts {
             schedule: _,
         } = self;
         match dispute {
-            None => Ok(hall.into_sealed()),
+            None => {
+                let (sealed, turns) = hall.into_sealed();
+                Ok(Settlement { sealed, turns })
+            }
             Some(why) => Err(Unsettled {
                 why,
                 hall,

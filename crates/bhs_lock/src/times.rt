@@ -1,11 +1,12 @@
 //! The turns of a match under its lock.
 
-ghost use Rattle.std.specs.Prelude.{◌≡◌, ◌≤◌, length, IfOk};
+ghost use Rattle.std.specs.Prelude.{◌≡◌, ◌≤◌, length, IfOk, vec_capacity};
 ghost use Rattle.bhs_match.specs.Matches.{state_of};
 ghost use Rattle.bhs_deal.specs.Dealer.{moved_on};
 ghost use Rattle.bhs_deal.specs.Drawing.{IsPlayedIf};
 ghost use Rattle.bhs_deal.specs.Links.{held_in};
-ghost use Rattle.bhs_lock.specs.Timing.{at_first, told_at, stepped, turned, arrived_by, event_of_turn, drawn_in_turn};
+ghost use Rattle.bhs_lock.specs.Timing.{at_first, told_at, stepped, turned, stamped_to, arrived_by};
+ghost use Rattle.bhs_lock.specs.Timing.{event_of_turn, drawn_in_turn};
 
 use bhs_deal::{Dealer, Drawn, Held, Waits, draw, draw_oblivious};
 use bhs_match::Match;
@@ -37,6 +38,13 @@ impl Times {
     {
         let departed = Vec::from_elem(alloc, 0, usize::from(agents))?;
         Ok(Times { turn: 0, departed })
+    }
+
+    /// How many turns have passed.
+    pub(crate) fn turn(&self) -> u32
+        ensures { result ≡ self.now.turn }
+    {
+        self.turn
     }
 
     /// An agent took a step that was not on a link.
@@ -77,6 +85,17 @@ impl Times {
             turn: self.turn,
             departed: &self.departed,
         }
+    }
+}
+
+/// Notes the turn of the newest event of a log that has this many events, unless it is noted.
+pub(crate) fn stamp(turns: &mut Vec<u32>, events: usize, turn: u32)
+    requires { events ≤ vec_capacity turns.old }
+    ensures items { turns.new.items ≡ stamped_to events turn turns.old.items }
+    ensures capacity { vec_capacity turns.new ≡ vec_capacity turns.old }
+{
+    if turns.len() < events {
+        turns.push_reserved(turn);
     }
 }
 

@@ -1,12 +1,13 @@
 -- Contests: as many matches end as there were, why one has no table, and the line that says that the program listens.
 use Rattle.std.proofs.Common.{◌≡◌, refl, sym, subst, ◌∙◌, arith, ℕ, ◌+◌, List, [], ◌∷◌, length, map, Bool, true, IfOk}
-use Rattle.std.proofs.Common.{OnErr, Result, Ok, Err, ◌++◌, ap, append_assoc}
+use Rattle.std.proofs.Common.{OnErr, Result, Ok, Err, ◌++◌, ap, append_assoc, drop}
 use Rattle.std.proofs.lemmas.List.{length-map, map-append}
-use Rattle.bhs_match.specs.Matches.{Play}
+use Rattle.rand_chacha.specs.ChaCha.{ChaCha}
 use Rattle.bhs_time.specs.declared.kinds.ScheduleKind.{ScheduleKind}
 use Rattle.bhs_lineup.specs.declared.lineups.Ready.{Ready}
 use Rattle.bhs_lineup.specs.declared.lineups.Lineup.{Lineup}
-use Rattle.bhs_lock.specs.declared.settling.Unsettled.{Unsettled}
+use Rattle.bhs_lock.specs.declared.settling.Settlement.{Settlement}
+use Rattle.bhs_server.specs.declared.settling.Refused.{Refused}
 use Rattle.bhs_server.specs.Settling.{HaveFared}
 use Rattle.bhs_host.specs.Hosting.{givens_of}
 use Rattle.bhs_stream.specs.Streams.{Taken}
@@ -17,26 +18,28 @@ use Rattle.bhs_orders.specs.declared.statuses.TheConstants.{DONE, NO_MEMORY}
 use Rattle.bhs_orders.proofs.ReportLemmas.{not_done}
 use Rattle.bhs_program.specs.Contests.{Serves, goes_unheard, refuses_contest, listening}
 
-pub as_many : (schedule : ScheduleKind) (place : ℕ) (matches : List Ready) (settled : List (Result Play Unsettled))
-    → HaveFared (givens_of schedule place matches) settled → length (map (λ ready. ready.team) matches) ≡ length settled
-as_many schedule place [] [] fared = refl
-as_many schedule place [] (one ∷ settled) fared = absurd fared
-as_many schedule place (ready ∷ matches) [] fared = absurd fared
-as_many schedule place (ready ∷ matches) (one ∷ settled) (first, others) =
-    omega (arith, as_many schedule (place + 1) matches settled others)
+pub as_many : (schedule : ScheduleKind) (place : ℕ) (matches : List Ready) (dealers : List ChaCha)
+    (settled : List (Result Settlement Refused)) → HaveFared (givens_of schedule place matches) dealers settled →
+    length (map (λ ready. ready.team) matches) ≡ length settled
+as_many schedule place [] dealers [] fared = refl
+as_many schedule place [] dealers (one ∷ settled) fared = absurd fared
+as_many schedule place (ready ∷ matches) dealers [] fared = absurd fared
+as_many schedule place (ready ∷ matches) dealers (one ∷ settled) (first, others) =
+    omega (arith, as_many schedule (place + 1) matches (drop 1 dealers) settled others)
 
 -- one match more that settled
-pub one_more_settled : (settled rest others : List (Result Play Unsettled)) (before : List Play) (one : Play)
+pub one_more_settled : (settled rest others : List (Result Settlement Refused)) (before : List Settlement)
+    (one : Settlement)
     → settled ≡ map Ok before ++ rest → rest ≡ Ok one ∷ others → settled ≡ map Ok (before ++ one ∷ []) ++ others
 one_more_settled settled rest others before one is next =
-    is ∙ ap (λ (xs : List (Result Play Unsettled)). map Ok before ++ xs) next
+    is ∙ ap (λ (xs : List (Result Settlement Refused)). map Ok before ++ xs) next
     ∙ sym (append_assoc (map Ok before) (Ok one ∷ []) others)
-    ∙ ap (λ (xs : List (Result Play Unsettled)). xs ++ others) (sym (map-append Ok before (one ∷ [])))
+    ∙ ap (λ (xs : List (Result Settlement Refused)). xs ++ others) (sym (map-append Ok before (one ∷ [])))
 
 -- as many matches settled as there are, if all did
-pub all_counted : (settled : List (Result Play Unsettled)) (plays : List Play) → settled ≡ map Ok plays
-    → length settled ≡ length plays
-all_counted settled plays are = ap length are ∙ length-map plays Ok
+pub all_counted : (settled : List (Result Settlement Refused)) (all : List Settlement) → settled ≡ map Ok all
+    → length settled ≡ length all
+all_counted settled all are = ap length are ∙ length-map all Ok
 
 -- the line that says that the program listens
 module _ {O : Type 0} (takes : O → List ℕ → Taken → O → Type 0) (flushes : O → Bool → O → Type 0) (port : ℕ)

@@ -1,15 +1,15 @@
 -- What a contest over sockets does to its output and to the files of its replays, call by call.
 use Rattle.std.specs.Prelude.{◌≡◌, ℕ, Bool, true, List, ◌∷◌, ◌++◌, codes, decimal, length, map, Result, Ok, Err}
 use Rattle.std.specs.List.{AllByRecursion}
-use Rattle.bhs_match.specs.Matches.{Play}
 use Rattle.bhs_stream.specs.Streams.{Taken}
 use Rattle.bhs_time.specs.declared.kinds.ScheduleKind.{ScheduleKind}
 use Rattle.bhs_lineup.specs.declared.lineups.Ready.{Ready}
 use Rattle.bhs_lineup.specs.declared.lineups.Lineup.{Lineup}
-use Rattle.bhs_lock.specs.declared.settling.Unsettled.{Unsettled}
+use Rattle.bhs_lock.specs.declared.settling.Settlement.{Settlement}
 use Rattle.bhs_replay.specs.Replay.{replay_of}
+use Rattle.bhs_server.specs.declared.settling.Refused.{Refused}
 use Rattle.bhs_server.specs.Settling.{HaveFared}
-use Rattle.bhs_host.specs.Hosting.{IsStandings, givens_of}
+use Rattle.bhs_host.specs.Hosting.{IsStandings, dealers_of, givens_of}
 use Rattle.bhs_orders.specs.Fault.{status}
 use Rattle.bhs_orders.specs.Filing.{first_status}
 use Rattle.bhs_orders.specs.Showing.{Prints, Reports, Shows, Took}
@@ -22,27 +22,27 @@ use Rattle.bhs_orders.specs.declared.statuses.TheConstants.{DONE}
 abbrev pub listening : (port : ℕ) → List ℕ
 listening port = codes "listening " ++ (decimal port ++ codes "\n")
 
--- the match of this number is the first that does not settle
-pub record IsFirstUnsettled (settled : List (Result Play Unsettled)) (game : ℕ) : Type 0 where
-  pub plays : List Play
-  pub unsettled : Unsettled
-  pub others : List (Result Play Unsettled)
-  pub settled_are : settled ≡ map Ok plays ++ Err unsettled ∷ others
-  pub place : game ≡ length plays
+-- the match of this number is the first that has no result
+pub record IsFirstUnsettled (settled : List (Result Settlement Refused)) (game : ℕ) : Type 0 where
+  pub before : List Settlement
+  pub refused : Refused
+  pub others : List (Result Settlement Refused)
+  pub settled_are : settled ≡ map Ok before ++ Err refused ∷ others
+  pub place : game ≡ length before
 
--- why there is no table of matches: one of them does not settle, or memory ran out
-abbrev pub IsUntabled : (settled : List (Result Play Unsettled)) → Fault → Type 0
+-- why there is no table of matches: one of them has no result, or memory ran out
+abbrev pub IsUntabled : (settled : List (Result Settlement Refused)) → Fault → Type 0
 IsUntabled settled (faults.Unsettled game) = IsFirstUnsettled settled game
 IsUntabled settled faults.Memory = Unit {0}
 IsUntabled settled fault = ⊥
 
 -- if the match settled, its replay was written to a file with these calls
-abbrev pub HasReplay : {P : Type 0} → (P → List ℕ → Taken → P → Type 0) → Result Play Unsettled → Type 0
-HasReplay files (Ok play) = Took files (replay_of play)
-HasReplay files (Err unsettled) = Unit {0}
+abbrev pub HasReplay : {P : Type 0} → (P → List ℕ → Taken → P → Type 0) → Result Settlement Refused → Type 0
+HasReplay files (Ok settlement) = Took files (replay_of settlement.sealed)
+HasReplay files (Err refused) = Unit {0}
 
 -- what the exit status says of the replays of matches that were to be written to files with these calls
-pub data Files {P : Type 0} (files : P → List ℕ → Taken → P → Type 0) (settled : List (Result Play Unsettled))
+pub data Files {P : Type 0} (files : P → List ℕ → Taken → P → Type 0) (settled : List (Result Settlement Refused))
     (code : ℕ) : Type 0 where
   -- each was written
   all_filed : code ≡ DONE → AllByRecursion (HasReplay files) settled → Files files settled code
@@ -51,13 +51,13 @@ pub data Files {P : Type 0} (files : P → List ℕ → Taken → P → Type 0) 
 
 module _ {O : Type 0} (takes : O → List ℕ → Taken → O → Type 0) (flushes : O → Bool → O → Type 0) where
   -- what was printed of the matches of these teams
-  pub data Tables (teams : List (List ℕ)) (settled : List (Result Play Unsettled)) (output output' : O) (code : ℕ) :
+  pub data Tables (teams : List (List ℕ)) (settled : List (Result Settlement Refused)) (output output' : O) (code : ℕ) :
       Type 0 where
     -- all settled: their table was to be printed
-    tabled : (plays : List Play) → settled ≡ map Ok plays
-        → Reports (Prints takes flushes) (IsStandings teams plays) output output' code
+    tabled : (settlements : List Settlement) → settled ≡ map Ok settlements
+        → Reports (Prints takes flushes) (IsStandings teams (map (λ one. one.sealed) settlements)) output output' code
         → Tables teams settled output output' code
-    -- one does not settle, or memory ran out: nothing was printed
+    -- one has no result, or memory ran out: nothing was printed
     untabled : (fault : Fault) → IsUntabled settled fault → code ≡ status fault → output' ≡ output
         → Tables teams settled output output' code
 
@@ -65,7 +65,7 @@ module _ {O : Type 0} (takes : O → List ℕ → Taken → O → Type 0) (flush
 module _ {P O : Type 0} (files : P → List ℕ → Taken → P → Type 0) (takes : O → List ℕ → Taken → O → Type 0)
     (flushes : O → Bool → O → Type 0) where
   -- the matches of these teams fared so: replays were to be written, and then a table was to be printed
-  pub record Ends (teams : List (List ℕ)) (settled : List (Result Play Unsettled)) (output output' : O) (code : ℕ) :
+  pub record Ends (teams : List (List ℕ)) (settled : List (Result Settlement Refused)) (output output' : O) (code : ℕ) :
       Type 0 where
     pub filed : ℕ
     pub printed : ℕ
@@ -73,21 +73,24 @@ module _ {P O : Type 0} (files : P → List ℕ → Taken → P → Type 0) (tak
     pub tables : Tables takes flushes teams settled output output' printed
     pub coded : code ≡ first_status filed printed
 
-  -- what came of a contest of these matches under this schedule
-  pub data Hosts (schedule : ScheduleKind) (matches : List Ready) (output output' : O) (code : ℕ) : Type 0 where
-    -- each match settled as its sessions were answered, or was refused with their passes
-    fares : (settled : List (Result Play Unsettled)) → HaveFared (givens_of schedule 0 matches) settled
+  -- What came of a contest of these matches under this schedule, each by the words of this seed for the stream of its
+  -- number.
+  pub data Hosts (seed : List ℕ) (schedule : ScheduleKind) (matches : List Ready) (output output' : O) (code : ℕ) :
+      Type 0 where
+    -- each match settled as its sessions were answered, with deliveries that were made in time; or it was refused
+    fares : (settled : List (Result Settlement Refused)) →
+        HaveFared (givens_of schedule 0 matches) (dealers_of seed 0 matches) settled
         → Ends (map (λ ready. ready.team) matches) settled output output' code →
-        Hosts schedule matches output output' code
+        Hosts seed schedule matches output output' code
     -- memory ran out
-    fails : code ≡ status faults.Memory → output' ≡ output → Hosts schedule matches output output' code
+    fails : code ≡ status faults.Memory → output' ≡ output → Hosts seed schedule matches output output' code
 
   -- what came of serving a tournament that is named, on this port
   pub data Serves (port : ℕ) (output output' : O) (code : ℕ) : Type 0 where
     -- it was put together, the program said that it listens, and then there was the contest
     serves_on : (lineup : Lineup) → IsAssembled lineup → (heard : O)
         → Shows takes flushes (listening port) true output heard →
-        Hosts lineup.schedule lineup.ready.items heard output' code
+        Hosts lineup.seed lineup.schedule lineup.ready.items heard output' code
         → Serves port output output' code
     -- it was put together, and the program could not say that it listens
     goes_unheard : (lineup : Lineup) → IsAssembled lineup → code ≡ status faults.Write

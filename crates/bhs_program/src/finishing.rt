@@ -1,14 +1,17 @@
 //! What comes of a contest that has ended: the replays of its matches, and their table.
 
-ghost use Rattle.std.specs.Prelude.{◌≡◌, ◌⊎◌, IfOk, IfErr, Ok, length, map};
+ghost use Rattle.std.specs.Prelude.{◌≡◌, ◌⊎◌, IfOk, IfErr, Ok, length, map, string_bytes};
+ghost use Rattle.bhs_host.specs.Hosting.{IsStandings};
 ghost use Rattle.bhs_stream.specs.Streams.{known_takes};
 ghost use Rattle.bhs_orders.specs.Fault.{IsOfFault};
 ghost use Rattle.bhs_orders.specs.declared.statuses.TheConstants.{DONE};
 ghost use Rattle.bhs_program.specs.Contests.{Ends, Files, HasReplay, IsUntabled, Tables};
 
 use bhs_host::standings;
+use bhs_lock::Settlement;
 use bhs_match::Sealed;
 use bhs_model::Text;
+use bhs_net::Memory;
 use bhs_orders::{DONE, Fault, first_status, report, show_made, write_sealed};
 use bhs_server::Settled;
 use bhs_stream::Output;
@@ -55,10 +58,25 @@ fn show_table<R: Threads + Sync, W: Output, E: Write>(
     ensures { Tables W.takes W.flushes finished.teams.items finished.settled.items writer.old writer.new result }
 {
     let Finished { teams, settled } = finished;
-    match all_sealed(alloc, settled) {
-        Ok(sealed) => show_made(standings(rt, alloc, &teams, &sealed), writer, errors),
+    match all_settled(alloc, settled) {
+        Ok(settlements) => show_made(table(alloc, rt, &teams, settlements), writer, errors),
         Err(fault) => report("serve", fault, errors),
     }
+}
+
+// The table of matches that settled.
+fn table<R: Threads + Sync>(
+    alloc: Global,
+    rt: &R,
+    teams: &[Text],
+    settlements: Vec<Settlement>,
+) -> Result<String, Memory>
+    requires { length teams.now ≡ length settlements.items }
+    ensures { IfOk result (λ text. IsStandings teams.now (map (λ one. one.sealed) settlements.items)
+        (string_bytes text)) }
+{
+    let sealed = all_sealed(alloc, settlements)?;
+    standings(rt, alloc, teams, &sealed)
 }
 
 // Writes the replay of each match that settled under the match's number. One that cannot be written is reported, and
@@ -93,24 +111,37 @@ fn write_one<F: Files, E: Write>(
     ensures status { result ≡ DONE ⊎ IsOfFault result }
 {
     match settled {
-        Ok(sealed) => write_sealed(alloc, files, prefix, number, sealed, errors),
+        Ok(settlement) => write_sealed(alloc, files, prefix, number, &settlement.sealed, errors),
         Err(_) => DONE,
     }
 }
 
-// The matches, if all settled; otherwise the first that did not.
-fn all_sealed(alloc: Global, settled: Vec<Settled>) -> Result<Vec<Sealed>, Fault>
-    ensures all { IfOk result (λ sealed. settled.items ≡ map Ok sealed.items) }
+// The settlements of all matches, if each has one; otherwise the first match without.
+fn all_settled(alloc: Global, settled: Vec<Settled>) -> Result<Vec<Settlement>, Fault>
+    ensures all { IfOk result (λ settlements. settled.items ≡ map Ok settlements.items) }
     ensures fault { IfErr result (IsUntabled settled.items) }
 {
-    let mut sealed = Vec::with_capacity(alloc, settled.len())?;
+    let mut settlements = Vec::with_capacity(alloc, settled.len())?;
     for one in settled {
         let Ok(one) = one else {
-            return Err(Fault::Unsettled { game: sealed.len() });
+            return Err(Fault::Unsettled {
+                game: settlements.len(),
+            });
         };
-        let Ok(()) = sealed.push(one) else {
+        let Ok(()) = settlements.push(one) else {
             return Err(Fault::Memory);
         };
+    }
+    Ok(settlements)
+}
+
+// The matches of these settlements.
+fn all_sealed(alloc: Global, settlements: Vec<Settlement>) -> Result<Vec<Sealed>, Memory>
+    ensures { IfOk result (λ sealed. sealed.items ≡ map (λ one. one.sealed) settlements.items) }
+{
+    let mut sealed = Vec::with_capacity(alloc, settlements.len())?;
+    for one in settlements {
+        sealed.push(one.sealed)?;
     }
     Ok(sealed)
 }

@@ -4,7 +4,7 @@ ghost use Rattle.std.specs.Prelude.{◌≡◌, IfOk, map};
 ghost use Rattle.bhs_stream.specs.Streams.{known_takes};
 ghost use Rattle.bhs_lineup.specs.Fresh.{AreFresh};
 ghost use Rattle.bhs_server.specs.Settling.{HaveFared};
-ghost use Rattle.bhs_host.specs.Hosting.{givens_of};
+ghost use Rattle.bhs_host.specs.Hosting.{dealers_of, givens_of};
 ghost use Rattle.bhs_program.specs.Contests.{Hosts};
 
 use crate::finishing::{Finished, finish};
@@ -41,7 +41,7 @@ pub fn host<R: Files + Threads + Wait + Clock + Eprint + Keep + Sync, W: Output,
     errors: &mut E,
 ) -> u8
     requires { AreFresh lineup.ready.items }
-    ensures { Hosts (known_takes R.File.contents) W.takes W.flushes lineup.schedule lineup.ready.items
+    ensures { Hosts (known_takes R.File.contents) W.takes W.flushes lineup.seed lineup.schedule lineup.ready.items
         writer.old writer.new result }
 {
     match served(alloc, rt, listener, lineup, hosting) {
@@ -61,7 +61,7 @@ fn served<R: Files + Threads + Wait + Clock + Eprint + Keep + Sync>(
     requires { AreFresh lineup.ready.items }
     ensures teams { IfOk result (λ finished. finished.teams.items ≡ map (λ ready. ready.team) lineup.ready.items) }
     ensures settled { IfOk result (λ finished. HaveFared (givens_of lineup.schedule 0 lineup.ready.items)
-        finished.settled.items) }
+        (dealers_of lineup.seed 0 lineup.ready.items) finished.settled.items) }
 {
     let Hosted { teams, contest } = contest_of(alloc, lineup)?;
     let prefix = hosting.prefix.as_str();

@@ -7,3 +7,4 @@ pub mod SameLemmas
 pub mod ServedLemmas
 pub mod StepsLemmas
 pub mod WalkLemmas
+pub mod TimeLemmas

@@ -1,34 +1,85 @@
--- A list of matches that are settled grows at its end.
-use Rattle.std.proofs.Common.{◌≡◌, ◌∙◌, sym, append_assoc, List, Vec, IfOk, [], ◌∷◌, ◌++◌, ap, Result, Ok, Err}
+-- A list of matches that are settled grows at its end, and dealers settle as they do at their starts.
+use Rattle.std.proofs.Common.{ℕ, zero, suc, ◌≡◌, ◌∙◌, sym, subst, append_assoc, List, Option, Some, None, [], ◌∷◌, ◌++◌}
+use Rattle.std.proofs.Common.{ap, refl, Result, Ok, Err, drop, length, map}
+use Rattle.std.specs.Prelude.{slice_get, option_map}
+use Rattle.rand_chacha.specs.ChaCha.{ChaCha}
+use Rattle.bhs_time.specs.declared.kinds.ScheduleKind.{ScheduleKind}
+use Rattle.bhs_time.specs.declared.kinds.ScheduleKind.TheVariants.{Adaptive, Oblivious}
 use Rattle.bhs_match.specs.Matches.{Play}
-use Rattle.std.specs.Prelude.{IfErr}
-use Rattle.std.specs.declared.alloc.Global.{Global}
 use Rattle.bhs_lock.specs.Cells.{Given}
-use Rattle.bhs_lock.specs.Passes.{Passed}
-use Rattle.bhs_lock.specs.Disputes.{AreInAccord, HasRefused}
-use Rattle.bhs_lock.specs.declared.settling.Unsettled.{Unsettled}
-use Rattle.bhs_server.specs.Settling.{HaveFared, HasFared}
+use Rattle.bhs_lock.specs.declared.settling.Settlement.{Settlement}
+use Rattle.bhs_server.specs.declared.settling.Refused.{Refused}
+use Rattle.bhs_server.specs.declared.settling.Refused.TheVariants.{Unsettled, Late}
+use Rattle.bhs_server.specs.Settling.{HaveFared, HasFared, IsPunctual, IsLate, at_start}
 
--- how a match fared, by what its settlement answered
-pub fared : (given : Given) (passes : Vec Passed Global) (one : Result Play Unsettled)
-    → IfOk one (λ play. AreInAccord given play passes.items) → IfErr one (HasRefused given passes) → HasFared given one
-fared given passes (Ok play) settled refused = (passes.items, settled)
-fared given passes (Err unsettled) settled refused = (passes, refused)
+abbrev Fared : Type 0
+Fared = Result Settlement Refused
 
--- one more match that is settled
-HaveFared-snoc : (cells : List Given) (settled : List (Result Play Unsettled)) (given : Given)
-    (one : Result Play Unsettled) → HaveFared cells settled → HasFared given one
-    → HaveFared (cells ++ given ∷ []) (settled ++ one ∷ [])
-HaveFared-snoc [] [] given one all is = (is, tt)
-HaveFared-snoc (first ∷ cells) (before ∷ settled) given one all is =
-    (all.0, HaveFared-snoc cells settled given one all.1 is)
-HaveFared-snoc [] (before ∷ settled) given one all is = absurd all
-HaveFared-snoc (first ∷ cells) [] given one all is = absurd all
+-- ---- a dealer at its start has the same schedule
+
+punctual_later : (schedule : ScheduleKind) (dealer : Option ChaCha) (play : Play) (turns : List ℕ) →
+    IsPunctual schedule (option_map at_start dealer) play turns → IsPunctual schedule dealer play turns
+punctual_later Adaptive dealer play turns is = tt
+punctual_later (Oblivious law) None play turns is = tt
+punctual_later (Oblivious law) (Some dealer) play turns is = is
+
+late_later : (schedule : ScheduleKind) (dealer : Option ChaCha) (play : Play) (turns : List ℕ) (place : ℕ) →
+    IsLate schedule (option_map at_start dealer) play turns place → IsLate schedule dealer play turns place
+late_later Adaptive dealer play turns place is = is
+late_later (Oblivious law) None play turns place is = is
+late_later (Oblivious law) (Some dealer) play turns place is = is
+
+fared_later : (given : Given) (dealer : Option ChaCha) (one : Fared) → HasFared given (option_map at_start dealer) one →
+    HasFared given dealer one
+fared_later given dealer (Ok settlement) is =
+    (is.0, punctual_later given.schedule dealer settlement.sealed settlement.turns.items is.1)
+fared_later given dealer (Err (Late settlement place)) is =
+    (is.0, late_later given.schedule dealer settlement.sealed settlement.turns.items place is.1)
+fared_later given dealer (Err (Unsettled unsettled)) is = is
+
+first_copy : (dealers : List ChaCha) → slice_get (map at_start dealers) 0 ≡ option_map at_start (slice_get dealers 0)
+first_copy [] = refl
+first_copy (dealer ∷ dealers) = refl
+
+other_copies : (dealers : List ChaCha) → drop 1 (map at_start dealers) ≡ map at_start (drop 1 dealers)
+other_copies [] = refl
+other_copies (dealer ∷ dealers) = refl
+
+-- what came of matches by copies of dealers came of them by these dealers
+pub all_later : (cells : List Given) (dealers : List ChaCha) (settled : List Fared) →
+    HaveFared cells (map at_start dealers) settled → HaveFared cells dealers settled
+all_later [] dealers [] all = tt
+all_later (given ∷ cells) dealers (one ∷ settled) all =
+    (fared_later given (slice_get dealers 0) one
+    (subst (λ (dealer : Option ChaCha). HasFared given dealer one) (first_copy dealers) all.0),
+    all_later cells (drop 1 dealers) settled
+    (subst (λ (left : List ChaCha). HaveFared cells left settled) (other_copies dealers) all.1))
+all_later [] dealers (one ∷ settled) all = absurd all
+all_later (given ∷ cells) dealers [] all = absurd all
+
+-- ---- one more match
+
+get_later : (dealers : List ChaCha) (n : ℕ) → slice_get dealers (suc n) ≡ slice_get (drop 1 dealers) n
+get_later [] n = refl
+get_later (dealer ∷ dealers) n = refl
+
+-- one more match that is settled, by the dealer of its number
+HaveFared-snoc : (cells : List Given) (dealers : List ChaCha) (settled : List Fared) (given : Given) (one : Fared) →
+    HaveFared cells dealers settled → HasFared given (slice_get dealers (length settled)) one →
+    HaveFared (cells ++ given ∷ []) dealers (settled ++ one ∷ [])
+HaveFared-snoc [] dealers [] given one all is = (is, tt)
+HaveFared-snoc (first ∷ cells) dealers (before ∷ settled) given one all is =
+    (all.0, HaveFared-snoc cells (drop 1 dealers) settled given one all.1
+    (subst (λ (dealer : Option ChaCha). HasFared given dealer one) (get_later dealers (length settled)) is))
+HaveFared-snoc [] dealers (before ∷ settled) given one all is = absurd all
+HaveFared-snoc (first ∷ cells) dealers [] given one all is = absurd all
 
 -- of the cells that are left the next one is settled too
-pub next_settled : (cells done rest others : List Given) (given : Given) (settled : List (Result Play Unsettled))
-    (one : Result Play Unsettled) → cells ≡ done ++ rest → rest ≡ given ∷ others → HaveFared done settled
-    → HasFared given one → (more : List Given) × (cells ≡ more ++ others) × HaveFared more (settled ++ one ∷ [])
-next_settled cells done rest others given settled one split next all is =
+pub next_settled : (cells done rest others : List Given) (dealers : List ChaCha) (given : Given) (settled : List Fared)
+    (one : Fared) → cells ≡ done ++ rest → rest ≡ given ∷ others → HaveFared done dealers settled →
+    HasFared given (option_map at_start (slice_get dealers (length settled))) one →
+    (more : List Given) × (cells ≡ more ++ others) × HaveFared more dealers (settled ++ one ∷ [])
+next_settled cells done rest others dealers given settled one split next all is =
     let moved = ap (λ xs. done ++ xs) next ∙ sym (append_assoc done (given ∷ []) others) in
-    (done ++ given ∷ [], split ∙ moved, HaveFared-snoc done settled given one all is)
+    (done ++ given ∷ [], split ∙ moved,
+    HaveFared-snoc done dealers settled given one all (fared_later given (slice_get dealers (length settled)) one is))

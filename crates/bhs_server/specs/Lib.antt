@@ -4,5 +4,6 @@ pub mod Settling
 pub mod Exchanges
 pub mod Written
 pub mod ContestMet
+pub mod ContestTime
 pub mod Steps
 pub mod ContestExample

@@ -5,6 +5,7 @@ ghost use Rattle.bhs_server.specs.ContestExample.{TheReceiptsAreThese};
 ghost use Rattle.bhs_server.specs.ContestExample.{ThePastIsOfWhatWasMet, TheTextIsOfWhatWasMet};
 ghost use Rattle.bhs_server.specs.ContestExample.{TheHeadlineSpeaksOfTheOther, ThePastsAreEqual, TheSameWasFed};
 ghost use Rattle.bhs_server.specs.ContestMet.{EqualPastsAreSentEqualBytes, SentAsMet};
+ghost use Rattle.bhs_server.specs.ContestTime.{EqualWaitsInContests};
 
 /// A session whose pass settled with its match wrote the bytes of what its agent met in the log, and behind them at
 /// most one line; or a front of that, if a write failed or memory ran out.
@@ -17,6 +18,12 @@ pub fn sent_as_met()
 /// accusation, or the end of its input or turns.
 pub fn equal_pasts_are_sent_equal_bytes()
     ensures { EqualPastsAreSentEqualBytes }
+{}
+
+/// Agents with equal timed views arrive after equally many turns, in a match of one contest as in a match of another with
+/// the same schedule, if both settled.
+pub fn equal_waits_in_contests()
+    ensures { EqualWaitsInContests }
 {}
 
 /// A session of a client, worked out by hand; and one in a match on another network, with other black holes and another

@@ -16,10 +16,12 @@ mod welcoming;
 
 pub use connections::SessionHooks;
 pub use dealing::deal;
-pub use laws::{equal_pasts_are_sent_equal_bytes, sent_as_met, worked_session};
+pub use laws::{
+    equal_pasts_are_sent_equal_bytes, equal_waits_in_contests, sent_as_met, worked_session,
+};
 pub use pacing::{Pace, Step};
 pub use ports::{CellPort, Played};
 pub use serving::{Contest, Limits, Served, run_server};
-pub use settling::Settled;
+pub use settling::{Refused, Settled};
 pub use visits::{TURNS, Visit, attend};
 pub use watching::{Blind, Watch};

@@ -5,7 +5,7 @@ ghost use Rattle.bhs_server.specs.Settling.{HaveFared};
 
 use crate::pacing::Pace;
 use crate::running::{Running, all_visits};
-use crate::settling::{Settled, by_match, settle_all};
+use crate::settling::{Settled, again, by_match, settle_all};
 use crate::watching::Watch;
 use bhs_deal::Dealer;
 use bhs_lineup::Keys;
@@ -54,8 +54,9 @@ pub struct Served {
 /// Serves a contest within limits. It accepts connections, and serves each on a thread of its own; each match has a
 /// thread that takes its turns at this pace and then closes it. Once all matches are closed, it waits until all
 /// sessions have ended, but no longer than the grace period; then it accepts no more connections, and cuts off the
-/// sessions that still run. Once all threads have ended, each match is settled with the passes of its sessions; if one
-/// does not settle, the others do nevertheless.
+/// sessions that still run. Once all threads have ended, each match is settled with the passes of its sessions, and under
+/// the oblivious schedule the turns of its deliveries are compared with the words; if one match is refused, the others
+/// settle nevertheless.
 ///
 /// When an accept fails, it pauses and accepts again. A session that never began counts as one that ended with
 /// `ReadFault`. A session whose thread cannot be started ended with `Memory`; a match whose thread cannot be started is
@@ -75,7 +76,7 @@ pub fn run_server<
     gate: &G,
     watch: &W,
 ) -> Result<Served, Memory>
-    ensures settled { IfOk result (λ served. HaveFared contest.cells.items served.settled.items) }
+    ensures settled { IfOk result (λ served. HaveFared contest.cells.items contest.dealers.items served.settled.items) }
     ensures ended { IfOk result (λ served. vec_len served.ended ≡ limits.sessions) }
 {
     let Contest {
@@ -83,6 +84,7 @@ pub fn run_server<
         dealers,
         keys,
     } = contest;
+    let copies = again(alloc, &dealers)?;
     let visits = all_visits(
         Running {
             rt,
@@ -99,7 +101,7 @@ pub fn run_server<
     )?;
     let returned = by_match(alloc, cells.len(), visits)?;
     Ok(Served {
-        settled: settle_all(alloc, cells, returned.passes)?,
+        settled: settle_all(alloc, cells, &copies, returned.passes)?,
         ended: returned.ended,
     })
 }

@@ -1,18 +1,31 @@
 //! Settling the matches of a contest once its sessions have ended.
 
-ghost use Rattle.std.specs.Prelude.{◌≡◌, IfOk, vec_len};
-ghost use Rattle.bhs_server.specs.Settling.{HaveFared};
+ghost use Rattle.std.specs.Prelude.{◌≡◌, IfOk, MatchOption, length, map, option_map, slice_get, vec_len};
+ghost use Rattle.bhs_server.specs.Settling.{HasFared, HaveFared, IsPunctual, IsLate, at_start};
 
 use crate::ports::Played;
 use crate::visits::Visit;
-use bhs_lock::{Cell, Pass, Unsettled, settle};
-use bhs_match::Sealed;
+use bhs_deal::{Dealer, first_late};
+use bhs_lock::{Cell, Pass, Settlement, settle};
 use bhs_net::Memory;
 use bhs_session::Ended;
+use bhs_time::ScheduleKind;
 use std::alloc::Global;
 
-/// What came of a match: the match, as its sessions were answered, or why it does not settle with their passes.
-pub type Settled = Result<Sealed, Unsettled>;
+/// Why there is no result of a match.
+#[derive(Debug, Drop)]
+pub enum Refused {
+    /// It does not settle with the passes of its sessions.
+    Unsettled(bhs_lock::Unsettled),
+    /// It settles, and its delivery at this place of the log was not made in time.
+    Late {
+        settlement: Settlement,
+        place: usize,
+    },
+}
+
+/// What came of a match: the match, as its sessions were answered and with its turns, or why it has no result.
+pub type Settled = Result<Settlement, Refused>;
 
 /// The passes that sessions played by, by the numbers of their matches, and how the sessions ended, in order.
 #[derive(Drop)]
@@ -47,19 +60,90 @@ fn hand_in(passes: &mut Vec<Vec<Pass>>, played: Option<Played>) -> Result<(), Me
     Ok(())
 }
 
-/// What came of the match of each cell, in order, with the passes of its sessions.
+/// What came of the match of each cell, in order, with the passes of its sessions and by the dealer of its number.
 pub(crate) fn settle_all(
     alloc: Global,
     cells: Vec<Cell>,
+    dealers: &[Dealer],
     passes: Vec<Vec<Pass>>,
 ) -> Result<Vec<Settled>, Memory>
-    ensures { IfOk result (λ settled. HaveFared cells.items settled.items) }
+    ensures { IfOk result (λ settled. HaveFared cells.items dealers.now settled.items) }
 {
     let mut settled = Vec::with_capacity(alloc, cells.len())?;
     let mut passes = passes.into_iter();
     for cell in cells {
         let own = passes.next().unwrap_or_else(|| Vec::new(alloc));
-        settled.push(settle(cell, own))?;
+        let dealer = copy_at(dealers, settled.len());
+        settled.push(settled_by(alloc, cell, dealer, own)?)?;
     }
     Ok(settled)
+}
+
+// The dealer of this number, at its start, if there is one.
+fn copy_at(dealers: &[Dealer], number: usize) -> Option<Dealer>
+    ensures { result ≡ option_map at_start (slice_get dealers.now number) }
+{
+    if number < dealers.len() {
+        Some(dealers[number].at(0))
+    } else {
+        None
+    }
+}
+
+// What came of a match whose turns were by this dealer.
+fn settled_by(
+    alloc: Global,
+    cell: Cell,
+    dealer: Option<Dealer>,
+    passes: Vec<Pass>,
+) -> Result<Settled, Memory>
+    ensures { IfOk result (HasFared cell dealer) }
+{
+    let schedule = cell.schedule();
+    let settlement = match settle(cell, passes) {
+        Ok(settlement) => settlement,
+        Err(unsettled) => return Ok(Err(Refused::Unsettled(unsettled))),
+    };
+    match late(alloc, schedule, dealer, &settlement)? {
+        Some(place) => Ok(Err(Refused::Late { settlement, place })),
+        None => Ok(Ok(settlement)),
+    }
+}
+
+// The place of the first delivery that was not made in time.
+fn late(
+    alloc: Global,
+    schedule: ScheduleKind,
+    dealer: Option<Dealer>,
+    settlement: &Settlement,
+) -> Result<Option<usize>, Memory>
+    requires { length settlement.now.turns.items ≡ length settlement.now.sealed.log }
+    ensures { IfOk result (λ place. MatchOption place
+        (IsPunctual schedule dealer settlement.now.sealed settlement.now.turns.items)
+        (IsLate schedule dealer settlement.now.sealed settlement.now.turns.items)) }
+{
+    let Some(dealer) = dealer else {
+        return Ok(None);
+    };
+    match schedule {
+        ScheduleKind::Adaptive => Ok(None),
+        ScheduleKind::Oblivious(delays) => first_late(
+            alloc,
+            &settlement.sealed,
+            &settlement.turns,
+            delays,
+            &dealer,
+        ),
+    }
+}
+
+/// Dealers of the same seeds and streams, each at its start.
+pub(crate) fn again(alloc: Global, dealers: &[Dealer]) -> Result<Vec<Dealer>, Memory>
+    ensures { IfOk result (λ copies. copies.items ≡ map at_start dealers.now) }
+{
+    let mut copies = Vec::with_capacity(alloc, dealers.len())?;
+    for dealer in dealers {
+        copies.push(dealer.at(0))?;
+    }
+    Ok(copies)
 }

@@ -10,7 +10,7 @@ pub(super) fn all_sealed(alloc: Global, settled: Vec<Settled>) -> Result<Vec<Sea
     let mut sealed = Vec::with_capacity(alloc, settled.len())?;
     for one in settled {
         match one {
-            Ok(one) => sealed.push(one)?,
+            Ok(one) => sealed.push(one.sealed)?,
             Err(_) => return Err(Fail::from("a match does not settle")),
         }
     }

@@ -8,10 +8,10 @@ use Rattle.bhs_deal.proofs.lateness.first_late.Goals as goal
 
 pub returns-clause-late : goal.returns-clause-late
 returns-clause-late c =
-    let schedule = whole_schedule c.args.dealer.now c.args.play.now.setup.agents c.args.delays in
-    let found : c.first_late.result ≡ late_in schedule c.args.play.now c.args.turns.now = search rules in
-    let some : 0 < c.args.play.now.setup.agents = search rules in
+    let schedule = whole_schedule c.args.dealer.now c.args.sealed.now.setup.agents c.args.delays in
+    let found : c.first_late.result ≡ late_in schedule c.args.sealed.now c.args.turns.now = search rules in
+    let some : 0 < c.args.sealed.now.setup.agents = search rules in
     subst (λ (found : Option ℕ). MatchOption found
-    (AreInTime schedule (world_in c.args.play.now) (stamps_in c.args.play.now.log c.args.turns.now))
-    (IsFirstLate schedule (world_in c.args.play.now) (stamps_in c.args.play.now.log c.args.turns.now))) (sym found)
-    (found_lemma c.args.dealer.now c.args.delays c.args.play.now c.args.turns.now c.log.ensures.kept c.requires some)
+    (AreInTime schedule (world_in c.args.sealed.now) (stamps_in c.args.sealed.now.log c.args.turns.now))
+    (IsFirstLate schedule (world_in c.args.sealed.now) (stamps_in c.args.sealed.now.log c.args.turns.now))) (sym found)
+    (found_lemma c.args.dealer.now c.args.delays c.args.sealed.now c.args.turns.now c.log.ensures.kept c.requires some)

@@ -1,5 +1,6 @@
 use Rattle.std.proofs.Common.{refl, subst, List, ℕ}
 use Rattle.bhs_stream.specs.Streams.{known_takes}
+use Rattle.bhs_host.specs.Hosting.{dealers_of}
 use Rattle.bhs_program.specs.Contests.{Ends, fares, fails}
 use Rattle.bhs_program.proofs.ContestLemmas.{as_many}
 use Rattle.bhs_program.proofs.hosting.host.Goals as goal
@@ -7,7 +8,9 @@ use Rattle.bhs_program.proofs.hosting.host.Goals as goal
 pub finish-requires-after_bounds : goal.finish-requires-after_bounds
 finish-requires-after_bounds g c κs within =
     rw c.in-Ok.ensures.teams
-    (as_many c.args.lineup.schedule 0 c.args.lineup.ready.items c.in-Ok.finished.settled.items c.in-Ok.ensures.settled)
+    (as_many c.args.lineup.schedule 0 c.args.lineup.ready.items
+    (dealers_of c.args.lineup.seed 0 c.args.lineup.ready.items) c.in-Ok.finished.settled.items
+    c.in-Ok.ensures.settled)
 
 pub returns-in-Ok : goal.returns-in-Ok
 returns-in-Ok g c =

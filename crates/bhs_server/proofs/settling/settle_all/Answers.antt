@@ -1,15 +1,23 @@
-use Rattle.bhs_server.proofs.SealLemmas.{fared, next_settled}
+use Rattle.std.proofs.Common.{arith, ℕ, ◌≡◌, ◌∙◌, ap, subst, length, Option}
+use Rattle.std.specs.Prelude.{slice_get, option_map}
+use Rattle.rand_chacha.specs.ChaCha.{ChaCha}
+use Rattle.bhs_server.specs.Settling.{HasFared, at_start}
+use Rattle.bhs_server.proofs.SealLemmas.{next_settled}
 use Rattle.bhs_server.proofs.settling.settle_all.Goals as goal
 
--- src/settling.rt:60:5
 pub loop-cell-preserved : goal.loop-cell-preserved
 loop-cell-preserved c =
     let done = c.loop-cell.invariant.2 in
-    let one = fared c.in-Some.cell c.unwrap_or_else-own.result c.settle.result c.settle.ensures.settled
-    c.settle.ensures.refused in (
+    let place : c.len-in-loop-cell.result ≡ length c.loop-cell.settled.items =
+    omega (arith, c.len-in-loop-cell.ensures, c.loop-cell.settled.ok) in
+    let dealer = c.copy_at-dealer.ensures
+    ∙ ap (λ (number : ℕ). option_map at_start (slice_get c.args.dealers.now number)) place in
+    let one = subst (λ (some : Option ChaCha). HasFared c.in-Some.cell some c.in_ok-settled_by.field-0) dealer
+    c.in_ok-settled_by.ensures in (
       tt,
       tt,
       rw c.in_ok-push.ensures.items
           (next_settled c.args.cells.items done.0 c.loop-cell.cell-iterator.rest.items c.next.new.self.rest.items
-          c.in-Some.cell c.loop-cell.settled.items c.settle.result done.1 c.in-Some.ensures.steps.0 done.2 one),
+          c.args.dealers.now c.in-Some.cell c.loop-cell.settled.items c.in_ok-settled_by.field-0 done.1
+          c.in-Some.ensures.steps.0 done.2 one),
     )

@@ -8,4 +8,4 @@ invariant-loop-cell l =
     (goal.iterator-loop-cell).can_next l.cell-iterator ×
     (goal.iterator-loop-cell).is_finite l.cell-iterator ×
     ((done : List Given) × (l.fn.cells.items ≡ done ++ l.cell-iterator.rest.items)
-    × HaveFared done l.settled.items)
+    × HaveFared done l.fn.dealers l.settled.items)
