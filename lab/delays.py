@@ -1,5 +1,5 @@
-"""The schedules of contests, as docs/MODEL.md has them: whom each turn picks, and how long agents are on links. They use
-the words of the arena, so a seed gives the same picks and delays here and there."""
+"""The schedules of contests, as docs/MODEL.md has them: whom each turn picks, and how long agents are on links. They
+use the words of the arena, so a seed gives the same picks and delays here and there."""
 from typing import Dict, NamedTuple, Optional, Sequence
 
 from lab.chacha8 import delay_word, turn_word

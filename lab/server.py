@@ -6,8 +6,8 @@
 takes the words of `arena serve` and does what it does: it listens on 127.0.0.1, prints `listening N`, serves up to S
 sessions on the matches of tournament T, takes K turns by the tournament's schedule with MS milliseconds between, closes
 the matches, ends as the arena does, writes the replays to P0.jsonl, P1.jsonl and so on, and prints a table. Each turn
-delivers the agent that it would deliver in the arena. It is not the arena: nothing of it is proved, it judges no contest
-and it writes no parts.
+delivers the agent that it would deliver in the arena. It is not the arena: nothing of it is proved, it judges no
+contest and it writes no parts.
 """
 import argparse
 import pathlib

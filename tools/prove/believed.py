@@ -24,7 +24,8 @@ HEADLINES = {
         ("bhs_rehearsal", "Calls", "EqualPastsAreAnsweredAlike"),
     "scripts of rehearsals: `equal_pasts_are_sent_equal_bytes` of `bhs_rehearsal`":
         ("bhs_rehearsal", "Headline", "EqualPastsAreSentEqualBytes"),
-    "turns of matches: `equal_waits_under_locks` of `bhs_lock`": ("bhs_lock", "Timely", "EqualWaitsUnderLocks"),
+    "turns of contests: `equal_waits_in_contests` of `bhs_server`":
+        ("bhs_server", "ContestTime", "EqualWaitsInContests"),
     "replies to agents: `equal_pasts` of `bhs_model`": ("bhs_model", "Laws", "EqualPasts"),
 }
 WORD = re.compile(r"[^\W\d][\w'-]*(?:\.[^\W\d][\w'-]*)*")

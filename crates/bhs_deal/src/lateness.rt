@@ -77,8 +77,8 @@ impl Schedule<'_> {
         requires agents { 0 < self.now.agents }
         requires sites { length sites.now ≡ length log.now }
         requires turns { length turns.now ≡ length log.now }
-        ensures { result ≡ late_from (whole_schedule self.now.dealer.now self.now.agents self.now.delays) departures.old 0
-            log.now sites.now turns.now }
+        ensures { result ≡ late_from (whole_schedule self.now.dealer.now self.now.agents self.now.delays)
+            departures.old 0 log.now sites.now turns.now }
     {
         for place in 0..log.len() {
             let event = &log[place].event;

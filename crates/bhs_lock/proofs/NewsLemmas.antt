@@ -130,7 +130,8 @@ news_found play log found at place mark said same are is reads replied =
 
 -- an arrival that is given is news
 pub given_is_news : (given : Given) (play : Play) (tallies : List Tally) (pass pass' : Passed) (said : Reply)
-    → IsLegalHistory play tallies → is_here said ≡ true → IsGiven play pass (Some said) pass' → IsNews given pass said pass'
+    → IsLegalHistory play tallies → is_here said ≡ true → IsGiven play pass (Some said) pass' →
+    IsNews given pass said pass'
 given_is_news given play tallies pass pass' said legal here is =
     by_next (arrival_of play pass.agent (length pass.arrivals)) refl is
   where

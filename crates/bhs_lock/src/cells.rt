@@ -68,7 +68,8 @@ impl Cell {
     ghost use Rattle.bhs_lock.specs.Cells.{Given};
 
     /// The cell of a match with an empty log, whose turns are of this schedule and let nobody arrive over the held
-    /// links. It keeps a copy of the network and the setup. All memory that the match and its passes need is taken here.
+    /// links. It keeps a copy of the network and the setup. All memory that the match and its passes need is taken
+    /// here.
     pub fn new(
         alloc: Global,
         game: u32,

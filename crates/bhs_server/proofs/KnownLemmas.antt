@@ -273,7 +273,8 @@ PassNews pass (replies.Here ports came board) pass' = GainsArrival pass (replies
 PassNews pass replies.Over pass' = pass' ≡ pass
 PassNews pass said pass' = ⊥
 
-of_news : (given : Given) (pass pass' : Passed) (reply : Reply) → IsNews given pass reply pass' → PassNews pass reply pass'
+of_news : (given : Given) (pass pass' : Passed) (reply : Reply) → IsNews given pass reply pass' →
+    PassNews pass reply pass'
 of_news given pass pass' (replies.Here ports came board) is = is
 of_news given pass pass' replies.Over is = is.0
 of_news given pass pass' replies.Written is = absurd is
@@ -299,8 +300,8 @@ news_at (first ∷ cells) zero pass pass' given below there reply is =
 news_at (first ∷ cells) (suc game) pass pass' given below there reply is =
     news_at cells game pass pass' given (omega (arith, below)) there reply is
 
-pub news_called : (inside old : Seated) (played : Played) (pass' : Passed) (given : Given) (result : Result Reply AllocError)
-    → inside ≡ old → inside.played ≡ Some played → played.game < length inside.cells
+pub news_called : (inside old : Seated) (played : Played) (pass' : Passed) (given : Given)
+    (result : Result Reply AllocError) → inside ≡ old → inside.played ≡ Some played → played.game < length inside.cells
     → given ≡ get_or inside.cells played.game given → IfOk result (λ reply. IsNews given played.pass reply pass')
     → OnErr result (pass' ≡ played.pass) →
     Calls old News (answered result) (record inside { played = Some (record played { pass = pass' }) })

@@ -20,8 +20,8 @@ pub fn equal_pasts_are_sent_equal_bytes()
     ensures { EqualPastsAreSentEqualBytes }
 {}
 
-/// Agents with equal timed views arrive after equally many turns, in a match of one contest as in a match of another with
-/// the same schedule, if both settled.
+/// Agents with equal timed views arrive after equally many turns, in a match of one contest as in a match of another
+/// with the same schedule, if both settled.
 pub fn equal_waits_in_contests()
     ensures { EqualWaitsInContests }
 {}

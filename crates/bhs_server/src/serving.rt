@@ -54,9 +54,9 @@ pub struct Served {
 /// Serves a contest within limits. It accepts connections, and serves each on a thread of its own; each match has a
 /// thread that takes its turns at this pace and then closes it. Once all matches are closed, it waits until all
 /// sessions have ended, but no longer than the grace period; then it accepts no more connections, and cuts off the
-/// sessions that still run. Once all threads have ended, each match is settled with the passes of its sessions, and under
-/// the oblivious schedule the turns of its deliveries are compared with the words; if one match is refused, the others
-/// settle nevertheless.
+/// sessions that still run. Once all threads have ended, each match is settled with the passes of its sessions, and
+/// under the oblivious schedule the turns of its deliveries are compared with the words; if one match is refused, the
+/// others settle nevertheless.
 ///
 /// When an accept fails, it pauses and accepts again. A session that never began counts as one that ended with
 /// `ReadFault`. A session whose thread cannot be started ended with `Memory`; a match whose thread cannot be started is

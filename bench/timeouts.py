@@ -1,0 +1,164 @@
+#!/usr/bin/env python3
+"""Measures what teams gain that take an agent for lost after a timeout, beside teams that decide nothing by time.
+
+    ./arena --help            # builds the program, if it is not built yet
+    python3 bench/timeouts.py [--contests N] [--nodes N] [--turns K] [--pause MS] [--schedule NAME]
+
+Each contest has a match of the honest search `examples/agents/ring.py` and one match for each timeout of 1, 8, 64 and
+512 turns, all on a ring and with the black hole opposite the home base. In a timed team one agent steps to the next
+node and comes back, node after node; the other waits behind it, and if its companion has not come back in time, it
+takes the node ahead for the black hole. Such a team needs about three moves a node, and honest agents need some log n
+times as many. Up to twelve contests are played in one, since a tournament has at most 64 matches. The program is
+./arena, or what ARENA names.
+"""
+import argparse
+import collections
+import pathlib
+import sys
+import tempfile
+import threading
+import time
+from typing import Callable, Counter, Dict, List, NamedTuple
+
+from inputs import ring
+from servers import MAX_SESSIONS, TOP, Failed, free_port, prepare, started, words
+
+sys.path.insert(0, str(TOP / "examples" / "agents"))
+
+from client import Agent, Refused  # noqa: E402
+from ring import search  # noqa: E402
+
+TIMEOUTS = (1, 8, 64, 512)
+AT_ONCE = 12
+QUOTA, BOARD = 1000, 64
+SCHEDULES = {
+    "adaptive": "",
+    "oblivious": 'schedule = "oblivious"\ndelay_scales = 10\ndelay_odds = 32\n',
+}
+OUTCOMES = ("solved", "guess", "unfinished", "silent", "wrong")
+BACK, AHEAD = 1, 0
+
+
+class Rules(NamedTuple):
+    """What is the same in all matches."""
+    nodes: int
+    turns: int
+    pause: int
+    schedule: str
+
+
+def teams(contests: int) -> List[str]:
+    """The teams of some contests: `honest 0`, `timeout-8 0` and so on."""
+    kinds = ["honest", *(f"timeout-{turns}" for turns in TIMEOUTS)]
+    return [f"{kind} {number}" for number in range(contests) for kind in kinds]
+
+
+def tournament(rules: Rules, network: pathlib.Path, names: List[str]) -> str:
+    rows = "".join(f'\n[[match]]\nteam = "{name}"\nnetwork = "{network}"\nhome = 0\nholes = [{rules.nodes // 2}]\n'
+                   f'quota = {QUOTA}\nboard = {BOARD}\nkeys = ["{name}/0", "{name}/1"]\nheld = []\n' for name in names)
+    return f'version = 3\nseed = "{"07" * 32}"\n{SCHEDULES[rules.schedule]}{rows}'
+
+
+def step_out(agent: Agent, nodes: int) -> None:
+    """Steps to the next node, comes back, says so and follows, node after node."""
+    for _ in range(nodes - 2):
+        agent.depart(AHEAD)
+        agent.depart(BACK)
+        agent.write("", "ok")
+        agent.depart(AHEAD)
+
+
+def watch(agent: Agent, nodes: int, seconds: float, every: float) -> None:
+    """Follows while the other comes back in time; else visits the nodes that are left, and accuses from behind."""
+    safe = 0
+    while is_back(agent, seconds, every):
+        agent.depart(AHEAD)
+        safe += 1
+    for _ in range(nodes - 2):
+        agent.depart(BACK)
+    agent.accuse(BACK)
+
+
+def is_back(agent: Agent, seconds: float, every: float) -> bool:
+    until = time.monotonic() + seconds
+    while time.monotonic() < until:
+        time.sleep(every)
+        if agent.look().board == "ok":
+            return True
+    return False
+
+
+def plays(port: int, rules: Rules, name: str, number: int) -> Callable[[], None]:
+    """What an agent of a team does."""
+    key, pause = f"{name}/{number}", rules.pause / 1000
+
+    def play() -> None:
+        agent = Agent.connect("127.0.0.1", port)
+        try:
+            if name.startswith("honest"):
+                search(agent, key, rules.nodes)
+                return
+            agent.enter(key)
+            if number == 0:
+                step_out(agent, rules.nodes)
+            else:
+                timeout = int(name.partition("-")[2].split()[0])
+                watch(agent, rules.nodes, timeout * pause, max(1, timeout // 8) * pause / 2)
+        except Refused:
+            pass
+        finally:
+            agent.close()
+    return play
+
+
+def table_of(text: str) -> Dict[str, str]:
+    """The outcome of each team, by the table that the server prints."""
+    rows = [line.split() for line in text.splitlines()[1:]]
+    return {" ".join(row[1:3]): row[3] for row in rows}
+
+
+def contest(rules: Rules, contests: int) -> Dict[str, str]:
+    """The outcomes of some contests that are played in one."""
+    names = teams(contests)
+    with tempfile.TemporaryDirectory() as folder_name:
+        folder = pathlib.Path(folder_name)
+        (folder / "ring.toml").write_text(ring(rules.nodes))
+        (folder / "cup.toml").write_text(tournament(rules, folder / "ring.toml", names))
+        port = free_port()
+        command = words(folder / "cup.toml", port, 2 * len(names), rules.turns, rules.pause, folder / "match")
+        with started([*command, "--early", "--gather", "10000"], port, folder / "errors") as server:
+            for name in names:
+                for number in range(2):
+                    threading.Thread(target=plays(port, rules, name, number), daemon=True).start()
+            return table_of(server.stdout.read())
+
+
+def main(arguments: List[str]) -> int:
+    parser = argparse.ArgumentParser(description=__doc__, formatter_class=argparse.RawDescriptionHelpFormatter)
+    parser.add_argument("--contests", type=int, default=20, help="how many matches each team plays (default: 20)")
+    parser.add_argument("--nodes", type=int, default=64, help="nodes of the ring (default: 64)")
+    parser.add_argument("--turns", type=int, default=20_000, help="turns of a match (default: 20,000)")
+    parser.add_argument("--pause", type=int, default=4, help="milliseconds before each turn (default: 4)")
+    parser.add_argument("--schedule", choices=sorted(SCHEDULES), default="oblivious", help="(default: oblivious)")
+    given = parser.parse_args(arguments)
+    prepare(MAX_SESSIONS)
+    rules = Rules(given.nodes, given.turns, given.pause, given.schedule)
+    found: Dict[str, Counter[str]] = collections.defaultdict(collections.Counter)
+    left = given.contests
+    while left:
+        some = min(left, AT_ONCE)
+        try:
+            for name, outcome in contest(rules, some).items():
+                found[name.split()[0]][outcome] += 1
+        except (Failed, OSError) as fault:
+            print(fault, file=sys.stderr)
+            return 1
+        left -= some
+    print(f"| team | {' | '.join(OUTCOMES)} |\n| --- |{' --- |' * len(OUTCOMES)}")
+    for name in ["honest", *(f"timeout-{turns}" for turns in TIMEOUTS)]:
+        print(f"| {name} | {' | '.join(str(found[name][outcome]) for outcome in OUTCOMES)} |")
+    return 0
+
+
+if __name__ == "__main__":
+    sys.exit(main(sys.argv[1:]))
