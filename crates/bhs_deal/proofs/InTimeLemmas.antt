@@ -1,7 +1,7 @@
 -- What a pass over a log with turns finds: the first Deliver that was not made in time.
-use Rattle.std.proofs.Common.{arith, ℕ, zero, suc, ◌≡◌, ◌<◌, ◌≤◌, ◌+◌, Bool, true, false, not, ◌&&◌, ◌||◌, ◌==◌, ◌++◌}
+use Rattle.std.proofs.Common.{arith, ℕ, zero, suc, ◌≡◌, ◌<◌, ◌+◌, Bool, true, false, not, ◌&&◌, ◌||◌, ◌==◌, ◌++◌}
 use Rattle.std.proofs.Common.{Option, Some, None, List, [], ◌∷◌, length, take, refl, sym, ap, ◌∙◌, subst, inl, inr}
-use Rattle.std.proofs.Common.{if◌then◌else◌, nat_lt, slice_set, slice_get}
+use Rattle.std.proofs.Common.{nat_lt, slice_get}
 use Rattle.std.proofs.lemmas.Bool.{cond-true, cond-false, cond_both, and_parts, true≢false, false≢true}
 use Rattle.std.proofs.lemmas.Bool.Decides.{eqb_tells}
 use Rattle.std.proofs.lemmas.List.{length-set, get_or-set_same, get_or-set_other}
@@ -17,11 +17,10 @@ use Rattle.bhs_model.specs.declared.marks.Kept.{Kept}
 use Rattle.bhs_model.specs.Marks.{events_of}
 use Rattle.bhs_model.specs.Views.{standing}
 use Rattle.bhs_model.specs.Worlds.{World}
-use Rattle.bhs_model.specs.Runs.{Position, Before, At, Bound, After, State, initial, position_after, heard, is_bound}
+use Rattle.bhs_model.specs.Runs.{Position, Before, At, Bound, After, State, initial, position_after, is_bound}
 use Rattle.bhs_model.specs.Runs.{is_let_through, is_doomed, arrives, next, run}
 use Rattle.bhs_model.specs.Kept.{keeps, lost_after, kept_from, kept, nobody}
 use Rattle.bhs_model.specs.Sites.{node_said, site, sites_from}
-use Rattle.bhs_model.proofs.StepLemmas.{by_cases}
 use Rattle.bhs_model.proofs.AddLemmas.{run-append}
 use Rattle.bhs_model.proofs.KeptLemmas.{first_kept}
 use Rattle.bhs_model.proofs.LegalLemmas.{AllLegal, all_run}
@@ -199,13 +198,18 @@ module _ (schedule : Schedule) (world : World) where
       Finds schedule world (happened_at world timed one) others (from + 1) found →
       Finds schedule world timed (one ∷ others) from found
   finds_later timed one others from None in_time finds = (in_time, finds)
-  finds_later timed one others from (Some place) in_time finds =
-      (suc finds.0, (omega (arith, finds.1.0), record {
+  finds_later timed one others from (Some place) in_time finds = (
+    suc finds.0,
+    (
+      omega (arith, finds.1.0),
+      record {
         before = (in_time, finds.1.1.before);
         one = finds.1.1.one;
         there = finds.1.1.there;
         late = finds.1.1.late;
-      }))
+      },
+    ),
+  )
 
   finds_here : (timed : TimedState) (one : Stamped) (others : List Stamped) (from : ℕ) →
       (IsInTime schedule timed one.event one.turn → ⊥) → Finds schedule world timed (one ∷ others) from (Some from)

@@ -1,6 +1,6 @@
 -- Which turn is the first that releases an agent, and which Deliver of a log was not made in time.
 use Rattle.std.proofs.Common.{arith, ℕ, zero, suc, ◌≡◌, ◌<◌, ◌≤◌, ◌+◌, ◌-◌, ◌%◌, Bool, true, false, not, ◌&&◌, ◌==◌}
-use Rattle.std.proofs.Common.{Option, Some, None, List, [], ◌∷◌, length, get_or, drop, drop-cons, nat_le, refl, sym, ap, ap₂, ◌∙◌, subst}
+use Rattle.std.proofs.Common.{Option, Some, None, List, length, get_or, drop, drop-cons, nat_le, refl, sym, ap, ◌∙◌, subst}
 use Rattle.std.proofs.Common.{inl, inr}
 use Rattle.std.proofs.lemmas.Bool.{cond-true, and_parts, true≢false, false≢true}
 use Rattle.std.proofs.lemmas.Bool.Decides.{eqb_tells, leb_tells}
@@ -157,6 +157,9 @@ pub late_here : (schedule : Schedule) (departures : List ℕ) (place : ℕ) (log
 late_here schedule departures place log sites turns one within all long is_one is =
     let late : is_late schedule departures (get_or log place one).event (get_or turns place 0) ≡ true =
     subst (λ (some : Kept). is_late schedule departures some.event (get_or turns place 0) ≡ true) is_one is in
-    rw (drop-cons log place one within, drop-cons sites place None (omega (arith, within, all)),
-    drop-cons turns place 0 (omega (arith, within, long)))
+    rw (
+      drop-cons log place one within,
+      drop-cons sites place None (omega (arith, within, all)),
+      drop-cons turns place 0 (omega (arith, within, long)),
+    )
     (cond-true _ _ _ late)

@@ -1,7 +1,7 @@
 -- Which delivery of a log with turns was not made in time: not at the first turn since its agent's departure that
 -- releases the agent.
-use Rattle.std.specs.Prelude.{ℕ, zero, suc, ◌+◌, ◌-◌, ◌%◌, ◌<◌, ◌≡◌, Bool, true, false, not, ◌&&◌, Option, Some, None}
-use Rattle.std.specs.Prelude.{List, [], ◌∷◌, length, map, take, nat_le, if◌then◌else◌, replicate, slice_set}
+use Rattle.std.specs.Prelude.{ℕ, zero, suc, ◌+◌, ◌-◌, ◌%◌, ◌≡◌, Bool, true, false, not, ◌&&◌, Option, Some, None}
+use Rattle.std.specs.Prelude.{List, [], ◌∷◌, take, nat_le, if◌then◌else◌, replicate, slice_set}
 use Rattle.std.specs.Prelude.{slice_get}
 use Rattle.rand_chacha.specs.ChaCha.{ChaCha, word_at}
 use Rattle.bhs_model.specs.declared.commands.Command.TheVariants.{Depart}

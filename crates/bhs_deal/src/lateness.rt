@@ -105,7 +105,14 @@ fn departed_in(departures: &[u32], agent: u16) -> u32
 fn note(departures: &mut [u32], event: &Event, site: Option<u16>, turn: u32)
     ensures { departures.new ≡ noted departures.old event.now site turn }
 {
-    if let (Event::Tell { agent, command: Command::Depart { .. } }, Some(_)) = (event, site) {
+    if let (
+        Event::Tell {
+            agent,
+            command: Command::Depart { .. },
+        },
+        Some(_),
+    ) = (event, site)
+    {
         if usize::from(*agent) < departures.len() {
             departures[usize::from(*agent)] = turn;
         }

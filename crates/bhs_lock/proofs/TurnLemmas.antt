@@ -1,6 +1,6 @@
 -- The turns of the events of a log, while it grows.
-use Rattle.std.proofs.Common.{arith, ℕ, suc, ◌≡◌, ◌≤◌, ◌<◌, ◌+◌, ◌⊎◌, Bool, true, false, Option, Some, None, List, [], ◌∷◌}
-use Rattle.std.proofs.Common.{◌++◌, length, length-append, nat_lt, ap, sym, ◌∙◌, subst, inl, inr, refl, if◌then◌else◌}
+use Rattle.std.proofs.Common.{arith, ℕ, suc, ◌≡◌, ◌≤◌, ◌+◌, ◌⊎◌, Option, Some, None, List, [], ◌∷◌}
+use Rattle.std.proofs.Common.{◌++◌, length, length-append, ap, sym, ◌∙◌, subst, inl, inr, refl}
 use Rattle.std.proofs.lemmas.Bool.{cond_both}
 use Rattle.std.proofs.lemmas.Bool.Decides.{leb_tells}
 use Rattle.bhs_model.specs.declared.commands.Command.{Command}

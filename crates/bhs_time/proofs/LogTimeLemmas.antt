@@ -1,5 +1,5 @@
 -- Logs with turns: what they say of a timed execution, and what it means that their Delivers were made in time.
-use Rattle.std.proofs.Common.{ℕ, ◌≡◌, true, Option, Some, None, List, [], ◌∷◌, refl, sym, ap, ◌∙◌, subst, inl, inr}
+use Rattle.std.proofs.Common.{ℕ, ◌≡◌, Option, Some, None, List, [], ◌∷◌, refl, sym, subst, inl, inr}
 use Rattle.std.proofs.lemmas.Bool.{cond_both}
 use Rattle.std.proofs.lemmas.Bool.Decides.{eqb_tells}
 use Rattle.bhs_model.specs.declared.commands.Command.{Command}
@@ -11,7 +11,7 @@ use Rattle.bhs_model.specs.Draws.{Held}
 use Rattle.bhs_time.specs.TimedViews.{TimedView, departed_at}
 use Rattle.bhs_time.specs.Schedules.{Schedule}
 use Rattle.bhs_time.specs.TimedRuns.{TimedState, TimedAct, timed_initial, event_of, told_then, arrived_then, happened}
-use Rattle.bhs_time.specs.TimedRuns.{happened_if, timed_next, timed_run_from, turn_after}
+use Rattle.bhs_time.specs.TimedRuns.{happened_if, timed_run_from, turn_after}
 use Rattle.bhs_time.specs.Laws.{IsFirst, IsPunctual}
 use Rattle.bhs_time.specs.Stamps.{Stamped, happened_at, stamped_run_from, IsInTime, AreInTimeFrom, stamped_first}
 use Rattle.bhs_time.specs.Stamps.{stamps_from, TurnsSayWhatWasMet, DeliveriesInTimeArrivePunctually}
@@ -64,9 +64,11 @@ module _ (schedule : Schedule) (world : World) where
       IsFirst schedule agent (departed_at (timed.pasts agent)) timed.turn →
       AllPunctual (arrived_then world timed agent position)
   come_punctual timed agent (Bound node port) all first other = elim (eqb_tells other agent) [
-    | inl h ↦ rw h.0 (subst (λ (who : ℕ). IsFirst schedule who (departed_at (timed.pasts agent)) timed.turn)
-        (sym h.1) first,
-        subst (λ (who : ℕ). IsPunctual schedule other (timed.pasts who)) h.1 (all other))
+    | inl h ↦ rw h.0 (
+      subst (λ (who : ℕ). IsFirst schedule who (departed_at (timed.pasts agent)) timed.turn)
+          (sym h.1) first,
+      subst (λ (who : ℕ). IsPunctual schedule other (timed.pasts who)) h.1 (all other),
+    )
     | inr h ↦ rw h.0 (all other)
   ]
   come_punctual timed agent Before all first other = all other
