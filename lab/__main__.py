@@ -14,12 +14,13 @@ from lab.pasts import NoFunction
 from lab.schedulers import Impossible
 from lab.schedules import NoSchedule
 from lab.spread import NoCluster
+from lab.tables import NoTable
 from lab.agent_files import NoAgent
 from lab.users import NoUser
 from lab.walls import NoCell
 
 FAULTS = (Differs, Impossible, Missing, NoAgent, NoCell, NoCluster, NoFunction, NoNetwork, NoProgram, NoSchedule,
-          NoSweep, NoUser)
+          NoSweep, NoTable, NoUser)
 
 
 class Command(NamedTuple):

@@ -12,7 +12,6 @@ Each agent of each match has modules of its own, as a program outside has: its f
 earlier match.
 """
 import functools
-import hashlib
 import importlib
 import importlib.util
 import inspect
@@ -22,6 +21,7 @@ import sys
 from types import ModuleType
 from typing import Any, Callable, Collection, Dict, List, Sequence, Tuple
 
+from lab.imports import files_behind
 from lab.model import Setup
 
 TOP = pathlib.Path(__file__).resolve().parent.parent
@@ -145,7 +145,11 @@ def asked_behind(words: str, signature: inspect.Signature, count: int) -> List[s
     return [it.name for it in parameters[count:]]
 
 
-def digests(words: Sequence[str]) -> Dict[str, str]:
-    """The SHA-256 of each file that the words name, so that a schedule says for which agents it was made."""
+def digests(words: Sequence[str], is_inside: bool = True, more: Sequence[str] = ()) -> Dict[str, str]:
+    """The SHA-256 of each file that the words name, and of all that these import, so that a schedule says for which
+    agents it was made. What plays inside the lab may import what the lab can; a program outside, what is beside it.
+    `more` are names of modules that are imported too."""
+    folders = [str(AGENTS)] if is_inside else []
     files = [pathlib.Path(word.partition(":")[0]) for line in words for word in line.split()]
-    return {str(file): hashlib.sha256(file.read_bytes()).hexdigest() for file in files if file.is_file()}
+    return {name: digest for file in files if file.is_file()
+            for name, digest in files_behind(file, folders, more).items()}

@@ -2,6 +2,7 @@
 sources as they are, or else one without a proof, which is compiled in a minute or two (tools/prove/unproved.py). It
 runs on Python 3.8, as the contest does."""
 import functools
+import hashlib
 import pathlib
 import subprocess
 import sys
@@ -12,6 +13,12 @@ PROVED = TOP / "crates" / "bhs_main" / "out" / "bhs_main"
 RELEASED = TOP / "bin" / "arena"
 # what each start of a program without a proof says on standard error; by these words it is told from a proved one
 SAID = "arena: this build is not proved, and slow; ./arena at the top of the repository proves and builds the program"
+
+# what says that a program is proved, by its SHA-256: what was written beside it when it was built of proved crates, or
+# the record of a release
+RECORD, RELEASE_RECORD = "proved.sha256", "PROVED.txt"
+PROGRAM, UNPROVED = "the proved program", "a build without a proof"
+UNKNOWN = "a program of which no record says that it is proved"
 
 
 class NoProgram(Exception):
@@ -24,6 +31,32 @@ def is_unproved(program: pathlib.Path) -> bool:
         return SAID.encode() in program.read_bytes()
     except OSError:
         return False
+
+
+def digest_of(program: pathlib.Path) -> str:
+    """The SHA-256 of a program."""
+    return hashlib.sha256(program.read_bytes()).hexdigest()
+
+
+def record_proof(program: pathlib.Path) -> None:
+    """Writes beside a program that each of its crates was proved when it was built."""
+    program.with_name(RECORD).write_text(digest_of(program) + "\n")
+
+
+def has_proof(program: pathlib.Path) -> bool:
+    """Whether the record of its build says that this very program is proved. Another file in its place, or a script
+    that starts it, has another digest."""
+    records = [program.with_name(RECORD), TOP / RELEASE_RECORD]
+    try:
+        digest = digest_of(program)
+        return not is_unproved(program) and any(digest in it.read_text() for it in records if it.is_file())
+    except (OSError, UnicodeDecodeError):
+        return False
+
+
+def name_of(program: pathlib.Path) -> str:
+    """How a program is called in all that is said and written of what it plays."""
+    return UNPROVED if is_unproved(program) else PROGRAM if has_proof(program) else UNKNOWN
 
 
 def is_proved() -> bool:

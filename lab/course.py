@@ -44,6 +44,7 @@ import shlex
 from typing import Any, Dict, List, NamedTuple, Optional, Sequence, Tuple
 
 from lab import grid, hand_in, networks, walls
+from lab.agent_files import digests
 from lab.cells import Walls
 from lab.fixtures import Fixture
 from lab.grid import Case, Grid, NoSweep, is_count, is_text, is_texts, taken
@@ -105,7 +106,7 @@ class Course(NamedTuple):
         """The SHA-256 of each file and each hand-in on which the matches depend, and of the secret."""
         own = [self.folder / name.partition(":")[0] for name in [*self.grid.schedulers, *self.grid.names]]
         return {
-            **{str(path): hashlib.sha256(path.read_bytes()).hexdigest() for path in own if path.is_file()},
+            **digests([str(path) for path in own]),
             **{f"team {name}": self.hand_in(name).digest() for name in self.files},
             SECRET: self._drawn("digest"),
         }

@@ -62,8 +62,12 @@ def program_at(path: Optional[str]) -> str:
     return str(found.resolve())
 
 
-def is_unproved(program: str) -> bool:
-    return built.is_unproved(pathlib.Path(program))
+BY_MODEL = "the Python model, of which nothing is proved"
+
+
+def name_of(program: Optional[str]) -> str:
+    """What plays, in the words of all that the lab says and writes."""
+    return BY_MODEL if program is None else built.name_of(pathlib.Path(program))
 
 
 def add_program(parser: argparse.ArgumentParser) -> None:

@@ -4,7 +4,8 @@ import pathlib
 import tempfile
 from typing import List, Optional
 
-from lab.engines import Engine, Program, is_unproved, judged
+from lab import built
+from lab.engines import Engine, Program, judged, name_of
 from lab.fixtures import write_tournament
 from lab.missing import Missing
 from lab.model import Verdict
@@ -54,7 +55,7 @@ def write_find(folder: pathlib.Path, schedule: Schedule, played: Played, program
     if program is None:
         said.append("the Python model played it, which proves nothing: the program was not asked")
         return said + written_page(folder, None)
-    by = " (by a program that is not proved)" if is_unproved(program) else ""
+    by = "" if name_of(program) == built.PROGRAM else f" (by {name_of(program)})"
     said.append(f"the program's verdict: {verdict_text(judged(program, folder / REPLAY))}{by}")
     return said + written_page(folder, program)
 

@@ -35,12 +35,12 @@ import tomllib
 from typing import Any, Callable, Dict, Iterable, Iterator, List, NamedTuple, Optional, Union
 
 from lab import networks
-from lab.agent_files import AGENTS, TOP, digests
+from lab.agent_files import digests
 from lab.fixtures import Fixture, fixture_of
 from lab.model import Setup
 from lab.network import ports_seed
 from lab.networks import Network
-from lab.teams import BOARD, INSIDE, OUTSIDE, QUOTA, AgentWords
+from lab.teams import BOARD, INSIDE, OUTSIDE, QUOTA, AgentWords, digests_of
 
 BY_SEED, ALL, DEGREE = "by seed", "all", "degree"
 BOUNDS: Dict[str, Callable[[int], float]] = {
@@ -109,8 +109,8 @@ class Grid(NamedTuple):
 
     def files(self) -> Dict[str, str]:
         """The digest of each file that the runs depend on."""
-        words = [*(team.words.words for team in self.teams), *self.schedulers, *self.names]
-        return digests([*words, str((AGENTS / "client.py").relative_to(TOP))])
+        others = digests([*self.schedulers, *self.names])
+        return {**others, **digests_of([team.words for team in self.teams])}
 
     def _holes(self, name: str, secret: str) -> List[List[int]]:
         """The black holes of a network: lists, out of which each seed takes its own in turn."""

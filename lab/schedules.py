@@ -14,11 +14,10 @@ import pathlib
 from typing import Dict, List, NamedTuple
 
 from lab import VERSION
-from lab.agent_files import digests
 from lab.fixtures import Fixture, NoMatch, checked, pairs
 from lab.model import Object, Setup, spelled
 from lab.schedulers import ANSWER, ARRIVE, WAKE, Choice
-from lab.teams import INSIDE, OUTSIDE, AgentWords
+from lab.teams import INSIDE, OUTSIDE, AgentWords, digests_of
 
 
 class NoSchedule(Exception):
@@ -36,7 +35,7 @@ class Schedule(NamedTuple):
 
 
 def schedule_of(fixture: Fixture, agents: List[AgentWords], origin: str, choices: List[Choice]) -> Schedule:
-    return Schedule(fixture, agents, origin, choices, digests([agent.words for agent in agents]))
+    return Schedule(fixture, agents, origin, choices, digests_of(agents))
 
 
 def text_of(schedule: Schedule) -> str:

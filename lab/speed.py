@@ -14,7 +14,7 @@ from typing import Callable, Dict, List, Optional
 
 from lab import explore, schedulers
 from lab.counts import at_least_one
-from lab.engines import TOP, add_program, is_unproved, program_at
+from lab.engines import TOP, add_program, name_of, program_at
 from lab.finds import engine_of
 from lab.fixtures import Fixture, fixture_of
 from lab.model import Setup
@@ -70,8 +70,7 @@ def add_words(parser: argparse.ArgumentParser) -> None:
 
 def run(words: argparse.Namespace) -> int:
     program = program_at(words.program)
-    name = "the program without a proof" if is_unproved(program) else "the program"
-    engines: Dict[str, Optional[str]] = {"the Python model": None, name: program}
+    engines: Dict[str, Optional[str]] = {"the Python model": None, name_of(program): program}
     for engine, program in engines.items():
         for team, agent in TEAMS.items():
             found = rate(lambda seed: steps(agent, program, seed), words.rounds)

@@ -4,7 +4,6 @@ A job plays matches one by one. Its results come in the order of the matches, wh
 """
 import concurrent.futures
 import functools
-import hashlib
 import io
 import multiprocessing
 import os
@@ -19,6 +18,7 @@ from typing import Any, Dict, Iterable, Iterator, List, NamedTuple, Protocol, Se
 from lab.agent_files import NoAgent
 from lab.engines import TOP, Differs, NoProgram, Refused
 from lab.grid import Case
+from lab.imports import digest_of
 from lab.missing import Missing, needed
 from lab.networks import NoNetwork
 from lab.schedulers import Impossible
@@ -136,13 +136,8 @@ def results_in(future: Any) -> List[Result]:
 
 
 def own_digests() -> Dict[str, str]:
-    """The SHA-256 of each file of the lab."""
-    return {str(path): digest_of(path) for path in sorted((TOP / "lab").glob("*.py"))}
-
-
-def digest_of(path: pathlib.Path) -> str:
-    """The SHA-256 of a file, or nothing if there is no such file."""
-    return hashlib.sha256(path.read_bytes()).hexdigest() if path.is_file() else ""
+    """The SHA-256 of each file of the lab that plays."""
+    return {str(path): digest_of(path) for path in sorted((TOP / "lab").rglob("*.py")) if "tests" not in path.parts}
 
 
 def other_files(files: Dict[str, str]) -> List[str]:

@@ -1,10 +1,10 @@
 """The team and the match that the words of a command name."""
 import argparse
 import re
-from typing import List, NamedTuple, Optional, Sequence
+from typing import Dict, List, NamedTuple, Optional, Sequence
 
 from lab import networks
-from lab.agent_files import NoAgent, script_of
+from lab.agent_files import NoAgent, digests, script_of
 from lab.counts import not_negative
 from lab.fixtures import Fixture, MOST_AGENTS, NoMatch, fixture_of, read_tournament
 from lab.model import Place, Setup
@@ -23,6 +23,16 @@ class AgentWords(NamedTuple):
 
     kind: str
     words: str
+
+    def digests(self) -> Dict[str, str]:
+        """The SHA-256 of each file that the agent is made of."""
+        # each agent inside has a client, also one whose file does not import it
+        return digests([self.words], True, ["client"]) if self.kind == INSIDE else digests([self.words], False)
+
+
+def digests_of(agents: Sequence[AgentWords]) -> Dict[str, str]:
+    """The SHA-256 of each file that some of the agents are made of."""
+    return {name: digest for agent in dict.fromkeys(agents) for name, digest in agent.digests().items()}
 
 
 class Together:

@@ -12,7 +12,7 @@ from unittest import mock
 
 from lab import built, networks
 from lab.__main__ import COMMANDS, main
-from lab.engines import TOP, NoProgram, Refused, add_program, asked, is_unproved, program_at
+from lab.engines import TOP, NoProgram, Refused, add_program, asked, name_of, program_at
 from lab.fixtures import Fixture, fixture_of, read_tournament, write_tournament
 from lab.missing import Missing, needed
 from lab.model import Setup
@@ -158,7 +158,7 @@ class CommandLine(unittest.TestCase):
                 with contextlib.redirect_stderr(errors):
                     self.assertEqual(program_at(None), str(program))
             self.assertEqual(errors.getvalue(), said)
-            self.assertEqual(is_unproved(str(program)), bool(said))
+            self.assertEqual(name_of(str(program)), built.UNPROVED if said else built.UNKNOWN)
         with self.assertRaises(Refused) as refused:
             asked(str(folder / "one"), "judge")
         self.assertEqual(str(refused.exception), "replay: line 1")

@@ -1,11 +1,15 @@
 """What a sweep's file says, and what is made of rows."""
+import contextlib
+import io
 import pathlib
 import tempfile
 import unittest
 from typing import Dict, List
 
-from lab import report, sweep
+from lab import report, tables, verify
 from lab.grid import Grid, NoSweep, grid_of
+from lab.spread import Result
+from lab.tables import NoTable
 
 HEAD = 'title = "T"\nnetworks = ["ring:4", "ring:5"]\n'
 TEAM = '[[team]]\nname = "a"\nagent = "examples/agents/ring.py {nodes}"\n'
@@ -66,8 +70,8 @@ class Files(unittest.TestCase):
 
 
 def row(run: int, moves: int, outcome: str = "solved", network: str = "ring:4", fault: str = "") -> Dict[str, str]:
-    values = [run, network, 4, 4, 0, 1, "a", 2, "fair", run, outcome, moves, 1, 9, 9, "00", fault]
-    return dict(zip(sweep.COLUMNS, map(str, values)))
+    values = [run, network, 4, 4, 0, 1, "a", 2, "fair", run, outcome, moves, 1, 9, 9, "00", "", fault]
+    return dict(zip(tables.COLUMNS, map(str, values)))
 
 
 class Reports(unittest.TestCase):
@@ -88,30 +92,88 @@ class Reports(unittest.TestCase):
         self.assertEqual(report.groups_of([row(0, 4, fault="agent 1: raises")], grid)[0].solved, 0)
 
 
-class Resumed(unittest.TestCase):
+class Tables(unittest.TestCase):
     def setUp(self) -> None:
         folder = tempfile.TemporaryDirectory()
         self.addCleanup(folder.cleanup)
         self.folder = pathlib.Path(folder.name) / "made"
+        self.path = self.folder / tables.RUNS
+
+    def prepared(self, **made: object) -> int:
+        return tables.prepared(self.folder, {"program": "", **made})
+
+    def add(self, *rows: List[str]) -> str:
+        """Writes rows, and gives the file's text."""
+        with self.path.open("a") as file:
+            file.write("".join(map(tables.line_of, rows)))
+        return self.path.read_text()
 
     def test_a_row_that_was_not_written_whole_is_dropped(self) -> None:
-        self.assertEqual(sweep.prepared(self.folder, {"engine": "model"}), 0)
-        path = self.folder / sweep.RUNS
-        whole = path.read_text() + "0,a\n1,b\n"
-        path.write_text(whole + "2,c")
-        self.assertEqual(sweep.prepared(self.folder, {"engine": "model"}), 2)
-        self.assertEqual(path.read_text(), whole)
-        path.write_text("run,net")
-        self.assertEqual(sweep.prepared(self.folder, {"engine": "model"}), 0)
-        self.assertEqual(path.read_text(), sweep.line_of(sweep.COLUMNS))
+        self.assertEqual(self.prepared(), 0)
+        whole = self.add(cells(0), cells(1))
+        self.path.write_text(whole + "2,c")
+        self.assertEqual(self.prepared(), 2)
+        self.assertEqual(self.path.read_text(), whole)
+        self.path.write_text("run,net")
+        self.assertEqual(self.prepared(), 0)
+        self.assertEqual(self.path.read_text(), tables.line_of(tables.COLUMNS))
 
-    def test_rows_of_another_sweep_are_kept_as_they_are(self) -> None:
-        sweep.prepared(self.folder, {"engine": "model"})
-        with self.assertRaisesRegex(NoSweep, "has the rows of another sweep"):
-            sweep.prepared(self.folder, {"engine": "program"})
-        (self.folder / sweep.MADE).unlink()
-        with self.assertRaisesRegex(NoSweep, "name another folder"):
-            sweep.prepared(self.folder, {"engine": "model"})
+    def test_rows_that_were_made_otherwise_are_kept_as_they_are(self) -> None:
+        before = {"files": {"a.py": "1", "b.py": "2"}, "python": "3.11"}
+        self.prepared(**before)
+        for now, said in (({"program": "00"}, "program differ"), ({"python": "3.12"}, "python differ"),
+                          ({"files": {"a.py": "1"}}, "b.py differ"),
+                          ({"files": {"a.py": "3", "b.py": "2", "c.py": "4"}}, "a.py and 1 more differ")):
+            with self.subTest(said), self.assertRaisesRegex(NoTable, f"made otherwise: {said}"):
+                self.prepared(**{**before, **now})
+        (self.folder / tables.MADE).write_text("?")
+        with self.assertRaisesRegex(NoTable, "not as it was written"):
+            self.prepared(**before)
+        (self.folder / tables.MADE).unlink()
+        with self.assertRaisesRegex(NoTable, "name another folder"):
+            self.prepared(**before)
+
+    def test_a_row_that_was_edited_is_told(self) -> None:
+        self.prepared()
+        whole = self.add(cells(0), cells(1), cells(2))
+        self.assertEqual(len(tables.rows_in(self.path)), 3)
+        lines = whole.splitlines(keepends=True)
+        for wrong, line in ((whole.replace("solved", "silent", 1), 2), ("".join(lines[:2] + lines[3:]), 3),
+                            (whole + lines[3], 5), (whole.replace(lines[3], "2,ring:4\n"), 4)):
+            self.path.write_text(wrong)
+            with self.assertRaisesRegex(NoTable, f"line {line} is not as it was written"):
+                self.prepared()
+
+    def test_two_commands_do_not_write_into_one_folder(self) -> None:
+        with tables.alone_in(self.folder):
+            with self.assertRaisesRegex(NoTable, "another command writes into"), tables.alone_in(self.folder):
+                pass
+        with tables.alone_in(self.folder):
+            pass
+
+
+def cells(run: int) -> List[str]:
+    """A row as a sweep writes it."""
+    return tables.checked([str(row(run, 4)[name]) for name in tables.COLUMNS])
+
+
+class Verified(unittest.TestCase):
+    def test_what_comes_out_otherwise(self) -> None:
+        now = tables.checked(["0", *cells(0)[1:-2], "", "agent 1: raises"])
+        self.assertIsNone(verify.differing(0, cells(0), cells(0)))
+        self.assertEqual(verify.differing(0, cells(0), now), verify.Differing(0, ["fault"]))
+        with contextlib.redirect_stderr(io.StringIO()) as errors, contextlib.redirect_stdout(io.StringIO()) as said:
+            found = verify.compared([0, 1], [cells(0), cells(1)], [Result(cells(0), ""), Result(None, "no")])
+            self.assertEqual(verify.told([0, 1], 9, found), 1)
+        self.assertEqual(errors.getvalue(), "run 1 comes out otherwise: fault\n")
+        self.assertEqual(said.getvalue(), "2 of 9 rows were played again: 1 differ\n")
+
+    def test_which_rows(self) -> None:
+        self.assertEqual(verify.chosen(3, verify.ALL), [0, 1, 2])
+        self.assertEqual(verify.chosen(3, 5), [0, 1, 2])
+        drawn = verify.chosen(1000, 500)
+        self.assertEqual(len(set(drawn)), 500)
+        self.assertNotEqual(drawn, verify.chosen(1000, 500))
 
 
 if __name__ == "__main__":
