@@ -104,8 +104,13 @@ def match_text(fixture: Fixture, network: str) -> str:
         "dark": pairs(setup.dark), "quota": setup.quota, "board": setup.board, "keys": fixture.keys,
         "held": pairs(fixture.held),
     }
-    # what JSON spells of these values is TOML too
-    return "\n[[match]]\n" + "".join(f"{key} = {json.dumps(value)}\n" for key, value in rows.items())
+    return "\n[[match]]\n" + "".join(f"{key} = {toml_of(value)}\n" for key, value in rows.items())
+
+
+def toml_of(value: Any) -> str:
+    """A text, a number or a list of these in TOML. It is what JSON spells, but for escapes of half a character, and for
+    a control character that TOML has escaped."""
+    return json.dumps(value, ensure_ascii=False).replace("\x7f", "\\u007f")
 
 
 def tournament_text(seed: str, matches: Iterable[Tuple[Fixture, str]], delays: Optional[Delays] = None) -> str:

@@ -150,16 +150,18 @@ def run(words: argparse.Namespace) -> int:
     program = program_of(words)
     if any(agent.kind != teams.INSIDE for agent in teams.team_of(words)):
         raise NoAgent("hunt plays agents inside the lab: name them by --agent")
+    was_stopped = False
     with bar(words.runs, "schedule") as shown:
         hunter = Hunter(words, shown)
         try:
             hunted(hunter)
         except KeyboardInterrupt:
+            was_stopped = True
             shown.clear()
             print("interrupted; this was found:")
     if hunter.best is None:
         return 130
-    return told(hunter, hunter.best, program)
+    return told(hunter, hunter.best, program) or (130 if was_stopped else 0)
 
 
 def told(hunter: Hunter, best: Trial, program: Optional[str]) -> int:

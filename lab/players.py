@@ -4,6 +4,7 @@ A player runs until it waits for the answer to its line, for its arrival, or to 
 is the line that it sent, or None if its input has ended.
 """
 import signal
+import threading
 from collections import deque
 from typing import Any, Deque, List, Mapping, Optional, Sequence
 
@@ -100,13 +101,16 @@ class Clock:
         self._before: Any = None
 
     def start(self) -> None:
-        self._before = signal.signal(self._signal, self._look)
-        signal.setitimer(self._timer, self._seconds, self._seconds)
+        # signals reach the main thread alone: in another one nobody ends a program that computes without end
+        if threading.current_thread() is threading.main_thread():
+            self._before = signal.signal(self._signal, self._look)
+            signal.setitimer(self._timer, self._seconds, self._seconds)
 
     def stop(self) -> None:
-        signal.setitimer(self._timer, 0)
         if self._before is not None:
+            signal.setitimer(self._timer, 0)
             signal.signal(self._signal, self._before)
+            self._before = None
 
     def _look(self, *_: Any) -> None:
         """Ends a program that has been running since the last look."""

@@ -76,18 +76,19 @@ def add_words(parser: argparse.ArgumentParser) -> None:
 
 def run(words: argparse.Namespace) -> int:
     program = program_of(words)
-    tally = Tally()
+    tally, was_stopped = Tally(), False
     try:
         with bar(words.runs, "match") as shown:
             for seed in range(words.seed, words.seed + words.runs):
                 tally.add(seed, *play_seed(words, seed, program))
                 shown.update()
     except KeyboardInterrupt:
+        was_stopped = True
         print("interrupted; this was played:")
     if tally.best is None:
         return 130
     report(words, tally, tally.best, program)
-    return 1 if tally.failed else 0
+    return 1 if tally.failed else 130 if was_stopped else 0
 
 
 def spent_in(played: Played) -> List[str]:

@@ -3,6 +3,7 @@
 A job plays matches one by one. Its results come in the order of the matches, whoever plays them.
 """
 import concurrent.futures
+import ctypes
 import functools
 import io
 import multiprocessing
@@ -28,6 +29,8 @@ from lab.walls import NoCell
 FAULTS = (Differs, Impossible, Missing, NoAgent, NoCell, NoNetwork, NoProgram, NoUser, Refused, OSError)
 # how many matches a Dask worker takes at a time, and how many seconds its scheduler may take to answer
 BATCH, SECONDS_TO_ANSWER = 20, 20
+# of Linux: asks for a signal when the parent ends
+PR_SET_PDEATHSIG = 1
 # what a Dask worker runs: the lab, in a process of its own
 PLAY = f"import sys; sys.path.insert(0, {str(TOP)!r}); from lab.spread import serve; serve()"
 
@@ -66,18 +69,27 @@ def result_of(job: Job, case: Case) -> Result:
 is_over: Any = None
 
 
-def begin(over: Any) -> None:
+def begin(over: Any, parent: int) -> None:
     """Begins a worker. Who interrupts the command interrupts it alone; it ends its workers."""
     global is_over
     is_over = over
     signal.signal(signal.SIGINT, signal.SIG_IGN)
     signal.signal(signal.SIGTERM, signal.SIG_DFL)
+    end_with(parent)
+
+
+def end_with(parent: int) -> None:
+    """Has Linux end this process when the process that started it ends, also by a signal that cannot be caught."""
+    ctypes.CDLL(None, use_errno=True).prctl(PR_SET_PDEATHSIG, signal.SIGTERM)
+    if os.getppid() != parent:
+        # it ended before
+        os._exit(1)
 
 
 def over_processes(job: Job, cases: Sequence[Case], workers: int, at_a_time: int = 4) -> Iterator[Result]:
     """The results of all matches, in order, by this number of processes, each of which takes some at a time."""
     over = multiprocessing.Event()
-    pool = concurrent.futures.ProcessPoolExecutor(workers, initializer=begin, initargs=(over,))
+    pool = concurrent.futures.ProcessPoolExecutor(workers, initializer=begin, initargs=(over, os.getpid()))
     try:
         yield from pool.map(functools.partial(result_of, job), cases, chunksize=at_a_time)
     except BrokenProcessPool:

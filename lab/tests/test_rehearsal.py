@@ -127,7 +127,7 @@ class CommandLine(unittest.TestCase):
                             (["run", *agent, "--hole", "0"], "black holes are nodes from 0 to 7 other than the home"),
                             (["run", "--engine", "model", "--agent", "nowhere.py"], "there is no such file"),
                             (["run", "--engine", "model", "--agent", "examples/agents/ring.py x"], "are whole numbers"),
-                            (["replay", "/nowhere", "--engine", "model"], "No such file"),
+                            (["replay", "/nowhere", "--engine", "model"], "there is no such file or folder"),
                             (["hunt", "--engine", "model", "--command", "x"], "name them by --agent")):
             with self.subTest(words), contextlib.chdir(TOP):
                 with mock.patch("lab.run.bar", mock.MagicMock()):
