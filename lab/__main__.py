@@ -14,6 +14,7 @@ from lab.networks import NoNetwork
 from lab.pasts import NoFunction
 from lab.schedulers import Impossible
 from lab.schedules import NoSchedule
+from lab.games import Stopped
 from lab.spread import NoCluster
 from lab.tables import NoTable
 from lab.agent_files import NoAgent
@@ -21,7 +22,8 @@ from lab.users import NoUser
 from lab.walls import NoCell
 
 FAULTS = (Differs, Impossible, Missing, NoAgent, NoCell, NoCluster, NoFunction, NoNetwork, NoProgram, NoSchedule,
-          NoSweep, NoTable, NoUser)
+          NoSweep, NoTable, NoUser,
+          Stopped)
 
 
 # modules of Debian's packages: to play agents inside the lab, to lay out pages

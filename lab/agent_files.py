@@ -12,13 +12,16 @@ Each agent of each match has modules of its own, as a program outside has: its f
 earlier match.
 """
 import functools
+import hashlib
 import importlib
 import importlib.util
 import inspect
 import os
 import pathlib
+import random
 import sys
-from types import ModuleType
+import threading
+from types import FunctionType, ModuleType
 from typing import Any, Callable, Collection, Dict, List, Sequence, Tuple
 
 from lab.imports import files_behind
@@ -85,6 +88,8 @@ def numbers_of(words: Sequence[str], setup: Setup) -> List[int]:
                       "{home}") from None
 
 
+# one thread at a time changes which modules there are
+LOADING = threading.RLock()
 # the client of the sample agents keeps nothing, so all share it
 CLIENT = str(AGENTS / "client.py")
 
@@ -100,17 +105,18 @@ def loaded_anew(path: pathlib.Path, seed: int) -> Tuple[ModuleType, ModuleType]:
     """The module in a file, and the client that it imports, loaded for one agent alone. If they or what they import
     from beside them draw by `random`, that begins with this seed."""
     folders = {str(path.parent.resolve()), str(AGENTS)}
-    shared = {name: sys.modules.pop(name) for name in own_names(folders)}
-    try:
-        module = executed(path)
-        client = importlib.import_module("client")
-        if "random" in sys.modules:
-            sys.modules["random"].seed(seed)
-        return module, client
-    finally:
-        for name in own_names(folders):
-            del sys.modules[name]
-        sys.modules.update(shared)
+    with LOADING:
+        shared = {name: sys.modules.pop(name) for name in own_names(folders)}
+        try:
+            module = executed(path)
+            client = importlib.import_module("client")
+            if "random" in sys.modules:
+                sys.modules["random"].seed(seed)
+            return module, client
+        finally:
+            for name in own_names(folders):
+                del sys.modules[name]
+            sys.modules.update(shared)
 
 
 def script_of(words: str, setup: Setup) -> Script:
@@ -143,6 +149,81 @@ def asked_behind(words: str, signature: inspect.Signature, count: int) -> List[s
     if count > len(plain) and all(it.kind is not it.VAR_POSITIONAL for it in parameters):
         raise NoAgent(f"{words}: it takes {', '.join(plain) or 'no numbers'} behind the file, and {count} are named")
     return [it.name for it in parameters[count:]]
+
+
+# what an agent that is a function may have as parameters behind the agent and its key
+MAY_ASK = (*FACTS, "network", "sleep")
+
+
+def script_of_function(function: Callable[..., None], setup: Setup) -> Script:
+    """An agent that is a function of this process, as it plays this match. Parameters behind the agent and its key get
+    by their names what FILE.py gets as words: `nodes`, `links`, `home`, `network`, and `sleep`."""
+    asked = list(inspect.signature(function).parameters.values())[2:]
+    for it in asked:
+        if it.name not in MAY_ASK and it.default is it.empty and it.kind in (*PLAIN, it.KEYWORD_ONLY):
+            raise NoAgent(f"{function.__name__}: it has a parameter {it.name}; behind the agent and its key stand "
+                          f"{', '.join(MAY_ASK)}, and what has a default")
+    values = {"nodes": setup.nodes, "links": len(setup.links), "home": setup.home, "network": tuple(setup.links)}
+
+    def play(lines: Any, key: str, sleep: Sleep) -> None:
+        client = client_module()
+        given = {**values, "sleep": sleep}
+        own = with_own_variables(function, lines.number)
+        try:
+            own(client.Agent(lines), key, **{it.name: given[it.name] for it in asked if it.name in given})
+        except client.MatchOver:
+            pass
+    return play
+
+
+def client_module() -> ModuleType:
+    """The client of the sample agents."""
+    if str(AGENTS) not in sys.path:
+        sys.path.insert(0, str(AGENTS))
+    return importlib.import_module("client")
+
+
+def with_own_variables(function: Callable[..., None], seed: int) -> Callable[..., None]:
+    """A function whose global variables are its own, and those of the functions that it calls out of the same notebook
+    or file: what it assigns to them nobody else sees. What it draws by `random` begins with the seed. A list or another
+    object that a variable has is shared."""
+    if not isinstance(function, FunctionType):
+        return function
+    shared = function.__globals__
+    own = {name: value for name, value in shared.items()}
+    for name, value in shared.items():
+        if value is random:
+            own[name] = random_from(seed)
+        elif isinstance(value, FunctionType) and value.__globals__ is shared:
+            own[name] = over(value, own)
+    return over(function, own)
+
+
+def over(function: FunctionType, variables: Dict[str, Any]) -> FunctionType:
+    """A function over these global variables."""
+    made = FunctionType(function.__code__, variables, function.__name__, function.__defaults__, function.__closure__)
+    made.__kwdefaults__ = function.__kwdefaults__
+    return made
+
+
+def random_from(seed: int) -> ModuleType:
+    """A module `random` of its own that begins with this seed."""
+    spec = importlib.util.find_spec("random")
+    if spec is None or spec.loader is None:
+        raise NoAgent("this Python has no module random")
+    made = importlib.util.module_from_spec(spec)
+    spec.loader.exec_module(made)
+    made.seed(seed)
+    return made
+
+
+def source_digest(function: Callable[..., None]) -> str:
+    """The SHA-256 of a function's text, or of what it was compiled to if there is no text."""
+    try:
+        text = inspect.getsource(function).encode()
+    except (OSError, TypeError):
+        text = getattr(getattr(function, "__code__", None), "co_code", b"")
+    return hashlib.sha256(text).hexdigest()
 
 
 def digests(words: Sequence[str], is_inside: bool = True, more: Sequence[str] = ()) -> Dict[str, str]:

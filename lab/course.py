@@ -49,7 +49,7 @@ from lab.cells import Walls
 from lab.fixtures import Fixture
 from lab.grid import Case, Grid, NoSweep, is_count, is_text, is_texts, taken
 from lab.programs import HOST
-from lab.run import maker_of
+from lab.games import maker_of
 from lab.schedulers import Maker
 from lab.teams import OUTSIDE
 

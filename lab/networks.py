@@ -15,7 +15,7 @@ import pathlib
 import random
 import re
 import tomllib
-from typing import Dict, List, NamedTuple, Tuple
+from typing import Any, Dict, List, NamedTuple, Tuple
 
 from lab.missing import needed
 
@@ -167,6 +167,18 @@ def in_file(path: str) -> Network:
 def fault_text(fault: Exception) -> str:
     """What is wrong with a file of TOML, by the exception of its reader."""
     return f"it has no key {fault}" if isinstance(fault, KeyError) else str(fault)
+
+
+def of_graph(graph: Any) -> Network:
+    """The network of a networkx graph. Nodes are numbered in the graph's order, and the ports of each node in the order
+    of its neighbours."""
+    if graph.is_directed() or graph.is_multigraph() or any(v == w for v, w in graph.edges):
+        raise NoNetwork("a network is a graph without directions, in which a link joins two nodes and no other does")
+    if not 3 <= graph.number_of_nodes() <= MOST_NODES:
+        raise NoNetwork(f"a network has 3 to {MOST_NODES} nodes, and this graph has {graph.number_of_nodes()}")
+    number = {node: place for place, node in enumerate(graph.nodes)}
+    ports = {node: {other: port for port, other in enumerate(graph.adj[node])} for node in graph.nodes}
+    return Network(len(number), [(number[v], ports[v][w], number[w], ports[w][v]) for v, w in graph.edges])
 
 
 def named(name: str) -> Network:

@@ -30,10 +30,10 @@ from lab.agent_files import digests
 from lab.counts import at_least_one
 from lab.engines import Differs, add_engine, judged, name_of, program_at, program_of
 from lab.finds import engine_of, write_find
+from lab.games import maker_of
 from lab.grid import Case, Grid, NoSweep
 from lab.play import Played, play
 from lab.progress import along
-from lab.run import maker_of
 from lab.schedules import Schedule, schedule_of
 from lab.spread import Result, over_cluster, over_processes
 from lab.tables import (RUNS, NoTable, alone_in, cells_in, changed_in, checked, done_in, line_of, made_by, prepared,

@@ -128,9 +128,9 @@ class CommandLine(unittest.TestCase):
                             (["run", "--engine", "model", "--agent", "nowhere.py"], "there is no such file"),
                             (["run", "--engine", "model", "--agent", "examples/agents/ring.py x"], "are whole numbers"),
                             (["replay", "/nowhere", "--engine", "model"], "there is no such file or folder"),
-                            (["hunt", "--engine", "model", "--command", "x"], "name them by --agent")):
+                            (["explore", "--engine", "model", "--command", "x"], "name them by --agent")):
             with self.subTest(words), contextlib.chdir(TOP):
-                with mock.patch("lab.run.bar", mock.MagicMock()):
+                with mock.patch("lab.progress.bar", mock.MagicMock()):
                     self.assertIn(said, self.told(*words))
 
     def test_each_command_has_a_help(self) -> None:
