@@ -15,7 +15,7 @@
     title         what the league table is called
     networks      names of networks, as --network takes them, or files
     schedulers    names of schedulers, as --scheduler takes them
-    ports, home, holes, seeds, quota, board
+    ports, home, holes, dark, seeds, quota, board
                   as in the file of a sweep: see `python3 -m lab sweep --help`
     limit         how many seconds a program may take to send a line (20)
     match_limit   how many seconds the lab waits for the programs of a match in all (60)

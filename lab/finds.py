@@ -19,6 +19,8 @@ from lab.teams import Together
 # where a find is written if nothing else is said
 FOLDER = pathlib.Path("out/find")
 SCHEDULE, SCRIPT, REPLAY, PAGE = "schedule.txt", "script.txt", "match0.jsonl", "match0.html"
+# of each program what it wrote to standard error, which is no part of the match and may be another each time
+ERRORS = "errors"
 
 
 def engine_of(schedule: Schedule, program: Optional[str]) -> Engine:
@@ -51,6 +53,8 @@ def write_find(folder: pathlib.Path, schedule: Schedule, played: Played, program
     write_tournament(schedule.fixture, folder)
     (folder / SCRIPT).write_bytes(b"".join(line + b"\n" for line in played.script))
     (folder / REPLAY).write_bytes(played.replay)
+    for number, text in played.errors.items():
+        (folder / f"{ERRORS}{number}.txt").write_text(text, encoding="utf-8")
     said = [f"{folder}: {len(schedule.choices)} choices; again by `python3 -m lab replay {folder}`"]
     if program is None:
         said.append("the Python model played it, which proves nothing: the program was not asked")
@@ -65,7 +69,8 @@ def changed_in(folder: pathlib.Path, schedule: Schedule, played: Played, program
     with tempfile.TemporaryDirectory() as name:
         fresh = pathlib.Path(name)
         write_find(fresh, schedule, played, program)
-        names = sorted(path.name for path in fresh.iterdir() if path.name not in (SCHEDULE, REPLAY))
+        names = sorted(path.name for path in fresh.iterdir() if path.name not in (SCHEDULE, REPLAY)
+                       and not path.name.startswith(ERRORS))
         return [name for name in names if bytes_of(folder / name) != bytes_of(fresh / name)
                 and (name != PAGE or (folder / name).exists())]
 

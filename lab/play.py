@@ -46,6 +46,8 @@ class Played(NamedTuple):
     script: List[bytes]
     replay: bytes
     faults: List[str]
+    # what programs wrote to standard error, by the numbers of their agents
+    errors: Dict[int, str] = {}
 
     def verdict(self) -> Verdict:
         return judge(self.match)
@@ -193,4 +195,5 @@ def play(engine: Engine, team: Team, scheduler: Scheduler, fixture: Fixture) -> 
     finally:
         team.stop()
         engine.stop()
-    return Played(run.choices, engine.match, engine.script, replay, faults_of(team.players))
+    errors = {player.number: player.errors for player in team.players if getattr(player, "errors", "")}
+    return Played(run.choices, engine.match, engine.script, replay, faults_of(team.players), errors)

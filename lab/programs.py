@@ -194,6 +194,8 @@ class Player:
         self._listener_of: Optional[Callable[[], socket.socket]] = None
         self._listener: Optional[socket.socket] = None
         self._ground = ground
+        # what the program wrote to standard error, once it has ended
+        self.errors = ""
         # in memory: what is free on a disk is seen by all programs
         self._errors = open(os.memfd_create("errors"), "w+b")
 
@@ -262,6 +264,7 @@ class Player:
         if self._child is not None:
             self._ground.kill(self._child)
         self.fault = self._ground.fault() or self.fault
+        self.errors = self._errors_of()
         if self._lines is not None:
             self._lines.close()
         for it in (self._connection, self._listener, self._errors):
@@ -317,6 +320,15 @@ class Player:
             return
         if status != 0:
             self.fault = f"has ended with status {status} in the middle of its match{self._last_words()}"
+
+    def _errors_of(self) -> str:
+        """The end of what the program wrote to standard error, without what is another on each run."""
+        if self._errors.closed:
+            return self.errors
+        size = self._errors.seek(0, os.SEEK_END)
+        self._errors.seek(max(0, size - PIECE))
+        lines = self._errors.read().decode(errors="replace").split("\n")
+        return "\n".join(plain(self._ground.told(line)) for line in lines)
 
     def _last_words(self) -> str:
         """The last line that the program wrote to standard error, as one that changes nothing where it is shown."""

@@ -46,7 +46,7 @@ class Files(Folder):
         self.assertEqual([case.number for case in found], list(range(16)))
         played: Dict[str, List[tuple]] = {"a": [], "b": []}
         for case in found:
-            played[case.team.name].append((case.network, case.hole, case.scheduler, case.seed))
+            played[case.team.name].append((case.network, *case.holes, case.scheduler, case.seed))
         self.assertEqual(played["a"], played["b"])
         self.assertEqual([case.team.name for case in found], ["a"] * 8 + ["b"] * 8)
 
@@ -116,7 +116,7 @@ class Secrets(Folder):
 
     def drawn(self, secret: str, holes: str) -> List[int]:
         text = HEAD.replace("ring:5", "ring:64") + f"holes = {holes}\nseeds = 4\n" + TEAM
-        return [case.hole for case in course_of(text, self.folder, secret).cases() if case.network == "ring:64"]
+        return [case.holes[0] for case in course_of(text, self.folder, secret).cases() if case.network == "ring:64"]
 
     def test_black_holes(self) -> None:
         for holes in ("8", '"by seed"'):

@@ -20,7 +20,7 @@ def text(middle: str = "", team: str = TEAM) -> str:
 
 
 def runs(grid: Grid) -> List[tuple]:
-    return [(case.network, case.hole, case.team.name, case.scheduler, case.seed) for case in grid.cases()]
+    return [(case.network, *case.holes, case.team.name, case.scheduler, case.seed) for case in grid.cases()]
 
 
 class Files(unittest.TestCase):
@@ -41,12 +41,19 @@ class Files(unittest.TestCase):
     def test_black_holes(self) -> None:
         def holes(said: str) -> List[int]:
             grid = grid_of(text(f"home = 2\nseeds = 3\nholes = {said}\n"))
-            return [case.hole for case in grid.cases() if case.network == "ring:5"]
+            return [case.holes[0] for case in grid.cases() if case.network == "ring:5"]
         self.assertEqual(holes('"by seed"'), [0, 1, 3])
         self.assertEqual(holes('"all"'), [0, 0, 0, 1, 1, 1, 3, 3, 3, 4, 4, 4])
         self.assertEqual(len(set(holes("2"))), 2)
         self.assertEqual(holes("2"), holes("2"))
         self.assertNotIn(2, holes("4"))
+
+    def test_several_black_holes_and_dark_links(self) -> None:
+        grid = grid_of(text("holes = [1, [3, 2], []]\ndark = [[0, 1]]\n"))
+        cases = [case for case in grid.cases() if case.network == "ring:5"]
+        self.assertEqual([(case.holes, case.hole) for case in cases], [((1,), "1"), ((2, 3), "2 3"), ((), "")])
+        self.assertEqual([grid.fixture(case).setup.holes for case in cases], [[1], [2, 3], []])
+        self.assertEqual(grid.fixture(cases[0]).setup.dark, [(0, 1)])
 
     def test_one_agent_more_than_the_greatest_degree(self) -> None:
         grid = grid_of(text().replace("ring:5", "complete:6").replace("name =", 'agents = "degree"\nname ='))
@@ -59,6 +66,9 @@ class Files(unittest.TestCase):
                             (text("bound = 'n'\n"), "bound must be one of 2 n log2 n,"),
                             (text("holes = 'some'\n"), "holes must be \"by seed\", \"all\","),
                             (text("holes = [4]\n"), "holes has 4, and a black hole of ring:4 is a node up to 3"),
+                            (text("holes = [[1, 1]]\n"), "ring:4: node 1 is named as a black hole twice"),
+                            (text("dark = [[0, 2]]\n"), "ring:4: node 0 has no port 2, so no dark link is there"),
+                            (text("dark = [0]\n"), "dark must be a list of nodes with ports, such as [[0, 1]]"),
                             (text("home = 4\n"), "home is 4, and ring:4 has the nodes 0 to 3"),
                             (text(team=TEAM + TEAM), "two teams have the same name"),
                             (text(team=TEAM + "command = 'x'\n"), "needs either agent or command"),
