@@ -6,7 +6,8 @@ import signal
 import sys
 from typing import List, NamedTuple, Optional, Tuple
 
-from lab import refusals
+import lab
+from lab import BY_PYTHON, refusals
 from lab.engines import Differs, NoProgram, Refused
 from lab.grid import NoSweep
 from lab.missing import Missing, missing_of
@@ -73,17 +74,27 @@ STATUS = """exit status: 0 if all went well, 1 if a team fails or engines differ
 if it was stopped too early to say"""
 
 
-def parser() -> argparse.ArgumentParser:
-    made = argparse.ArgumentParser("python3 -m lab", description=ABOUT, epilog=STATUS,
+def parser(name_of_lab: str = BY_PYTHON) -> argparse.ArgumentParser:
+    made = argparse.ArgumentParser(name_of_lab, description=ABOUT.replace(BY_PYTHON, name_of_lab), epilog=STATUS,
                                    formatter_class=argparse.RawDescriptionHelpFormatter)
     commands = made.add_subparsers(required=True, metavar="COMMAND", dest="command")
     for name, command in COMMANDS.items():
         module = importlib.import_module(command.module)
-        words = commands.add_parser(name, help=command.about, description=module.__doc__, epilog=STATUS,
+        about = (module.__doc__ or "").replace(BY_PYTHON, name_of_lab)
+        words = commands.add_parser(name, help=command.about, description=about, epilog=STATUS,
                                     formatter_class=argparse.RawDescriptionHelpFormatter)
         module.add_words(words)
+        call_by(name_of_lab, words)
         words.set_defaults(run=module.run)
     return made
+
+
+def call_by(name: str, words: argparse.ArgumentParser) -> None:
+    """Has the help of a command call the lab by this name."""
+    for action in words._actions:
+        action.help = action.help and action.help.replace(BY_PYTHON, name)
+    for group in words._action_groups:
+        group.description = group.description and group.description.replace(BY_PYTHON, name)
 
 
 class Terminated(BaseException):
@@ -94,8 +105,9 @@ def end(*_: object) -> None:
     raise Terminated
 
 
-def main(given: Optional[List[str]] = None) -> int:
-    words = parser().parse_args(given)
+def main(given: Optional[List[str]] = None, name: str = BY_PYTHON) -> int:
+    lab.called = name
+    words = parser(name).parse_args(given)
     # whoever ends the lab ends what it started
     signal.signal(signal.SIGTERM, end)
     try:

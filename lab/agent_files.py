@@ -27,9 +27,11 @@ from typing import Any, Callable, Collection, Dict, List, Sequence, Tuple
 from lab.imports import files_behind
 from lab.model import Setup
 
-TOP = pathlib.Path(__file__).resolve().parent.parent
+HERE = pathlib.Path(__file__).resolve().parent
+TOP = HERE.parent
 # where the client is that sample agents share, for agents that have no copy beside them
-AGENTS = TOP / "examples" / "agents"
+AGENTS = next((it for it in (TOP / "examples" / "agents", HERE / "examples" / "agents") if it.is_dir()),
+              TOP / "examples" / "agents")
 
 # the names that stand for numbers in words, and the parameters that get what is no number
 FACTS = ("nodes", "links", "home")
@@ -43,6 +45,15 @@ Script = Callable[[Any, str, Sleep], None]
 
 class NoAgent(Exception):
     """Words that name no agent; says what does."""
+
+
+def file_of(name: str) -> pathlib.Path:
+    """The file that a word names. One that is not here is looked for where the lab was installed, so that the sample
+    agents have the same names everywhere, such as examples/agents/ring.py."""
+    path = pathlib.Path(name)
+    places = [AGENTS.parents[1] / path, TOP / path]
+    is_sample = path.parts[:1] in (("examples",), ("lab",))
+    return next((it for it in places if it.is_file()), path) if is_sample and not path.exists() else path
 
 
 @functools.lru_cache(maxsize=None)
@@ -71,7 +82,7 @@ def executed(path: pathlib.Path) -> ModuleType:
 def member(word: str, usual: str) -> Any:
     """What a word `FILE.py:NAME` names, or `FILE.py` with the usual name."""
     path, _, name = word.partition(":")
-    module = loaded(pathlib.Path(path))
+    module = loaded(file_of(path))
     found = getattr(module, name or usual, None)
     if not callable(found):
         raise NoAgent(f"{path}: it has no function {name or usual}")
@@ -123,7 +134,7 @@ def script_of(words: str, setup: Setup) -> Script:
     """The agent that these words name, as it plays this match."""
     file, *rest = words.split()
     name = file.partition(":")[2] or "search"
-    path = pathlib.Path(file.partition(":")[0])
+    path = file_of(file.partition(":")[0])
     numbers = numbers_of(rest, setup)
     asked = asked_behind(words, inspect.signature(member(file, "search")), len(numbers))
 
@@ -231,6 +242,7 @@ def digests(words: Sequence[str], is_inside: bool = True, more: Sequence[str] = 
     agents it was made. What plays inside the lab may import what the lab can; a program outside, what is beside it.
     `more` are names of modules that are imported too."""
     folders = [str(AGENTS)] if is_inside else []
-    files = [pathlib.Path(word.partition(":")[0]) for line in words for word in line.split()]
+    named = [word.partition(":")[0] for line in words for word in line.split()]
+    files = [file_of(word) if is_inside else pathlib.Path(word) for word in named]
     return {name: digest for file in files if file.is_file()
             for name, digest in files_behind(file, folders, more).items()}

@@ -4,6 +4,7 @@ import pathlib
 import tempfile
 from typing import List, Optional
 
+import lab
 from lab import built
 from lab.engines import Engine, Program, judged, name_of
 from lab.fixtures import write_tournament
@@ -55,7 +56,7 @@ def write_find(folder: pathlib.Path, schedule: Schedule, played: Played, program
     (folder / REPLAY).write_bytes(played.replay)
     for number, text in played.errors.items():
         (folder / f"{ERRORS}{number}.txt").write_text(text, encoding="utf-8")
-    said = [f"{folder}: {len(schedule.choices)} choices; again by `python3 -m lab replay {folder}`"]
+    said = [f"{folder}: {len(schedule.choices)} choices; again by `{lab.called} replay {folder}`"]
     if program is None:
         said.append("the Python model played it, which proves nothing: the program was not asked")
         return said + written_page(folder, None)

@@ -113,8 +113,8 @@ class Grid(NamedTuple):
         """The match of a run."""
         network, agents = self.networks[case.network], case.team.agents
         count = max(network.degrees()) + 1 if isinstance(agents, str) else agents
-        return fixture_of(Setup(network.nodes, network.links, self.home, list(case.holes), count, self.quota, self.board,
-                                self.dark))
+        return fixture_of(Setup(network.nodes, network.links, self.home, list(case.holes), count, self.quota,
+                                self.board, self.dark))
 
     def files(self) -> Dict[str, str]:
         """The digest of each file that the runs depend on."""

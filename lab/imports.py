@@ -1,4 +1,4 @@
-"""Which files a Python program is made of: its own and those that it imports. They are found by reading, not by running.
+"""Which files a Python program is made of: its own and those that it imports. They are found by reading.
 """
 import ast
 import functools

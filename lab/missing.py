@@ -4,6 +4,8 @@ import importlib.util
 from types import ModuleType
 from typing import Iterable
 
+import lab
+
 PACKAGES = {
     "greenlet": "python3-greenlet", "hypothesis": "python3-hypothesis", "tqdm": "python3-tqdm",
     "networkx": "python3-networkx", "numpy": "python3-numpy", "scipy": "python3-scipy",
@@ -20,8 +22,9 @@ class Missing(Exception):
         is_one = len(self.modules) == 1
         said = f"module {self.modules[0]} is" if is_one else f"modules {', '.join(self.modules)} are"
         packages = " ".join(PACKAGES[name] for name in self.modules)
+        by = f"{DEBIANS_PYTHON} -m lab" if lab.called == lab.BY_PYTHON else lab.called
         super().__init__(f"the Python {said} missing: install Debian's package{'' if is_one else 's'} by `apt-get "
-                         f"install {packages}`, and run the lab by Debian's Python, `{DEBIANS_PYTHON} -m lab`")
+                         f"install {packages}`, and run the lab by Debian's Python, `{by}`")
 
 
 def needed(name: str) -> ModuleType:

@@ -7,8 +7,8 @@ The command says what the matches came to. It names the seed of the shortest mat
 the match with the most moves. With --keep it writes that match to a folder: its schedule, the script for `arena
 rehearse`, its replay and a page.
 
---workers spreads the matches over processes; the rows are the same. With --json each match is a line of JSON on standard
-output, and what they came to is said on standard error:
+--workers spreads the matches over processes; the rows are the same. With --json each match is a line of JSON on
+standard output, and what they came to is said on standard error:
 
     python3 -m lab run --agent "examples/agents/ring.py {nodes}" --seeds 100:120 --workers 4 --json > out/rows.jsonl
 

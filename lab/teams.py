@@ -102,8 +102,8 @@ def add_words(parser: argparse.ArgumentParser) -> None:
                       "{host}, {port} and {key} for where it connects and by which key it enters, {nodes}, {links} "
                       "and {home}")
     team.add_argument("--agents", metavar="N", type=int, help="how many agents there are (2, or as many as are named)")
-    team.add_argument("--limit", metavar="SECONDS", type=float, default=LIMIT, help="how long an agent may take to send "
-                      "or to wait (5)")
+    team.add_argument("--limit", metavar="SECONDS", type=float, default=LIMIT, help="how long an agent may take to "
+                      "send or to wait (5)")
     team.add_argument("--naps", metavar="N", type=not_negative, default=NAPS, help="how often an agent inside that "
                       f"sleeps may wake again though nothing has changed in front of it ({NAPS})")
 
