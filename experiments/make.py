@@ -112,7 +112,7 @@ def row_of(groups: Sequence[report.Group], hunted: Mapping[str, int]) -> Cells:
     network = groups[0].name[0]
     most = max([int(group.worst["moves"]) for group in groups] + [hunted.get(network, 0)])
     bound = groups[0].bound or 1
-    cells = [f"{group.mean:.1f} ± {group.confidence:.1f}" if column == 0 else group.worst["moves"]
+    cells = [f"{group.moves.mean:.1f} ± {group.moves.confidence:.1f}" if column == 0 else group.worst["moves"]
              for group in groups for column in (0, 1)]
     if hunted:
         cells.append(str(hunted.get(network, "–")))

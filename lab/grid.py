@@ -45,7 +45,7 @@ from lab.networks import Network
 from lab.teams import BOARD, INSIDE, OUTSIDE, QUOTA, AgentWords, digests_of
 
 BY_SEED, ALL, DEGREE = "by seed", "all", "degree"
-BOUNDS: Dict[str, Callable[[int], float]] = {
+BOUNDS: Dict[str, Callable[[float], float]] = {
     "2 n log2 n": lambda nodes: 2 * nodes * math.log2(nodes),
     "n log2 n": lambda nodes: nodes * math.log2(nodes),
     "n^2": lambda nodes: nodes ** 2,

@@ -131,7 +131,8 @@ class Hunter:
         given = needed("hypothesis.strategies")
         settings = hypothesis.settings(
             max_examples=asked.runs, deadline=None, report_multiple_bugs=False, print_blob=False,
-            database=self._database(), verbosity=hypothesis.Verbosity.quiet, suppress_health_check=list(hypothesis.HealthCheck),
+            database=self._database(), verbosity=hypothesis.Verbosity.quiet,
+            suppress_health_check=list(hypothesis.HealthCheck),
             phases=[hypothesis.Phase[phase] for phase in phases])
         agents = len(asked.game.agents)
         blocks = given.tuples(given.integers(0, max(1, agents - 1)), given.integers(1, LONGEST_BLOCK))

@@ -5,8 +5,9 @@ import pathlib
 import tempfile
 import unittest
 from typing import Dict, List
+from unittest import mock
 
-from lab import report, tables, verify
+from lab import report, statistic, tables, verify
 from lab.grid import Grid, NoSweep, grid_of
 from lab.spread import Result
 from lab.tables import NoTable
@@ -89,8 +90,8 @@ class Reports(unittest.TestCase):
         grid = grid_of(text('bound = "n^2"\n'))
         groups = report.groups_of([row(0, 4), row(1, 8), row(2, 6), row(3, 9, network="ring:5")], grid)
         self.assertEqual(report.summary(groups)[1],
-                         ["ring:4", "4", "a", "2", "fair", "3", "3", "6.0", "2.3", "8", "1", "1", "16"])
-        self.assertEqual(report.summary(groups)[2][7:9], ["9.0", "0.0"])
+                         ["ring:4", "4", "a", "2", "fair", "3", "3", "6.0", "5.0", "5", "6", "7", "8", "1", "1", "16"])
+        self.assertEqual(report.summary(groups)[2][7:12], ["9.0", "0.0", "9", "9", "9"])
 
     def test_the_runs_that_are_kept(self) -> None:
         rows = [row(0, 4), row(1, 8), row(2, 8), row(3, 5, network="ring:5"), row(4, 9, "silent", "ring:5"),
@@ -100,6 +101,20 @@ class Reports(unittest.TestCase):
     def test_a_fault_is_a_failure(self) -> None:
         grid = grid_of(text())
         self.assertEqual(report.groups_of([row(0, 4, fault="agent 1: raises")], grid)[0].solved, 0)
+
+
+class Statistics(unittest.TestCase):
+    def test_students_t(self) -> None:
+        """As tables of it have it, for 95 %."""
+        for freedom, wanted in ((1, 12.706), (2, 4.303), (3, 3.182), (9, 2.262), (19, 2.093), (30, 2.042), (199, 1.972),
+                                (1999, 1.961)):
+            self.assertAlmostEqual(statistic.student(freedom), wanted, 3)
+        self.assertAlmostEqual(statistic.student(10, 0.99), 3.169, 3)
+
+    def test_quartiles(self) -> None:
+        found = statistic.spread_of([1, 2, 3, 4, 100])
+        self.assertEqual((found.low, found.median, found.high, found.mean), (2, 3, 4, 22))
+        self.assertEqual(statistic.spread_of([7]), (7, 0, 7, 7, 7))
 
 
 class Tables(unittest.TestCase):
@@ -172,7 +187,8 @@ class Verified(unittest.TestCase):
         now = tables.checked(["0", *cells(0)[1:-2], "", "agent 1: raises"])
         self.assertIsNone(verify.differing(0, cells(0), cells(0)))
         self.assertEqual(verify.differing(0, cells(0), now), verify.Differing(0, ["fault"]))
-        with contextlib.redirect_stderr(io.StringIO()) as errors, contextlib.redirect_stdout(io.StringIO()) as said:
+        with contextlib.redirect_stderr(io.StringIO()) as errors, contextlib.redirect_stdout(io.StringIO()) as said, \
+                mock.patch("lab.progress.bar", mock.MagicMock()):
             found = verify.compared([0, 1], [cells(0), cells(1)], [Result(cells(0), ""), Result(None, "no")])
             self.assertEqual(verify.told([0, 1], 9, found), 1)
         self.assertEqual(errors.getvalue(), "run 1 comes out otherwise: fault\n")
