@@ -8,7 +8,8 @@ from typing import List, NamedTuple, Optional, Tuple
 
 import lab
 from lab import BY_PYTHON, refusals
-from lab.engines import Differs, NoProgram, Refused
+from lab.built import NoProgram
+from lab.engines import Differs, Refused
 from lab.grid import NoSweep
 from lab.missing import Missing, missing_of
 from lab.networks import NoNetwork
@@ -111,7 +112,7 @@ def main(given: Optional[List[str]] = None, name: str = BY_PYTHON) -> int:
     # whoever ends the lab ends what it started
     signal.signal(signal.SIGTERM, end)
     try:
-        return words.run(words)
+        return int(words.run(words))
     except Terminated:
         return 143
     except KeyboardInterrupt:

@@ -16,16 +16,15 @@ import hashlib
 import importlib
 import importlib.util
 import inspect
-import os
 import pathlib
 import random
 import sys
-import threading
 from types import FunctionType, ModuleType
-from typing import Any, Callable, Collection, Dict, List, Sequence, Tuple
+from typing import Any, Callable, Dict, List, Sequence, Tuple
 
 from lab.imports import files_behind
 from lab.model import Setup
+from lab.own_modules import OwnModules
 
 HERE = pathlib.Path(__file__).resolve().parent
 TOP = HERE.parent
@@ -61,15 +60,15 @@ def loaded(path: pathlib.Path) -> ModuleType:
     """The module in a file, which may import what stands beside it, and the client of the sample agents."""
     if not path.is_file():
         raise NoAgent(f"{path}: there is no such file")
-    for folder in (str(AGENTS), str(path.parent.resolve())):
-        if folder not in sys.path:
-            sys.path.insert(0, folder)
-    return executed(path)
+    with OwnModules(0) as modules:
+        return loaded_anew(path, modules)[0]
 
 
 def executed(path: pathlib.Path) -> ModuleType:
     """The module in a file, which is executed now."""
     spec = importlib.util.spec_from_file_location(f"lab_agent_{path.stem}", path)
+    if spec is None or spec.loader is None:
+        raise NoAgent(f"{path}: it is not in Python: its name ends with .py then")
     module = importlib.util.module_from_spec(spec)
     sys.modules[spec.name] = module
     try:
@@ -99,35 +98,14 @@ def numbers_of(words: Sequence[str], setup: Setup) -> List[int]:
                       "{home}") from None
 
 
-# one thread at a time changes which modules there are
-LOADING = threading.RLock()
 # the client of the sample agents keeps nothing, so all share it
 CLIENT = str(AGENTS / "client.py")
 
 
-def own_names(folders: Collection[str]) -> List[str]:
-    """The names of the loaded modules that stand in these folders, and of `random`; none of the lab's."""
-    files = {name: getattr(module, "__file__", None) or "" for name, module in sys.modules.items()}
-    return [name for name, file in files.items() if name == "random" or not name.startswith("lab.")
-            and os.path.dirname(file) in folders and file != CLIENT]
-
-
-def loaded_anew(path: pathlib.Path, seed: int) -> Tuple[ModuleType, ModuleType]:
-    """The module in a file, and the client that it imports, loaded for one agent alone. If they or what they import
-    from beside them draw by `random`, that begins with this seed."""
-    folders = {str(path.parent.resolve()), str(AGENTS)}
-    with LOADING:
-        shared = {name: sys.modules.pop(name) for name in own_names(folders)}
-        try:
-            module = executed(path)
-            client = importlib.import_module("client")
-            if "random" in sys.modules:
-                sys.modules["random"].seed(seed)
-            return module, client
-        finally:
-            for name in own_names(folders):
-                del sys.modules[name]
-            sys.modules.update(shared)
+def loaded_anew(path: pathlib.Path, modules: OwnModules) -> Tuple[ModuleType, ModuleType]:
+    """The module in a file, and the client that it imports, among the modules of one agent."""
+    modules.begin([str(path.parent.resolve()), str(AGENTS)], [CLIENT])
+    return executed(path), importlib.import_module("client")
 
 
 def script_of(words: str, setup: Setup) -> Script:
@@ -139,9 +117,9 @@ def script_of(words: str, setup: Setup) -> Script:
     asked = asked_behind(words, inspect.signature(member(file, "search")), len(numbers))
 
     def play(lines: Any, key: str, sleep: Sleep) -> None:
-        values = {"sleep": sleep, "network": tuple(setup.links), "home": setup.home}
+        values: Dict[str, Any] = {"sleep": sleep, "network": tuple(setup.links), "home": setup.home}
         given = {word: values[word] for word in asked if word in values}
-        module, client = loaded_anew(path, lines.number)
+        module, client = loaded_anew(path, lines.modules)
         try:
             getattr(module, name)(client.Agent(lines), key, *numbers, **given)
         except client.MatchOver:
@@ -174,12 +152,13 @@ def script_of_function(function: Callable[..., None], setup: Setup) -> Script:
         if it.name not in MAY_ASK and it.default is it.empty and it.kind in (*PLAIN, it.KEYWORD_ONLY):
             raise NoAgent(f"{function.__name__}: it has a parameter {it.name}; behind the agent and its key stand "
                           f"{', '.join(MAY_ASK)}, and what has a default")
-    values = {"nodes": setup.nodes, "links": len(setup.links), "home": setup.home, "network": tuple(setup.links)}
+    values: Dict[str, Any] = {"nodes": setup.nodes, "links": len(setup.links), "home": setup.home,
+                              "network": tuple(setup.links)}
 
     def play(lines: Any, key: str, sleep: Sleep) -> None:
-        client = client_module()
+        lines.modules.begin([])
         given = {**values, "sleep": sleep}
-        own = with_own_variables(function, lines.number)
+        client, own = client_module(), with_own_variables(function, lines.modules.random)
         try:
             own(client.Agent(lines), key, **{it.name: given[it.name] for it in asked if it.name in given})
         except client.MatchOver:
@@ -194,17 +173,17 @@ def client_module() -> ModuleType:
     return importlib.import_module("client")
 
 
-def with_own_variables(function: Callable[..., None], seed: int) -> Callable[..., None]:
+def with_own_variables(function: Callable[..., None], drawing: ModuleType) -> Callable[..., None]:
     """A function whose global variables are its own, and those of the functions that it calls out of the same notebook
-    or file: what it assigns to them nobody else sees. What it draws by `random` begins with the seed. A list or another
-    object that a variable has is shared."""
+    or file: what it assigns to them nobody else sees. It draws by this module `random`. A list or another object that a
+    variable has is shared."""
     if not isinstance(function, FunctionType):
         return function
     shared = function.__globals__
     own = {name: value for name, value in shared.items()}
     for name, value in shared.items():
         if value is random:
-            own[name] = random_from(seed)
+            own[name] = drawing
         elif isinstance(value, FunctionType) and value.__globals__ is shared:
             own[name] = over(value, own)
     return over(function, own)
@@ -214,17 +193,6 @@ def over(function: FunctionType, variables: Dict[str, Any]) -> FunctionType:
     """A function over these global variables."""
     made = FunctionType(function.__code__, variables, function.__name__, function.__defaults__, function.__closure__)
     made.__kwdefaults__ = function.__kwdefaults__
-    return made
-
-
-def random_from(seed: int) -> ModuleType:
-    """A module `random` of its own that begins with this seed."""
-    spec = importlib.util.find_spec("random")
-    if spec is None or spec.loader is None:
-        raise NoAgent("this Python has no module random")
-    made = importlib.util.module_from_spec(spec)
-    spec.loader.exec_module(made)
-    made.seed(seed)
     return made
 
 

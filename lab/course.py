@@ -183,8 +183,8 @@ def tools_of(names: List[str]) -> Tuple[str, ...]:
 def check_team(row: Dict[str, Any]) -> str:
     """Refuses a team that cannot play; gives its name."""
     grid.check_keys(row, TEAM_KEYS, "a team of a course")
-    name = taken(row, "name", lambda it: isinstance(it, str) and re.fullmatch("[a-z0-9-]{1,16}", it),
-                 "given for each team, of 1 to 16 characters out of a to z, 0 to 9 and -")
+    name: str = taken(row, "name", lambda it: isinstance(it, str) and bool(re.fullmatch("[a-z0-9-]{1,16}", it)),
+                      "given for each team, of 1 to 16 characters out of a to z, 0 to 9 and -")
     command = taken(row, OUTSIDE, is_text, f"given for team {name}: the words that start the program of one agent, "
                     "such as \"python3 agent.py {host} {port} {key} {nodes}\"")
     taken(row, FILES, is_texts, f"given for team {name}: a list of its files and folders, such as [\"teams/{name}\"]")

@@ -4,7 +4,7 @@ import os
 import pathlib
 import subprocess
 import tempfile
-from typing import List, Optional, Protocol
+from typing import IO, List, Optional, Protocol, cast
 
 from lab import built
 from lab.built import NoProgram
@@ -165,7 +165,7 @@ class Program:
 
     def _answer(self, line: bytes) -> bytes:
         """What the program prints for a line, up to the empty line behind it."""
-        answer, given, taken = self._left, self._child.stdin, self._child.stdout
+        answer, given, taken = self._left, cast(IO[bytes], self._child.stdin), cast(IO[bytes], self._child.stdout)
         try:
             given.write(line + b"\n")
             given.flush()

@@ -6,7 +6,7 @@ from typing import Any, Dict, Iterable, List, NamedTuple, Optional, Sequence, Tu
 
 from lab import networks
 from lab.delays import OBLIVIOUS, Delays
-from lab.model import Object, Place, Setup, command_of, text_of
+from lab.model import Object, Place, Setup, command_of, place_of, text_of
 
 SEED = "0" * 64
 MOST_AGENTS = 64
@@ -91,9 +91,9 @@ def fixture_in(row: Dict[str, Any]) -> Fixture:
     """The fixture of a match's table."""
     network = networks.in_file(row["network"])
     holes = row["holes"] if "holes" in row else [row["hole"]] if row["hole"] != "none" else []
-    dark = [tuple(place) for place in row.get("dark", [])]
+    dark = list(map(place_of, row.get("dark", [])))
     setup = Setup(network.nodes, network.links, row["home"], holes, len(row["keys"]), row["quota"], row["board"], dark)
-    return Fixture(row["team"], checked(setup), row["keys"], [tuple(place) for place in row.get("held", [])])
+    return Fixture(row["team"], checked(setup), row["keys"], list(map(place_of, row.get("held", []))))
 
 
 def match_text(fixture: Fixture, network: str) -> str:

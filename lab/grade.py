@@ -28,21 +28,24 @@ from typing import Any, Callable, Dict, Iterator, List, NamedTuple, Optional, Se
 
 from lab import cells, course, finds, league, networks, page, programs, report, sweep, tables, walls
 from lab.agent_files import NoAgent, digests
-from lab.cells import NoCell, Walls, Yard
+from lab.cells import Walls, Yard
 from lab.course import Course
 from lab.cutting import Cut, Runs, in_words, noted, runs_of
-from lab.engines import NoProgram, add_engine, name_of, program_of
+from lab.built import NoProgram
+from lab.engines import add_engine, name_of, program_of
 from lab.fixtures import Fixture
 from lab.grid import Case, NoSweep
 from lab.hand_in import NETWORK
-from lab.league import Failure, Row
+from lab.league import Failure
 from lab.missing import Missing
 from lab.play import Played, play
 from lab.progress import along
+from lab.report import Row
 from lab.schedulers import Impossible, Scheduler, in_runs
 from lab.schedules import Schedule, schedule_of
 from lab.spread import Job, Result, over_processes
 from lab.users import NoUser
+from lab.walls import NoCell
 
 HANGS = "a program lets the lab wait, and what happens then depends on the machine"
 DIFFERS = ("under the same schedule the match went another way when it was played again, so the programs are no "

@@ -21,7 +21,8 @@ import pathlib
 import tempfile
 from typing import Any, Dict, Iterable, List, Optional, Tuple
 
-from lab.engines import NoProgram, add_engine, asked, program_of
+from lab.built import NoProgram
+from lab.engines import add_engine, asked, program_of
 from lab.judging import lines_of, pasts_of, verdict_of
 from lab.missing import needed
 from lab.parts import filled, part

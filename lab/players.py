@@ -10,6 +10,7 @@ from typing import Any, Deque, List, Mapping, Optional, Sequence
 
 from lab.missing import needed
 from lab.model import LAST, spelled
+from lab.own_modules import OwnModules
 from lab.agent_files import Script
 
 # an answer is due; an arrival is due; it sleeps; nothing more comes
@@ -35,6 +36,9 @@ class Player:
         self.state = WAITS
         self.line: Optional[bytes] = None
         self.fault: Optional[str] = None
+        self.errors = ""
+        # those that the script loads for this agent alone
+        self.modules = OwnModules(number)
         self._team = team
         self._heard: Deque[str] = deque()
         self._is_over = False
@@ -51,13 +55,15 @@ class Player:
     def go_on(self) -> None:
         """Lets the program begin, wake, or read what it heard."""
         self._team.turns += 1
-        self._thread.switch()
+        with self.modules:
+            self._thread.switch()
 
     def stop(self, fault: Optional[str] = None) -> None:
         """Ends the program."""
         self.fault = self.fault or fault
         self.state = DONE
-        self._thread.throw()
+        with self.modules:
+            self._thread.throw()
 
     def send(self, line: str) -> None:
         if self._is_closed:

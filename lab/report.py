@@ -67,7 +67,8 @@ def group_of(name: Name, rows: List[Row], spec: Grid) -> Group:
     moves = [int(row["moves"]) for row in rows]
     nodes = int(rows[0]["nodes"])
     return Group(name, nodes, int(rows[0]["agents"]), len(rows), sum(map(is_solved, rows)), spread_of(moves),
-                 max(rows, key=lambda row: int(row["moves"])), max(int(row["lost"]) for row in rows), BOUNDS[spec.bound](nodes) if spec.bound else None)
+                 max(rows, key=lambda row: int(row["moves"])), max(int(row["lost"]) for row in rows),
+                 BOUNDS[spec.bound](nodes) if spec.bound else None)
 
 
 def summary(groups: Iterable[Group]) -> List[Sequence[str]]:
@@ -132,7 +133,8 @@ def draw_line(axes: Any, groups: Sequence[Group], spots: Dict[str, float], style
     colour, joined = COLOURS[number % len(COLOURS)], "-" if is_one_family(spec) else ""
     name = scheduler if len(spec.teams) == 1 else f"{team}, {scheduler}"
     axes.errorbar(across, [group.moves.mean for group in groups], color=colour,
-                  yerr=[group.moves.confidence for group in groups], linestyle=joined, marker="o", markersize=4, capsize=2, label=f"{name}: mean")
+                  yerr=[group.moves.confidence for group in groups], linestyle=joined, marker="o", markersize=4,
+                  capsize=2, label=f"{name}: mean")
     axes.plot(across, [int(group.worst["moves"]) for group in groups], color=colour, linestyle="", marker="^",
               markersize=6, fillstyle="none", label=f"{name}: most")
 

@@ -15,7 +15,7 @@ from typing import Dict, List, NamedTuple
 
 from lab import VERSION
 from lab.fixtures import Fixture, NoMatch, checked, pairs
-from lab.model import Object, Setup, spelled
+from lab.model import Object, Setup, link_of, place_of, spelled
 from lab.schedulers import ANSWER, ARRIVE, WAKE, Choice
 from lab.teams import INSIDE, OUTSIDE, AgentWords, digests_of
 
@@ -58,10 +58,9 @@ def read(path: pathlib.Path) -> Schedule:
         head = json.loads(lines[0])
         given = dict(head["fixture"])
         team, keys, held = (given.pop(name) for name in ("team", "keys", "held"))
-        for name in ("links", "dark"):
-            given[name] = [tuple(it) for it in given[name]]
+        given.update(links=list(map(link_of, given["links"])), dark=list(map(place_of, given["dark"])))
         naps = given.pop("naps", 0)
-        fixture = Fixture(team, checked(Setup(**given)), keys, [tuple(it) for it in held], naps)
+        fixture = Fixture(team, checked(Setup(**given)), keys, list(map(place_of, held)), naps)
         agents = [agent_of(line) for line in head["agents"]]
         if not len(agents) == len(keys) == fixture.setup.agents:
             raise NoSchedule(f"{path}: its head names {len(agents)} agents and {len(keys)} keys, and the match has "

@@ -70,8 +70,8 @@ def add_words(parser: argparse.ArgumentParser) -> None:
 
 
 def run(words: argparse.Namespace) -> int:
-    program = program_at(words.program)
-    engines: Dict[str, Optional[str]] = {"the Python model": None, name_of(program): program}
+    named = program_at(words.program)
+    engines: Dict[str, Optional[str]] = {"the Python model": None, name_of(named): named}
     for engine, program in engines.items():
         for team, agent in TEAMS.items():
             found = rate(lambda seed: steps(agent, program, seed), words.rounds)

@@ -14,10 +14,11 @@ import signal
 import subprocess
 import sys
 from concurrent.futures.process import BrokenProcessPool
-from typing import Any, Dict, Iterable, Iterator, List, NamedTuple, Protocol, Sequence
+from typing import Any, Dict, Generator, Iterable, Iterator, List, NamedTuple, Protocol, Sequence
 
 from lab.agent_files import NoAgent
-from lab.engines import TOP, Differs, NoProgram, Refused
+from lab.built import NoProgram
+from lab.engines import TOP, Differs, Refused
 from lab.grid import Case
 from lab.imports import digest_of
 from lab.missing import Missing, needed
@@ -35,10 +36,17 @@ PR_SET_PDEATHSIG = 1
 PLAY = f"import sys; sys.path.insert(0, {str(TOP)!r}); from lab.spread import serve; serve()"
 
 
+class Numbered(Protocol):
+    """A match that has a number."""
+
+    @property
+    def number(self) -> int: ...
+
+
 class Job(Protocol):
     """Plays matches. It is sent to other processes."""
 
-    def play(self, case: Case) -> Any:
+    def play(self, case: Any) -> Any:
         """What came of a match."""
 
     def digests(self) -> Dict[str, str]:
@@ -56,7 +64,7 @@ class NoCluster(Exception):
     """No Dask scheduler answers, or its workers cannot play; says what to change."""
 
 
-def result_of(job: Job, case: Case) -> Result:
+def result_of(job: Job, case: Numbered) -> Result:
     if is_over is not None and is_over.is_set():
         return Result(None, f"run {case.number}: it is not played any more")
     try:
@@ -86,7 +94,8 @@ def end_with(parent: int) -> None:
         os._exit(1)
 
 
-def over_processes(job: Job, cases: Sequence[Case], workers: int, at_a_time: int = 4) -> Iterator[Result]:
+def over_processes(job: Job, cases: Sequence[Numbered], workers: int, at_a_time: int = 4
+                   ) -> Generator[Result, None, None]:
     """The results of all matches, in order, by this number of processes, each of which takes some at a time."""
     over = multiprocessing.Event()
     pool = concurrent.futures.ProcessPoolExecutor(workers, initializer=begin, initargs=(over, os.getpid()))
@@ -144,7 +153,8 @@ def results_in(future: Any) -> List[Result]:
     if ran.returncode != 0:
         said = ran.stderr.decode(errors="replace").strip().splitlines()
         raise NoCluster(f"a Dask worker cannot play: {said[-1] if said else f'status {ran.returncode}'}")
-    return pickle.loads(ran.stdout)
+    found: List[Result] = pickle.loads(ran.stdout)
+    return found
 
 
 def own_digests() -> Dict[str, str]:

@@ -110,7 +110,7 @@ def add_words(parser: argparse.ArgumentParser) -> None:
 
 def team_of(words: argparse.Namespace) -> List[AgentWords]:
     """The agents that the words name; those of a tournament are as many as its keys."""
-    named = words.team
+    named: List[AgentWords] = words.team
     if not named:
         raise NoAgent("name a team by --agent or --command: see --help")
     if words.tournament:
@@ -181,7 +181,7 @@ def origin_of(words: argparse.Namespace, how: str) -> str:
 
 def read_fixture(words: argparse.Namespace) -> Fixture:
     """The match of the tournament's file."""
-    fixtures = read_tournament(words.tournament).fixtures
+    fixtures: List[Fixture] = read_tournament(words.tournament).fixtures
     if not 0 <= words.match < len(fixtures):
         raise networks.NoNetwork(f"{words.tournament}: it has no match {words.match}")
-    return fixtures[words.match]
+    return fixtures[int(words.match)]
