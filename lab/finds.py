@@ -59,10 +59,10 @@ def write_find(folder: pathlib.Path, schedule: Schedule, played: Played, program
     said = [f"{folder}: {len(schedule.choices)} choices; again by `{lab.called} replay {folder}`"]
     if program is None:
         said.append("the Python model played it, which proves nothing: the program was not asked")
-        return said + written_page(folder, None)
+        return said + written_page(folder, None, schedule.title())
     by = "" if name_of(program) == built.PROGRAM else f" (by {name_of(program)})"
     said.append(f"the program's verdict: {verdict_text(judged(program, folder / REPLAY))}{by}")
-    return said + written_page(folder, program)
+    return said + written_page(folder, program, schedule.title())
 
 
 def changed_in(folder: pathlib.Path, schedule: Schedule, played: Played, program: Optional[str]) -> List[str]:
@@ -90,10 +90,10 @@ def keep(folder: pathlib.Path, schedule: Schedule, program: Optional[str]) -> Pl
     return played
 
 
-def written_page(folder: pathlib.Path, program: Optional[str]) -> List[str]:
+def written_page(folder: pathlib.Path, program: Optional[str], title: str) -> List[str]:
     """Writes the page, if what lays it out is installed."""
     try:
-        write_page(program, folder / REPLAY, folder / PAGE)
+        write_page(program, folder / REPLAY, folder / PAGE, title=title)
     except Missing as fault:
         with contextlib.suppress(FileNotFoundError):
             (folder / PAGE).unlink()

@@ -10,6 +10,8 @@ from lab.model import Object, Place, Setup, command_of, place_of, text_of
 
 SEED = "0" * 64
 MOST_AGENTS = 64
+# the team of a match that has none
+OWN_TEAM = "lab"
 
 
 class Fixture(NamedTuple):
@@ -56,7 +58,7 @@ def checked(setup: Setup) -> Setup:
 
 def fixture_of(setup: Setup) -> Fixture:
     """A fixture with keys of its own."""
-    return Fixture("lab", checked(setup), [f"k{agent}" for agent in range(setup.agents)])
+    return Fixture(OWN_TEAM, checked(setup), [f"k{agent}" for agent in range(setup.agents)])
 
 
 def enters_as_another(fixture: Fixture, number: int, line: bytes) -> bool:

@@ -45,7 +45,7 @@ def name_of(scheduler: SchedulerName) -> str:
 def play_seed(game: Game, scheduler: SchedulerName, seed: int, program: Optional[str]) -> "Record":
     """Plays the match of a seed under the scheduler's choices for it."""
     fixture = game.fixture(seed)
-    empty = schedule_of(fixture, game.agents, f"{name_of(scheduler)} {seed}{game.origin}", [])
+    empty = schedule_of(fixture, game.agents, f"{name_of(scheduler)} {seed}{game.where()}", [])
     team = Together(game.agents, fixture, game.limit)
     played = play(finds.engine_of(empty, program), team, maker_of(scheduler)(seed), fixture)
     return Record(empty._replace(choices=played.choices), played, program)
@@ -77,7 +77,7 @@ class Record(NamedTuple):
         with tempfile.TemporaryDirectory() as folder:
             path = pathlib.Path(folder) / finds.REPLAY
             path.write_bytes(self.played.replay)
-            return page_of(data_of(self.program, path, None))
+            return page_of(data_of(self.program, path, None, self.schedule.title()))
 
     def keep(self, folder: Union[str, pathlib.Path]) -> List[str]:
         """Writes all that shows it to a folder, as `--keep` does; gives what is to be said of it."""

@@ -115,7 +115,7 @@ class Graded(NamedTuple):
         fixture, limits = self.course.fixture(case), self.course.limits
         agents = [case.team.words] * fixture.setup.agents
         files = self.course.hand_in(case.team.name).digests(case.team.words.words)
-        origin = f"{case.scheduler} {self.course.seed(case)}"
+        origin = f"{case.scheduler} {self.course.seed(case)} on {case.network}"
         empty = schedule_of(fixture, agents, origin, [])._replace(files=files)
         with self._grounds(case, fixture) as grounds:
             commands = {number: agent.words for number, agent in enumerate(agents)}

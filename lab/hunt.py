@@ -48,7 +48,7 @@ class Hunt(NamedTuple):
     database: Optional[pathlib.Path] = None
 
     def origin(self) -> str:
-        return f"hunt for {self.looked_for} {self.seed}{self.game.origin}"
+        return f"hunt for {self.looked_for} {self.seed}{self.game.where()}"
 
     def key(self) -> bytes:
         """What is looked for and of whom: Hypothesis keeps its examples by this."""

@@ -1,6 +1,6 @@
 """Schedules in files: a head, which is a line of JSON, and then one choice a line.
 
-    {"agents":[..],"files":{..},"fixture":{..},"lab":"1","origin":"fair 3","schedule":1}
+    {"agents":[..],"files":{..},"fixture":{..},"lab":"1","origin":"fair 3 on ring:8","schedule":1}
     answer 0
     answer 1
     arrive 0
@@ -14,7 +14,7 @@ import pathlib
 from typing import Dict, List, NamedTuple
 
 from lab import VERSION
-from lab.fixtures import Fixture, NoMatch, checked, pairs
+from lab.fixtures import OWN_TEAM, Fixture, NoMatch, checked, pairs
 from lab.model import Object, Setup, link_of, place_of, spelled
 from lab.schedulers import ANSWER, ARRIVE, WAKE, Choice
 from lab.teams import INSIDE, OUTSIDE, AgentWords, digests_of
@@ -32,6 +32,11 @@ class Schedule(NamedTuple):
     origin: str
     choices: List[Choice]
     files: Dict[str, str]
+
+    def title(self) -> str:
+        """What its page is called: the team or its agents, and how it was found."""
+        names = ", ".join(dict.fromkeys(agent.name() for agent in self.agents))
+        return f"{names if self.fixture.team == OWN_TEAM else self.fixture.team}: {self.origin}"
 
 
 def schedule_of(fixture: Fixture, agents: List[AgentWords], origin: str, choices: List[Choice]) -> Schedule:

@@ -1,5 +1,6 @@
 """The team and the match that the words of a command name."""
 import argparse
+import pathlib
 import re
 from typing import Callable, Dict, List, NamedTuple, Optional, Sequence
 
@@ -28,6 +29,12 @@ class AgentWords(NamedTuple):
     words: str
     # an agent inside that is a function of this process, whatever the words
     function: Optional[Callable[..., None]] = None
+
+    def name(self) -> str:
+        """What it is called in a title: its file, or the function that it is."""
+        words = [word.partition(":")[0] for word in self.words.split() if not word.startswith("{")]
+        named = [word for word in words if pathlib.PurePath(word).suffix in (".py", ".sh", ".jar", ".js")]
+        return self.words.partition(":")[2] if self.function else pathlib.PurePath((named or words or ["?"])[0]).name
 
     def script(self, setup: Setup) -> Script:
         """An agent inside, as it plays this match."""
@@ -155,6 +162,10 @@ class Game(NamedTuple):
         setup = Setup(self.network.nodes, self.network.links, home, sorted(holes), len(self.agents), self.quota,
                       self.board, list(self.dark))
         return fixture_of(setup)._replace(naps=self.naps)
+
+    def where(self) -> str:
+        """Where it is played, as origins of schedules say it."""
+        return self.origin if self.match else f" on {self.name}"
 
     def is_fixed(self) -> bool:
         """Whether all seeds have the same match."""
