@@ -70,7 +70,7 @@ class Setting(NamedTuple):
 
     @property
     def build(self) -> str:
-        return "a build without a proof" if built.is_unproved(self.program) else "the proved program"
+        return built.name_of(self.program)
 
 
 class Benchmark(NamedTuple):

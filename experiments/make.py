@@ -30,9 +30,9 @@ from typing import Callable, Dict, List, Mapping, NamedTuple, Sequence, Tuple
 
 from experiments.division import Table, bound, of_ring, of_ring3, ring3
 from experiments.turns import played
-from lab import grid, report, sweep
+from lab import grid, report, sweep, tables
 from lab.__main__ import main as lab
-from lab.engines import PROGRAM, TOP, add_engine, is_unproved, program_at
+from lab.engines import TOP, add_engine, name_of, program_of
 
 EXPERIMENTS = TOP / "experiments"
 DOCUMENT = TOP / "docs" / "EXPERIMENTS.md"
@@ -81,7 +81,7 @@ def groups_of_sweep(name: str, asked: Asked) -> Tuple[List[report.Group], List[s
     words = ["sweep", f"experiments/{name}.toml", "--out", str(asked.out / name)]
     said_by(words, asked)
     spec = grid.read(EXPERIMENTS / f"{name}.toml")
-    return report.groups_of(sweep.rows_in(asked.out / name / sweep.RUNS), spec), [shown([*words[:3], f"out/{name}"])]
+    return report.groups_of(tables.rows_in(asked.out / name / tables.RUNS), spec), [shown([*words[:3], f"out/{name}"])]
 
 
 def sweep_table(name: str, asked: Asked) -> Made:
@@ -112,7 +112,7 @@ def row_of(groups: Sequence[report.Group], hunted: Mapping[str, int]) -> Cells:
     network = groups[0].name[0]
     most = max([int(group.worst["moves"]) for group in groups] + [hunted.get(network, 0)])
     bound = groups[0].bound or 1
-    cells = [f"{group.mean:.1f} ± {group.confidence:.1f}" if column == 0 else group.worst["moves"]
+    cells = [f"{group.moves.mean:.1f} ± {group.moves.confidence:.1f}" if column == 0 else group.worst["moves"]
              for group in groups for column in (0, 1)]
     if hunted:
         cells.append(str(hunted.get(network, "–")))
@@ -203,7 +203,7 @@ def silent(asked: Asked) -> Made:
     cases = list(spec.cases())
     rows: List[Cells] = [("network", "agents", "runs", "silent", "which", "left of each team", "solved without limit")]
     for name in spec.names:
-        own = [row for row in sweep.rows_in(asked.out / "no_map" / sweep.RUNS) if row["network"] == name]
+        own = [row for row in tables.rows_in(asked.out / "no_map" / tables.RUNS) if row["network"] == name]
         ended = [row for row in own if not report.is_solved(row)]
         if ended:
             solved = sum(is_solved_without_limit(spec, cases[int(row["run"])]) for row in ended)
@@ -224,7 +224,7 @@ def which(rows: Sequence[report.Row]) -> str:
 def is_solved_without_limit(spec: grid.Grid, case: grid.Case) -> bool:
     """Whether a run is solved if agents have more commands than the arena gives; the Python model plays it."""
     row = sweep.row_of(sweep.Work("", None), spec._replace(quota=NO_LIMIT), case)
-    return report.is_solved(dict(zip(sweep.COLUMNS, row)))
+    return report.is_solved(dict(zip(tables.COLUMNS, row)))
 
 
 EXPLORED = [
@@ -307,9 +307,7 @@ def commit() -> str:
 
 def player_of(words: argparse.Namespace) -> str:
     """Who plays, in words."""
-    if words.engine != PROGRAM:
-        return "the Python model"
-    return "a build without a proof" if is_unproved(program_at(words.program)) else "the proved program"
+    return name_of(program_of(words))
 
 
 def text_of(made: Made, seconds: float, player: str) -> str:

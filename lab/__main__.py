@@ -4,48 +4,66 @@ import importlib
 import os
 import signal
 import sys
-from typing import List, NamedTuple, Optional
+from typing import List, NamedTuple, Optional, Tuple
 
-from lab.engines import Differs, NoProgram, Refused
+import lab
+from lab import BY_PYTHON, refusals
+from lab.built import NoProgram
+from lab.engines import Differs, Refused
 from lab.grid import NoSweep
-from lab.missing import Missing
+from lab.missing import Missing, missing_of
 from lab.networks import NoNetwork
 from lab.pasts import NoFunction
 from lab.schedulers import Impossible
 from lab.schedules import NoSchedule
+from lab.games import Stopped
 from lab.spread import NoCluster
+from lab.tables import NoTable
 from lab.agent_files import NoAgent
 from lab.users import NoUser
 from lab.walls import NoCell
 
 FAULTS = (Differs, Impossible, Missing, NoAgent, NoCell, NoCluster, NoFunction, NoNetwork, NoProgram, NoSchedule,
-          NoSweep, NoUser)
+          NoSweep, NoTable, NoUser,
+          Stopped)
+
+
+# modules of Debian's packages: to play agents inside the lab, to lay out pages
+PLAYS, PAGES = ("greenlet", "tqdm"), ("networkx", "numpy", "scipy")
 
 
 class Command(NamedTuple):
-    """A command: the module that has its words and runs it, and what it does in a line."""
+    """A command: the module that has its words and runs it, what it does in a line, and the modules that it needs of
+    Debian's packages."""
 
     module: str
     about: str
+    needs: Tuple[str, ...] = PLAYS
 
 
 COMMANDS = {
-    "run": Command("lab.run", "play a team under schedules of a scheduler"),
-    "hunt": Command("lab.hunt", "look for a schedule after which the team fails, or moves most"),
-    "explore": Command("lab.explore", "try every schedule of a small network"),
-    "replay": Command("lab.replay", "play a schedule again, and compare every byte"),
-    "mutants": Command("lab.mutation", "try whether the lab finds out wrong versions of the sample agents"),
-    "endure": Command("lab.endurance", "play the sample agents under many drawn schedules"),
+    "run": Command("lab.run", "play a team under schedules of a scheduler", PLAYS + PAGES),
+    "hunt": Command("lab.hunt", "look for a schedule after which the team fails, or moves most",
+                    PLAYS + PAGES + ("hypothesis",)),
+    "explore": Command("lab.explore", "try every schedule of a small network", PLAYS + PAGES),
+    "replay": Command("lab.replay", "play a schedule again, and compare every byte", PLAYS + PAGES),
+    "mutants": Command("lab.mutation", "try whether the lab finds out wrong versions of the sample agents",
+                       PLAYS + ("networkx", "hypothesis")),
+    "endure": Command("lab.endurance", "play the sample agents under many drawn schedules", PLAYS + ("networkx",)),
     "speed": Command("lab.speed", "measure how many steps a second the lab plays"),
-    "compare": Command("lab.compare", "compare the proved program with the Python model, byte for byte"),
-    "serve": Command("lab.server", "a stand-in for `arena serve`, to try agents without building the program"),
-    "network": Command("lab.network", "write a network file"),
-    "tournament": Command("lab.tournament", "write a tournament of teams, networks and black holes, with their keys"),
-    "sweep": Command("lab.sweep", "play teams over a grid of networks and schedules, and write a report"),
-    "grade": Command("lab.grade", "grade the programs of a course: a league table, and a page for each team"),
-    "page": Command("lab.page", "write a page on which one watches a match that has ended"),
-    "watch": Command("lab.projector", "show a contest that goes on, for a projector"),
-    "pages": Command("lab.contest_pages", "write a page of each match of a contest, and one that lists them"),
+    "compare": Command("lab.compare", "compare the program with the Python model, byte for byte",
+                       PLAYS + ("networkx",)),
+    "serve": Command("lab.server", "a stand-in for `arena serve`, to try agents without building the program", ()),
+    "network": Command("lab.network", "write a network file", ("networkx",)),
+    "tournament": Command("lab.tournament", "write a tournament of teams, networks and black holes, with their keys",
+                          ("networkx",)),
+    "sweep": Command("lab.sweep", "play teams over a grid of networks and schedules, and write a report",
+                     PLAYS + PAGES + ("matplotlib",)),
+    "grade": Command("lab.grade", "grade the programs of a course: a league table, and a page for each team",
+                     PLAYS + PAGES),
+    "page": Command("lab.page", "write a page on which one watches a match that has ended", PAGES),
+    "watch": Command("lab.projector", "show a contest that goes on, for a projector", PAGES + ("aiohttp",)),
+    "pages": Command("lab.contest_pages", "write a page of each match of a contest, and one that lists them", PAGES),
 }
 
 ABOUT = """Plays agents under a schedule that you choose, records it, and plays it again byte for byte.
@@ -57,17 +75,27 @@ STATUS = """exit status: 0 if all went well, 1 if a team fails or engines differ
 if it was stopped too early to say"""
 
 
-def parser() -> argparse.ArgumentParser:
-    made = argparse.ArgumentParser("python3 -m lab", description=ABOUT, epilog=STATUS,
+def parser(name_of_lab: str = BY_PYTHON) -> argparse.ArgumentParser:
+    made = argparse.ArgumentParser(name_of_lab, description=ABOUT.replace(BY_PYTHON, name_of_lab), epilog=STATUS,
                                    formatter_class=argparse.RawDescriptionHelpFormatter)
     commands = made.add_subparsers(required=True, metavar="COMMAND", dest="command")
     for name, command in COMMANDS.items():
         module = importlib.import_module(command.module)
-        words = commands.add_parser(name, help=command.about, description=module.__doc__, epilog=STATUS,
+        about = (module.__doc__ or "").replace(BY_PYTHON, name_of_lab)
+        words = commands.add_parser(name, help=command.about, description=about, epilog=STATUS,
                                     formatter_class=argparse.RawDescriptionHelpFormatter)
         module.add_words(words)
+        call_by(name_of_lab, words)
         words.set_defaults(run=module.run)
     return made
+
+
+def call_by(name: str, words: argparse.ArgumentParser) -> None:
+    """Has the help of a command call the lab by this name."""
+    for action in words._actions:
+        action.help = action.help and action.help.replace(BY_PYTHON, name)
+    for group in words._action_groups:
+        group.description = group.description and group.description.replace(BY_PYTHON, name)
 
 
 class Terminated(BaseException):
@@ -78,30 +106,39 @@ def end(*_: object) -> None:
     raise Terminated
 
 
-def main(given: Optional[List[str]] = None) -> int:
-    words = parser().parse_args(given)
+def main(given: Optional[List[str]] = None, name: str = BY_PYTHON) -> int:
+    lab.called = name
+    words = parser(name).parse_args(given)
     # whoever ends the lab ends what it started
     signal.signal(signal.SIGTERM, end)
     try:
-        return words.run(words)
+        return int(words.run(words))
     except Terminated:
         return 143
     except KeyboardInterrupt:
         print("lab: interrupted", file=sys.stderr)
         return 130
-    except Refused as fault:
-        print(fault, file=sys.stderr)
-        return fault.status
-    except FAULTS as fault:
-        print(f"lab: {fault}", file=sys.stderr)
-        return 1 if isinstance(fault, (Differs, Impossible)) else 2
     except BrokenPipeError:
         # who reads has heard enough
         os.dup2(os.open(os.devnull, os.O_WRONLY), sys.stdout.fileno())
         return 2
-    except OSError as fault:
-        print(f"lab: {fault}", file=sys.stderr)
-        return 2
+    except (Refused, OSError, *FAULTS) as fault:
+        said = told_of(fault, COMMANDS[words.command])
+        print(said if isinstance(fault, Refused) else f"lab: {said}", file=sys.stderr)
+        return fault.status if isinstance(fault, Refused) else 1 if isinstance(fault, (Differs, Impossible)) else 2
+
+
+def told_of(fault: Exception, command: Command) -> str:
+    """What is said of a fault that ends a command."""
+    if isinstance(fault, Refused):
+        return refusals.in_words(str(fault))
+    if isinstance(fault, Missing):
+        # all that the command will ask for: who installs them once is not sent back
+        return str(Missing([*fault.modules, *missing_of(command.needs)]))
+    if isinstance(fault, OSError) and fault.filename is not None and fault.strerror:
+        said = "there is no such file or folder" if isinstance(fault, FileNotFoundError) else fault.strerror.lower()
+        return f"{os.fsdecode(fault.filename)}: {said}"
+    return str(fault)
 
 
 if __name__ == "__main__":

@@ -8,7 +8,7 @@ import errno
 import fcntl
 import sys
 
-import seccomp  # type: ignore[import]
+import seccomp
 
 REFUSED = (
     # locks, and notes of who opens and reads a file

@@ -46,7 +46,8 @@ def listen(channel: int, port: int) -> int:
         listener.bind((HOST, port))
         listener.listen()
         sends.sendmsg([READY], [(socket.SOL_SOCKET, socket.SCM_RIGHTS, array.array("i", [listener.fileno()]))])
-        return listener.getsockname()[1]
+        opened: int = listener.getsockname()[1]
+        return opened
 
 
 def main(channel: str, files: str, port: str, *words: str) -> None:

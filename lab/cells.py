@@ -85,11 +85,11 @@ class Cell:
             command += [python(), "-I", "-S", "-c", STARTER.read_text(encoding="utf-8"), str(theirs.fileno()),
                         str(files), str(port), *words]
             path = PATH if self.user is not None else os.environ.get("PATH", PATH)
-            self._child = subprocess.Popen(
+            child = self._child = subprocess.Popen(
                 command, pass_fds=given, stdin=subprocess.DEVNULL, stdout=subprocess.DEVNULL, stderr=errors,
                 cwd=self.place, env={"PATH": path, "COUNTED": "" if self.user is None else "yes"},
                 start_new_session=True)
-        return self._child, functools.partial(self._listener_of, self._child, ours, errors)
+        return child, functools.partial(self._listener_of, child, ours, errors)
 
     def _before(self) -> List[str]:
         """The words that make a program the first that is ended if memory is short, and another user."""
@@ -154,6 +154,8 @@ class Cell:
     def end_for(self, fault: str) -> None:
         """Ends the program, as it has taken too much."""
         self._fault = fault
+        if self._child is None:
+            return
         for process in processes_below(self._child.pid)[1:] if self.place is None else [self._child.pid]:
             with contextlib.suppress(ProcessLookupError):
                 os.kill(process, signal.SIGKILL)

@@ -11,7 +11,7 @@ import html
 import pathlib
 import shutil
 import tomllib
-from typing import List, NamedTuple, Optional
+from typing import List, NamedTuple, Optional, Tuple
 
 from lab.engines import add_engine, program_of
 from lab.judging import verdict_of
@@ -40,7 +40,7 @@ def matches_of(tournament: pathlib.Path) -> List[Shown]:
         raise NoNetwork(f"{tournament}: this is not the file of a tournament ({fault}): see `arena check`") from None
 
 
-def rank(shown: Shown) -> tuple:
+def rank(shown: Shown) -> Tuple[int, int, int, str]:
     """Who comes first: as in the arena's table. Matches without a replay come last."""
     if shown.verdict is None:
         return (len(RANKS), 0, 0, shown.team)

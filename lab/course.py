@@ -15,7 +15,7 @@
     title         what the league table is called
     networks      names of networks, as --network takes them, or files
     schedulers    names of schedulers, as --scheduler takes them
-    ports, home, holes, seeds, quota, board
+    ports, home, holes, dark, seeds, quota, board
                   as in the file of a sweep: see `python3 -m lab sweep --help`
     limit         how many seconds a program may take to send a line (20)
     match_limit   how many seconds the lab waits for the programs of a match in all (60)
@@ -44,11 +44,12 @@ import shlex
 from typing import Any, Dict, List, NamedTuple, Optional, Sequence, Tuple
 
 from lab import grid, hand_in, networks, walls
+from lab.agent_files import digests
 from lab.cells import Walls
 from lab.fixtures import Fixture
 from lab.grid import Case, Grid, NoSweep, is_count, is_text, is_texts, taken
 from lab.programs import HOST
-from lab.run import maker_of
+from lab.games import maker_of
 from lab.schedulers import Maker
 from lab.teams import OUTSIDE
 
@@ -105,7 +106,7 @@ class Course(NamedTuple):
         """The SHA-256 of each file and each hand-in on which the matches depend, and of the secret."""
         own = [self.folder / name.partition(":")[0] for name in [*self.grid.schedulers, *self.grid.names]]
         return {
-            **{str(path): hashlib.sha256(path.read_bytes()).hexdigest() for path in own if path.is_file()},
+            **digests([str(path) for path in own]),
             **{f"team {name}": self.hand_in(name).digest() for name in self.files},
             SECRET: self._drawn("digest"),
         }
@@ -182,8 +183,8 @@ def tools_of(names: List[str]) -> Tuple[str, ...]:
 def check_team(row: Dict[str, Any]) -> str:
     """Refuses a team that cannot play; gives its name."""
     grid.check_keys(row, TEAM_KEYS, "a team of a course")
-    name = taken(row, "name", lambda it: isinstance(it, str) and re.fullmatch("[a-z0-9-]{1,16}", it),
-                 "given for each team, of 1 to 16 characters out of a to z, 0 to 9 and -")
+    name: str = taken(row, "name", lambda it: isinstance(it, str) and bool(re.fullmatch("[a-z0-9-]{1,16}", it)),
+                      "given for each team, of 1 to 16 characters out of a to z, 0 to 9 and -")
     command = taken(row, OUTSIDE, is_text, f"given for team {name}: the words that start the program of one agent, "
                     "such as \"python3 agent.py {host} {port} {key} {nodes}\"")
     taken(row, FILES, is_texts, f"given for team {name}: a list of its files and folders, such as [\"teams/{name}\"]")

@@ -17,7 +17,7 @@ class Delays(NamedTuple):
     def by_word(self, word: int) -> int:
         """How many turns a link takes by this word."""
         scale = word % self.odds
-        return 2 ** scale + word // self.odds % 2 ** scale if scale < self.scales else 0
+        return (1 << scale) + word // self.odds % (1 << scale) if scale < self.scales else 0
 
 
 class Turns:

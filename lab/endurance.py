@@ -13,6 +13,7 @@ from typing import List, NamedTuple
 
 from lab import schedulers
 from lab.counts import at_least_one
+from lab.agent_files import AGENTS
 from lab.engines import TOP
 from lab.fixtures import Fixture, fixture_of
 from lab.model import Setup
@@ -23,7 +24,6 @@ from lab.rehearsal import Rehearsal
 from lab.teams import INSIDE, AgentWords, Together
 
 RUNS = 10_000
-AGENTS = TOP / "examples" / "agents"
 RING = AgentWords(INSIDE, f"{AGENTS / 'ring.py'} {{nodes}}")
 MAP = AgentWords(INSIDE, f"{AGENTS / 'map.py'} {{nodes}} {{links}}")
 KNOWN_MAP = AgentWords(INSIDE, str(AGENTS / "known_map.py"))

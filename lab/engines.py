@@ -4,7 +4,7 @@ import os
 import pathlib
 import subprocess
 import tempfile
-from typing import List, Optional, Protocol
+from typing import IO, List, Optional, Protocol, cast
 
 from lab import built
 from lab.built import NoProgram
@@ -62,8 +62,12 @@ def program_at(path: Optional[str]) -> str:
     return str(found.resolve())
 
 
-def is_unproved(program: str) -> bool:
-    return built.is_unproved(pathlib.Path(program))
+BY_MODEL = "the Python model, of which nothing is proved"
+
+
+def name_of(program: Optional[str]) -> str:
+    """What plays, in the words of all that the lab says and writes."""
+    return BY_MODEL if program is None else built.name_of(pathlib.Path(program))
 
 
 def add_program(parser: argparse.ArgumentParser) -> None:
@@ -161,7 +165,7 @@ class Program:
 
     def _answer(self, line: bytes) -> bytes:
         """What the program prints for a line, up to the empty line behind it."""
-        answer, given, taken = self._left, self._child.stdin, self._child.stdout
+        answer, given, taken = self._left, cast(IO[bytes], self._child.stdin), cast(IO[bytes], self._child.stdout)
         try:
             given.write(line + b"\n")
             given.flush()

@@ -20,7 +20,7 @@ from array import array
 from typing import Any, Dict, Iterator, List, NamedTuple, Optional, Set, Tuple
 
 from lab import finds, teams
-from lab.agent_files import NoAgent, script_of
+from lab.agent_files import NoAgent
 from lab.counts import at_least_one
 from lab.engines import PROGRAM, add_engine, program_at, program_of
 from lab.fixtures import Fixture
@@ -176,7 +176,7 @@ def explored(fixture: Fixture, agents: List[teams.AgentWords], words: argparse.N
     team, started = Team(fixture.keys, {}, words.limit), time.monotonic()
     team.start()
     try:
-        scripts = [script_of(agent.words, fixture.setup) for agent in agents]
+        scripts = [agent.script(fixture.setup) for agent in agents]
         explorer = Explorer(fixture, team, scripts, words.states)
         is_whole = True
         try:

@@ -4,7 +4,9 @@ import pathlib
 import tempfile
 from typing import List, Optional
 
-from lab.engines import Engine, Program, is_unproved, judged
+import lab
+from lab import built
+from lab.engines import Engine, Program, judged, name_of
 from lab.fixtures import write_tournament
 from lab.missing import Missing
 from lab.model import Verdict
@@ -18,6 +20,8 @@ from lab.teams import Together
 # where a find is written if nothing else is said
 FOLDER = pathlib.Path("out/find")
 SCHEDULE, SCRIPT, REPLAY, PAGE = "schedule.txt", "script.txt", "match0.jsonl", "match0.html"
+# of each program what it wrote to standard error, which is no part of the match and may be another each time
+ERRORS = "errors"
 
 
 def engine_of(schedule: Schedule, program: Optional[str]) -> Engine:
@@ -50,13 +54,15 @@ def write_find(folder: pathlib.Path, schedule: Schedule, played: Played, program
     write_tournament(schedule.fixture, folder)
     (folder / SCRIPT).write_bytes(b"".join(line + b"\n" for line in played.script))
     (folder / REPLAY).write_bytes(played.replay)
-    said = [f"{folder}: {len(schedule.choices)} choices; again by `python3 -m lab replay {folder}`"]
+    for number, text in played.errors.items():
+        (folder / f"{ERRORS}{number}.txt").write_text(text, encoding="utf-8")
+    said = [f"{folder}: {len(schedule.choices)} choices; again by `{lab.called} replay {folder}`"]
     if program is None:
         said.append("the Python model played it, which proves nothing: the program was not asked")
-        return said + written_page(folder, None)
-    by = " (by a program that is not proved)" if is_unproved(program) else ""
+        return said + written_page(folder, None, schedule.title())
+    by = "" if name_of(program) == built.PROGRAM else f" (by {name_of(program)})"
     said.append(f"the program's verdict: {verdict_text(judged(program, folder / REPLAY))}{by}")
-    return said + written_page(folder, program)
+    return said + written_page(folder, program, schedule.title())
 
 
 def changed_in(folder: pathlib.Path, schedule: Schedule, played: Played, program: Optional[str]) -> List[str]:
@@ -64,7 +70,8 @@ def changed_in(folder: pathlib.Path, schedule: Schedule, played: Played, program
     with tempfile.TemporaryDirectory() as name:
         fresh = pathlib.Path(name)
         write_find(fresh, schedule, played, program)
-        names = sorted(path.name for path in fresh.iterdir() if path.name not in (SCHEDULE, REPLAY))
+        names = sorted(path.name for path in fresh.iterdir() if path.name not in (SCHEDULE, REPLAY)
+                       and not path.name.startswith(ERRORS))
         return [name for name in names if bytes_of(folder / name) != bytes_of(fresh / name)
                 and (name != PAGE or (folder / name).exists())]
 
@@ -83,10 +90,10 @@ def keep(folder: pathlib.Path, schedule: Schedule, program: Optional[str]) -> Pl
     return played
 
 
-def written_page(folder: pathlib.Path, program: Optional[str]) -> List[str]:
+def written_page(folder: pathlib.Path, program: Optional[str], title: str) -> List[str]:
     """Writes the page, if what lays it out is installed."""
     try:
-        write_page(program, folder / REPLAY, folder / PAGE)
+        write_page(program, folder / REPLAY, folder / PAGE, title=title)
     except Missing as fault:
         with contextlib.suppress(FileNotFoundError):
             (folder / PAGE).unlink()

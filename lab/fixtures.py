@@ -6,10 +6,12 @@ from typing import Any, Dict, Iterable, List, NamedTuple, Optional, Sequence, Tu
 
 from lab import networks
 from lab.delays import OBLIVIOUS, Delays
-from lab.model import Object, Place, Setup, command_of, text_of
+from lab.model import Object, Place, Setup, command_of, place_of, text_of
 
 SEED = "0" * 64
 MOST_AGENTS = 64
+# the team of a match that has none
+OWN_TEAM = "lab"
 
 
 class Fixture(NamedTuple):
@@ -56,7 +58,7 @@ def checked(setup: Setup) -> Setup:
 
 def fixture_of(setup: Setup) -> Fixture:
     """A fixture with keys of its own."""
-    return Fixture("lab", checked(setup), [f"k{agent}" for agent in range(setup.agents)])
+    return Fixture(OWN_TEAM, checked(setup), [f"k{agent}" for agent in range(setup.agents)])
 
 
 def enters_as_another(fixture: Fixture, number: int, line: bytes) -> bool:
@@ -91,9 +93,9 @@ def fixture_in(row: Dict[str, Any]) -> Fixture:
     """The fixture of a match's table."""
     network = networks.in_file(row["network"])
     holes = row["holes"] if "holes" in row else [row["hole"]] if row["hole"] != "none" else []
-    dark = [tuple(place) for place in row.get("dark", [])]
+    dark = list(map(place_of, row.get("dark", [])))
     setup = Setup(network.nodes, network.links, row["home"], holes, len(row["keys"]), row["quota"], row["board"], dark)
-    return Fixture(row["team"], checked(setup), row["keys"], [tuple(place) for place in row.get("held", [])])
+    return Fixture(row["team"], checked(setup), row["keys"], list(map(place_of, row.get("held", []))))
 
 
 def match_text(fixture: Fixture, network: str) -> str:
@@ -104,8 +106,13 @@ def match_text(fixture: Fixture, network: str) -> str:
         "dark": pairs(setup.dark), "quota": setup.quota, "board": setup.board, "keys": fixture.keys,
         "held": pairs(fixture.held),
     }
-    # what JSON spells of these values is TOML too
-    return "\n[[match]]\n" + "".join(f"{key} = {json.dumps(value)}\n" for key, value in rows.items())
+    return "\n[[match]]\n" + "".join(f"{key} = {toml_of(value)}\n" for key, value in rows.items())
+
+
+def toml_of(value: Any) -> str:
+    """A text, a number or a list of these in TOML. It is what JSON spells, but for escapes of half a character, and for
+    a control character that TOML has escaped."""
+    return json.dumps(value, ensure_ascii=False).replace("\x7f", "\\u007f")
 
 
 def tournament_text(seed: str, matches: Iterable[Tuple[Fixture, str]], delays: Optional[Delays] = None) -> str:

@@ -26,23 +26,26 @@ import sys
 import time
 from typing import Any, Callable, Dict, Iterator, List, NamedTuple, Optional, Sequence, Tuple
 
-from lab import cells, course, finds, league, networks, page, programs, report, sweep, walls
+from lab import cells, course, finds, league, networks, page, programs, report, sweep, tables, walls
 from lab.agent_files import NoAgent, digests
-from lab.cells import NoCell, Walls, Yard
+from lab.cells import Walls, Yard
 from lab.course import Course
 from lab.cutting import Cut, Runs, in_words, noted, runs_of
-from lab.engines import NoProgram, add_engine, program_of
+from lab.built import NoProgram
+from lab.engines import add_engine, name_of, program_of
 from lab.fixtures import Fixture
 from lab.grid import Case, NoSweep
 from lab.hand_in import NETWORK
-from lab.league import Failure, Row
+from lab.league import Failure
 from lab.missing import Missing
 from lab.play import Played, play
 from lab.progress import along
+from lab.report import Row
 from lab.schedulers import Impossible, Scheduler, in_runs
 from lab.schedules import Schedule, schedule_of
 from lab.spread import Job, Result, over_processes
 from lab.users import NoUser
+from lab.walls import NoCell
 
 HANGS = "a program lets the lab wait, and what happens then depends on the machine"
 DIFFERS = ("under the same schedule the match went another way when it was played again, so the programs are no "
@@ -95,7 +98,7 @@ class Graded(NamedTuple):
         row = sweep.row_for(case, schedule, played, self.program)
         place = self.place(case)
         cells.remove(place)
-        if played.has_failed() or row[sweep.COLUMNS.index("outcome")] != "solved":
+        if played.has_failed() or row[tables.COLUMNS.index("outcome")] != "solved":
             finds.write_find(place, schedule, played, self.program)
         return row
 
@@ -112,7 +115,7 @@ class Graded(NamedTuple):
         fixture, limits = self.course.fixture(case), self.course.limits
         agents = [case.team.words] * fixture.setup.agents
         files = self.course.hand_in(case.team.name).digests(case.team.words.words)
-        origin = f"{case.scheduler} {self.course.seed(case)}"
+        origin = f"{case.scheduler} {self.course.seed(case)} on {case.network}"
         empty = schedule_of(fixture, agents, origin, [])._replace(files=files)
         with self._grounds(case, fixture) as grounds:
             commands = {number: agent.words for number, agent in enumerate(agents)}
@@ -143,8 +146,8 @@ def unplayed(played: Course, case: Case, fault: str) -> List[str]:
     """The row of a match that was not played."""
     setup = played.fixture(case).setup
     found = (case.number, case.network, setup.nodes, len(setup.links), setup.home, case.hole, case.team.name,
-             setup.agents, case.scheduler, case.seed, league.UNPLAYED, 0, 0, 0, 0, "", " ".join(fault.split()))
-    return list(map(str, found))
+             setup.agents, case.scheduler, case.seed, league.UNPLAYED, 0, 0, 0, 0, "", "", " ".join(fault.split()))
+    return tables.checked(list(map(str, found)))
 
 
 class Cutting(NamedTuple):
@@ -237,14 +240,20 @@ def run(words: argparse.Namespace) -> int:
     if strongest is not Walls.ALL:
         print(f"lab: {cells.weakness()}; {strongest.value}", file=sys.stderr)
     program = program_of(words)
-    secret = course.secret_in(words.out, words.secret)
-    graded = Graded(read.text, path.parent, secret, program, Yard(strongest, read.tools), words.out)
+    with tables.alone_in(words.out):
+        secret = course.secret_in(words.out, words.secret)
+        return graded_in(Graded(read.text, path.parent, secret, program, Yard(strongest, read.tools), words.out), words)
+
+
+def graded_in(graded: Graded, words: argparse.Namespace) -> int:
+    """Plays the matches that are not done yet, team by team, and writes everything."""
     cases = graded.course.cases()
     prepare(graded)
-    made = {"course": hashlib.sha256(read.text.encode()).hexdigest(), "engine": words.engine, "files": graded.digests()}
-    done = sweep.prepared(words.out, made)
+    made = {**tables.made_by(graded.program), "course": hashlib.sha256(graded.text.encode()).hexdigest(),
+            "files": graded.course.digests()}
+    done = tables.prepared(words.out, made)
     try:
-        budget = Budget(graded.course.limits.team, {team.name: 0.0 for team in read.grid.teams})
+        budget = Budget(graded.course.limits.team, {team.name: 0.0 for team in graded.course.grid.teams})
         for name in budget.spent:
             # no program of a team runs while those of another do
             left = [case for case in cases[done:] if case.team.name == name]
@@ -252,7 +261,7 @@ def run(words: argparse.Namespace) -> int:
                 sweep.write_rows(played_in_time(graded, left, words.workers, budget), len(left), words.out)
         return told(graded, cases, words, budget)
     except KeyboardInterrupt:
-        count = sweep.done_in(words.out / sweep.RUNS)
+        count = tables.done_in(words.out / tables.RUNS)
         print(f"interrupted; {count} of {len(cases)} matches are played: the same command goes on there")
         return 130
 
@@ -303,19 +312,17 @@ def played_in_time(graded: Graded, left: Sequence[Case], workers: int, budget: B
 
 def told(graded: Graded, cases: List[Case], words: argparse.Namespace, budget: Budget) -> int:
     """Makes the schedules of failed matches small, and writes the table and the pages."""
-    rows = sweep.rows_in(words.out / sweep.RUNS)
+    rows = tables.rows_in(words.out / tables.RUNS)
     failures = cut_down(graded, [cases[int(row["run"])] for row in rows if not report.is_solved(row)], rows,
                         words.workers, budget)
-    engine = "the proved program" if graded.program else "the Python model, of which nothing is proved"
-    if graded.program and finds.is_unproved(graded.program):
-        engine = "a build without a proof"
+    engine = name_of(graded.program)
     standings = league.standings_of(rows, [team.name for team in graded.course.grid.teams])
-    (words.out / league.TABLE).write_text("".join(map(sweep.line_of, league.table(standings))), encoding="utf-8")
+    (words.out / league.TABLE).write_text("".join(map(tables.line_of, league.table(standings))), encoding="utf-8")
     for name, text in league.pages(graded.course.grid, rows, failures, engine).items():
         (words.out / name).write_text(text, encoding="utf-8")
     print(league.text_of(standings), end="")
     print(f"{len(rows)} matches on {engine}; solved {len(rows) - len(failures)}; failed {len(failures)}")
-    print(f"read {words.out / league.PAGE}; the rows are in {words.out / sweep.RUNS}")
+    print(f"read {words.out / league.PAGE}; the rows are in {words.out / tables.RUNS}")
     broken = [row["run"] for row in rows if any(fault.startswith(league.LAB_FAILED) for fault in row[report.FAULTS])]
     if broken:
         print(f"lab: the lab could not play {len(broken)} matches, such as {broken[0]}: the teams' pages say why",

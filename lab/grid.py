@@ -17,7 +17,9 @@
     ports         "shuffled:SEED" numbers the ports of each node anew; may be absent
     home          the home base (0)
     holes         "by seed": seed S has a black hole of its own, as `run` takes it; "all": each node in turn; a number:
-                  this number of nodes, drawn for each network; a list: these nodes ("by seed")
+                  this number of nodes, drawn for each network; a list: these nodes, each in turn, or in the place of a
+                  node a list of nodes that are all black holes, or [] for no black hole ("by seed")
+    dark          dark links, each by the node and the port of one of its ends, such as [[0, 1]] ([])
     schedulers    as --scheduler takes them (["fair"])
     seeds         how many seeds each scheduler gets (1)
     quota, board  commands of an agent, and bytes of a whiteboard (1000, 4096)
@@ -32,23 +34,23 @@ import math
 import pathlib
 import random
 import tomllib
-from typing import Any, Callable, Dict, Iterable, Iterator, List, NamedTuple, Optional, Union
+from typing import Any, Callable, Dict, Iterable, Iterator, List, NamedTuple, Optional, Tuple, Union
 
 from lab import networks
-from lab.agent_files import AGENTS, TOP, digests
-from lab.fixtures import Fixture, fixture_of
-from lab.model import Setup
+from lab.agent_files import digests
+from lab.fixtures import Fixture, NoMatch, checked, fixture_of
+from lab.model import Place, Setup
 from lab.network import ports_seed
 from lab.networks import Network
-from lab.teams import BOARD, INSIDE, OUTSIDE, QUOTA, AgentWords
+from lab.teams import BOARD, INSIDE, OUTSIDE, QUOTA, AgentWords, digests_of
 
 BY_SEED, ALL, DEGREE = "by seed", "all", "degree"
-BOUNDS: Dict[str, Callable[[int], float]] = {
+BOUNDS: Dict[str, Callable[[float], float]] = {
     "2 n log2 n": lambda nodes: 2 * nodes * math.log2(nodes),
     "n log2 n": lambda nodes: nodes * math.log2(nodes),
     "n^2": lambda nodes: nodes ** 2,
 }
-KEYS = {"title", "networks", "ports", "home", "holes", "schedulers", "seeds", "quota", "board", "bound", "team"}
+KEYS = {"title", "networks", "ports", "home", "holes", "dark", "schedulers", "seeds", "quota", "board", "bound", "team"}
 TEAM_KEYS = {"name", "agents", INSIDE, OUTSIDE}
 
 
@@ -69,10 +71,15 @@ class Case(NamedTuple):
 
     number: int
     network: str
-    hole: int
+    holes: Tuple[int, ...]
     team: TeamRow
     scheduler: str
     seed: int
+
+    @property
+    def hole(self) -> str:
+        """Its black holes, as a row has them."""
+        return " ".join(map(str, self.holes))
 
 
 class Grid(NamedTuple):
@@ -82,7 +89,8 @@ class Grid(NamedTuple):
     names: List[str]
     networks: Dict[str, Network]
     home: int
-    holes: Union[str, int, List[int]]
+    holes: Union[str, int, List[Tuple[int, ...]]]
+    dark: List[Place]
     schedulers: List[str]
     seeds: int
     quota: int
@@ -105,24 +113,24 @@ class Grid(NamedTuple):
         """The match of a run."""
         network, agents = self.networks[case.network], case.team.agents
         count = max(network.degrees()) + 1 if isinstance(agents, str) else agents
-        return fixture_of(Setup(network.nodes, network.links, self.home, [case.hole], count, self.quota, self.board))
+        return fixture_of(Setup(network.nodes, network.links, self.home, list(case.holes), count, self.quota,
+                                self.board, self.dark))
 
     def files(self) -> Dict[str, str]:
         """The digest of each file that the runs depend on."""
-        words = [*(team.words.words for team in self.teams), *self.schedulers, *self.names]
-        return digests([*words, str((AGENTS / "client.py").relative_to(TOP))])
+        others = digests([*self.schedulers, *self.names])
+        return {**others, **digests_of([team.words for team in self.teams])}
 
-    def _holes(self, name: str, secret: str) -> List[List[int]]:
+    def _holes(self, name: str, secret: str) -> List[List[Tuple[int, ...]]]:
         """The black holes of a network: lists, out of which each seed takes its own in turn."""
+        if isinstance(self.holes, list):
+            return [[holes] for holes in self.holes]
         others = [node for node in range(self.networks[name].nodes) if node != self.home]
         chance = random.Random(f"{secret}{name} {self.holes}")
         if self.holes == BY_SEED:
-            return [chance.sample(others, len(others)) if secret else others]
-        if self.holes == ALL:
-            return [[hole] for hole in others]
-        if isinstance(self.holes, int):
-            return [[hole] for hole in sorted(chance.sample(others, min(self.holes, len(others))))]
-        return [[hole] for hole in self.holes]
+            return [[(hole,) for hole in (chance.sample(others, len(others)) if secret else others)]]
+        drawn = others if isinstance(self.holes, str) else sorted(chance.sample(others, min(self.holes, len(others))))
+        return [[(hole,)] for hole in drawn]
 
 
 def read(path: pathlib.Path) -> Grid:
@@ -173,7 +181,8 @@ def grid_in(found: Dict[str, Any], folder: pathlib.Path = pathlib.Path()) -> Gri
     ports = ports_in(found)
     grid = Grid(
         title, names, {name: numbered(name, ports, folder) for name in names},
-        taken(found, "home", is_number, "a node", 0), taken(found, "holes", is_holes, HOLES_ARE, BY_SEED),
+        taken(found, "home", is_number, "a node", 0), holes_of(taken(found, "holes", is_holes, HOLES_ARE, BY_SEED)),
+        [(v, p) for v, p in taken(found, "dark", is_dark, "a list of nodes with ports, such as [[0, 1]]", [])],
         taken(found, "schedulers", is_texts, "a list of names, such as [\"fair\"]", ["fair"]),
         taken(found, "seeds", is_count, "a whole number from 1", 1),
         taken(found, "quota", lambda it: is_count(it) and it <= QUOTA, f"1 to {QUOTA}", QUOTA),
@@ -184,7 +193,7 @@ def grid_in(found: Dict[str, Any], folder: pathlib.Path = pathlib.Path()) -> Gri
     return grid
 
 
-HOLES_ARE = f'"{BY_SEED}", "{ALL}", how many to draw, or a list of nodes'
+HOLES_ARE = f'"{BY_SEED}", "{ALL}", how many to draw, or a list of nodes and of lists of nodes'
 
 
 def ports_in(found: Dict[str, Any]) -> Optional[int]:
@@ -210,7 +219,7 @@ def numbered(name: str, ports: Optional[int], folder: pathlib.Path) -> Network:
 
 def check_nodes(grid: Grid) -> None:
     """Refuses a home base or a black hole that is not in the network."""
-    listed = grid.holes if isinstance(grid.holes, list) else []
+    listed = [hole for holes in grid.holes for hole in holes] if isinstance(grid.holes, list) else []
     for name, network in grid.networks.items():
         if grid.home >= network.nodes:
             raise NoSweep(f"home is {grid.home}, and {name} has the nodes 0 to {network.nodes - 1}")
@@ -218,8 +227,18 @@ def check_nodes(grid: Grid) -> None:
             if hole >= network.nodes or hole == grid.home:
                 raise NoSweep(f"holes has {hole}, and a black hole of {name} is a node up to {network.nodes - 1} other "
                               "than the home base")
+        check_setups(grid, name, network)
     if len({team.name for team in grid.teams}) < len(grid.teams):
         raise NoSweep("two teams have the same name")
+
+
+def check_setups(grid: Grid, name: str, network: Network) -> None:
+    """Refuses dark links that the network does not have, and what is named twice."""
+    for holes in grid.holes if isinstance(grid.holes, list) else [()]:
+        try:
+            checked(Setup(network.nodes, network.links, grid.home, list(holes), 1, grid.quota, grid.board, grid.dark))
+        except NoMatch as fault:
+            raise NoSweep(f"{name}: {fault}") from None
 
 
 def team_of(row: Dict[str, Any]) -> TeamRow:
@@ -262,7 +281,17 @@ def is_count(value: Any) -> bool:
 
 def is_holes(value: Any) -> bool:
     return value in (BY_SEED, ALL) or is_count(value) or isinstance(value, list) and value != [] and all(
-        map(is_number, value))
+        is_number(it) or isinstance(it, list) and all(map(is_number, it)) for it in value)
+
+
+def holes_of(value: Any) -> Any:
+    """Black holes as the grid has them: for each match all of them."""
+    return [tuple(sorted(it)) if isinstance(it, list) else (it,) for it in value] if isinstance(value, list) else value
+
+
+def is_dark(value: Any) -> bool:
+    return isinstance(value, list) and all(
+        isinstance(it, list) and len(it) == 2 and all(map(is_number, it)) for it in value)
 
 
 def is_tables(value: Any) -> bool:

@@ -11,7 +11,10 @@ import os
 import pathlib
 import stat
 import tarfile
+import tempfile
 from typing import Dict, Iterator, NamedTuple, Optional, Sequence, Tuple
+
+from lab.imports import SUFFIX, files_behind
 
 MOST_BYTES, MOST_FILES, MOST_DEPTH = 32 << 20, 2_000, 32
 # the file of the network, for programs that have the map
@@ -45,10 +48,18 @@ class HandIn(NamedTuple):
         return found.hexdigest()
 
     def digests(self, words: str) -> Dict[str, str]:
-        """The SHA-256 of each of its files that these words of a command name."""
+        """The SHA-256 of each of its files that these words of a command name, and of those that they import, by its
+        name in the hand-in."""
         names = {str(pathlib.PurePath(word.partition(":")[0])) for word in words.split()}
-        return {name: hashlib.sha256(entry.content).hexdigest() for name, entry in self.entries.items()
-                if name in names and entry.kind == tarfile.REGTYPE}
+        read = {name: entry.content for name, entry in self.entries.items() if entry.kind == tarfile.REGTYPE
+                and (name in names or name.endswith(SUFFIX))}
+        with tempfile.TemporaryDirectory() as place:
+            folder = pathlib.Path(place).resolve()
+            for name, content in read.items():
+                (folder / name).parent.mkdir(parents=True, exist_ok=True)
+                (folder / name).write_bytes(content)
+            behind = [files_behind(folder / name) for name in names if name in read]
+            return {os.path.relpath(name, folder): digest for found in behind for name, digest in found.items()}
 
     def archive(self, **more: bytes) -> bytes:
         """All of it as a tar archive, and more files by their names."""

@@ -8,13 +8,15 @@ neither a black hole nor a dark link, it draws the black hole too, and with --an
 any verdict but `solved`; it also fails if an agent raises an exception, is refused without end, or is stuck. A failure
 ends every hunt. The program plays and judges the find, and the command writes it to a folder: its schedule, the script
 for `arena rehearse`, its replay and a page. The exit status is 1 if the team fails.
+
+Agents may be programs in any language (--command). Each schedule starts them anew, so it tries some ten a second: give
+--runs. They must be functions of what they are told.
 """
 import argparse
 import pathlib
 from typing import Any, Callable, Dict, NamedTuple, Optional, Sequence, Tuple
 
 from lab import finds, teams
-from lab.agent_files import NoAgent
 from lab.counts import at_least_one
 from lab.engines import add_engine, program_of
 from lab.fixtures import Fixture
@@ -24,6 +26,7 @@ from lab.progress import bar
 from lab.rehearsal import Rehearsal
 from lab.schedulers import in_runs
 from lab.schedules import Schedule, schedule_of
+from lab.teams import Game
 
 FAILURE, MOVES, LOST = "failure", "moves", "lost"
 RUNS = 3000
@@ -32,6 +35,27 @@ FOLDER = finds.FOLDER
 DATABASE = pathlib.Path("out/hunted")
 
 Blocks = Sequence[Tuple[int, int]]
+
+
+class Hunt(NamedTuple):
+    """What a hunt looks for, in which game: a failure, the most moves or the most lost agents."""
+
+    game: Game
+    looked_for: str = FAILURE
+    any_home: bool = False
+    runs: int = RUNS
+    seed: int = 0
+    database: Optional[pathlib.Path] = None
+
+    def origin(self) -> str:
+        return f"hunt for {self.looked_for} {self.seed}{self.game.where()}"
+
+    def key(self) -> bytes:
+        """What is looked for and of whom: Hypothesis keeps its examples by this."""
+        game = self.game
+        drawn = game.quota, game.board, game.naps, self.looked_for, self.any_home
+        network = game.name, game.network, game.home, game.holes, game.dark, game.match
+        return repr((network, drawn, [agent[:2] for agent in game.agents])).encode()
 
 
 class Found(Exception):
@@ -50,29 +74,29 @@ class Trial(NamedTuple):
 class Hunter:
     """A hunt: what it looks for, what it tried, and the best until now."""
 
-    def __init__(self, words: argparse.Namespace, shown: Any) -> None:
-        self.words = words
-        self.agents = teams.team_of(words)
+    def __init__(self, asked: Hunt, shown: Any) -> None:
+        self.asked = asked
         self.tried = 0
         self.best: Optional[Trial] = None
         self.wanted: Optional[int] = None
+        self.was_stopped = False
         self._shown = shown
+        self._kept: Any = None
         self._fixtures: Dict[Tuple[int, int], Fixture] = {}
-        first = teams.fixture_for(words, 0)
-        nodes = first.setup.nodes
-        fixed = words.tournament or words.hole or words.dark
-        self._holes = 1 if fixed else nodes - 1
-        self._homes = range(nodes) if words.any_home and not words.tournament else [first.setup.home]
+        game = asked.game
+        nodes = game.network.nodes
+        self._holes = 1 if game.is_fixed() else nodes - 1
+        self._homes = range(nodes) if asked.any_home and not game.match else [game.home]
 
     def play(self, home: int, hole: int, blocks: Blocks) -> Trial:
         """Plays a schedule, and keeps it if it is the best."""
         fixture = self._fixtures.get((home, hole))
         if fixture is None:
-            fixture = self._fixtures[home, hole] = teams.fixture_for(self.words, hole, home)
-        team = teams.Together(self.agents, fixture, self.words.limit)
+            fixture = self._fixtures[home, hole] = self.asked.game.fixture(hole, home)
+        team = teams.Together(self.asked.game.agents, fixture, self.asked.game.limit)
         played = play(Rehearsal(fixture), team, in_runs(blocks), fixture)
         verdict = played.verdict()
-        worth = {FAILURE: 0, MOVES: verdict.moves, LOST: verdict.lost}[self.words.looked_for]
+        worth = {FAILURE: 0, MOVES: verdict.moves, LOST: verdict.lost}[self.asked.looked_for]
         trial = Trial(worth, played.has_failed(), fixture, played)
         self.tried += 1
         self._shown.update()
@@ -89,15 +113,29 @@ class Hunter:
         except Found:
             pass
 
+    def schedule(self) -> Schedule:
+        """The schedule of the best."""
+        if self.best is None:
+            raise ValueError("nothing was tried")
+        return schedule_of(self.best.fixture, self.asked.game.agents, self.asked.origin(), self.best.played.choices)
+
+    def _database(self) -> Any:
+        """Where Hypothesis keeps its examples: in a folder, or as long as the hunt goes on."""
+        if self._kept is None:
+            stores, folder = needed("hypothesis.database"), self.asked.database
+            self._kept = stores.DirectoryBasedExampleDatabase(folder) if folder else stores.InMemoryExampleDatabase()
+        return self._kept
+
     def _test(self, phases: Sequence[str]) -> Callable[[], None]:
-        hypothesis = needed("hypothesis")
+        hypothesis, asked = needed("hypothesis"), self.asked
         given = needed("hypothesis.strategies")
         settings = hypothesis.settings(
-            max_examples=self.words.runs, deadline=None, report_multiple_bugs=False, print_blob=False,
-            database=needed("hypothesis.database").DirectoryBasedExampleDatabase(self.words.database),
-            verbosity=hypothesis.Verbosity.quiet, suppress_health_check=list(hypothesis.HealthCheck),
+            max_examples=asked.runs, deadline=None, report_multiple_bugs=False, print_blob=False,
+            database=self._database(), verbosity=hypothesis.Verbosity.quiet,
+            suppress_health_check=list(hypothesis.HealthCheck),
             phases=[hypothesis.Phase[phase] for phase in phases])
-        blocks = given.tuples(given.integers(0, max(1, len(self.agents) - 1)), given.integers(1, LONGEST_BLOCK))
+        agents = len(asked.game.agents)
+        blocks = given.tuples(given.integers(0, max(1, agents - 1)), given.integers(1, LONGEST_BLOCK))
 
         def trial(home: int, hole: int, blocks: Blocks) -> None:
             tried = self.play(home, hole, blocks)
@@ -108,26 +146,22 @@ class Hunter:
         draws = hypothesis.given(given.sampled_from(list(self._homes)), given.integers(0, self._holes - 1),
                                  given.lists(blocks, max_size=MOST_BLOCKS))
         # a seed takes the database away, so it comes before the settings
-        test = settings(hypothesis.seed(self.words.seed)(draws(trial)))
-        test._hypothesis_internal_database_key = self._key()
+        test: Callable[[], None] = settings(hypothesis.seed(asked.seed)(draws(trial)))
+        test._hypothesis_internal_database_key = asked.key()  # type: ignore[attr-defined]
         return test
-
-    def _key(self) -> bytes:
-        """What is looked for and of whom: Hypothesis keeps its examples by this."""
-        words = self.words
-        network = words.tournament, words.match, words.network, words.home, words.hole, words.dark
-        drawn = words.quota, words.board, words.naps, words.looked_for, words.any_home
-        return repr((network, drawn, self.agents)).encode()
 
 
 def hunted(hunter: Hunter) -> None:
-    """Searches, and makes what was found small."""
-    hunter.search(["reuse", "generate", "target", "shrink"])
-    best = hunter.best
-    if best is not None and not best.has_failed and best.worth > 0:
-        hunter.wanted = best.worth
-        hunter.search(["reuse", "shrink"])
-        hunter.best = max(hunter.best or best, best, key=lambda trial: (trial.has_failed, trial.worth))
+    """Searches, and makes what was found small. Who interrupts it gets what was found."""
+    try:
+        hunter.search(["reuse", "generate", "target", "shrink"])
+        best = hunter.best
+        if best is not None and not best.has_failed and best.worth > 0:
+            hunter.wanted = best.worth
+            hunter.search(["reuse", "shrink"])
+            hunter.best = max(hunter.best or best, best, key=lambda trial: (trial.has_failed, trial.worth))
+    except KeyboardInterrupt:
+        hunter.was_stopped = True
 
 
 def add_words(parser: argparse.ArgumentParser) -> None:
@@ -148,31 +182,25 @@ def add_words(parser: argparse.ArgumentParser) -> None:
 
 def run(words: argparse.Namespace) -> int:
     program = program_of(words)
-    if any(agent.kind != teams.INSIDE for agent in teams.team_of(words)):
-        raise NoAgent("hunt plays agents inside the lab: name them by --agent")
+    asked = Hunt(teams.game_of(words), words.looked_for, words.any_home, words.runs, words.seed, words.database)
     with bar(words.runs, "schedule") as shown:
-        hunter = Hunter(words, shown)
-        try:
-            hunted(hunter)
-        except KeyboardInterrupt:
-            shown.clear()
-            print("interrupted; this was found:")
+        hunter = Hunter(asked, shown)
+        hunted(hunter)
+        shown.clear()
+    if hunter.was_stopped:
+        print("interrupted; this was found:")
     if hunter.best is None:
         return 130
-    return told(hunter, hunter.best, program)
+    return told(hunter, hunter.best, words.keep, program)
 
 
-def told(hunter: Hunter, best: Trial, program: Optional[str]) -> int:
+def told(hunter: Hunter, best: Trial, keep: pathlib.Path, program: Optional[str]) -> int:
     """Says what was found, and keeps it."""
-    words = hunter.words
-    setup = best.fixture.setup
+    looked_for, setup = hunter.asked.looked_for, best.fixture.setup
     said = "the team fails" if best.has_failed else "the team solved its network under each"
     print(f"{hunter.tried} schedules were tried: {said}")
-    if not best.has_failed and words.looked_for == FAILURE:
-        return 0
-    print(f"{'it comes to' if best.has_failed else 'the most ' + words.looked_for}: home {setup.home} holes "
-          f"{setup.holes}, {finds.verdict_text(best.played.verdict())}")
-    origin = teams.origin_of(words, f"hunt for {words.looked_for} {words.seed}")
-    schedule: Schedule = schedule_of(best.fixture, hunter.agents, origin, best.played.choices)
-    finds.keep(words.keep, schedule, program)
-    return 1 if best.has_failed else 0
+    if best.has_failed or looked_for != FAILURE:
+        print(f"{'it comes to' if best.has_failed else 'the most ' + looked_for}: home {setup.home} holes "
+              f"{setup.holes}, {finds.verdict_text(best.played.verdict())}")
+        finds.keep(keep, hunter.schedule(), program)
+    return 1 if best.has_failed else 130 if hunter.was_stopped else 0

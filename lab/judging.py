@@ -40,7 +40,7 @@ def lines_of(program: str, *words: str) -> Iterator[str]:
     """The lines that the program prints for these words, one by one."""
     with tempfile.TemporaryFile() as errors:
         with subprocess.Popen([program, *words], stdout=subprocess.PIPE, stderr=errors) as ran:
-            yield from (line.decode() for line in ran.stdout)
+            yield from (line.decode() for line in ran.stdout or ())
         if ran.returncode != 0:
             errors.seek(0)
             raise Refused(errors.read().decode(errors="replace").strip(), ran.returncode)
@@ -66,10 +66,11 @@ def footprints(match: Match) -> List[Footprint]:
 
 def footprint(match: Match, event: Object) -> Footprint:
     """The footprint of the next event of a match, which is then played."""
-    do, who = event["do"], event.get("agent")
+    do = event["do"]
     if do == "close":
         match.play(event)
         return Footprint(None, None, None)
+    who: int = event["agent"]
     agent = match.agents[who]
     was_there = agent.standing == PRESENT
     match.play(event)
@@ -81,7 +82,8 @@ def footprint(match: Match, event: Object) -> Footprint:
 def cut(agent: int, events: List[Footprint]) -> List[int]:
     """The places of an agent's causal past: its own, and with each place each earlier one of the same agent, or one
     that wrote the node which is seen there."""
-    agents, nodes = {agent}, set()  # type: Set[int], Set[int]
+    agents: Set[Optional[int]] = {agent}
+    nodes: Set[Optional[int]] = set()
     found = []
     for place in reversed(range(len(events))):
         event = events[place]

@@ -94,7 +94,7 @@ def by_kind(rows: Sequence[Row]) -> Dict[str, int]:
 def kind_of(row: Row) -> str:
     """How a match failed. A fault says more than the verdict, which may be a consequence of it."""
     if not row[FAULTS]:
-        return row["outcome"].split()[0]
+        return str(row["outcome"]).split()[0]
     return next((kind for kind, said in KINDS_OF_FAULTS.items() if any(it in row[FAULTS][0] for it in said)), RUDE)
 
 

@@ -1,6 +1,10 @@
-"""Debian's packages that parts of the lab need, and a clear line if one is missing."""
+"""Debian's packages that parts of the lab need, and a clear line if some are missing."""
 import importlib
+import importlib.util
 from types import ModuleType
+from typing import Iterable
+
+import lab
 
 PACKAGES = {
     "greenlet": "python3-greenlet", "hypothesis": "python3-hypothesis", "tqdm": "python3-tqdm",
@@ -11,7 +15,16 @@ DEBIANS_PYTHON = "/usr/bin/python3"
 
 
 class Missing(Exception):
-    """A package is not installed, or this Python does not see it."""
+    """Packages are not installed, or this Python does not see them; says what to do."""
+
+    def __init__(self, modules: Iterable[str]) -> None:
+        self.modules = list(dict.fromkeys(modules))
+        is_one = len(self.modules) == 1
+        said = f"module {self.modules[0]} is" if is_one else f"modules {', '.join(self.modules)} are"
+        packages = " ".join(PACKAGES[name] for name in self.modules)
+        by = f"{DEBIANS_PYTHON} -m lab" if lab.called == lab.BY_PYTHON else lab.called
+        super().__init__(f"the Python {said} missing: install Debian's package{'' if is_one else 's'} by `apt-get "
+                         f"install {packages}`, and run the lab by Debian's Python, `{by}`")
 
 
 def needed(name: str) -> ModuleType:
@@ -20,5 +33,9 @@ def needed(name: str) -> ModuleType:
     try:
         return importlib.import_module(name)
     except ModuleNotFoundError:
-        raise Missing(f"the Python module {package} is missing: install Debian's package by `apt-get install "
-                      f"{PACKAGES[package]}`, and run the lab by Debian's Python, `{DEBIANS_PYTHON} -m lab`") from None
+        raise Missing([package]) from None
+
+
+def missing_of(modules: Iterable[str]) -> Iterable[str]:
+    """Which of these modules are not installed."""
+    return [name for name in modules if importlib.util.find_spec(name) is None]

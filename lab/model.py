@@ -4,7 +4,7 @@ Nothing is proved of it, and no result of a contest rests on it. Commands are th
 those that they are sent, and a match's log is a list of the objects that stand in a replay.
 """
 import json
-from typing import Any, Container, Dict, List, NamedTuple, Optional, Set, Tuple
+from typing import Any, Container, Dict, List, NamedTuple, Optional, Sequence, Set, Tuple
 
 Object = Dict[str, Any]
 Place = Tuple[int, int]
@@ -125,7 +125,7 @@ class AgentState:
         self.standing = OUTSIDE
         self.used = 0
         self.node = 0
-        self.port: Optional[int] = None
+        self.port = 0
         self.came: Optional[int] = None
         self.lost = False
 
@@ -279,8 +279,20 @@ def objects_of(text: str) -> List[Object]:
 
 def begun(head: Object) -> Match:
     """The match of a replay's head, before anything happens in it."""
-    return Match(Setup(head["nodes"], [tuple(link) for link in head["links"]], head["home"], head["holes"],
-                       head["agents"], head["quota"], head["board"], [tuple(place) for place in head["dark"]]))
+    return Match(Setup(head["nodes"], list(map(link_of, head["links"])), head["home"], head["holes"], head["agents"],
+                       head["quota"], head["board"], list(map(place_of, head["dark"]))))
+
+
+def link_of(values: Sequence[int]) -> Tuple[int, int, int, int]:
+    """A link, as files have it."""
+    v, p, w, q = values
+    return v, p, w, q
+
+
+def place_of(values: Sequence[int]) -> Place:
+    """A node and a port, as files have them."""
+    v, p = values
+    return v, p
 
 
 def played(text: str) -> Match:

@@ -15,9 +15,10 @@ import pathlib
 import random
 import re
 import tomllib
-from typing import Dict, List, NamedTuple, Tuple
+from typing import Any, Callable, Dict, List, NamedTuple, Tuple
 
 from lab.missing import needed
+from lab.model import link_of
 
 Link = Tuple[int, int, int, int]
 
@@ -159,7 +160,7 @@ def in_file(path: str) -> Network:
     """The network of a file, which must be right: ask `arena check`."""
     try:
         found = tomllib.loads(pathlib.Path(path).read_text(encoding="utf-8"))
-        return Network(found["nodes"], [tuple(link) for link in found["links"]])
+        return Network(found["nodes"], list(map(link_of, found["links"])))
     except (ValueError, KeyError, TypeError) as fault:
         raise NoNetworkFile(f"{path}: it is no network file ({fault_text(fault)}); `arena check` says more") from None
 
@@ -167,6 +168,18 @@ def in_file(path: str) -> Network:
 def fault_text(fault: Exception) -> str:
     """What is wrong with a file of TOML, by the exception of its reader."""
     return f"it has no key {fault}" if isinstance(fault, KeyError) else str(fault)
+
+
+def of_graph(graph: Any) -> Network:
+    """The network of a networkx graph. Nodes are numbered in the graph's order, and the ports of each node in the order
+    of its neighbours."""
+    if graph.is_directed() or graph.is_multigraph() or any(v == w for v, w in graph.edges):
+        raise NoNetwork("a network is a graph without directions, in which a link joins two nodes and no other does")
+    if not 3 <= graph.number_of_nodes() <= MOST_NODES:
+        raise NoNetwork(f"a network has 3 to {MOST_NODES} nodes, and this graph has {graph.number_of_nodes()}")
+    number = {node: place for place, node in enumerate(graph.nodes)}
+    ports = {node: {other: port for port, other in enumerate(graph.adj[node])} for node in graph.nodes}
+    return Network(len(number), [(number[v], ports[v][w], number[w], ports[w][v]) for v, w in graph.edges])
 
 
 def named(name: str) -> Network:
@@ -181,7 +194,7 @@ def named(name: str) -> Network:
         if not SMALLEST.get(kind, 0) <= min(sizes) or sizes[0] > LARGEST_SIZE.get(kind, sizes[0]):
             raise NoNetwork(f"{name}: a network has 3 to {MOST_NODES} nodes, a torus 3 rows and columns or more, and "
                             "cube-connected cycles 3 dimensions or more")
-        network = made(*sizes)
+        network: Network = made(*sizes)
     except (KeyError, TypeError, ValueError):
         raise NoNetwork(f"{name}: a network is {NAMES} or a file; N times K is even, and K less than N") from None
     if not 3 <= network.nodes <= MOST_NODES:
@@ -189,7 +202,7 @@ def named(name: str) -> Network:
     return network
 
 
-MADE = {
+MADE: Dict[str, Callable[..., Network]] = {
     "ring": ring, "hypercube": hypercube, "complete": complete, "torus": torus, "ccc": cube_connected_cycles,
     "random": lambda *sizes: regular(*sizes) if len(sizes) == 3 else drawn(random.Random(*sizes)),
 }

@@ -21,7 +21,8 @@ import pathlib
 import tempfile
 from typing import Any, Dict, Iterable, List, Optional, Tuple
 
-from lab.engines import NoProgram, add_engine, asked, program_of
+from lab.built import NoProgram
+from lab.engines import add_engine, asked, program_of
 from lab.judging import lines_of, pasts_of, verdict_of
 from lab.missing import needed
 from lab.parts import filled, part
@@ -141,15 +142,15 @@ def with_twin(program: str, match: Dict[str, Any], replay: str, node: int) -> Di
     return twin
 
 
-def data_of(program: Optional[str], replay: pathlib.Path, twin: Optional[int]) -> Dict[str, Any]:
-    """All that the page shows."""
+def data_of(program: Optional[str], replay: pathlib.Path, twin: Optional[int], title: str = "") -> Dict[str, Any]:
+    """All that the page shows. Without a title it is called as the replay."""
     verdict = "{} moves {} lost {}".format(*verdict_of(program, replay))
     with open(replay, encoding="utf-8", newline="\n") as lines:
         match = read(lines)
     met = {code[1:].partition(":")[0] for code in match["events"].split(",")} - {""}
     pasts = {str(agent): runs(past) for agent, past in pasts_of(program, replay, sorted(map(int, met))).items()}
     data = {
-        "name": replay.name, "verdict": verdict, "spots": layout(match["head"]), "pasts": pasts, "match": match,
+        "name": title or replay.name, "verdict": verdict, "spots": layout(match["head"]), "pasts": pasts, "match": match,
         "twin": None,
     }
     if twin is not None:
@@ -169,9 +170,10 @@ def page_of(data: Dict[str, Any]) -> str:
     })
 
 
-def write_page(program: Optional[str], replay: pathlib.Path, page: pathlib.Path, twin: Optional[int] = None) -> None:
+def write_page(program: Optional[str], replay: pathlib.Path, page: pathlib.Path, twin: Optional[int] = None,
+               title: str = "") -> None:
     """Writes the page of a replay."""
-    page.write_text(page_of(data_of(program, replay, twin)), encoding="utf-8")
+    page.write_text(page_of(data_of(program, replay, twin, title)), encoding="utf-8")
 
 
 def add_words(parser: argparse.ArgumentParser) -> None:

@@ -37,7 +37,7 @@ class Past:
         self.accused: Tuple[Place, ...] = before.accused if before else ()
         self.reached: FrozenSet[int] = before.reached if before else frozenset()
         self.moves: int = before.moves if before else 0
-        self.refused = refused_in_a_row(before.refused if before else 0, heard)
+        self.refused: int = refused_in_a_row(before.refused if before else 0, heard)
         self.is_local = False
         self.number = 0
         self.later: Dict[Tuple[str, ...], "Past"] = {}

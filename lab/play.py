@@ -21,6 +21,8 @@ class Player(Protocol):
     state: str
     line: Optional[bytes]
     fault: Optional[str]
+    # what a program outside wrote to standard error, once it has ended
+    errors: str
 
     def hear(self, line: str) -> None: ...
     def go_on(self) -> None: ...
@@ -46,6 +48,8 @@ class Played(NamedTuple):
     script: List[bytes]
     replay: bytes
     faults: List[str]
+    # what programs wrote to standard error, by the numbers of their agents
+    errors: Dict[int, str] = {}
 
     def verdict(self) -> Verdict:
         return judge(self.match)
@@ -57,7 +61,7 @@ class Played(NamedTuple):
 
 def changes_board(event: Object) -> bool:
     """Whether an event of a log changes a whiteboard: a write of the text that stands there does not."""
-    return event["do"] == "write" and event["reply"] == {"ok": "written"} and event["put"] != event["expect"]
+    return bool(event["do"] == "write" and event["reply"] == {"ok": "written"} and event["put"] != event["expect"])
 
 
 class Run:
@@ -193,4 +197,5 @@ def play(engine: Engine, team: Team, scheduler: Scheduler, fixture: Fixture) -> 
     finally:
         team.stop()
         engine.stop()
-    return Played(run.choices, engine.match, engine.script, replay, faults_of(team.players))
+    errors = {player.number: player.errors for player in team.players if player.errors}
+    return Played(run.choices, engine.match, engine.script, replay, faults_of(team.players), errors)

@@ -4,11 +4,13 @@ A player runs until it waits for the answer to its line, for its arrival, or to 
 is the line that it sent, or None if its input has ended.
 """
 import signal
+import threading
 from collections import deque
 from typing import Any, Deque, List, Mapping, Optional, Sequence
 
 from lab.missing import needed
 from lab.model import LAST, spelled
+from lab.own_modules import OwnModules
 from lab.agent_files import Script
 
 # an answer is due; an arrival is due; it sleeps; nothing more comes
@@ -34,6 +36,9 @@ class Player:
         self.state = WAITS
         self.line: Optional[bytes] = None
         self.fault: Optional[str] = None
+        self.errors = ""
+        # those that the script loads for this agent alone
+        self.modules = OwnModules(number)
         self._team = team
         self._heard: Deque[str] = deque()
         self._is_over = False
@@ -50,13 +55,15 @@ class Player:
     def go_on(self) -> None:
         """Lets the program begin, wake, or read what it heard."""
         self._team.turns += 1
-        self._thread.switch()
+        with self.modules:
+            self._thread.switch()
 
     def stop(self, fault: Optional[str] = None) -> None:
         """Ends the program."""
         self.fault = self.fault or fault
         self.state = DONE
-        self._thread.throw()
+        with self.modules:
+            self._thread.throw()
 
     def send(self, line: str) -> None:
         if self._is_closed:
@@ -100,13 +107,16 @@ class Clock:
         self._before: Any = None
 
     def start(self) -> None:
-        self._before = signal.signal(self._signal, self._look)
-        signal.setitimer(self._timer, self._seconds, self._seconds)
+        # signals reach the main thread alone: in another one nobody ends a program that computes without end
+        if threading.current_thread() is threading.main_thread():
+            self._before = signal.signal(self._signal, self._look)
+            signal.setitimer(self._timer, self._seconds, self._seconds)
 
     def stop(self) -> None:
-        signal.setitimer(self._timer, 0)
         if self._before is not None:
+            signal.setitimer(self._timer, 0)
             signal.signal(self._signal, self._before)
+            self._before = None
 
     def _look(self, *_: Any) -> None:
         """Ends a program that has been running since the last look."""

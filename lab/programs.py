@@ -190,10 +190,12 @@ class Player:
         self._has_ended = False
         self._connection: Optional[socket.socket] = None
         self._lines: Optional[Lines] = None
-        self._child: Optional[subprocess.Popen] = None
+        self._child: Optional["subprocess.Popen[bytes]"] = None
         self._listener_of: Optional[Callable[[], socket.socket]] = None
         self._listener: Optional[socket.socket] = None
         self._ground = ground
+        # what the program wrote to standard error, once it has ended
+        self.errors = ""
         # in memory: what is free on a disk is seen by all programs
         self._errors = open(os.memfd_create("errors"), "w+b")
 
@@ -210,7 +212,7 @@ class Player:
     def begin(self) -> None:
         """Waits until the program begins."""
         try:
-            if self._child is not None:
+            if self._listener_of is not None:
                 self._listener = self._listener_of()
         except NoStart as fault:
             self._end(f"cannot be started: {fault}")
@@ -262,6 +264,7 @@ class Player:
         if self._child is not None:
             self._ground.kill(self._child)
         self.fault = self._ground.fault() or self.fault
+        self.errors = self._errors_of()
         if self._lines is not None:
             self._lines.close()
         for it in (self._connection, self._listener, self._errors):
@@ -273,11 +276,15 @@ class Player:
 
     def _look_for_strangers(self) -> None:
         """A second connection ends the program's play."""
-        if self._connection is not None and self._listener.fileno() >= 0 and self._accepted(0) is not None:
+        other = self._accepted(0) if self._connection is not None else None
+        if other is not None:
+            other.close()
             self._end("has connected twice")
 
     def _accepted(self, seconds: float) -> Optional[socket.socket]:
         """A connection of the program, if it makes one within this time."""
+        if self._listener is None or self._listener.fileno() < 0:
+            return None
         self._listener.settimeout(seconds)
         try:
             return self._listener.accept()[0]
@@ -294,7 +301,8 @@ class Player:
                 self._connection.setsockopt(socket.IPPROTO_TCP, socket.TCP_NODELAY, 1)
                 self._lines = Lines(self._connection)
             elif not was_alive:
-                self._end(f"has ended with status {self._child.returncode} before it connected{self._last_words()}")
+                status = self._child.returncode if self._child else None
+                self._end(f"has ended with status {status} before it connected{self._last_words()}")
                 return
             elif time.monotonic() > until:
                 raise TimeoutError
@@ -302,6 +310,8 @@ class Player:
     def _take(self, until: float) -> None:
         """Takes a line or the end, or waits on."""
         try:
+            if self._lines is None:
+                raise TimeoutError
             self.line = self._lines.next(SLICE)
             self._has_ended = self.line is None
         except TimeoutError:
@@ -311,12 +321,23 @@ class Player:
 
     def _note_status(self, until: float) -> None:
         """Says how the program ended, if that is a failure."""
+        if self._child is None:
+            return
         try:
             status = self._child.wait(max(GRACE, until - time.monotonic()))
         except subprocess.TimeoutExpired:
             return
         if status != 0:
             self.fault = f"has ended with status {status} in the middle of its match{self._last_words()}"
+
+    def _errors_of(self) -> str:
+        """The end of what the program wrote to standard error, without what is another on each run."""
+        if self._errors.closed:
+            return self.errors
+        size = self._errors.seek(0, os.SEEK_END)
+        self._errors.seek(max(0, size - PIECE))
+        lines = self._errors.read().decode(errors="replace").split("\n")
+        return "\n".join(plain(self._ground.told(line)) for line in lines)
 
     def _last_words(self) -> str:
         """The last line that the program wrote to standard error, as one that changes nothing where it is shown."""

@@ -170,8 +170,11 @@ class Pages:
 
     def _data(self, request: Any) -> Dict[str, Any]:
         number = self._number(request)
-        match = self._contest.feed(number).match
-        return {**data_of(f"match {number}", match), "news": f"/match/{number}" if not match.closed else None}
+        feed = self._contest.feed(number)
+        if feed is None or feed.match is None:
+            raise self._web.HTTPNotFound(headers=headers(STRICT))
+        is_open = not feed.match.closed
+        return {**data_of(f"match {number}", feed.match), "news": f"/match/{number}" if is_open else None}
 
     async def match(self, request: Any) -> Any:
         return self._said(page_of(self._data(request)), policy=WHOLE)

@@ -12,9 +12,9 @@ import sys
 from typing import List
 
 from lab import finds
-from lab.agent_files import digests
 from lab.engines import add_engine, program_of
 from lab.schedules import Schedule, read
+from lab.teams import digests_of
 
 
 def add_words(parser: argparse.ArgumentParser) -> None:
@@ -55,5 +55,5 @@ def run(words: argparse.Namespace) -> int:
 
 def other_files(schedule: Schedule) -> List[str]:
     """The files of agents that are others than when the schedule was made, or that its head does not name."""
-    now = digests([agent.words for agent in schedule.agents])
+    now = digests_of(schedule.agents)
     return sorted(file for file in {*now, *schedule.files} if now.get(file) != schedule.files.get(file))

@@ -1,16 +1,17 @@
 """The report of a sweep: its summary, its plots and its page."""
 import html
 import io
-import statistics
 from typing import Any, Dict, Iterable, List, NamedTuple, Optional, Sequence, Tuple
 
 from lab.grid import BOUNDS, Grid
 from lab.missing import needed
 from lab.parts import framed, part
+from lab.statistic import Spread, spread_of
 
 HEAD = ("network", "nodes", "team", "agents", "scheduler", "runs", "solved", "mean moves", "confidence 95 %",
-        "most moves", "its run", "most lost", "bound")
-CONFIDENCE = 1.96
+        "lower quartile", "median", "upper quartile", "most moves", "its run", "most lost", "bound")
+# how many points a curve has
+POINTS = 100
 SIZE = (7.6, 4.8)
 COLOURS = ("#0b6e99", "#c2410c", "#4d7c0f", "#7e22ce", "#a16207", "#be123c")
 
@@ -35,8 +36,7 @@ class Group(NamedTuple):
     agents: int
     runs: int
     solved: int
-    mean: float
-    confidence: float
+    moves: Spread
     worst: Row
     lost: int
     bound: Optional[float]
@@ -46,8 +46,9 @@ class Group(NamedTuple):
         network, team, scheduler = self.name
         bound = "" if self.bound is None else f"{self.bound:.0f}"
         return [network, str(self.nodes), team, str(self.agents), scheduler, str(self.runs), str(self.solved),
-                f"{self.mean:.1f}", f"{self.confidence:.1f}", self.worst["moves"], self.worst["run"], str(self.lost),
-                bound]
+                f"{self.moves.mean:.1f}", f"{self.moves.confidence:.1f}", f"{self.moves.low:g}",
+                f"{self.moves.median:g}", f"{self.moves.high:g}", self.worst["moves"], self.worst["run"],
+                str(self.lost), bound]
 
 
 def is_solved(row: Row) -> bool:
@@ -65,10 +66,9 @@ def groups_of(rows: Sequence[Row], spec: Grid) -> List[Group]:
 def group_of(name: Name, rows: List[Row], spec: Grid) -> Group:
     moves = [int(row["moves"]) for row in rows]
     nodes = int(rows[0]["nodes"])
-    spread = statistics.stdev(moves) if len(moves) > 1 else 0.0
-    return Group(name, nodes, int(rows[0]["agents"]), len(rows), sum(map(is_solved, rows)), statistics.fmean(moves),
-                 CONFIDENCE * spread / len(moves) ** 0.5, max(rows, key=lambda row: int(row["moves"])),
-                 max(int(row["lost"]) for row in rows), BOUNDS[spec.bound](nodes) if spec.bound else None)
+    return Group(name, nodes, int(rows[0]["agents"]), len(rows), sum(map(is_solved, rows)), spread_of(moves),
+                 max(rows, key=lambda row: int(row["moves"])), max(int(row["lost"]) for row in rows),
+                 BOUNDS[spec.bound](nodes) if spec.bound else None)
 
 
 def summary(groups: Iterable[Group]) -> List[Sequence[str]]:
@@ -132,8 +132,9 @@ def draw_line(axes: Any, groups: Sequence[Group], spots: Dict[str, float], style
     across = [spots[group.name[0]] + apart for group in groups]
     colour, joined = COLOURS[number % len(COLOURS)], "-" if is_one_family(spec) else ""
     name = scheduler if len(spec.teams) == 1 else f"{team}, {scheduler}"
-    axes.errorbar(across, [group.mean for group in groups], yerr=[group.confidence for group in groups], color=colour,
-                  linestyle=joined, marker="o", markersize=4, capsize=2, label=f"{name}: mean")
+    axes.errorbar(across, [group.moves.mean for group in groups], color=colour,
+                  yerr=[group.moves.confidence for group in groups], linestyle=joined, marker="o", markersize=4,
+                  capsize=2, label=f"{name}: mean")
     axes.plot(across, [int(group.worst["moves"]) for group in groups], color=colour, linestyle="", marker="^",
               markersize=6, fillstyle="none", label=f"{name}: most")
 
@@ -141,16 +142,25 @@ def draw_line(axes: Any, groups: Sequence[Group], spots: Dict[str, float], style
 def draw_bound(axes: Any, spec: Grid, spots: Dict[str, float]) -> None:
     if spec.bound is None:
         return
-    bounds = [BOUNDS[spec.bound](spec.networks[name].nodes) for name in spec.names]
-    axes.plot([spots[name] for name in spec.names], bounds, color="#555555", linewidth=1, marker="_", markersize=14,
-              linestyle="--" if is_one_family(spec) else "", label=spec.bound)
+    bound, style = BOUNDS[spec.bound], {"color": "#555555", "linewidth": 1, "label": spec.bound}
+    if is_one_family(spec):
+        # a curve, and not a line from network to network
+        first, last = min(spots.values()), max(spots.values())
+        across = [first + (last - first) * point / POINTS for point in range(POINTS + 1)]
+        axes.plot(across, [bound(nodes) for nodes in across], linestyle="--", **style)
+    else:
+        heights = [bound(spec.networks[name].nodes) for name in spec.names]
+        axes.plot([spots[name] for name in spec.names], heights, linestyle="", marker="_", markersize=14, **style)
 
 
 def label_axes(axes: Any, spec: Grid, spots: Dict[str, float]) -> None:
     axes.set_ylabel("moves")
     axes.set_ylim(bottom=0)
+    whole = needed("matplotlib.ticker").MaxNLocator
+    axes.yaxis.set_major_locator(whole(integer=True))
     if is_one_family(spec):
         axes.set_xlabel("nodes")
+        axes.xaxis.set_major_locator(whole(integer=True))
     else:
         axes.set_xticks(list(spots.values()), list(spots), rotation=25, ha="right")
     for side in ("top", "right"):

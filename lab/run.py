@@ -7,6 +7,11 @@ The command says what the matches came to. It names the seed of the shortest mat
 the match with the most moves. With --keep it writes that match to a folder: its schedule, the script for `arena
 rehearse`, its replay and a page.
 
+--workers spreads the matches over processes; the rows are the same. With --json each match is a line of JSON on
+standard output, and what they came to is said on standard error:
+
+    python3 -m lab run --agent "examples/agents/ring.py {nodes}" --seeds 100:120 --workers 4 --json > out/rows.jsonl
+
 Schedulers:
     fair            every choice is as likely as any other
     slow-agents     some agents are answered late for the whole match, and some arrive late
@@ -20,24 +25,14 @@ Schedulers:
 import argparse
 import collections
 import pathlib
-from typing import Counter, List, NamedTuple, Optional, Tuple
+import re
+import sys
+from typing import Counter, Iterable, List, Optional, TextIO, Tuple
 
-from lab import finds, schedulers, teams
-from lab.agent_files import NoAgent, member
+from lab import finds, games, teams
 from lab.counts import at_least_one
 from lab.engines import add_engine, program_of
-from lab.play import Played, play
-from lab.progress import bar
-from lab.schedules import Schedule, schedule_of
-
-
-class Best(NamedTuple):
-    """The match that is worth most: the shortest in which the team failed, or else the one with the most moves."""
-
-    rank: Tuple[bool, int]
-    seed: int
-    schedule: Schedule
-    played: Played
+from lab.games import Asked, Row
 
 
 class Tally:
@@ -46,24 +41,27 @@ class Tally:
     def __init__(self) -> None:
         self.outcomes: Counter[str] = collections.Counter()
         self.failed = 0
-        self.best: Optional[Best] = None
+        # what is worth most: the shortest match in which the team failed, or else the one with the most moves
+        self.best: Optional[Row] = None
 
-    def add(self, seed: int, schedule: Schedule, played: Played) -> None:
-        verdict = played.verdict()
-        self.outcomes[verdict.outcome.split()[0]] += 1
-        self.failed += played.has_failed()
-        rank = (True, -len(played.choices)) if played.has_failed() else (False, verdict.moves)
-        if self.best is None or rank > self.best.rank:
-            self.best = Best(rank, seed, schedule, played)
+    def add(self, row: Row) -> None:
+        self.outcomes[row["outcome"].split()[0]] += 1
+        self.failed += row["failed"]
+        if self.best is None or rank(row) > rank(self.best):
+            self.best = row
 
 
-def maker_of(name: str) -> schedulers.Maker:
-    """The scheduler that a word names."""
-    if name in schedulers.NAMED:
-        return schedulers.NAMED[name]
-    if ".py" not in name:
-        raise NoAgent(f"{name}: there is no such scheduler; there are {', '.join(schedulers.NAMED)} and FILE.py:NAME")
-    return member(name, "scheduler")
+def rank(row: Row) -> Tuple[bool, int]:
+    """How much a match is worth."""
+    return (True, -row["choices"]) if row["failed"] else (False, row["moves"])
+
+
+def seeds(word: str) -> range:
+    """Seeds in words: `A:B` for those from A up to B, without B."""
+    found = re.fullmatch(r"(-?\d+):(-?\d+)", word)
+    if not found or int(found[1]) >= int(found[2]):
+        raise argparse.ArgumentTypeError(f"{word} names no seeds: write A:B for those from A up to B, without B")
+    return range(int(found[1]), int(found[2]))
 
 
 def add_words(parser: argparse.ArgumentParser) -> None:
@@ -72,53 +70,49 @@ def add_words(parser: argparse.ArgumentParser) -> None:
     parser.add_argument("--scheduler", metavar="NAME", default="fair", help="who chooses what happens next (fair)")
     parser.add_argument("--seed", metavar="S", type=int, default=0, help="the first seed (0)")
     parser.add_argument("--runs", metavar="N", type=at_least_one, default=1, help="how many seeds (1)")
+    parser.add_argument("--seeds", metavar="A:B", type=seeds, help="the seeds from A up to B, without B, instead of "
+                        "--seed and --runs")
+    parser.add_argument("--workers", metavar="N", type=at_least_one, default=1, help="how many processes play (1)")
+    parser.add_argument("--json", action="store_true", help="print each match as a line of JSON, and what they came to "
+                        "on standard error")
     parser.add_argument("--keep", metavar="FOLDER", type=pathlib.Path, help="write the match that is told there")
     add_engine(parser)
 
 
 def run(words: argparse.Namespace) -> int:
-    program = program_of(words)
-    tally = Tally()
+    program, game = program_of(words), teams.game_of(words)
+    games.maker_of(words.scheduler)
+    numbers = words.seeds or range(words.seed, words.seed + words.runs)
+    asked = [Asked(game, words.scheduler, seed, program) for seed in numbers]
+    tally, was_stopped, out = Tally(), False, sys.stderr if words.json else sys.stdout
     try:
-        with bar(words.runs, "match") as shown:
-            for seed in range(words.seed, words.seed + words.runs):
-                tally.add(seed, *play_seed(words, seed, program))
-                shown.update()
+        count(games.rows_of(asked, words.workers), tally, words.json)
     except KeyboardInterrupt:
-        print("interrupted; this was played:")
+        was_stopped = True
+        print("interrupted; this was played:", file=out)
     if tally.best is None:
         return 130
-    report(words, tally, tally.best, program)
-    return 1 if tally.failed else 0
+    report(tally, tally.best, words.keep, out)
+    return 1 if tally.failed else 130 if was_stopped else 0
 
 
-def spent_in(played: Played) -> List[str]:
-    """Which agents have no commands left of their quota."""
-    quota = played.match.setup.quota
-    return [f"agent {number}: has used all of its {quota} commands" for number, agent in enumerate(played.match.agents)
-            if agent.used == quota]
+def count(rows: Iterable[Row], tally: Tally, is_printed: bool) -> None:
+    """Counts what matches come to, and prints their rows if they are asked for."""
+    for row in rows:
+        tally.add(row)
+        if is_printed:
+            print(row.line(), flush=True)
 
 
-def play_seed(words: argparse.Namespace, seed: int, program: Optional[str]) -> Tuple[Schedule, Played]:
-    """The match of a seed."""
-    scheduler = maker_of(words.scheduler)(seed)
-    fixture, agents = teams.fixture_for(words, seed), teams.team_of(words)
-    empty = schedule_of(fixture, agents, teams.origin_of(words, f"{words.scheduler} {seed}"), [])
-    engine, team = finds.engine_of(empty, program), teams.Together(agents, fixture, words.limit)
-    played = play(engine, team, scheduler, fixture)
-    return empty._replace(choices=played.choices), played
-
-
-def report(words: argparse.Namespace, tally: Tally, best: Best, program: Optional[str]) -> None:
+def report(tally: Tally, best: Row, keep: Optional[pathlib.Path], out: TextIO) -> None:
     """Says what the matches came to, and what the one that is worth most is."""
     counts = ", ".join(f"{outcome} {count}" for outcome, count in tally.outcomes.most_common())
     played = sum(tally.outcomes.values())
-    print(f"{played} schedule{'' if played == 1 else 's'}: {counts}; failed {tally.failed}")
-    setup = best.schedule.fixture.setup
     told = "the shortest that failed" if tally.failed else "the most moves"
-    print(f"{told}: seed {best.seed}, home {setup.home}, holes {setup.holes}, "
-          f"{finds.verdict_text(best.played.verdict())}")
-    for fault in [*best.played.faults, *spent_in(best.played)]:
-        print(fault)
-    if words.keep:
-        print("\n".join(finds.write_find(words.keep, best.schedule, best.played, program)))
+    record = best.match()
+    lines: List[str] = [f"{played} schedule{'' if played == 1 else 's'}: {counts}; failed {tally.failed}",
+                        f"{told}: seed {best['seed']}, home {best['home']}, holes {best['holes']}, "
+                        f"{finds.verdict_text(record.verdict)}", *record.faults()]
+    print("\n".join(lines), file=out)
+    if keep:
+        print("\n".join(record.keep(keep)), file=out)

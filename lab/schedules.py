@@ -1,6 +1,6 @@
 """Schedules in files: a head, which is a line of JSON, and then one choice a line.
 
-    {"agents":[..],"files":{..},"fixture":{..},"lab":"1","origin":"fair 3","schedule":1}
+    {"agents":[..],"files":{..},"fixture":{..},"lab":"1","origin":"fair 3 on ring:8","schedule":1}
     answer 0
     answer 1
     arrive 0
@@ -14,11 +14,10 @@ import pathlib
 from typing import Dict, List, NamedTuple
 
 from lab import VERSION
-from lab.agent_files import digests
-from lab.fixtures import Fixture, NoMatch, checked, pairs
-from lab.model import Object, Setup, spelled
+from lab.fixtures import OWN_TEAM, Fixture, NoMatch, checked, pairs
+from lab.model import Object, Setup, link_of, place_of, spelled
 from lab.schedulers import ANSWER, ARRIVE, WAKE, Choice
-from lab.teams import INSIDE, OUTSIDE, AgentWords
+from lab.teams import INSIDE, OUTSIDE, AgentWords, digests_of
 
 
 class NoSchedule(Exception):
@@ -34,9 +33,14 @@ class Schedule(NamedTuple):
     choices: List[Choice]
     files: Dict[str, str]
 
+    def title(self) -> str:
+        """What its page is called: the team or its agents, and how it was found."""
+        names = ", ".join(dict.fromkeys(agent.name() for agent in self.agents))
+        return f"{names if self.fixture.team == OWN_TEAM else self.fixture.team}: {self.origin}"
+
 
 def schedule_of(fixture: Fixture, agents: List[AgentWords], origin: str, choices: List[Choice]) -> Schedule:
-    return Schedule(fixture, agents, origin, choices, digests([agent.words for agent in agents]))
+    return Schedule(fixture, agents, origin, choices, digests_of(agents))
 
 
 def text_of(schedule: Schedule) -> str:
@@ -59,10 +63,9 @@ def read(path: pathlib.Path) -> Schedule:
         head = json.loads(lines[0])
         given = dict(head["fixture"])
         team, keys, held = (given.pop(name) for name in ("team", "keys", "held"))
-        for name in ("links", "dark"):
-            given[name] = [tuple(it) for it in given[name]]
+        given.update(links=list(map(link_of, given["links"])), dark=list(map(place_of, given["dark"])))
         naps = given.pop("naps", 0)
-        fixture = Fixture(team, checked(Setup(**given)), keys, [tuple(it) for it in held], naps)
+        fixture = Fixture(team, checked(Setup(**given)), keys, list(map(place_of, held)), naps)
         agents = [agent_of(line) for line in head["agents"]]
         if not len(agents) == len(keys) == fixture.setup.agents:
             raise NoSchedule(f"{path}: its head names {len(agents)} agents and {len(keys)} keys, and the match has "

@@ -14,7 +14,7 @@ import pathlib
 import socket
 import threading
 import time
-from typing import Any, Dict, List, Tuple
+from typing import Any, Dict, List, Set, Tuple
 
 from lab.delays import Turns
 from lab.fixtures import Fixture, read_tournament
@@ -86,7 +86,7 @@ class Game:
 class Session:
     """One connection of a client."""
 
-    def __init__(self, connection: socket.socket, keys: Dict[str, Tuple[Game, int]], taken: set) -> None:
+    def __init__(self, connection: socket.socket, keys: Dict[str, Tuple[Game, int]], taken: Set[str]) -> None:
         self.connection = connection
         self.reader = connection.makefile("rb")
         self.keys = keys
@@ -112,7 +112,8 @@ class Session:
             lines = self.lines()
             seat = self.seat(next(lines, None))
             if seat:
-                self.play(*seat, lines)
+                game, agent = seat
+                self.play(game, agent, lines)
         except OSError:
             pass
         finally:
@@ -162,13 +163,14 @@ def table(rows: List[Tuple[str, Verdict]]) -> str:
     """The table of teams and verdicts, best first."""
     ranked = sorted(rows, key=lambda row: (RANKS.index(row[1].outcome.split()[0]), row[1].moves, row[1].lost, row[0]))
     lines = [("#", "team", "outcome", "moves", "lost")]
-    lines += [(str(place), team, *map(str, verdict)) for place, (team, verdict) in enumerate(ranked, 1)]
+    lines += [(str(place), team, verdict.outcome, str(verdict.moves), str(verdict.lost))
+              for place, (team, verdict) in enumerate(ranked, 1)]
     return "".join(f"{a:>3} {b:<16} {c:<10} {d:>6} {e:>4}\n" for a, b, c, d, e in lines)
 
 
 def host(listener: socket.socket, sessions: int, keys: Dict[str, Tuple[Game, int]]) -> None:
     """Serves this number of sessions to their ends."""
-    taken: set = set()
+    taken: Set[str] = set()
     threads = []
     for _ in range(sessions):
         connection, _ = listener.accept()

@@ -13,8 +13,9 @@ import time
 from typing import Callable, Dict, List, Optional
 
 from lab import explore, schedulers
+from lab.agent_files import AGENTS
 from lab.counts import at_least_one
-from lab.engines import TOP, add_program, is_unproved, program_at
+from lab.engines import add_program, name_of, program_at
 from lab.finds import engine_of
 from lab.fixtures import Fixture, fixture_of
 from lab.model import Setup
@@ -24,7 +25,7 @@ from lab.progress import bar
 from lab.schedules import schedule_of
 from lab.teams import INSIDE, OUTSIDE, AgentWords, Together
 
-AGENT = TOP / "examples" / "agents" / "ring.py"
+AGENT = AGENTS / "ring.py"
 NODES, HOLE, SMALL = 64, 20, 7
 ROUNDS = 5
 TEAMS = {
@@ -69,9 +70,8 @@ def add_words(parser: argparse.ArgumentParser) -> None:
 
 
 def run(words: argparse.Namespace) -> int:
-    program = program_at(words.program)
-    name = "the program without a proof" if is_unproved(program) else "the program"
-    engines: Dict[str, Optional[str]] = {"the Python model": None, name: program}
+    named = program_at(words.program)
+    engines: Dict[str, Optional[str]] = {"the Python model": None, name_of(named): named}
     for engine, program in engines.items():
         for team, agent in TEAMS.items():
             found = rate(lambda seed: steps(agent, program, seed), words.rounds)

@@ -3,8 +3,8 @@
 A job plays matches one by one. Its results come in the order of the matches, whoever plays them.
 """
 import concurrent.futures
+import ctypes
 import functools
-import hashlib
 import io
 import multiprocessing
 import os
@@ -14,11 +14,13 @@ import signal
 import subprocess
 import sys
 from concurrent.futures.process import BrokenProcessPool
-from typing import Any, Dict, Iterable, Iterator, List, NamedTuple, Protocol, Sequence
+from typing import Any, Dict, Generator, Iterable, Iterator, List, NamedTuple, Protocol, Sequence
 
 from lab.agent_files import NoAgent
-from lab.engines import TOP, Differs, NoProgram, Refused
+from lab.built import NoProgram
+from lab.engines import TOP, Differs, Refused
 from lab.grid import Case
+from lab.imports import digest_of
 from lab.missing import Missing, needed
 from lab.networks import NoNetwork
 from lab.schedulers import Impossible
@@ -28,14 +30,23 @@ from lab.walls import NoCell
 FAULTS = (Differs, Impossible, Missing, NoAgent, NoCell, NoNetwork, NoProgram, NoUser, Refused, OSError)
 # how many matches a Dask worker takes at a time, and how many seconds its scheduler may take to answer
 BATCH, SECONDS_TO_ANSWER = 20, 20
+# of Linux: asks for a signal when the parent ends
+PR_SET_PDEATHSIG = 1
 # what a Dask worker runs: the lab, in a process of its own
 PLAY = f"import sys; sys.path.insert(0, {str(TOP)!r}); from lab.spread import serve; serve()"
+
+
+class Numbered(Protocol):
+    """A match that has a number."""
+
+    @property
+    def number(self) -> int: ...
 
 
 class Job(Protocol):
     """Plays matches. It is sent to other processes."""
 
-    def play(self, case: Case) -> Any:
+    def play(self, case: Any) -> Any:
         """What came of a match."""
 
     def digests(self) -> Dict[str, str]:
@@ -53,7 +64,7 @@ class NoCluster(Exception):
     """No Dask scheduler answers, or its workers cannot play; says what to change."""
 
 
-def result_of(job: Job, case: Case) -> Result:
+def result_of(job: Job, case: Numbered) -> Result:
     if is_over is not None and is_over.is_set():
         return Result(None, f"run {case.number}: it is not played any more")
     try:
@@ -66,18 +77,28 @@ def result_of(job: Job, case: Case) -> Result:
 is_over: Any = None
 
 
-def begin(over: Any) -> None:
+def begin(over: Any, parent: int) -> None:
     """Begins a worker. Who interrupts the command interrupts it alone; it ends its workers."""
     global is_over
     is_over = over
     signal.signal(signal.SIGINT, signal.SIG_IGN)
     signal.signal(signal.SIGTERM, signal.SIG_DFL)
+    end_with(parent)
 
 
-def over_processes(job: Job, cases: Sequence[Case], workers: int, at_a_time: int = 4) -> Iterator[Result]:
+def end_with(parent: int) -> None:
+    """Has Linux end this process when the process that started it ends, also by a signal that cannot be caught."""
+    ctypes.CDLL(None, use_errno=True).prctl(PR_SET_PDEATHSIG, signal.SIGTERM)
+    if os.getppid() != parent:
+        # it ended before
+        os._exit(1)
+
+
+def over_processes(job: Job, cases: Sequence[Numbered], workers: int, at_a_time: int = 4
+                   ) -> Generator[Result, None, None]:
     """The results of all matches, in order, by this number of processes, each of which takes some at a time."""
     over = multiprocessing.Event()
-    pool = concurrent.futures.ProcessPoolExecutor(workers, initializer=begin, initargs=(over,))
+    pool = concurrent.futures.ProcessPoolExecutor(workers, initializer=begin, initargs=(over, os.getpid()))
     try:
         yield from pool.map(functools.partial(result_of, job), cases, chunksize=at_a_time)
     except BrokenProcessPool:
@@ -132,17 +153,13 @@ def results_in(future: Any) -> List[Result]:
     if ran.returncode != 0:
         said = ran.stderr.decode(errors="replace").strip().splitlines()
         raise NoCluster(f"a Dask worker cannot play: {said[-1] if said else f'status {ran.returncode}'}")
-    return pickle.loads(ran.stdout)
+    found: List[Result] = pickle.loads(ran.stdout)
+    return found
 
 
 def own_digests() -> Dict[str, str]:
-    """The SHA-256 of each file of the lab."""
-    return {str(path): digest_of(path) for path in sorted((TOP / "lab").glob("*.py"))}
-
-
-def digest_of(path: pathlib.Path) -> str:
-    """The SHA-256 of a file, or nothing if there is no such file."""
-    return hashlib.sha256(path.read_bytes()).hexdigest() if path.is_file() else ""
+    """The SHA-256 of each file of the lab that plays."""
+    return {str(path): digest_of(path) for path in sorted((TOP / "lab").rglob("*.py")) if "tests" not in path.parts}
 
 
 def other_files(files: Dict[str, str]) -> List[str]:

@@ -9,36 +9,38 @@ again: it goes on behind the last row. The same file gives the same rows, howeve
 With --cluster the runs are spread over the workers of a Dask scheduler (Debian's python3-distributed), on this machine
 or others: `dask-scheduler`, then `dask-worker ADDRESS` for each, then `--cluster ADDRESS`. The rows are the same.
 
-A row has the verdict of the proved program on the replay, and the replay's SHA-256. With `--engine model` the Python
-model plays and judges, which is faster and proves nothing; the rows are the same. If you name a program with it by
---program, the program plays the runs that are kept once more, and their replays must be the same.
+A row has the verdict of the program on the replay, and the replay's SHA-256. With `--engine model` the Python model
+plays and judges, which is faster and proves nothing; the rows are the same. If you name a program with it by --program,
+the program plays the runs that are kept once more, and their replays must be the same.
+
+`made.json` has the SHA-256 of all that rows depend on: the sweep, the files of agents and schedulers with what they
+import, the lab, the program and Python. If one of them is another, the command refuses to go on in the folder. With
+--verify it plays rows again and says which come out otherwise; the engine may be another than that which made them.
 """
 import argparse
-import csv
 import hashlib
-import io
-import json
 import os
 import pathlib
+import sys
 import tempfile
 from typing import Any, Dict, Iterable, Iterator, List, NamedTuple, Optional, Tuple
 
-from lab import grid, report
+from lab import grid, report, verify
 from lab.agent_files import digests
 from lab.counts import at_least_one
-from lab.engines import Differs, add_engine, judged, program_at, program_of
+from lab.engines import Differs, add_engine, judged, name_of, program_at, program_of
 from lab.finds import engine_of, write_find
+from lab.games import maker_of
 from lab.grid import Case, Grid, NoSweep
 from lab.play import Played, play
 from lab.progress import along
-from lab.run import maker_of
 from lab.schedules import Schedule, schedule_of
 from lab.spread import Result, over_cluster, over_processes
+from lab.tables import (RUNS, NoTable, alone_in, cells_in, changed_in, checked, done_in, line_of, made_by, prepared,
+                        rows_in)
 from lab.teams import Together
 
-COLUMNS = ("run", "network", "nodes", "links", "home", "hole", "team", "agents", "scheduler", "seed", "outcome",
-           "moves", "lost", "commands", "events", "replay", "fault")
-RUNS, SUMMARY, REPORT, MADE, WORST = "runs.csv", "summary.csv", "report.html", "made.json", "worst"
+SUMMARY, REPORT, WORST = "summary.csv", "report.html", "worst"
 # an agent may wait for a processor that has much other work: a row is not to depend on that
 LIMIT = 60
 
@@ -62,7 +64,7 @@ def played_case(work: Work, spec: Grid, case: Case) -> Tuple[Schedule, Played]:
     """Plays a run."""
     fixture = spec.fixture(case)
     agents = [case.team.words] * fixture.setup.agents
-    empty = schedule_of(fixture, agents, f"{case.scheduler} {case.seed}", [])
+    empty = schedule_of(fixture, agents, f"{case.scheduler} {case.seed} on {case.network}", [])
     scheduler, team = maker_of(case.scheduler)(case.seed), Together(agents, fixture, LIMIT)
     played = play(engine_of(empty, work.program), team, scheduler, fixture)
     return empty._replace(choices=played.choices), played
@@ -86,55 +88,14 @@ def row_for(case: Case, schedule: Schedule, played: Played, program: Optional[st
     commands = sum(agent.used for agent in match.agents)
     found = (case.number, case.network, setup.nodes, len(setup.links), setup.home, case.hole, case.team.name,
              setup.agents, case.scheduler, case.seed, verdict.outcome, verdict.moves, verdict.lost, commands,
-             len(match.log), hashlib.sha256(played.replay).hexdigest())
+             len(match.log), hashlib.sha256(played.replay).hexdigest(), "")
     faults = [" ".join(fault.split()) for fault in played.faults]
-    return [*map(str, found), *(faults or [""])]
+    return checked([*map(str, found), *(faults or [""])])
 
 
-def line_of(row: Iterable[str]) -> str:
-    """A row as a line of a CSV file."""
-    text = io.StringIO()
-    csv.writer(text, lineterminator="\n").writerow(row)
-    return text.getvalue()
-
-
-def rows_in(path: pathlib.Path) -> List[report.Row]:
-    """The rows of a file. A row ends with a field for each fault, and `faults` has them all."""
-    with path.open(encoding="utf-8", newline="") as file:
-        rows = list(csv.DictReader(file, restkey=report.MORE))
-    return [{**row, report.FAULTS: [it for it in (row["fault"], *row.get(report.MORE, [])) if it]} for row in rows]
-
-
-def done_in(path: pathlib.Path) -> int:
-    """How many rows a file has. A row that was not written whole is dropped."""
-    if not path.exists():
-        path.write_text(line_of(COLUMNS), encoding="utf-8")
-    text = path.read_bytes()
-    whole = text[:text.rfind(b"\n") + 1]
-    if whole != text:
-        path.write_bytes(whole)
-    if not whole:
-        path.write_text(line_of(COLUMNS), encoding="utf-8")
-    return max(0, whole.count(b"\n") - 1)
-
-
-def made_of(spec: Grid, text: str, engine: str) -> Dict[str, Any]:
+def made_of(spec: Grid, text: str, program: Optional[str]) -> Dict[str, Any]:
     """What the rows of a folder depend on."""
-    return {"engine": engine, "files": spec.files(), "sweep": hashlib.sha256(text.encode()).hexdigest()}
-
-
-def prepared(folder: pathlib.Path, made: Dict[str, Any]) -> int:
-    """Makes the folder of a sweep, or takes up one that was interrupted; gives how many runs are done."""
-    folder.mkdir(parents=True, exist_ok=True)
-    path, text = folder / MADE, json.dumps(made, indent=1, sort_keys=True) + "\n"
-    if not path.exists():
-        if (folder / RUNS).exists():
-            raise NoSweep(f"{folder / RUNS}: it is not known of which sweep these rows are: name another folder")
-        path.write_text(text, encoding="utf-8")
-    elif path.read_text(encoding="utf-8") != text:
-        raise NoSweep(f"{folder} has the rows of another sweep: the file, its agents or the engine were others; name "
-                      "another folder by --out, or remove this one")
-    return done_in(folder / RUNS)
+    return {**made_by(program), "files": spec.files(), "sweep": hashlib.sha256(text.encode()).hexdigest()}
 
 
 def add_words(parser: argparse.ArgumentParser) -> None:
@@ -142,6 +103,8 @@ def add_words(parser: argparse.ArgumentParser) -> None:
     group = parser.add_argument_group("the file", grid.__doc__)
     group.add_argument("file", metavar="FILE", type=pathlib.Path, help="the sweep")
     parser.add_argument("--out", metavar="FOLDER", type=pathlib.Path, required=True, help="write everything there")
+    parser.add_argument("--verify", metavar="N", type=at_least_one, nargs="?", const=verify.ALL, help="write nothing: "
+                        "play N drawn rows of the folder again, or all, and compare")
     add_workers(parser)
     parser.add_argument("--cluster", metavar="ADDRESS", help="let the workers of a Dask scheduler play, such as "
                         "tcp://192.0.2.7:8786; each needs this folder at the same path")
@@ -161,13 +124,34 @@ def run(words: argparse.Namespace) -> int:
     for name in spec.schedulers:
         maker_of(name)
     cases = list(spec.cases())
-    done = prepared(words.out, made_of(spec, text, words.engine))
+    made = made_of(spec, text, work.program)
+    if words.verify is not None:
+        return verified(work, cases, made, words)
+    with alone_in(words.out):
+        return swept(work, spec, cases, prepared(words.out, made), words)
+
+
+def swept(work: Work, spec: Grid, cases: List[Case], done: int, words: argparse.Namespace) -> int:
+    """Plays the runs that are not done yet, and writes everything."""
     try:
         write_rows(results(work, cases[done:], words), len(cases) - done, words.out)
     except KeyboardInterrupt:
         print(f"interrupted; {done_in(words.out / RUNS)} of {len(cases)} runs are done: the same command goes on there")
         return 130
     return told(work, spec, cases, words)
+
+
+def verified(work: Work, cases: List[Case], made: Dict[str, Any], words: argparse.Namespace) -> int:
+    """Plays rows of the folder again, whoever made them, and compares them."""
+    for name in changed_in(words.out, made):
+        print(f"lab: {name} is other than when the rows were made", file=sys.stderr)
+    rows = cells_in(words.out / RUNS)
+    if len(rows) > len(cases):
+        raise NoTable(f"{words.out / RUNS} has {len(rows)} rows, and the sweep {len(cases)} runs: it is another sweep")
+    numbers = verify.chosen(len(rows), words.verify)
+    found = verify.compared(numbers, rows, results(work, [cases[number] for number in numbers], words))
+    print(f"by {name_of(work.program)}: ", end="")
+    return verify.told(numbers, len(rows), found)
 
 
 def write_rows(results: Iterable[Result], total: int, folder: pathlib.Path) -> None:
@@ -202,7 +186,7 @@ def told(work: Work, spec: Grid, cases: List[Case], words: argparse.Namespace) -
     keeper = work._replace(program=work.program or (program_at(words.program) if words.program else None))
     pages = [report.Kept(row, kept(keeper, spec, cases[int(row["run"])], row, words.out))
              for row in along(report.worst_runs(rows), len(spec.names) * len(spec.teams), "page")]
-    engine = "the proved program" if work.program else "the Python model, of which nothing is proved"
+    engine = name_of(work.program)
     (words.out / REPORT).write_text(report.page(spec, groups, pages, engine), encoding="utf-8")
     failed = sum(not report.is_solved(row) for row in rows)
     print(f"{len(rows)} runs on {engine}: solved {len(rows) - failed}; failed {failed}")

@@ -15,7 +15,7 @@ import argparse
 import pathlib
 import re
 import secrets
-from typing import Dict, List, NamedTuple, Optional, Sequence, Tuple
+from typing import Callable, Dict, List, NamedTuple, Optional, Sequence, Tuple, Union
 
 from lab import networks
 from lab.delays import ADAPTIVE, OBLIVIOUS, ODDS, SCALES, Delays
@@ -54,7 +54,7 @@ def holes_of(words: argparse.Namespace, name: str, network: Network) -> List[int
 
 def agents_on(words: argparse.Namespace, network: Network) -> int:
     """How many agents a team has on a network."""
-    return max(network.degrees()) + 1 if words.agents == DEGREE else words.agents
+    return max(network.degrees()) + 1 if words.agents == DEGREE else int(words.agents)
 
 
 def check_limits(words: argparse.Namespace) -> None:
@@ -125,9 +125,9 @@ def team_name(word: str) -> str:
     return word
 
 
-def number_or(*others: str) -> object:
+def number_or(*others: str) -> Callable[[str], Union[int, str]]:
     """Takes a whole number from 1, or one of these words."""
-    def taken(word: str) -> object:
+    def taken(word: str) -> Union[int, str]:
         if word in others:
             return word
         if not re.fullmatch("[1-9][0-9]*", word):

@@ -78,7 +78,7 @@ def processes_of(user: int) -> List[int]:
         with contextlib.suppress(OSError):
             # a process can choose its name, which stands in the first line, and whose its files are
             lines = path.read_bytes().split(b"\n")[1:]
-            users = next((line.split()[1:] for line in lines if line.startswith(b"Uid:")), [])
+            users = [word for line in lines if line.startswith(b"Uid:") for word in line.split()[1:]]
             has_ended = any(line.startswith(b"State:\tZ") for line in lines)
             if str(user).encode() in users and not has_ended:
                 found.append(int(path.parent.name))

@@ -23,6 +23,7 @@ FILES = {
     "VERSION": "1.2.3\n", "README.md": "read\n", "CHANGELOG.md": "changes\n", "CONTRIBUTING.md": "how\n",
     "arena": "#!/bin/sh\n", "docs/PROOFS.md": "claims\n", "examples/contest.py": "print('played')\n",
     "examples/agents/ring.c": "int main(void) { return 0; }\n", "lab/built.py": "", "lab/tests/test.py": "",
+    "pyproject.toml": (TOP / "pyproject.toml").read_text(),
     "tools/version.py": "", "tools/build": "", "crates.txt": "bhs_main:\n", "crates/bhs_main/src/main.rt": "main\n",
     ".gitignore": "out/\n",
 }

@@ -2,8 +2,8 @@
 An agent on a slow link is away for as long."""
 from typing import Callable
 
-from client import Agent, Spent
-from map import Here, Map, Searcher
+from client import Agent, Here, Spent
+from map import Map, Searcher
 
 NAPS = 3
 

@@ -12,7 +12,7 @@ class Ordered(Map):
             return super().join(place, name, here)
         far = self.number(name)
         self.mark(place, f"{far}.{here.came}")
-        self.mark((far, here.came), f"{place[0]}.{place[1]}")
+        self.mark((far, here.came), f"{place[0]}.{place[1]}")  # type: ignore[arg-type]
 
 
 class Trusting(Searcher):

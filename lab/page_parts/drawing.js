@@ -1,6 +1,12 @@
 // Drawing: the whole match, and what an agent has met.
 const SVG = "http://www.w3.org/2000/svg";
 const LABELS = 700, NODE = 15;
+// from how many nodes on names are shown to who points at a node alone
+const CROWDED = 100;
+// how much of a whiteboard's text is shown, by how many nodes there are: the rest is shown to who points at it
+const ROOM = [[36, 12], [CROWDED, 6], [Infinity, 0]];
+// how many times larger agents and labels are drawn if there are that many nodes
+const LARGER = 2.2;
 // of what an agent has met: how far nodes stand apart, the margin, and how much is shown at once
 const ACROSS = 168, DOWN = 84, EDGE = 92, WIDEST = 1400, HIGHEST = 900;
 
@@ -16,10 +22,16 @@ function ahead(a, b, far) {
   const length = Math.hypot(b[0] - a[0], b[1] - a[1]) || 1;
   return between(a, b, Math.min(far / length, 0.7));
 }
-function mark(layer, [x, y], number, lost) {
-  draw(layer, "circle", { cx: x, cy: y, r: 10, class: lost ? "lost" : "agent" });
-  draw(layer, "text", { x, y: y + 4, class: lost ? "lostnumber" : "number" }, number);
-  if (lost) draw(layer, "text", { x, y: y + 23, class: "word" }, "lost");
+function mark(layer, [x, y], number, lost, times = 1) {
+  const one = draw(layer, "g", { transform: `translate(${Math.round(x)} ${Math.round(y)}) scale(${times})` });
+  draw(one, "circle", { r: 10, class: lost ? "lost" : "agent" });
+  draw(one, "text", { y: 4, class: lost ? "lostnumber" : "number" }, number);
+  if (lost) draw(one, "text", { y: 23, class: "word" }, "lost");
+}
+// the beginning of a whiteboard's text, or a pencil where there is no room; all of it for who points at it
+function board(layer, at, text, room) {
+  const written = draw(layer, "text", { ...at, class: "board" }, room ? excerpt(text, room) : "\u270e");
+  draw(written, "title", {}, shown(text));
 }
 // the spot so far ahead on the way to another one, and so far beside it
 function spotBeside(from, to, far, aside) {
@@ -35,12 +47,15 @@ class Whole {
   constructor(figure, match) {
     this.match = match;
     const side = Math.max(440, Math.min(1500, Math.sqrt(match.nodes) * 135));
-    const wide = 92, high = 48;
+    const wide = 112, high = 56;
     const inner = side - 2 * high;
     this.spots = data.spots.map(([x, y]) => [wide + x / 1000 * inner, high + y / 1000 * inner]);
     const box = `0 0 ${inner + 2 * wide} ${side}`;
     this.svg = draw(figure, "svg", { viewBox: box, role: "img", "aria-label": "the network" });
     this.svg.style.minWidth = side / 2.2 + "px";
+    if (match.nodes > CROWDED) this.svg.classList.add("crowded");
+    this.times = match.nodes > CROWDED ? LARGER : 1;
+    this.room = ROOM.find(([nodes]) => match.nodes <= nodes)[1];
     this.still();
     this.layer = draw(this.svg, "g", {});
   }
@@ -62,8 +77,10 @@ class Whole {
   }
   node(node, x, y) {
     const hole = this.match.holes.includes(node), home = this.match.home === node;
-    if (hole) draw(this.svg, "rect", { x: x - NODE, y: y - NODE, width: 2 * NODE, height: 2 * NODE, class: "hole" });
-    else draw(this.svg, "circle", { cx: x, cy: y, r: NODE, class: "node" });
+    const shape = hole
+      ? draw(this.svg, "rect", { x: x - NODE, y: y - NODE, width: 2 * NODE, height: 2 * NODE, class: "hole" })
+      : draw(this.svg, "circle", { cx: x, cy: y, r: NODE, class: "node" });
+    draw(shape, "title", {}, `node ${node}`);
     if (home) draw(this.svg, "circle", { cx: x, cy: y, r: NODE + 4, class: "node", "fill-opacity": 0 });
     draw(this.svg, "text", { x, y: y + 5, class: hole ? "name inhole" : "name" }, node);
     if (hole || home) this.label(node, hole ? "black hole" : "home");
@@ -71,8 +88,19 @@ class Whole {
   // a label stands between the links of its node, so that it covers no port; the whiteboard's text stands below
   label(node, text) {
     const [x, y] = this.spots[node], turn = this.gap(node);
-    const at = { x: x + Math.cos(turn) * (NODE + 22 + 3 * text.length), y: y + Math.sin(turn) * (NODE + 16) + 4 };
+    const wide = NODE + this.times * (22 + 3 * text.length), high = NODE + this.times * 16;
+    const at = { x: x + Math.cos(turn) * wide, y: y + Math.sin(turn) * high + 4 };
     draw(this.svg, "text", { ...at, class: "beside" }, text);
+  }
+  // a whiteboard's text stands between the links of its node too, farther out than a label
+  boardSpot(node) {
+    const [x, y] = this.spots[node], turn = this.gap(node), across = Math.cos(turn), down = Math.sin(turn);
+    const side = Math.abs(across) > 0.35 ? Math.sign(across) : 0;
+    const isLabelled = node === this.match.home || this.match.holes.includes(node);
+    const farther = isLabelled ? 16 * (down * this.times + (down < -0.2 ? -1 : 1)) : down * (side ? 4 : 12);
+    const anchor = ["end", "middle", "start"][side + 1];
+    const beside = side ? side * (NODE * Math.abs(across) + 7) : 0;
+    return { x: x + beside, y: y + down * NODE + 4 + farther, style: `text-anchor: ${anchor}` };
   }
   // the direction in the middle of the widest gap between the links of a node; below it only if there is no other
   gap(node) {
@@ -98,8 +126,7 @@ class Whole {
     const state = this.match.at(place), many = new Map();
     this.layer.replaceChildren();
     state.boards.forEach((text, node) => {
-      const [x, y] = this.spots[node];
-      if (text) draw(this.layer, "text", { x, y: y + NODE + 14, class: "board" }, excerpt(text));
+      if (text) board(this.layer, this.boardSpot(node), text, this.room);
     });
     state.agents.forEach((agent, number) => {
       if (agent.standing === "accused") {
@@ -110,7 +137,8 @@ class Whole {
       const beside = many.get(key) || 0;
       many.set(key, beside + 1);
       const [x, y] = this.spotOf(agent, beside);
-      mark(this.layer, agent.standing === "away" ? [x + beside * 8, y + beside * 8] : [x, y], number, agent.lost);
+      const aside = agent.standing === "away" ? beside * 8 : 0;
+      mark(this.layer, [x + aside, y + aside], number, agent.lost, this.times);
     });
   }
 }
@@ -182,6 +210,6 @@ class Eyes {
       draw(this.svg, "circle", { cx: x, cy: y, r: NODE + 4, class: "node", "fill-opacity": 0 });
       draw(this.svg, "text", { x: x - 46, y: y - NODE + 4, class: "beside" }, "home");
     }
-    if (text) draw(this.svg, "text", { x, y: y + NODE + 14, class: "board" }, excerpt(text));
+    if (text) board(this.svg, { x, y: y + NODE + 14 }, text, EXCERPT);
   }
 }

@@ -1,4 +1,5 @@
 // The page: which event, seen by whom.
+const MOST_JUMPS = 40;
 const byId = (id) => document.getElementById(id);
 const pasts = new Map();
 let data, match, twin, last, place = 0, eyes = -1, playing = null, pictures = [];
@@ -36,6 +37,20 @@ function about() {
     `${plural(last, "event")}; quota ${match.quota}, whiteboards of ${plural(match.board, "byte")}.`;
   byId("verdict").textContent = `Verdict: ${data.verdict}.` +
     (twin ? ` Of the twin with the black hole at node ${data.twin.node}: ${data.twin.verdict}.` : "");
+}
+// buttons that lead to each loss and each accusation
+function jumps() {
+  const found = [];
+  match.events.forEach((event, at) => {
+    if (event.kind === "v" && !match.reply(at)) found.push([at, `agent ${event.agent} is lost`]);
+    if (event.kind === "a" && match.reply(at).ok) found.push([at, `agent ${event.agent} accuses`]);
+  });
+  byId("jumps").replaceChildren(...found.slice(0, MOST_JUMPS).map(([at, what]) => {
+    const button = document.createElement("button");
+    button.textContent = `${what}: event ${at + 1}`;
+    button.addEventListener("click", () => go(at + 1));
+    return button;
+  }));
 }
 function choices() {
   const add = (value, text) => byId("eyes").append(new Option(text, value));
@@ -180,6 +195,7 @@ async function follow() {
   if (!answer.ok) return;
   take(await answer.json());
   about();
+  jumps();
   figures();
   track();
   go(atEnd ? last : place);
@@ -193,9 +209,10 @@ byId("eyes").addEventListener("change", () => look(Number(byId("eyes").value)));
 window.addEventListener("resize", track);
 take(JSON.parse(byId("data").textContent));
 about();
+jumps();
 choices();
 look(twin ? 0 : -1);
+go(last);
 if (data.news) {
-  go(last);
   new EventSource(`${data.news}/news`).onmessage = follow;
 }

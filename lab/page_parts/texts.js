@@ -17,7 +17,7 @@ function put(element, text) {
   }
   element.append(text.slice(end));
 }
-const excerpt = (text) => {
+const excerpt = (text, room = EXCERPT) => {
   const all = Array.from(shown(text));
-  return all.length > EXCERPT ? all.slice(0, EXCERPT - 1).join("") + "\u2026" : all.join("");
+  return all.length > room ? all.slice(0, room - 1).join("") + "\u2026" : all.join("");
 };

@@ -1,11 +1,14 @@
 """The sample agents solve their networks, whatever the schedule."""
 import random
+import sys
 import unittest
 
 from lab import schedulers
 from lab.agent_files import NoAgent, script_of
 from lab.networks import ring
-from lab.teams import INSIDE, AgentWords
+from lab.play import play
+from lab.rehearsal import Rehearsal
+from lab.teams import INSIDE, AgentWords, Together
 from lab.tests.playing import MAP, RING, InFolder, fixture, network_fixture, played, ring_fixture
 
 RINGS = range(3, 33)
@@ -47,6 +50,20 @@ def search(agent, key):
 """
 
 
+LATE = """
+def search(agent, key):
+    agent.enter(key)
+    import random
+    import helper
+    from tools import inner
+    helper.KEYS.append(key)
+    agent.look()
+    import tools.inner as again
+    again.KEYS.append(key)
+    raise ValueError(f"{helper.NAME} {inner.NAME} {helper.KEYS} {inner.KEYS} {random.random()}")
+"""
+
+
 class Modules(InFolder):
     def test_agents_share_no_module_with_each_other_or_an_earlier_match(self) -> None:
         (self.folder / "helper.py").write_text("KEYS = []\n", encoding="utf-8")
@@ -57,6 +74,28 @@ class Modules(InFolder):
         self.assertEqual([fault.partition(" 0.")[0] for fault in first],
                          ["agent 0: raises ValueError: ['k0']", "agent 1: raises ValueError: ['k1']"])
         self.assertEqual(len({fault.partition("] ")[2] for fault in first}), 2)
+
+    def test_modules_of_the_same_name_are_those_beside_each_agent(self) -> None:
+        """Also packages, and modules that are imported late."""
+        agents = []
+        for name in ("one", "two"):
+            beside = self.folder / name
+            (beside / "tools").mkdir(parents=True)
+            (beside / "helper.py").write_text(f"NAME = {name!r}\nKEYS = []\n", encoding="utf-8")
+            (beside / "tools" / "__init__.py").write_text("from tools import inner\n", encoding="utf-8")
+            (beside / "tools" / "inner.py").write_text(f"NAME = {name!r}\nKEYS = []\n", encoding="utf-8")
+            (beside / "late.py").write_text(LATE, encoding="utf-8")
+            agents.append(AgentWords(INSIDE, str(beside / "late.py")))
+        given = fixture(ring(3), 1)
+        before = sys.modules["random"], list(sys.path)
+        for _ in range(2):
+            team = Together(agents, given, 5)
+            found = play(Rehearsal(given), team, schedulers.fair(0), given).faults
+            self.assertEqual([fault.partition("0.")[0].strip() for fault in found],
+                             ["agent 0: raises ValueError: one one ['k0'] ['k0']",
+                              "agent 1: raises ValueError: two two ['k1'] ['k1']"])
+        self.assertEqual((sys.modules["random"], list(sys.path)), before)
+        self.assertFalse({"helper", "tools", "tools.inner"} & set(sys.modules))
 
     def test_words_that_the_function_does_not_take_are_told(self) -> None:
         setup = fixture(ring(4), 2).setup

@@ -13,7 +13,7 @@ import unittest
 from typing import Any, Dict, List, Optional
 from unittest import mock
 
-from lab import cells, course, schedulers, sweep, watch
+from lab import cells, course, schedulers, tables, watch
 from lab.__main__ import main
 from lab.cells import Walls, Yard
 from lab.engines import TOP
@@ -90,7 +90,7 @@ class Course(unittest.TestCase):
             self.assertEqual(main(["grade", str(file), "--out", str(self.folder / out), "--engine", "model",
                                    "--workers", "2"]), status)
         found: Dict[str, List[Dict[str, Any]]] = {}
-        for row in sweep.rows_in(self.folder / out / sweep.RUNS):
+        for row in tables.rows_in(self.folder / out / tables.RUNS):
             found.setdefault(row["team"], []).append(row)
         return found
 

@@ -10,7 +10,7 @@ import unittest
 from typing import List
 from unittest import mock
 
-from lab import spread, sweep
+from lab import spread, tables
 from lab.__main__ import main
 from lab.spread import digest_of, other_files
 from lab.tests.playing import InFolder, program
@@ -63,7 +63,7 @@ class Clusters(InFolder):
         with contextlib.redirect_stdout(io.StringIO()) as said, contextlib.redirect_stderr(io.StringIO()) as errors:
             status = main(["sweep", str(self.file), "--out", str(self.folder / out), *more])
         self.assertEqual(status, 0, said.getvalue() + errors.getvalue())
-        return (self.folder / out / sweep.RUNS).read_bytes()
+        return (self.folder / out / tables.RUNS).read_bytes()
 
     def test_two_workers_give_the_rows_of_this_machine(self) -> None:
         address = self.scheduler()

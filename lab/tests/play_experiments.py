@@ -7,7 +7,7 @@ from typing import Dict, List
 
 from experiments import make
 from experiments.division import Table, bound, of_ring, of_ring3
-from lab import grid, report, sweep
+from lab import grid, report, sweep, tables
 from lab.engines import TOP
 from lab.sweep import Work
 
@@ -48,7 +48,7 @@ class Experiments(unittest.TestCase):
         for name, (file, networks) in SMALL.items():
             spec = grid.read(make.EXPERIMENTS / f"{file}.toml")._replace(names=networks)
             rows = [sweep.row_of(Work("", None), spec, case) for case in spec.cases()]
-            groups = report.groups_of([dict(zip(sweep.COLUMNS, row)) for row in rows], spec)
+            groups = report.groups_of([dict(zip(tables.COLUMNS, row)) for row in rows], spec)
             given = rows_by_network(name)
             hunted = hunted_in(given) if name == "rings" else {}
             for row in make.rows_of(groups, hunted)[1:]:
@@ -69,7 +69,7 @@ class Experiments(unittest.TestCase):
         scheduler, seed = which.partition(";")[0].replace(",", "").split()[:2]
         case = next(case for case in spec.cases() if (case.network, case.scheduler, case.seed) == (
             network, scheduler, int(seed)))
-        row = dict(zip(sweep.COLUMNS, sweep.row_of(Work("", None), spec, case)))
+        row = dict(zip(tables.COLUMNS, sweep.row_of(Work("", None), spec, case)))
         self.assertEqual((row["outcome"], int(row["agents"]) - int(row["lost"])), ("silent", 1))
         self.assertTrue(make.is_solved_without_limit(spec, case))
 

@@ -9,7 +9,7 @@ import unittest
 from typing import Dict, Iterator, List
 from unittest import mock
 
-from lab import cells, engines, league, schedulers, sweep
+from lab import cells, engines, league, schedulers, tables
 from lab.__main__ import main
 from lab.cells import Cell, Walls, Yard
 from lab.engines import TOP
@@ -66,7 +66,7 @@ class Grading(InFolder):
     def rows(self, out: str) -> Dict[str, List[Dict[str, str]]]:
         """The rows of each team."""
         found: Dict[str, List[Dict[str, str]]] = {}
-        for row in sweep.rows_in(self.folder / out / sweep.RUNS):
+        for row in tables.rows_in(self.folder / out / tables.RUNS):
             found.setdefault(row["team"], []).append(row)
         return found
 
@@ -77,7 +77,7 @@ class Grading(InFolder):
         self.graded(EXAMPLE, "second", *SECRET, "--program", program(), "--workers", "2")
         self.assertEqual(tree(self.folder / "second"), first)
         # the third was interrupted
-        path = self.folder / "second" / sweep.RUNS
+        path = self.folder / "second" / tables.RUNS
         path.write_bytes(path.read_bytes()[:-200])
         (self.folder / "second" / league.PAGE).unlink()
         self.graded(EXAMPLE, "second", "--program", program())

@@ -51,6 +51,20 @@ class Programs(unittest.TestCase):
                 with self.subTest(seed=seed):
                     self.assertEqual(self.of(agents, seed).replay, inside.replay)
 
+    def test_what_a_program_wrote_to_standard_error_is_kept(self) -> None:
+        dies = AgentWords(OUTSIDE, f"{sys.executable} {RUDE} dies {{host}} {{port}} {{key}}")
+        match = self.of([PYTHON, dies], 0)
+        self.assertEqual(list(match.errors), [1])
+        schedule = schedule_of(fixture(ring(8), 5), [PYTHON, dies], "a test", match.choices)
+        with tempfile.TemporaryDirectory() as name:
+            folder = pathlib.Path(name)
+            finds.write_find(folder, schedule, match, None)
+            self.assertIn("no such map", (folder / "errors1.txt").read_text())
+            self.assertFalse((folder / "errors0.txt").exists())
+            # it is no part of the match
+            (folder / "errors1.txt").write_text("another time")
+            self.assertEqual(finds.changed_in(folder, schedule, match, None), [])
+
     @unittest.skipUnless(shutil.which("cc"), "no C compiler")
     def test_programs_in_c_are_played_again_on_both_engines(self) -> None:
         with tempfile.TemporaryDirectory() as folder:

@@ -11,8 +11,9 @@ import textwrap
 import unittest
 from typing import Iterator, List, Tuple
 
+from lab import built
 from lab.__main__ import main
-from lab.engines import TOP
+from lab.engines import TOP, name_of
 from lab.tests.playing import program
 
 README = TOP / "lab" / "README.md"
@@ -49,7 +50,8 @@ class Readme(unittest.TestCase):
                 with self.subTest(command):
                     said = self.said(command, pathlib.Path(folder))
                     for line in wanted:
-                        parts = [re.escape(part) for part in line.replace("out/", f"{folder}/").split("..")]
+                        line = line.replace("out/", f"{folder}/").replace(built.PROGRAM, name_of(program()))
+                        parts = [re.escape(part) for part in line.split("..")]
                         self.assertRegex(said, re.compile("^" + ".*".join(parts) + "$", re.M))
 
     def test_the_adversary_is_the_one_of_the_examples(self) -> None:

@@ -175,7 +175,7 @@ class Hunting(Searches):
         with mock.patch.object(hunt, "play", play):
             status = self.command("hunt", "--network", "ring:8", "--agent", RING.words, "--for", "moves",
                                   "--database", str(self.folder / "db"), *self.kept())
-        self.assertEqual(status, 0, self.said)
+        self.assertEqual(status, 130, self.said)
         self.assertIn("interrupted; this was found:\n10 schedules were tried", self.said)
 
 

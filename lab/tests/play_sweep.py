@@ -10,11 +10,11 @@ import subprocess
 import sys
 import time
 import unittest
-from typing import List
+from typing import List, Tuple
 
-from lab import finds, sweep
+from lab import finds, sweep, tables
 from lab.__main__ import main
-from lab.engines import TOP
+from lab.engines import BY_MODEL, TOP, name_of
 from lab.tests.playing import InFolder, program
 
 TEXT = """title = "A <small> trial"
@@ -46,14 +46,14 @@ class Sweeps(InFolder):
         with contextlib.redirect_stdout(io.StringIO()) as said:
             self.assertEqual(main(self.words(out, *more)), 1)
         self.assertRegex(said.getvalue(), r"48 runs on .*: solved \d+; failed [1-9]")
-        return (self.folder / out / sweep.RUNS).read_bytes()
+        return (self.folder / out / tables.RUNS).read_bytes()
 
     def test_the_rows_are_the_same_by_either_engine_and_by_more_workers(self) -> None:
         rows = self.swept("program", "--workers", "2", "--program", program())
         self.assertEqual(self.swept("model", "--workers", "1", *MODEL), rows)
         self.assertEqual(self.swept("more", "--workers", "3", "--program", program(), *MODEL), rows)
-        self.check_report(self.folder / "program", "the proved program")
-        self.check_report(self.folder / "more", "the Python model")
+        self.check_report(self.folder / "program", name_of(program()))
+        self.check_report(self.folder / "more", BY_MODEL)
 
     def check_report(self, folder: pathlib.Path, engine: str) -> None:
         page = (folder / sweep.REPORT).read_text()
@@ -61,7 +61,7 @@ class Sweeps(InFolder):
         self.assertIn(f"played and judged by {engine}", page)
         links = re.findall('href="(worst/[^"]*)"', page)
         self.assertEqual(len(set(links)), 4)
-        digests = {row["run"]: row["replay"] for row in sweep.rows_in(folder / sweep.RUNS)}
+        digests = {row["run"]: row["replay"] for row in tables.rows_in(folder / tables.RUNS)}
         for link in links:
             self.assertTrue(link.endswith(".html") and (folder / link).is_file(), link)
             place = folder / pathlib.Path(link).parent
@@ -73,7 +73,7 @@ class Sweeps(InFolder):
         rows = self.swept("whole", *MODEL)
         report = (self.folder / "whole" / sweep.REPORT).read_bytes()
         self.swept("torn", *MODEL)
-        path = self.folder / "torn" / sweep.RUNS
+        path = self.folder / "torn" / tables.RUNS
         path.write_bytes(rows[:len(rows) // 2])
         self.assertEqual(self.swept("torn", "--workers", "2", *MODEL), rows)
         self.assertEqual((self.folder / "torn" / sweep.REPORT).read_bytes(), report)
@@ -85,7 +85,7 @@ class Sweeps(InFolder):
         heeds = functools.partial(signal.signal, signal.SIGINT, signal.SIG_DFL)
         with subprocess.Popen(words, cwd=TOP, stdout=subprocess.PIPE, text=True, start_new_session=True,
                               preexec_fn=heeds) as ran:
-            path = self.folder / "stopped" / sweep.RUNS
+            path = self.folder / "stopped" / tables.RUNS
             until = time.monotonic() + 120
             while time.monotonic() < until and not (path.exists() and path.read_bytes().count(b"\n") > 5):
                 time.sleep(0.02)
@@ -97,9 +97,73 @@ class Sweeps(InFolder):
     def test_a_changed_file_needs_another_folder(self) -> None:
         self.swept("out", *MODEL)
         self.file.write_text(TEXT.replace("seeds = 6", "seeds = 7"))
+        self.assertIn("has rows that were made otherwise: sweep differ;", self.refused("out", *MODEL))
+
+    def refused(self, out: str, *more: str) -> str:
+        """What is said of a sweep that is refused."""
         with contextlib.redirect_stderr(io.StringIO()) as errors:
-            self.assertEqual(main(self.words("out", *MODEL)), 2)
-        self.assertIn("has the rows of another sweep", errors.getvalue())
+            self.assertEqual(main(self.words(out, *more)), 2)
+        return errors.getvalue()
+
+    def small(self, agent: pathlib.Path) -> None:
+        self.file.write_text(TEXT.partition("[[team]]")[0] + f'[[team]]\nname = "own"\nagent = "{agent} {{nodes}}"\n')
+
+    def test_it_does_not_go_on_once_a_file_that_an_agent_imports_has_changed(self) -> None:
+        agents, helper = TOP / "examples" / "agents", self.folder / "helper.py"
+        (self.folder / "own.py").write_text("def search(agent, key, nodes):\n    import helper\n"
+                                            "    helper.search(agent, key, nodes)\n")
+        helper.write_text((agents / "ring.py").read_text())
+        self.small(self.folder / "own.py")
+        with contextlib.redirect_stdout(io.StringIO()):
+            self.assertEqual(main(self.words("out", *MODEL)), 0)
+            self.assertEqual(main(["run", "--agent", f"{self.folder}/own.py {{nodes}}", "--keep",
+                                   str(self.folder / "find"), *MODEL]), 0)
+        helper.write_text((TOP / "lab" / "mutants" / "reads_once.py").read_text())
+        self.assertIn(f"made otherwise: {helper}", self.refused("out", *MODEL))
+        with contextlib.redirect_stderr(io.StringIO()) as errors, contextlib.redirect_stdout(io.StringIO()):
+            main(["replay", str(self.folder / "find"), *MODEL])
+        self.assertIn(f"lab: {helper} is another file than when the schedule was made", errors.getvalue())
+
+    def test_another_program_does_not_go_on(self) -> None:
+        self.small(TOP / "examples" / "agents" / "ring.py")
+        with contextlib.redirect_stdout(io.StringIO()):
+            self.assertEqual(main(self.words("out", *MODEL)), 0)
+        self.assertIn("made otherwise: program differ;", self.refused("out", "--program", program()))
+
+    def test_rows_are_verified_by_either_engine(self) -> None:
+        self.small(TOP / "examples" / "agents" / "ring.py")
+        with contextlib.redirect_stdout(io.StringIO()):
+            self.assertEqual(main(self.words("out", *MODEL)), 0)
+        self.assertEqual(self.verified(*MODEL), (0, "24 of 24 rows were played again: 0 differ", ""))
+        status, said, errors = self.verified("3", "--program", program())
+        self.assertEqual((status, said), (0, "3 of 24 rows were played again: 0 differ"))
+        self.assertIn("lab: program is other than when the rows were made", errors)
+        # a forger writes the check of what he has written
+        path = self.folder / "out" / tables.RUNS
+        rows = tables.cells_in(path)
+        rows[5][tables.COLUMNS.index("moves")] = "1"
+        rows[5][tables.CHECK] = tables.check_of(rows[5])
+        path.write_text("".join(map(tables.line_of, [tables.COLUMNS, *rows])))
+        status, said, errors = self.verified(*MODEL)
+        self.assertEqual((status, said), (1, "24 of 24 rows were played again: 1 differ"))
+        self.assertEqual(errors, "run 5 comes out otherwise: moves\n")
+
+    def verified(self, *more: str) -> Tuple[int, str, str]:
+        """The exit status of --verify, the end of its line, and what it says on standard error."""
+        with contextlib.redirect_stderr(io.StringIO()) as errors, contextlib.redirect_stdout(io.StringIO()) as said:
+            status = main(self.words("out", "--verify", *more))
+        return status, said.getvalue().strip().rpartition("proved: ")[2].rpartition("proof: ")[2].rpartition(
+            "program: ")[2], errors.getvalue()
+
+    def test_a_script_that_starts_the_program_is_not_called_proved(self) -> None:
+        script = self.folder / "arena"
+        script.write_text(f"#!/bin/sh\nexec {program()} \"$@\"\n")
+        script.chmod(0o755)
+        self.small(TOP / "examples" / "agents" / "ring.py")
+        self.file.write_text(self.file.read_text().replace("seeds = 6", "seeds = 1"))
+        with contextlib.redirect_stdout(io.StringIO()) as said:
+            self.assertEqual(main(self.words("out", "--program", str(script))), 0)
+        self.assertIn("4 runs on a program of which no record says that it is proved: solved 4", said.getvalue())
 
 
 if __name__ == "__main__":

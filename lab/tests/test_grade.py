@@ -7,7 +7,7 @@ import unittest
 from typing import Any, Dict, List
 from unittest import mock
 
-from lab import course, league, programs, sweep, users
+from lab import course, league, programs, tables, users
 from lab.cells import Walls
 from lab.course import Course, course_of
 from lab.cutting import Cut, Runs, in_words, runs_of, tidy
@@ -25,8 +25,8 @@ SECRET = "0123456789abcdef"
 def row(run: int, team: str, moves: int, outcome: str = "solved", *faults: str) -> Dict[str, Any]:
     network = "ring:4" if run % 2 == 0 else "ring:5"
     fault = faults[0] if faults else ""
-    values = [run, network, 4, 4, 0, 1, team, 2, "fair", run, outcome, moves, 1, 9, 9, "00", fault]
-    return {**dict(zip(sweep.COLUMNS, map(str, values))), "faults": list(faults)}
+    values = [run, network, 4, 4, 0, 1, team, 2, "fair", run, outcome, moves, 1, 9, 9, "00", "", fault]
+    return {**dict(zip(tables.COLUMNS, map(str, values))), "faults": list(faults)}
 
 
 class Folder(unittest.TestCase):
@@ -46,7 +46,7 @@ class Files(Folder):
         self.assertEqual([case.number for case in found], list(range(16)))
         played: Dict[str, List[tuple]] = {"a": [], "b": []}
         for case in found:
-            played[case.team.name].append((case.network, case.hole, case.scheduler, case.seed))
+            played[case.team.name].append((case.network, *case.holes, case.scheduler, case.seed))
         self.assertEqual(played["a"], played["b"])
         self.assertEqual([case.team.name for case in found], ["a"] * 8 + ["b"] * 8)
 
@@ -116,7 +116,7 @@ class Secrets(Folder):
 
     def drawn(self, secret: str, holes: str) -> List[int]:
         text = HEAD.replace("ring:5", "ring:64") + f"holes = {holes}\nseeds = 4\n" + TEAM
-        return [case.hole for case in course_of(text, self.folder, secret).cases() if case.network == "ring:64"]
+        return [case.holes[0] for case in course_of(text, self.folder, secret).cases() if case.network == "ring:64"]
 
     def test_black_holes(self) -> None:
         for holes in ("8", '"by seed"'):
@@ -193,9 +193,9 @@ class Leagues(Folder):
         """So no program's last words can make it two faults."""
         faults = ["agent 0: has ended with status 1: \"x\"; agent 1: forged, \\r", "agent 1: has connected twice"]
         path = self.folder / "runs.csv"
-        path.write_text(sweep.line_of(sweep.COLUMNS) + sweep.line_of([*["0"] * 16, *faults]) + sweep.line_of([
-            *["1"] * 16, ""]))
-        self.assertEqual([found["faults"] for found in sweep.rows_in(path)], [faults, []])
+        rows = [tables.checked([*["0"] * 17, *faults]), tables.checked([*["1"] * 17, ""])]
+        path.write_text("".join(map(tables.line_of, [tables.COLUMNS, *rows])))
+        self.assertEqual([found["faults"] for found in tables.rows_in(path)], [faults, []])
         page = league.pages(self.course().grid, [row(0, "a", 9, "silent", *faults)], {
             0: Failure(0, 5, False, "", False)}, "it")["team-a.html"]
         self.assertEqual(page.count("<li>agent"), 2)

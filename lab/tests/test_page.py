@@ -86,7 +86,7 @@ class Pages(unittest.TestCase):
 
     def test_a_refused_replay_is_refused_with_its_line(self) -> None:
         self.assertEqual(self.written(), 3)
-        self.assertEqual(self.errors, f"{self.replay}: end\n")
+        self.assertEqual(self.errors, f"{self.replay}: end: it stops before its end line, or goes on behind it\n")
         self.assertFalse((self.folder / "match.html").exists())
 
     def test_a_twin_stands_beside_its_match(self) -> None:

@@ -12,7 +12,7 @@ from unittest import mock
 
 from lab import built, networks
 from lab.__main__ import COMMANDS, main
-from lab.engines import TOP, NoProgram, Refused, add_program, asked, is_unproved, program_at
+from lab.engines import TOP, NoProgram, Refused, add_program, asked, name_of, program_at
 from lab.fixtures import Fixture, fixture_of, read_tournament, write_tournament
 from lab.missing import Missing, needed
 from lab.model import Setup
@@ -127,10 +127,10 @@ class CommandLine(unittest.TestCase):
                             (["run", *agent, "--hole", "0"], "black holes are nodes from 0 to 7 other than the home"),
                             (["run", "--engine", "model", "--agent", "nowhere.py"], "there is no such file"),
                             (["run", "--engine", "model", "--agent", "examples/agents/ring.py x"], "are whole numbers"),
-                            (["replay", "/nowhere", "--engine", "model"], "No such file"),
-                            (["hunt", "--engine", "model", "--command", "x"], "name them by --agent")):
+                            (["replay", "/nowhere", "--engine", "model"], "there is no such file or folder"),
+                            (["explore", "--engine", "model", "--command", "x"], "name them by --agent")):
             with self.subTest(words), contextlib.chdir(TOP):
-                with mock.patch("lab.run.bar", mock.MagicMock()):
+                with mock.patch("lab.progress.bar", mock.MagicMock()):
                     self.assertIn(said, self.told(*words))
 
     def test_each_command_has_a_help(self) -> None:
@@ -158,7 +158,7 @@ class CommandLine(unittest.TestCase):
                 with contextlib.redirect_stderr(errors):
                     self.assertEqual(program_at(None), str(program))
             self.assertEqual(errors.getvalue(), said)
-            self.assertEqual(is_unproved(str(program)), bool(said))
+            self.assertEqual(name_of(str(program)), built.UNPROVED if said else built.UNKNOWN)
         with self.assertRaises(Refused) as refused:
             asked(str(folder / "one"), "judge")
         self.assertEqual(str(refused.exception), "replay: line 1")

@@ -33,7 +33,7 @@ from typing import Any, Dict, List, Sequence
 TOP = pathlib.Path(__file__).resolve().parents[2]
 sys.path.insert(0, str(TOP))
 
-from lab import sweep  # noqa: E402
+from lab import tables  # noqa: E402
 
 AGENTS, MUTANT = TOP / "examples" / "agents", TOP / "lab" / "mutants" / "reads_once.py"
 HEAD = """title = "A hostile course"
@@ -137,6 +137,8 @@ sys.stderr.write("\x1b]0;owned\x07\x9b31m\u202e \"q\", =1+1; agent 1: forged\r\x
 sys.exit(3)
 """,
 }
+# what is compared of rows
+NAMES = [name for name in tables.COLUMNS if name not in ("run", "check", "fault")]
 
 
 def team(name: str, files: Sequence[Any], command: str) -> str:
@@ -189,8 +191,8 @@ class Grading:
     def rows(self, out: str) -> Dict[str, List[List[str]]]:
         """The rows of each team, without the numbers of matches."""
         found: Dict[str, List[List[str]]] = {}
-        for row in sweep.rows_in(self.folder / out / sweep.RUNS):
-            found.setdefault(row["team"], []).append([*(row[name] for name in sweep.COLUMNS[1:-1]), *row["faults"]])
+        for row in tables.rows_in(self.folder / out / tables.RUNS):
+            found.setdefault(row["team"], []).append([*(row[name] for name in NAMES), *row["faults"]])
         return found
 
     def check(self, said: str, is_right: bool, more: str = "") -> None:

@@ -20,7 +20,9 @@ DEBIANS_PYTHON = "/usr/bin/python3"
 PACKAGES = ["python3-greenlet", "python3-hypothesis", "python3-tqdm", "python3-networkx",
             "python3-numpy", "python3-scipy", "python3-matplotlib", "python3-distributed", "python3-aiohttp",
             # what keeps programs of a course apart
-            "bubblewrap", "python3-seccomp"]
+            "bubblewrap", "python3-seccomp",
+            # what looks at the lab's types
+            "mypy"]
 # runs the tests, and says how many passed
 TESTS = """
 import sys, unittest

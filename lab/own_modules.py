@@ -1,0 +1,85 @@
+"""Modules that one agent inside the lab has for itself, as a program outside has: its file, what it imports from beside
+it, and `random`. They stand in their places while the agent runs, and those of the lab stand there else.
+"""
+import importlib.util
+import os
+import sys
+import threading
+from types import ModuleType
+from typing import Collection, Dict, List, Sequence, Set
+
+# one thread at a time changes which modules there are
+LOADING = threading.RLock()
+# all folders out of which agents were loaded
+FOLDERS: Set[str] = set()
+RANDOM = "random"
+
+
+def is_beside(module: ModuleType, folders: Collection[str]) -> bool:
+    """Whether a module is a file in one of these folders, or a package in it."""
+    places: Sequence[str] = list(getattr(module, "__path__", None) or [getattr(module, "__file__", None) or ""])
+    return any(os.path.dirname(place) in folders for place in places)
+
+
+def own_names(folders: Collection[str], shared: Collection[str] = ()) -> List[str]:
+    """The names of the loaded modules that stand in these folders, and of what is in them if they are packages; none of
+    the lab's, and none of the shared files."""
+    tops = {name for name, module in list(sys.modules.items()) if "." not in name and name != "lab"
+            and is_beside(module, folders) and getattr(module, "__file__", None) not in shared}
+    return [name for name in sys.modules if name.partition(".")[0] in tops]
+
+
+def random_from(seed: int) -> ModuleType:
+    """A module `random` of its own that begins with this seed."""
+    spec = importlib.util.find_spec(RANDOM)
+    if spec is None or spec.loader is None:
+        raise ImportError("this Python has no module random")
+    made = importlib.util.module_from_spec(spec)
+    spec.loader.exec_module(made)
+    made.seed(seed)
+    return made
+
+
+class OwnModules:
+    """The modules of one agent. Used by `with` around each of its turns; it begins in its first."""
+
+    def __init__(self, seed: int) -> None:
+        self.random = random_from(seed)
+        self._own: Dict[str, ModuleType] = {}
+        self._folders: List[str] = []
+        self._files: Collection[str] = ()
+        self._shared: Dict[str, ModuleType] = {}
+        self._path: List[str] = []
+        self._count = 0
+
+    def begin(self, folders: Sequence[str], files: Collection[str] = ()) -> None:
+        """From now on modules in these folders are the agent's own, but for these files, which all agents share."""
+        self._folders, self._files = list(folders), files
+        FOLDERS.update(folders)
+        self._shared.update({name: sys.modules.pop(name) for name in own_names(FOLDERS, files)})
+        self._own = {RANDOM: self.random}
+        self._put(self._own)
+
+    def __enter__(self) -> "OwnModules":
+        LOADING.acquire()
+        self._path, self._shared = sys.path[:], {}
+        if self._own:
+            self._put(self._own)
+        return self
+
+    def __exit__(self, *_: object) -> None:
+        if self._own and self._count != len(sys.modules):
+            names = own_names(self._folders, self._files)
+            self._own = {name: sys.modules[name] for name in names} | {RANDOM: self.random}
+        for name in self._own:
+            sys.modules.pop(name, None)
+        sys.modules.update(self._shared)
+        sys.path[:] = self._path
+        LOADING.release()
+
+    def _put(self, modules: Dict[str, ModuleType]) -> None:
+        """Puts modules in their places, and has imports look beside the agent first."""
+        self._shared.update({name: sys.modules[name] for name in modules if name in sys.modules})
+        sys.modules.update(modules)
+        sys.path[:] = [*self._folders, *(it for it in sys.path if it not in FOLDERS)]
+        self._count = len(sys.modules)

@@ -1,0 +1,93 @@
+"""A wheel of the lab with the program in it, for pip. The same files give the same bytes."""
+import base64
+import hashlib
+import io
+import pathlib
+import time
+import tomllib
+import zipfile
+from typing import Dict, List, NamedTuple, Tuple
+
+RUNNABLE, READABLE = 0o755, 0o644
+NAME = "arena_lab"
+# where the program, and what is said of it, stand in the package, and where examples do
+PROGRAM, EXAMPLES = "lab/program/", "lab/examples/"
+EXAMPLES_TAKEN = ("examples/agents/", "examples/adversaries.py", "examples/notebook.ipynb")
+
+
+class File(NamedTuple):
+    """A file: its text and its mode."""
+
+    text: bytes
+    mode: int
+
+
+Files = Dict[str, File]
+
+
+def name_of(version: str, glibc: str) -> str:
+    """The wheel's name, by which pip knows where it runs."""
+    return f"{NAME}-{version}-py3-none-{tag_of(glibc)}.whl"
+
+
+def tag_of(glibc: str) -> str:
+    """The platforms on which the program runs."""
+    return f"manylinux_{glibc.replace('.', '_')}_x86_64" if glibc != "any" else "linux_x86_64"
+
+
+def files_of(released: Files, extra: Files) -> Files:
+    """The files of the package: those of the lab, the program with what is said of it, and examples."""
+    found = {path: file for path, file in released.items() if path.startswith("lab/")}
+    for path, file in released.items():
+        if path.startswith(EXAMPLES_TAKEN):
+            found[EXAMPLES + path[len("examples/"):]] = file
+    for path in ("bin/arena", "BUILD", "PROVED.txt", "UNPROVED.txt"):
+        if path in released:
+            found[PROGRAM + path.rpartition("/")[2]] = released[path]
+    return {**found, **extra}
+
+
+def metadata(project: bytes, version: str, readme: str) -> str:
+    """What pip is told of the package, out of pyproject.toml."""
+    table = tomllib.loads(project.decode())["project"]
+    lines = ["Metadata-Version: 2.1", f"Name: {table['name']}", f"Version: {version}",
+             f"Summary: {table['description']}", f"Requires-Python: {table['requires-python']}",
+             *(f"Requires-Dist: {it}" for it in table["dependencies"])]
+    for extra, needs in table["optional-dependencies"].items():
+        lines += [f"Provides-Extra: {extra}", *(f'Requires-Dist: {it}; extra == "{extra}"' for it in needs)]
+    return "\n".join([*lines, "Description-Content-Type: text/markdown", "", readme])
+
+
+ENTRY_POINTS = "[console_scripts]\narena = lab.start:arena\narena-lab = lab.start:lab\n"
+
+
+def packed(files: Files, project: bytes, version: str, glibc: str, seconds: int) -> bytes:
+    """The wheel."""
+    info = f"{NAME}-{version}.dist-info"
+    readme = files["lab/README.md"].text.decode() if "lab/README.md" in files else ""
+    whole = {**files, f"{info}/METADATA": File(metadata(project, version, readme).encode(), READABLE),
+             f"{info}/WHEEL": File(f"Wheel-Version: 1.0\nGenerator: arena\nRoot-Is-Purelib: false\n"
+                                   f"Tag: py3-none-{tag_of(glibc)}\n".encode(), READABLE),
+             f"{info}/entry_points.txt": File(ENTRY_POINTS.encode(), READABLE)}
+    record = f"{info}/RECORD"
+    rows = [f"{path},sha256={digest_of(file.text)},{len(file.text)}" for path, file in sorted(whole.items())]
+    listed: List[Tuple[str, File]] = sorted(whole.items())
+    listed.append((record, File("\n".join([*rows, f"{record},,", ""]).encode(), READABLE)))
+    made, moment = io.BytesIO(), time.gmtime(max(seconds, 315_532_800))[:6]
+    with zipfile.ZipFile(made, "w", zipfile.ZIP_DEFLATED, compresslevel=9) as archive:
+        for path, file in listed:
+            entry = zipfile.ZipInfo(path, moment)
+            entry.compress_type, entry.create_system = zipfile.ZIP_DEFLATED, 3
+            entry.external_attr = (0o100000 | file.mode) << 16
+            archive.writestr(entry, file.text)
+    return made.getvalue()
+
+
+def digest_of(text: bytes) -> str:
+    """The SHA-256 as a wheel's record spells it."""
+    return base64.urlsafe_b64encode(hashlib.sha256(text).digest()).rstrip(b"=").decode()
+
+
+def data(version: str, path: str) -> str:
+    """Where a file of the system stands in the wheel, such as `share/man/man1/arena.1`."""
+    return str(pathlib.PurePosixPath(f"{NAME}-{version}.data", "data", path))
