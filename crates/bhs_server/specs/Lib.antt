@@ -6,3 +6,4 @@ pub mod Written
 pub mod ContestMet
 pub mod Steps
 pub mod ContestExample
+pub mod Unserved
