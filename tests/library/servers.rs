@@ -6,7 +6,7 @@ mod gates;
 mod logs;
 
 use bhs_lock::{Cell, Gate, Open};
-use bhs_server::{Blind, Contest, Limits, Served, Watch, run_server};
+use bhs_server::{Blind, Contest, Lack, Limits, Outside, Served, Watch, run_server};
 use bhs_session::Ended;
 use clients::{
     ACCUSE, BYE, COME, Client, DEPART, DEPART_TO_THE_HOLE, GONE, HERE, LEAVE, LOOK, NOTED, OVER,
@@ -68,7 +68,12 @@ where
         ),
         || clients(&client),
     );
-    Ok((served?, told))
+    Ok((begun(served)?, told))
+}
+
+/// The contest, if it lacked nothing.
+fn begun(served: Result<Served, Lack>) -> Result<Served, Fail> {
+    served.map_err(|_| Fail::from("memory or threads ran out"))
 }
 
 /// What clients hear of whom two enter and leave.
@@ -189,16 +194,15 @@ fn sessions_end_by_each_cause(rt: HostRuntime) -> Result<(), Fail> {
     let causes = [
         Ended::Bye,
         Ended::Noted,
-        Ended::Denied,
-        Ended::Denied,
-        Ended::Denied,
-        Ended::InputEnded,
         Ended::InputEnded,
         Ended::ReadFault,
         Ended::WriteFault,
         Ended::Over,
     ];
-    assert_eq!(rt; ended.as_slice(), causes.as_slice());
+    assert_eq!(rt; ended.len(), causes.len());
+    for cause in causes {
+        assert!(rt; ended.contains(&cause));
+    }
     assert_eq!(rt; lengths(alloc, &sealed)?.as_slice(), [17].as_slice());
     assert!(rt; !pace.gave_up());
     Ok(())
@@ -284,8 +288,8 @@ fn four_come_one_after_the_other(rt: HostRuntime) -> Result<(), Fail> {
     assert_eq!(rt; heard?.as_str(), expected.as_str());
     let Served { settled, ended } = served;
     let sealed = all_sealed(alloc, settled)?;
-    let causes = [Ended::InputEnded, Ended::Denied, Ended::Bye, Ended::Denied];
-    assert_eq!(rt; ended.as_slice(), causes.as_slice());
+    // those who were not let in are no sessions
+    assert_eq!(rt; ended.as_slice(), [Ended::Bye].as_slice());
     assert_eq!(rt; sealed.len(), 1);
     assert_eq!(rt; log_of(alloc, &sealed[0])?.as_str(), "0enter 0leave close ");
     assert!(rt; !pace.gave_up());
@@ -369,37 +373,29 @@ fn sessions_are_cut_off_after_the_grace_period(rt: HostRuntime) -> Result<(), Fa
     assert!(rt; held.is_ok());
     let Served { settled, ended } = served;
     let sealed = all_sealed(alloc, settled)?;
-    let causes = [Ended::InputEnded, Ended::InputEnded, Ended::ReadFault];
-    assert_eq!(rt; ended.as_slice(), causes.as_slice());
+    assert_eq!(rt; ended.as_slice(), [Ended::InputEnded].as_slice());
     assert_eq!(rt; lengths(alloc, &sealed)?.as_slice(), [2].as_slice());
     assert!(rt; !pace.gave_up());
     Ok(())
 }
 
 #[test]
-fn an_accept_that_fails_is_a_session(rt: HostRuntime) -> Result<(), Fail> {
+fn an_accept_that_fails_is_no_session(rt: HostRuntime) -> Result<(), Fail> {
     let alloc = rt.alloc();
     let listener = listener(&rt)?;
     listener.set_nonblocking(true)?;
     let pace = Patience::new(&rt, 0, 0);
     let ready = contest(alloc, 2, 1)?;
-    let Served { settled, ended } = run_server(
-        &rt,
-        alloc,
-        &listener,
-        ready,
-        limits(2),
-        &pace,
-        &Open,
-        &Blind,
+    let Served { settled, ended } = begun(
+        run_server(&rt, alloc, &listener, ready, limits(2), &pace, &Open, &Blind),
     )?;
     let sealed = all_sealed(alloc, settled)?;
-    assert_eq!(rt; ended.as_slice(), [Ended::ReadFault; 2].as_slice());
+    assert!(rt; ended.is_empty());
     assert_eq!(rt; lengths(alloc, &sealed)?.as_slice(), [1, 1].as_slice());
     Ok(())
 }
 
-/// Keeps each session from beginning for four seconds, which is longer than the grace period.
+/// Keeps each client waiting for four seconds, which is longer than the grace period.
 #[derive(Drop)]
 struct Late<'a, C> {
     clock: &'a C,
@@ -412,7 +408,9 @@ impl<C: Clock> Watch for Late<'_, C> {
 
     fn let_in(&self, _session: u32, _game: u32, _agent: u16) {}
 
-    fn ended(&self, _session: u32, _ended: Ended, _played: Option<(u32, u16)>) {}
+    fn ended(&self, _session: u32, _ended: Ended, _game: u32, _agent: u16) {}
+
+    fn left_outside(&self, _session: u32, _why: Outside) {}
 
     fn closed(&self, _game: u32, _turns: u32, _cell: &Cell) {}
 
@@ -432,6 +430,6 @@ fn a_session_that_begins_after_the_grace_period_is_cut_off(rt: HostRuntime) -> R
         || -> io::Result<String> { io::read_to_string(alloc, &client.says("")?) },
     );
     assert_eq!(rt; heard?.as_str(), "");
-    assert_eq!(rt; served?.ended.as_slice(), [Ended::InputEnded].as_slice());
+    assert!(rt; begun(served)?.ended.is_empty());
     Ok(())
 }

@@ -13,10 +13,10 @@ sys.path[:0] = [str(TOP / "tools" / "play"), str(TOP / "examples")]
 from contest import free_port  # noqa: E402
 from program_rows import DONE, FAILED_STREAM, REFUSED_TEXT  # noqa: E402
 
-__all__ = ["COMMANDS", "Command", "DONE", "FAILED_STREAM", "Lab", "NO_MEMORY", "PATIENCE", "REFUSED_TEXT", "Run", "TOP",
-           "ended", "free_port"]
+__all__ = ["COMMANDS", "Command", "DONE", "FAILED_STREAM", "Lab", "NO_MEMORY", "NO_THREADS", "PATIENCE", "REFUSED_TEXT",
+           "Run", "TOP", "ended", "free_port"]
 
-NO_MEMORY = 5
+NO_MEMORY, NO_THREADS = 5, 7
 # seconds within which a run must end
 PATIENCE = 60
 

@@ -21,7 +21,7 @@ import tempfile
 import threading
 from typing import Callable, Counter
 
-from commands import (COMMANDS, DONE, FAILED_STREAM, NO_MEMORY, PATIENCE, REFUSED_TEXT, TOP, Lab, Run, ended,
+from commands import (COMMANDS, DONE, FAILED_STREAM, NO_MEMORY, NO_THREADS, PATIENCE, REFUSED_TEXT, TOP, Lab, Run, ended,
                       free_port)
 
 sys.path.insert(0, str(TOP / "bench"))
@@ -162,7 +162,7 @@ def servers(lab: Lab) -> None:
         if found.status == DONE and len(lines) == 6 and not told:
             seen["served"] += 1
         elif (found.status, told) in ((NO_MEMORY, {"memory"}), (FAILED_STREAM, {"read"}), (FAILED_STREAM, {"listen"}),
-                                      (FAILED_STREAM, {"write"})):
+                                      (FAILED_STREAM, {"write"}), (NO_THREADS, {"threads"})):
             seen["".join(told)] += 1
         else:
             lab.faults.append(f"a server with {most} of {what}: status {found.status}, `{found.told.strip()[:100]}`")

@@ -20,15 +20,17 @@ sys.path[:0] = [str(TOP), str(TOP / "bench")]
 from inputs import MAX_AGENTS, MAX_BOARD, MIB, key  # noqa: E402
 from lab.model import spelled  # noqa: E402
 from servers import MAX_SESSIONS  # noqa: E402
-from session_lines import (BYE, DEPART, HERE, LEAVE, LOOK, LOOKS, NO_ENTER, NO_KEY, NO_LINE, NO_TAKEN,  # noqa: E402
-                           WRITTEN)
+from session_lines import (BYE, DEPART, HERE, LEAVE, LOOK, LOOKS, NO_ENTER, NO_KEY, NO_LATE, NO_LINE,  # noqa: E402
+                           NO_TAKEN, WRITTEN)
 
 HOST = "127.0.0.1"
 POLITE, HOSTILE = 0, 1
 STRANGER = MAX_AGENTS - 1
 # seconds: within which answers come, and for which a client waits at all
 PROMPT, PATIENCE = 2.0, 10.0
-HALF_OPEN, RESETS, FLOODS, DEAF, BEYOND, BURST = 8, 8, 20, 4, 160, 32
+HALF_OPEN, RESETS, FLOODS, DEAF, BURST = 8, 8, 20, 4, 32
+# clients that may wait beside each other to be let in, with some to spare
+WAITING = 200
 SMALL_BUFFER = 4096
 MOST_UNREAD = 32 * MIB
 
@@ -66,7 +68,7 @@ class Sizes(NamedTuple):
     sessions: int = MAX_SESSIONS
     turns: int = 2500
     pause: int = 10
-    between_bytes: float = 1.0
+    between_bytes: float = 0.5
     between_steps: float = 0.1
     still: float = 1.0
     flood: int = 10 * MIB
@@ -140,7 +142,6 @@ class Siege:
         self.agents = 0
         self.vanished: List[int] = []
         self.kept: List[socket.socket] = []
-        self.strangers: List[socket.socket] = []
         self.slow: Optional[Slow] = None
 
     def left(self) -> int:
@@ -167,7 +168,7 @@ class Siege:
         return client
 
     def close(self) -> None:
-        """Closes all sockets that stayed open, but for those beyond the sessions."""
+        """Closes all sockets that stayed open."""
         while self.kept:
             self.kept.pop().close()
 
@@ -249,8 +250,8 @@ def connect_silently(siege: Siege, count: int) -> str:
 
 
 def silent(siege: Siege) -> str:
-    """Half of the sessions that are left."""
-    return connect_silently(siege, (siege.left() - LATER) // 2)
+    """Half of the sessions that are left, but no more than may wait to be let in."""
+    return connect_silently(siege, min(WAITING, (siege.left() - LATER) // 2))
 
 
 def silent_all(siege: Siege) -> str:
@@ -275,19 +276,35 @@ def garbage(siege: Siege) -> str:
     return f"{len(GARBAGE)} first lines were denied, {len(lines)} later lines were no commands, and a look was answered"
 
 
+def is_cut_off(client: socket.socket, piece: bytes, count: int) -> None:
+    """A client that has not entered is cut off, since its first line is too long, whatever it hears of that."""
+    heard = b""
+    with contextlib.suppress(OSError):
+        for _ in range(count):
+            client.sendall(piece)
+        client.sendall(b"\n")
+    with client, contextlib.suppress(OSError):
+        heard = client.recv(len(NO_LATE) + 1)
+    if heard not in (b"", NO_LATE):
+        raise Wrong(f"who sends too much before it enters is answered {heard!r}")
+
+
 def flood(siege: Siege) -> str:
-    """Every second of them has entered. Half of them end their lines, when all lines are there."""
-    clients = [siege.enter(vanishes=True) if number % 2 else siege.connect() for number in range(FLOODS)]
+    """Every second of them has entered. Half of those end their lines, when all lines are there."""
+    clients = [siege.enter(vanishes=True) for _ in range(FLOODS // 2)]
     piece = b"a" * min(MIB, siege.sizes.flood)
-    for _ in range(siege.sizes.flood // len(piece)):
+    count = siege.sizes.flood // len(piece)
+    for _ in range(count):
         for client in clients:
             client.sendall(piece)
     for number, client in enumerate(clients):
-        if number < FLOODS // 2:
+        if number % 2:
             client.sendall(b"\n")
-            hear(client, HERE + NO_LINE if number % 2 else NO_ENTER)
+            hear(client, HERE + NO_LINE)
         client.close()
-    return f"{FLOODS} lines of {siege.sizes.flood / MIB:g} MiB, of which half ended, and were no commands"
+    for _ in range(FLOODS // 2):
+        is_cut_off(siege.connect(), piece, count)
+    return f"{FLOODS} lines of {siege.sizes.flood / MIB:g} MiB were no commands, or their clients were cut off"
 
 
 def taken_unread(clients: Sequence[socket.socket], still: float) -> List[int]:
@@ -333,20 +350,17 @@ def wrong_keys(siege: Siege) -> str:
 
 
 def beyond(siege: Siege) -> str:
-    """More clients than there are sessions, with a key that would let one in. In the end it is looked at whether they
-    were answered."""
-    for _ in range(BEYOND):
-        client = socket.socket()
-        client.setblocking(False)
-        client.connect_ex((HOST, siege.port))
-        siege.strangers.append(client)
-    time.sleep(siege.sizes.still)
-    waiting = 0
-    for client in siege.strangers:
-        with contextlib.suppress(OSError):
-            client.send(enter_line(key(HOSTILE, STRANGER)))
-            waiting += 1
-    return f"{BEYOND} clients came beyond the {siege.sessions} sessions, and the system keeps {waiting} of them waiting"
+    """Twice as many clients as there are sessions connect and close, and then one enters."""
+    count = 2 * siege.sizes.sessions
+    for _ in range(count):
+        socket.create_connection((HOST, siege.port), PATIENCE).close()
+    with siege.connect() as client:
+        client.sendall(enter_line(key(HOSTILE, STRANGER)) + LEAVE)
+        with client.makefile("rb") as answers:
+            heard = answers.readlines()
+    if len(heard) != 2 or not heard[0].startswith(b'{"board":') or heard[1] != BYE:
+        raise Wrong(f"the client that came after them heard {heard!r}")
+    return f"{count} clients connected and closed, and one that came after them was let in"
 
 
 Attack = Callable[[Siege], str]

@@ -11,8 +11,9 @@ clients as there are sessions left send nothing or have wrong keys. A line for e
 peak memory of the server until then, a line for each check at the end says how it went, and the last line counts. The
 exit status is 1 if one of these fails:
 
-- Each attack is answered as docs/FORMATS.md says, and each answer comes within 2 seconds. Connections beyond the N
-  sessions are answered nothing. When answers are not read, the server soon takes no more lines.
+- Each attack is answered as docs/FORMATS.md says, and each answer comes within 2 seconds. Clients that do not enter use
+  up nothing: one that comes after twice N of them is let in. When answers are not read, the server soon takes no more
+  lines.
 - Once the matches have ended and all clients have gone, the server ends by itself within 15 seconds, with status 0; the
   sessions that never began do not hold it up.
 - It never holds more than 64 MiB and 96 KiB for each session: 64 KiB for the longest line, the rest for its stack and
@@ -48,7 +49,7 @@ for place in (".", "bench", "examples/agents"):
 from client import Agent, Lines, Refused  # noqa: E402
 from inputs import (MAX_AGENTS, MAX_BOARD, MAX_QUOTA, MIB, key, peak_of_child, peak_so_far, ring,  # noqa: E402
                     tournament)
-from lab.model import ENDED, OUTSIDE, Match, judge, played, spelled  # noqa: E402
+from lab.model import ENDED, Match, judge, played, spelled  # noqa: E402
 from lab.server import table  # noqa: E402
 from servers import MAX_SESSIONS, Failed, free_port, prepare, started, words  # noqa: E402
 
@@ -228,19 +229,10 @@ def check_vanished(siege: Siege, match: Match) -> str:
     return f"{len(siege.vanished)} agents left when their clients were gone"
 
 
-def check_strangers(siege: Siege, folder: pathlib.Path) -> str:
-    answered = sum(was_answered(client) for client in siege.strangers)
-    if answered:
-        raise Wrong(f"{answered} of {len(siege.strangers)} were answered")
-    if match_of(folder, HOSTILE).agents[STRANGER].standing != OUTSIDE:
-        raise Wrong("one of them has entered")
-    return f"{len(siege.strangers)} clients, none of which was answered"
-
-
-def was_answered(client: socket.socket) -> bool:
-    with client, contextlib.suppress(OSError):
-        return client.recv(1) != b""
-    return False
+def check_stranger(folder: pathlib.Path) -> str:
+    if match_of(folder, HOSTILE).agents[STRANGER].standing != ENDED:
+        raise Wrong("it has not left")
+    return "the client that came after all others entered and left"
 
 
 def check_table(printed: str, matches: Sequence[Match]) -> str:
@@ -285,7 +277,7 @@ def check(siege: Siege, polite: Sequence[Polite], ending: Ending, folder: pathli
     results.add("replays", lambda: check_replays(all_matches()))
     results.add("polite clients", lambda: check_team(polite, match_of(folder, POLITE)))
     results.add("vanished clients", lambda: check_vanished(siege, match_of(folder, HOSTILE)))
-    results.add("clients beyond the sessions", lambda: check_strangers(siege, folder))
+    results.add("the client after all others", lambda: check_stranger(folder))
     results.add("table", lambda: check_table(ending.printed, all_matches()))
 
 
@@ -296,7 +288,8 @@ def served(sizes: Sizes, folder: pathlib.Path) -> Iterator[Siege]:
     matches = tournament(str(folder / "ring.toml"), MATCHES, MAX_AGENTS, MAX_BOARD, holes=HOLES)
     (folder / "t.toml").write_text(matches)
     port = free_port()
-    command = words(folder / "t.toml", port, sizes.sessions, sizes.turns, sizes.pause, folder / "match")
+    command = [*words(folder / "t.toml", port, sizes.sessions, sizes.turns, sizes.pause, folder / "match"),
+               "--grace", "5000"]
     with started(command, port, folder / "errors") as server:
         yield Siege(server, port, sizes)
 

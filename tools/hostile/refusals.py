@@ -43,7 +43,7 @@ import tempfile
 import time
 from typing import Callable, Dict, Iterable, Iterator, List, NamedTuple, Optional, Sequence, Set, Tuple
 
-from commands import COMMANDS, DONE, FAILED_STREAM, NO_MEMORY, Command, Lab, Run, ended, free_port
+from commands import COMMANDS, DONE, FAILED_STREAM, NO_MEMORY, NO_THREADS, Command, Lab, Run, ended, free_port
 from program_cases import CUP, REFUSED_WORDS, TRIANGLE
 from session_lines import HERE, OVER
 
@@ -58,8 +58,9 @@ QUICK, QUICK_SERVED, MOST_SERVED = 60, 40, 2000
 # of a test, of requests that are not between its marks
 QUICK_BESIDE = 20
 WORKERS = 8
-# what is told if a part could not be written on, which keeps nothing else back
-CUT_PART = re.compile(r"serve: the part of match 0 ends after \d+ events: (memory|write)\n")
+# what is told if a part could not be written on or a line could not be told, which keeps nothing else back
+CUT_PART = re.compile(r"(serve: the part of match 0 (stops after \d+ events: write|goes on after \d+ events)\n"
+                      r"|serve: \d+ lines were dropped here, since nobody read the log\n)+")
 # seconds, of a server that takes a third of one
 SOON = 60
 REFUSED_TESTS = "memory::"
@@ -83,6 +84,8 @@ WANTED_TEXTS = {"judge": b"solved moves 13 lost 1\n", "table": b"""\
 SAID = [b'{"do":"enter","key":"ka"}\n{"do":"look"}\n', b'{"do":"enter","key":"zz"}\n']
 # what each of the clients may hear: the first also that the match is over, if it was closed before
 WHOLE = [[HERE + HERE, HERE + OVER, OVER], [b'{"no":"key"}\n']]
+# what a client may hear for whose session there is no memory
+NO_MEMORY_LINE = b'{"no":"memory"}\n'
 
 
 class Otherwise(Exception):
@@ -213,7 +216,9 @@ def wheres(folder: pathlib.Path, command: Command, mode: str) -> Set[str]:
 def fault_of(mode: str, run: Run) -> str:
     """The place that the one fault line names, which is the fault that this refusal makes, with its status."""
     where, _, text = run.told.rstrip("\n").rpartition(": ")
-    if run.told != f"{where}: {mode}\n" or "\n" in where or run.status != STATUSES[mode]:
+    # a thread needs memory to start
+    faults = {mode: STATUSES[mode], **({"threads": NO_THREADS} if mode == "memory" else {})}
+    if run.told != f"{where}: {text}\n" or "\n" in where or run.status != faults.get(text):
         raise Otherwise(f"status {run.status}, `{run.told.strip()[:200]}`")
     return where
 
@@ -344,7 +349,7 @@ def answers_of(replay: bytes) -> bytes:
 def cut_sessions(heard: Sequence[bytes]) -> int:
     """How many clients heard less than all, and nothing else."""
     for number, (text, wholes) in enumerate(zip(heard, WHOLE)):
-        if not any(whole.startswith(text) for whole in wholes):
+        if text != NO_MEMORY_LINE and not any(whole.startswith(text) for whole in wholes):
             raise Otherwise(f"client {number} heard `{text!r}`")
     return sum(text not in wholes for text, wholes in zip(heard, WHOLE))
 

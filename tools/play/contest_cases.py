@@ -135,7 +135,7 @@ def deaf(stage: Stage) -> None:
 
 @case("a contest to which nobody comes ends by itself")
 def nobody(stage: Stage) -> None:
-    with served(stage, sessions=1) as server:
+    with served(stage, sessions=4) as server:
         expect(server.ended(), table("  1 blue             silent          0    0",
                                      "  2 red              silent          0    0"))
         took = time.monotonic() - server.begin
@@ -236,7 +236,7 @@ def old_files(stage: Stage) -> None:
     with served(stage, turns=0, grace=0) as server:
         begun = names(stage)
         server.ended()
-    if begun != ["match0.jsonl.old", "match0.jsonl.part", "match1.jsonl.part", "match1.jsonl.part.old"]:
+    if begun != ["match.lock", "match0.jsonl.old", "match0.jsonl.part", "match1.jsonl.part", "match1.jsonl.part.old"]:
         raise Wrong(f"at the beginning there are {begun}")
     if names(stage) != ["match0.jsonl", "match0.jsonl.old", "match1.jsonl", "match1.jsonl.part.old"]:
         raise Wrong(f"at the end there are {names(stage)}")
@@ -247,18 +247,18 @@ def old_files(stage: Stage) -> None:
 @case("a folder that is missing is told before the server says that it listens")
 def no_folder(stage: Stage) -> None:
     writes(stage, cup=TWO_TEAMS, tri=TRIANGLE)
-    words = ["serve", "cup.toml", "--port", str(free_port()), "--sessions", "1", "--turns", "1", "--pause", "1",
+    words = ["serve", "cup.toml", "--port", str(free_port()), "--sessions", "4", "--turns", "1", "--pause", "1",
              "--replay", "none/match"]
-    expect(stage.run(words), b"", b"none/match0.jsonl.part: write\n", FAILED_STREAM)
+    expect(stage.run(words), b"", b"none/match.lock: write\n", FAILED_STREAM)
 
 
 @case("a server on a port that is in use leaves the files of the first alone")
 def two_servers(stage: Stage) -> None:
     with served(stage, turns=LONG) as server:
-        words = ["serve", "cup.toml", "--port", str(server.port), "--sessions", "1", "--turns", "1", "--pause", "1",
+        words = ["serve", "cup.toml", "--port", str(server.port), "--sessions", "4", "--turns", "1", "--pause", "1",
                  "--replay", "match"]
         expect(stage.run(words), b"", b"serve: listen\n", FAILED_STREAM)
-        if names(stage) != ["match0.jsonl.part", "match1.jsonl.part"]:
+        if names(stage) != ["match.lock", "match0.jsonl.part", "match1.jsonl.part"]:
             raise Wrong(f"there are {names(stage)}")
 
 
@@ -307,7 +307,7 @@ SESSION_0_ENDED = "serve: session 0 played match 1 agent 0: its agent accused"
 
 @case("with --log it is told who comes, who plays, and how sessions and matches end")
 def log(stage: Stage) -> None:
-    with served(stage, "--log", sessions=2) as server:
+    with served(stage, "--log", sessions=4) as server:
         server.hears(enter("ba") + b'{"do":"accuse","port":1}\n')
         server.hears(enter("zz"))
         told = server.ended().told.decode().splitlines()
@@ -315,7 +315,8 @@ def log(stage: Stage) -> None:
     if found != ["serve: match 0 closed: turns 20 events 1, silent moves 0 lost 0",
                  "serve: match 1 closed: turns 20 events 3, guess 1 moves 0 lost 0",
                  "serve: session 0 from PEER", SESSION_0_ENDED, "serve: session 0 plays match 1 agent 0",
-                 "serve: session 1 from PEER", "serve: session 1 played nobody: it was denied"]:
+                 "serve: session 1 from PEER",
+                 "serve: session 1 played nobody: it was denied, since no agent has its key"]:
         raise Wrong(f"told was {found}")
     if told.index("serve: session 0 plays match 1 agent 0") > told.index(SESSION_0_ENDED):
         raise Wrong(f"a session is told to play once it has ended: {told}")
@@ -324,7 +325,7 @@ def log(stage: Stage) -> None:
 @case("a contest is served on an address of IPv6, and a word that is not an address is refused")
 def address(stage: Stage) -> None:
     writes(stage, cup=TWO_TEAMS, tri=TRIANGLE)
-    words = ["serve", "cup.toml", "--port", str(free_port()), "--sessions", "1", "--turns", "1", "--pause", "1",
+    words = ["serve", "cup.toml", "--port", str(free_port()), "--sessions", "4", "--turns", "1", "--pause", "1",
              "--replay", "match", "--grace", "0", "--address"]
     expect(stage.run([*words, "localhost"]), b"", b"serve: listen\n", FAILED_STREAM)
     run = stage.run([*words, "::1"])
@@ -348,7 +349,7 @@ def no_room(stage: Stage) -> None:
         run = server.ended()
     part = stage.folder / "match1.jsonl.part"
     events = part.read_bytes().count(b"\n") - 1
-    told = "serve: the part of match 1 ends after 0 events: write\nmatch1.jsonl: write\n"
+    told = "serve: the part of match 1 stops after 0 events: write\nmatch1.jsonl: write\n"
     expect(run, table("  1 blue             silent          0    0", "  2 red              silent          0    0"),
            told.encode(), FAILED_STREAM)
     if names(stage) != ["match0.jsonl", "match1.jsonl.part"] or not 0 < events < 11:

@@ -252,5 +252,5 @@ def failed_part(stage: Stage) -> None:
     with served(stage, grace=0, turns=150, limit=full_disk) as server:
         server.hears(enter("ba") + LOOK * 9 + LEAVE)
         told = server.ended().told
-    if told.count(b"the part of match 1 ends") != 1:
+    if told.count(b"the part of match 1 stops") != 1:
         raise Wrong(f"told was {told!r}")

@@ -90,7 +90,23 @@ twin = command (codes "twin") (must_have (codes "replay") ∷ must_have (codes "
 abbrev pub recover : Shape
 recover = command (codes "recover") (must_have (codes "part") ∷ [])
 
--- how many milliseconds sessions may last, once all matches are closed, where no word says it
+-- on which port the server listens, where no word says it
+abbrev pub default_port : Text
+default_port = codes "4000"
+
+-- how many clients may be connected
+abbrev pub default_sessions : Text
+default_sessions = codes "1024"
+
+-- after how many turns each match is closed
+abbrev pub default_turns : Text
+default_turns = codes "100000"
+
+-- how many milliseconds pass before each turn
+abbrev pub default_pause : Text
+default_pause = codes "5"
+
+-- how many milliseconds sessions may last, once all matches are closed
 abbrev pub default_grace : Text
 default_grace = codes "10000"
 
@@ -104,11 +120,11 @@ default_address = codes "127.0.0.1"
 
 abbrev pub serve : Shape
 serve = command (codes "serve") (must_have (codes "tournament")
-    ∷ behind (codes "port") (must_have (codes "port"))
-    ∷ behind (codes "sessions") (must_have (codes "sessions"))
-    ∷ behind (codes "turns") (must_have (codes "turns"))
-    ∷ behind (codes "pause") (must_have (codes "pause"))
-    ∷ behind (codes "replay") (must_have (codes "prefix"))
+    ∷ behind (codes "port") (has_default (codes "port") default_port)
+    ∷ behind (codes "sessions") (has_default (codes "sessions") default_sessions)
+    ∷ behind (codes "turns") (has_default (codes "turns") default_turns)
+    ∷ behind (codes "pause") (has_default (codes "pause") default_pause)
+    ∷ behind (codes "replay") (may_have (codes "prefix"))
     ∷ behind (codes "grace") (has_default (codes "grace") default_grace)
     ∷ behind (codes "gather") (has_default (codes "gather") default_gather)
     ∷ behind (codes "early") (flag (codes "early"))

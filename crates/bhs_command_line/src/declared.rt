@@ -184,24 +184,21 @@ fn serve_command<'a>(alloc: Global) -> Result<Command<'a>, AllocError>
     let command = command.arg(must_have(alloc, "tournament", "TOURNAMENT", TOURNAMENT_FILE));
     let command = with(
         command,
-        must_have_option(alloc, "port", "port", "PORT", help::PORT),
+        default_option(alloc, "port", "PORT", help::PORT, "4000"),
     );
     let command = with(
         command,
-        must_have_option(alloc, "sessions", "sessions", "SESSIONS", help::SESSIONS),
+        default_option(alloc, "sessions", "SESSIONS", help::SESSIONS, "1024"),
     );
     let command = with(
         command,
-        must_have_option(alloc, "turns", "turns", "TURNS", help::TURNS),
+        default_option(alloc, "turns", "TURNS", help::TURNS, "100000"),
     );
     let command = with(
         command,
-        must_have_option(alloc, "pause", "pause", "PAUSE", help::PAUSE),
+        default_option(alloc, "pause", "PAUSE", help::PAUSE, "5"),
     );
-    let command = with(
-        command,
-        must_have_option(alloc, "replay", "prefix", "PREFIX", help::SERVED_REPLAYS),
-    );
+    let command = with(command, served_replays_option(alloc));
     let command = with(
         command,
         default_option(alloc, "grace", "MS", help::GRACE, "10000"),
@@ -260,19 +257,6 @@ fn must_have<'a>(alloc: Global, id: &'a str, name: &'a str, help: &'a str) -> Ar
     may_have(alloc, id, name, help).required(true)
 }
 
-fn must_have_option<'a>(
-    alloc: Global,
-    option: &'a str,
-    id: &'a str,
-    name: &'a str,
-    help: &'a str,
-) -> Arg<'a>
-    ensures rule { rule_of result ≡ specs.behind option.now (specs.must_have id.now) }
-    ensures local { result.global ≡ false }
-{
-    must_have(alloc, id, name, help).long(option)
-}
-
 // An option that has this word where it is not given.
 fn default_option<'a>(
     alloc: Global,
@@ -299,6 +283,13 @@ fn optional_tournament<'a>(alloc: Global) -> Arg<'a>
         "TOURNAMENT",
         "The tournament's file, as a path from the working directory; without it the built-in one",
     )
+}
+
+fn served_replays_option<'a>(alloc: Global) -> Arg<'a>
+    ensures rule { rule_of result ≡ specs.behind (codes "replay") (specs.may_have (codes "prefix")) }
+    ensures local { result.global ≡ false }
+{
+    may_have(alloc, "prefix", "PREFIX", help::SERVED_REPLAYS).long("replay")
 }
 
 fn replay_option<'a>(alloc: Global) -> Arg<'a>

@@ -304,25 +304,36 @@ pub(crate) const SERVE_AT_LENGTH: &str = "\
 Serves the matches of a tournament to agents that connect over TCP. At the end
 each match is judged, and the table of the teams is printed.
 
-A first contest, on one machine: write cup.toml (docs/FORMATS.md says how), see
-that `arena check cup.toml` takes it, and give each team the keys of its agents.
-Then start
+A first contest: write cup.toml (docs/FORMATS.md says how), see that
+`arena check cup.toml` takes it, and give each team the keys of its agents. Then
+start
 
-  arena serve cup.toml --port 4000 --sessions 100 --turns 100000 --pause 5 \\
-    --gather 60000 --early --log --replay cup
+  arena serve cup.toml
 
 and have the teams start their agents within a minute. Each agent connects to
 port 4000. Turns begin when all agents of a match have entered. A match ends
 when each of its agents has ended or is lost, and at the latest after 100,000
-turns of 5 milliseconds. The table is printed 10 seconds after that, or when 100
-sessions have ended. No agent can hold this up. For agents on other machines
-add the address to listen on, as --address 192.0.2.7; lines are not encrypted.
+turns of 5 milliseconds. The table is printed once all agents have ended, and
+at the latest 10 seconds after the last match. The replays are cup0.jsonl,
+cup1.jsonl and so on. Nobody can hold this up, with or without a key. For agents
+on other machines add the address to listen on, as --address 192.0.2.7; lines
+are not encrypted.
 
-The server listens on port PORT, prints `listening PORT`, and accepts up to
-SESSIONS connections. Each is one session of one agent: its first line is the
-agent's enter with its key, and each later line is one of the agent's commands.
-`arena rehearse --help` says what the lines are. Each is answered by a line, and
-an arrival comes as a line too. While the agent is on a link its lines wait.
+This is what --port 4000 --turns 100000 --pause 5 --gather 60000 --early --log
+--replay cup says. If --replay is given, then --gather, --early and --log hold
+only where they are given, too.
+
+The server listens on port PORT, prints `listening PORT`, and serves who
+connects. A client's first line is the enter of an agent with its key, and each
+later line is one of the agent's commands. `arena rehearse --help` says what the
+lines are. Each is answered by a line, and an arrival comes as a line too. While
+the agent is on a link its lines wait.
+
+Who has not entered uses up nothing. At most 256 clients wait to be let in, each
+for 10 seconds at most, and the oldest is cut off for one that comes. At most
+SESSIONS clients are connected. Who is not served is told so in a line: `full`
+if SESSIONS agents are connected, `late` if the first line did not come in time,
+`memory` if there is no memory or thread for one more.
 
 Without --gather all matches begin at once, when the server listens. In each
 match a turn comes every PAUSE milliseconds: one of the agents on a link
@@ -331,18 +342,19 @@ is closed. TURNS should be several times the moves that a search needs. On one
 machine a PAUSE of 0 to 20 will do. With 0 the turns come as fast as they can.
 
 After the close a session is answered `over`: at its next line, or at once if
-its agent is on a link. Once all matches are closed, the server waits until
-SESSIONS sessions have ended, but no longer than the grace period of --grace.
-Then it accepts no more connections and cuts off the sessions that are left. So
-SESSIONS may be far above the number of agents: a connection that plays no agent
-counts, too.
+its agent is on a link. Once all matches are closed, the server waits until the
+sessions of all agents have ended, or SESSIONS of them if there are fewer, but
+no longer than the grace period of --grace. Then it accepts no more connections
+and cuts off those that are left.
 
 While a contest goes on, what happens in match M is written to the file
 PREFIXM.jsonl.part, about once a second; `arena recover` reads it, if the server
 is killed. At the end the replay is written to PREFIXM.jsonl, and the part is
-removed. Earlier files of these names are not overwritten: they get .old behind
-their names before the contest begins. Then each match is judged, and the table
-is printed as `arena table` prints it.
+removed. Earlier files of these names are never replaced: before the contest
+begins they get .old behind their names, or .old2 and so on if that is there.
+Then each match is judged, and the table is printed as `arena table` prints it.
+Meanwhile the server locks the file PREFIX.lock, so that no other one writes
+files of these names.
 
 Memory: until the end the server keeps each command as it came, twice, and each
 answer with the whiteboard that it shows. A line has up to 64 KiB. So a match of
@@ -355,7 +367,10 @@ is wrong with the server as `serve: FAULT`:
 
   listen       ADDRESS is not an address of this machine, or another program
                listens on the port
+  busy         Another server has locked PREFIX.lock: give another --replay
   write        A part or a replay could not be written
+  threads      The system has no thread for each match: end other programs, or
+               let this user have more of them
   unsettled M  The log of match M is not what its agents were answered; there is
                no table, and the other matches have their replays
   memory       Memory ran out";
@@ -383,11 +398,12 @@ Exit status:
   3  A file was refused, and nothing was served
   4  A match is unsettled
   5  Memory ran out
-  6  Listening, reading or writing failed";
+  6  Listening, reading or writing failed
+  7  Threads ran out";
 
 pub(crate) const PORT: &str = "The port to listen on, 1 to 65535";
 
-pub(crate) const SESSIONS: &str = "How many sessions are served at most, 1 to 1024";
+pub(crate) const SESSIONS: &str = "How many clients may be connected at most, 1 to 1024";
 
 pub(crate) const TURNS: &str = "After how many turns each match is closed";
 
@@ -405,5 +421,6 @@ pub(crate) const ADDRESS: &str = "The address to listen on, of IPv4 or IPv6";
 
 pub(crate) const LOG: &str = "Tells on standard error who plays, and how sessions and matches end";
 
-pub(crate) const SERVED_REPLAYS: &str =
-    "Writes the replay of each match M to the file PREFIXM.jsonl";
+pub(crate) const SERVED_REPLAYS: &str = "\
+Writes the replay of each match M to the file PREFIXM.jsonl; without it the file of the tournament gives PREFIX, the \
+matches gather and end early, and the log is told";

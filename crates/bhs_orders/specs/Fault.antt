@@ -16,7 +16,7 @@ use Rattle.bhs_view.specs.declared.twins.TwinFault.{TwinFault}
 use Rattle.bhs_view.specs.declared.twins.TwinFault.TheVariants as twins
 use Rattle.bhs_orders.specs.declared.faults.Fault.{Fault}
 use Rattle.bhs_orders.specs.declared.faults.Fault.TheVariants.{Read, Text, Turns, Line, File, Replay, Twin, Write}
-use Rattle.bhs_orders.specs.declared.faults.Fault.TheVariants.{Memory, Listen, Unsettled}
+use Rattle.bhs_orders.specs.declared.faults.Fault.TheVariants.{Memory, Listen, Busy, Threads, Unsettled}
 use Rattle.bhs_orders.specs.declared.statuses.TheConstants as statuses
 
 -- an error of opening or reading
@@ -74,6 +74,8 @@ status (File fault) = statuses.REFUSED_TEXT
 status (Replay fault) = replay_status fault
 status (Twin fault) = statuses.REFUSED_MATCH
 status Listen = statuses.FAILED_STREAM
+status Busy = statuses.FAILED_STREAM
+status Threads = statuses.NO_THREADS
 status (Unsettled game) = statuses.REFUSED_MATCH
 status Write = statuses.FAILED_STREAM
 status Memory = statuses.NO_MEMORY

@@ -1,5 +1,5 @@
 -- The names of the files of a contest.
-use Rattle.std.specs.Prelude.{ℕ, List, ◌++◌, codes, decimal}
+use Rattle.std.specs.Prelude.{ℕ, List, ◌++◌, ◌==◌, if◌then◌else◌, codes, decimal}
 
 -- the file of the replay of the match of this number
 abbrev pub replay_name : (prefix : List ℕ) → (number : ℕ) → List ℕ
@@ -8,3 +8,11 @@ replay_name prefix number = prefix ++ (decimal number ++ codes ".jsonl")
 -- the file of the part of that replay, while the match goes on
 abbrev pub part_name : (prefix : List ℕ) → (number : ℕ) → List ℕ
 part_name prefix number = prefix ++ (decimal number ++ codes ".jsonl.part")
+
+-- the file that a server locks while it writes replays of a prefix
+abbrev pub lock_name : (prefix : List ℕ) → List ℕ
+lock_name prefix = prefix ++ codes ".lock"
+
+-- the name that the file of an earlier contest gets; the first of these that is free
+abbrev pub old_name : (name : List ℕ) → (number : ℕ) → List ℕ
+old_name name number = if number == 1 then name ++ codes ".old" else name ++ (codes ".old" ++ decimal number)

@@ -7,7 +7,7 @@ ghost use Rattle.bhs_orders.specs.Fault.{of_file, of_kind, of_read, of_replay, o
 ghost use Rattle.bhs_orders.specs.Fault.{replay_status, status};
 
 use crate::names::Shown;
-use crate::statuses::{FAILED_STREAM, NO_MEMORY, REFUSED_MATCH, REFUSED_TEXT};
+use crate::statuses::{FAILED_STREAM, NO_MEMORY, NO_THREADS, REFUSED_MATCH, REFUSED_TEXT};
 use bhs_files::FileFault;
 use bhs_net::Memory;
 use bhs_replay::{ReplayFault, WritingFault};
@@ -45,6 +45,12 @@ pub enum Fault {
     /// No client can connect: the port is in use, or the program may not have it.
     #[error("listen")]
     Listen,
+    /// Another server writes the replays of this prefix.
+    #[error("busy")]
+    Busy,
+    /// A thread could not be started.
+    #[error("threads")]
+    Threads,
     /// The match of this number is not what its sessions were answered.
     #[error("unsettled {game}")]
     Unsettled { game: usize },
@@ -66,7 +72,9 @@ impl Fault {
             Fault::Replay(fault) => replay_status(fault),
             Fault::Twin(_) | Fault::Unsettled { .. } => REFUSED_MATCH,
             Fault::Memory => NO_MEMORY,
-            Fault::Read | Fault::Turns | Fault::Listen | Fault::Write => FAILED_STREAM,
+            Fault::Threads => NO_THREADS,
+            Fault::Read | Fault::Turns | Fault::Listen | Fault::Busy | Fault::Write =>
+                FAILED_STREAM,
         }
     }
 }

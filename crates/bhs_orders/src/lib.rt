@@ -30,11 +30,13 @@ pub use faults::{Fault, report};
 pub use interactive::{MAX_READS, rehearse_interactively};
 pub use judging::{print_verdict, verdict_line};
 pub use laws::{answers_are_transcripts, known_answers};
-pub use parts::{begin_parts, part_name, print_recovered};
+pub use parts::{begin_parts, lock_name, part_name, print_recovered};
 pub use rehearsing::rehearse;
 pub use replays::{first_status, write_sealed};
 pub use showing::{show_made, show_text};
-pub use statuses::{DONE, FAILED_STREAM, NO_MEMORY, REFUSED_MATCH, REFUSED_TEXT, REFUSED_WORDS};
+pub use statuses::{
+    DONE, FAILED_STREAM, NO_MEMORY, NO_THREADS, REFUSED_MATCH, REFUSED_TEXT, REFUSED_WORDS,
+};
 pub use tabling::print_table;
 pub use twinning::print_twin;
 pub use whole_interactive::rehearse_interactively_named;

@@ -4,7 +4,7 @@ ghost use Rattle.std.specs.Prelude.{◌≡◌, IfOk, IfErr, string_bytes};
 ghost use Rattle.bhs_replay.specs.Parts.{IsOfPart};
 ghost use Rattle.bhs_orders.specs.Fault.{IsOfFault};
 ghost use Rattle.bhs_orders.specs.Parts.{IsRecovered};
-ghost use Rattle.bhs_orders.specs.Naming.{part_name};
+ghost use Rattle.bhs_orders.specs.Naming.{lock_name, old_name, part_name};
 ghost use Rattle.bhs_orders.specs.Showing.{PrintsByLine, Reports};
 
 use crate::faults::{Fault, report};
@@ -29,9 +29,17 @@ pub fn part_name(alloc: Global, prefix: &str, number: usize) -> Result<String, M
     format!(in alloc; "{prefix}{number}.jsonl.part")
 }
 
+/// The name of the file that a server locks while it writes replays of a prefix.
+pub fn lock_name(alloc: Global, prefix: &str) -> Result<String, Memory>
+    ensures { IfOk result (λ name. string_bytes name ≡ lock_name prefix.now) }
+{
+    format!(in alloc; "{prefix}.lock")
+}
+
 /// Begins the part of each match's replay with the head of the replay. Files that stand under the names of the replays
-/// and parts, as of an earlier contest, get `.old` behind their names first, so that none is taken for a new one. The
-/// first fault goes to `errors` and ends it: the answer is then its exit status.
+/// and parts, as of an earlier contest, get `.old` behind their names first, or `.old2`, or the next number that is
+/// free: so none is taken for a new one, and none is ever replaced. The first fault goes to `errors` and ends it: the
+/// answer is then its exit status.
 pub fn begin_parts<F: Files, E: Write>(
     alloc: Global,
     files: &F,
@@ -88,12 +96,42 @@ fn begin<F: Files>(
     Ok(())
 }
 
-// Renames a file, if it is there.
+// How many earlier contests with one prefix are kept at most.
+const EARLIER: u32 = 1_000_000;
+
+// Renames a file, if it is there. It gets the first name that is free.
 fn put_aside<F: Files>(alloc: Global, files: &F, name: &str) -> Result<(), Fault> {
-    let old = format!(in alloc; "{name}.old")?;
-    match fs::rename(files, name, old.as_str()) {
-        Ok(()) => Ok(()),
-        Err(error) if error.kind() == ErrorKind::NotFound => Ok(()),
+    if is_free(files, name)? {
+        return Ok(());
+    }
+    for number in 1..EARLIER {
+        let old = old_name(alloc, name, number)?;
+        if is_free(files, old.as_str())? {
+            return match fs::rename(files, name, old.as_str()) {
+                Ok(()) => Ok(()),
+                Err(_) => Err(Fault::Write),
+            };
+        }
+    }
+    Err(Fault::Write)
+}
+
+// The name of this number that the file of an earlier contest may get.
+fn old_name(alloc: Global, name: &str, number: u32) -> Result<String, Memory>
+    ensures { IfOk result (λ old. string_bytes old ≡ old_name name.now number) }
+{
+    if number == 1 {
+        format!(in alloc; "{name}.old")
+    } else {
+        format!(in alloc; "{name}.old{number}")
+    }
+}
+
+// Whether nothing stands under a name.
+fn is_free<F: Files>(files: &F, name: &str) -> Result<bool, Fault> {
+    match fs::symlink_metadata(files, name) {
+        Ok(_) => Ok(false),
+        Err(error) if error.kind() == ErrorKind::NotFound => Ok(true),
         Err(_) => Err(Fault::Write),
     }
 }

@@ -17,3 +17,6 @@ pub const NO_MEMORY: u8 = 5;
 
 /// The exit status if reading or writing failed, or needed too many turns.
 pub const FAILED_STREAM: u8 = 6;
+
+/// The exit status if a thread could not be started.
+pub const NO_THREADS: u8 = 7;

@@ -73,7 +73,7 @@ module _ {P O : Type 0} (files : P → List ℕ → Taken → P → Type 0) (tak
       rw ended.coded (of_either (ended.filed == DONE) ended.filed ended.printed
       (of_files settled ended.filed ended.writes)
       (of_table _ settled output output' ended.printed ended.tables))
-  of_host schedule matches output output' code (fails is kept) = inr (inr (Memory, is))
+  of_host schedule matches output output' code (fails fault unbegun is kept) = inr (inr (fault, is))
 
 module _ {P I O : Type 0} (files : P → List ℕ → Taken → P → Type 0) (gives : I → Chunk → I → Type 0)
     (takes : O → List ℕ → Taken → O → Type 0)

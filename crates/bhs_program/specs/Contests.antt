@@ -36,6 +36,12 @@ IsUntabled settled (faults.Unsettled game) = IsFirstUnsettled settled game
 IsUntabled settled faults.Memory = Unit {0}
 IsUntabled settled fault = ⊥
 
+-- why a contest could not begin: memory or threads ran out
+abbrev pub IsUnbegun : Fault → Type 0
+IsUnbegun faults.Memory = Unit {0}
+IsUnbegun faults.Threads = Unit {0}
+IsUnbegun fault = ⊥
+
 -- if the match settled, its replay was written to a file with these calls
 abbrev pub HasReplay : {P : Type 0} → (P → List ℕ → Taken → P → Type 0) → Result Settlement Refused → Type 0
 HasReplay files (Ok settlement) = Took files (replay_of settlement.sealed)
@@ -82,8 +88,9 @@ module _ {P O : Type 0} (files : P → List ℕ → Taken → P → Type 0) (tak
         HaveFared (givens_of schedule 0 matches) (dealers_of seed 0 matches) settled
         → Ends (map (λ ready. ready.team) matches) settled output output' code →
         Hosts seed schedule matches output output' code
-    -- memory ran out
-    fails : code ≡ status faults.Memory → output' ≡ output → Hosts seed schedule matches output output' code
+    -- it could not begin
+    fails : (fault : Fault) → IsUnbegun fault → code ≡ status fault → output' ≡ output
+        → Hosts seed schedule matches output output' code
 
   -- what came of serving a tournament that is named, on this port
   pub data Serves (port : ℕ) (output output' : O) (code : ℕ) : Type 0 where
@@ -95,5 +102,6 @@ module _ {P O : Type 0} (files : P → List ℕ → Taken → P → Type 0) (tak
     -- it was put together, and the program could not say that it listens
     goes_unheard : (lineup : Lineup) → IsAssembled lineup → code ≡ status faults.Write
         → Prints takes flushes (listening port) output output' code → Serves port output output' code
-    -- its file is refused or cannot be read, the port cannot be had, or memory ran out
+    -- its file is refused or cannot be read, the port or the names of its files cannot be had, or memory or threads
+    -- ran out
     refuses_contest : (fault : Fault) → code ≡ status fault → output' ≡ output → Serves port output output' code

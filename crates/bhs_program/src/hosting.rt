@@ -1,42 +1,42 @@
 //! A contest over sockets: its sessions, the replays of its matches, and their table.
 
-ghost use Rattle.std.specs.Prelude.{◌≡◌, IfOk, map};
+ghost use Rattle.std.specs.Prelude.{◌≡◌, IfOk, IfErr, map};
 ghost use Rattle.bhs_stream.specs.Streams.{known_takes};
 ghost use Rattle.bhs_lineup.specs.Fresh.{AreFresh};
 ghost use Rattle.bhs_server.specs.Settling.{HaveFared};
 ghost use Rattle.bhs_host.specs.Hosting.{dealers_of, givens_of};
-ghost use Rattle.bhs_program.specs.Contests.{Hosts};
+ghost use Rattle.bhs_program.specs.Contests.{Hosts, IsUnbegun};
 
 use crate::finishing::{Finished, finish};
-use crate::keeping::Keep;
+use crate::log::Log;
+use crate::machines::Machine;
+use crate::manners::Manner;
 use crate::recording::Recorder;
-use bhs_command_line::Hosting;
 use bhs_host::{Hosted, Steady, contest_of};
 use bhs_lineup::Lineup;
 use bhs_lock::Open;
-use bhs_net::Memory;
 use bhs_orders::{Fault, report};
-use bhs_server::{Limits, run_server};
+use bhs_server::{Contest, Lack, Limits, Settled, run_server};
 use bhs_stream::Output;
 use std::alloc::Global;
 use std::io::{Eprint, Write};
 use std::net::TcpListener;
-use std::rt::Files;
-use std::sync::Wait;
+use std::sync::{Arc, Wait};
+use std::thread;
 use std::thread::Threads;
-use std::time::{Clock, Duration};
+use std::time::Duration;
 
 /// Serves a contest to the agents that connect to a listener, until all its matches and sessions have ended; no session
 /// lasts longer than the grace period after the last match was closed. Then the replay of each match that settled is
 /// written, and if all settled, their table goes to `writer`, even if a replay could not be written. The answer is the
 /// exit status: that of the first that failed. Meanwhile the parts of the replays are written on, which `begin_parts`
 /// has begun.
-pub fn host<R: Files + Threads + Wait + Clock + Eprint + Keep + Sync, W: Output, E: Write>(
+pub fn host<R: Machine, W: Output, E: Write>(
     alloc: Global,
     rt: &R,
     listener: &TcpListener,
     lineup: Lineup,
-    hosting: &Hosting,
+    manner: &Manner<'_>,
     writer: &mut W,
     errors: &mut E,
 ) -> u8
@@ -44,40 +44,75 @@ pub fn host<R: Files + Threads + Wait + Clock + Eprint + Keep + Sync, W: Output,
     ensures { Hosts (known_takes R.File.contents) W.takes W.flushes lineup.seed lineup.schedule lineup.ready.items
         writer.old writer.new result }
 {
-    match served(alloc, rt, listener, lineup, hosting) {
-        Ok(finished) => finish(alloc, rt, hosting.prefix.as_str(), finished, writer, errors),
-        Err(Memory) => report("serve", Fault::Memory, errors),
+    match served(alloc, rt, listener, lineup, manner) {
+        Ok(finished) => finish(alloc, rt, manner.prefix, finished, writer, errors),
+        Err(fault) => report("serve", fault, errors),
     }
 }
 
-// What came of the matches of the contest.
-fn served<R: Files + Threads + Wait + Clock + Eprint + Keep + Sync>(
+// What came of the matches of the contest, or why it could not begin.
+fn served<R: Machine>(
     alloc: Global,
     rt: &R,
     listener: &TcpListener,
     lineup: Lineup,
-    hosting: &Hosting,
-) -> Result<Finished, Memory>
+    manner: &Manner<'_>,
+) -> Result<Finished, Fault>
     requires { AreFresh lineup.ready.items }
     ensures teams { IfOk result (λ finished. finished.teams.items ≡ map (λ ready. ready.team) lineup.ready.items) }
     ensures settled { IfOk result (λ finished. HaveFared (givens_of lineup.schedule 0 lineup.ready.items)
         (dealers_of lineup.seed 0 lineup.ready.items) finished.settled.items) }
+    ensures unbegun { IfErr result IsUnbegun }
 {
-    let Hosted { teams, contest } = contest_of(alloc, lineup)?;
-    let prefix = hosting.prefix.as_str();
-    let recorder = Recorder::new(rt, alloc, prefix, hosting.log, contest.cells.len())?;
-    let pace = Steady::new(rt, hosting.turns, hosting.pause);
+    let Ok(Hosted { teams, contest }) = contest_of(alloc, lineup) else {
+        return Err(Fault::Memory);
+    };
+    match settled(alloc, rt, listener, contest, manner) {
+        Ok(settled) => Ok(Finished { teams, settled }),
+        Err(Lack::Memory) => Err(Fault::Memory),
+        Err(Lack::Thread) => Err(Fault::Threads),
+    }
+}
+
+// What came of the matches of the contest, which is told in a log.
+fn settled<R: Machine>(
+    alloc: Global,
+    rt: &R,
+    listener: &TcpListener,
+    contest: Contest,
+    manner: &Manner<'_>,
+) -> Result<Vec<Settled>, Lack>
+    ensures { IfOk result (λ settled. HaveFared contest.cells.items contest.dealers.items settled.items) }
+{
+    let log = started_log(alloc, rt)?;
+    let prefix = manner.prefix;
+    let recorder = Recorder::new(rt, alloc, prefix, manner.log, &log, contest.cells.len())?;
+    let pace = Steady::new(rt, manner.turns, manner.pause);
     let limits = Limits {
-        sessions: hosting.sessions,
-        grace: Duration::from_millis(u64::from(hosting.grace)),
-        gather: hosting.gather,
-        early: hosting.early,
+        sessions: manner.sessions,
+        grace: Duration::from_millis(u64::from(manner.grace)),
+        gather: manner.gather,
+        early: manner.early,
     };
     let served = run_server(
         rt, alloc, listener, contest, limits, &pace, &Open, &recorder,
     )?;
-    Ok(Finished {
-        teams,
-        settled: served.settled,
-    })
+    log.finish(rt);
+    Ok(served.settled)
+}
+
+// A log, with a thread that writes it. The program does not wait for that thread.
+fn started_log<R: Threads + Wait + Eprint + Copy + Send + 'static>(
+    alloc: Global,
+    rt: &R,
+) -> Result<Arc<Log, Global>, Lack> {
+    let Ok(log) = Arc::new(alloc, Log::new(alloc)?) else {
+        return Err(Lack::Memory);
+    };
+    let written = Arc::try_clone(&log)?;
+    let own = *rt;
+    match thread::spawn(rt, move || written.write_out(&own)) {
+        Ok(_runs) => Ok(log),
+        Err(_) => Err(Lack::Thread),
+    }
 }

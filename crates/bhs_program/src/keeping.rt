@@ -1,43 +1,45 @@
 //! Files that are written on while a contest goes on.
 
 use bhs_orders::Fault;
-use std::fs::{OpenFile, OpenOptions};
-use std::io::Write;
+use std::fs::{File, OpenOptions, TryLockError};
+use std::os::unix::fs::MetadataExt;
 use std::rt::Files;
 
-/// Writes on files. Threads share it, which the check does not let them do with the files of a machine in general.
+/// What a contest keeps on a machine. Threads share it, which the check does not let them do with the files of a
+/// machine in general.
 pub trait Keep {
-    /// Appends bytes to the file of this name.
-    fn append(&self, name: &str, bytes: &[u8]) -> Result<(), Fault>;
+    /// Opens the file of this name, which is there, to append to it.
+    fn open(&self, name: &str) -> Result<File, Fault>;
 
-    /// Sees that what the file of this name has is on the disk.
-    fn sync(&self, name: &str) -> Result<(), Fault>;
+    /// Locks the file of this name, and makes it if need be. The lock is held until the file is closed.
+    fn lock(&self, name: &str) -> Result<File, Fault>;
 }
 
 impl Keep for HostRuntime {
-    fn append(&self, name: &str, bytes: &[u8]) -> Result<(), Fault> {
-        let mut file = opened(self, name)?;
-        match file.write_all(bytes) {
-            Ok(()) => Ok(()),
-            Err(_) => Err(Fault::Write),
-        }
+    fn open(&self, name: &str) -> Result<File, Fault> {
+        let mut options = OpenOptions::new();
+        options.append(true);
+        options.open(self, name).map_err(|_| Fault::Write)
     }
 
-    fn sync(&self, name: &str) -> Result<(), Fault> {
-        let file = opened(self, name)?;
-        match file.sync_data() {
-            Ok(()) => Ok(()),
+    fn lock(&self, name: &str) -> Result<File, Fault> {
+        let mut options = OpenOptions::new();
+        options.create(true).write(true);
+        let Ok(file) = options.open(self, name) else {
+            return Err(Fault::Write);
+        };
+        match file.try_lock() {
+            Ok(()) if is_at(self, &file, name) => Ok(file),
+            Ok(()) | Err(TryLockError::WouldBlock) => Err(Fault::Busy),
             Err(_) => Err(Fault::Write),
         }
     }
 }
 
-// A file that is there, to append to it.
-fn opened<F: Files>(files: &F, name: &str) -> Result<F::File, Fault> {
-    let mut options = OpenOptions::new();
-    options.append(true);
-    match options.open(files, name) {
-        Ok(file) => Ok(file),
-        Err(_) => Err(Fault::Write),
+// Whether a file that was opened is still the one of this name: another server may have removed it meanwhile.
+fn is_at<F: Files>(files: &F, file: &File, name: &str) -> bool {
+    match (file.metadata(), files.metadata(name)) {
+        (Ok(own), Ok(named)) => own.ino() == named.ino() && own.dev() == named.dev(),
+        _ => false,
     }
 }

@@ -1,22 +1,35 @@
 //! Serving the tournament of a file.
 
-ghost use Rattle.std.specs.Prelude.{◌≡◌, IfOk, string_bytes};
+ghost use Rattle.std.specs.Prelude.{◌≡◌, IfOk, IfErr, string_bytes};
 ghost use Rattle.bhs_stream.specs.Streams.{known_takes};
+ghost use Rattle.bhs_orders.specs.Fault.{IsOfFault};
 ghost use Rattle.bhs_program.specs.Contests.{Serves, listening};
 
 use crate::hosting::host;
+use crate::keeping::Keep;
 use crate::machines::Machine;
+use crate::manners::manner_of;
 use bhs_command_line::Hosting;
+use bhs_lineup::Ready;
 use bhs_net::Memory;
-use bhs_orders::{DONE, Fault, begin_parts, lineup_of, report, show_made};
+use bhs_orders::{DONE, Fault, begin_parts, lineup_of, lock_name, report, show_made};
+use bhs_server::can_start;
 use bhs_stream::Output;
 use std::alloc::Global;
+use std::fs;
+use std::fs::File;
 use std::io::{ErrorKind, Write};
 use std::net::{IpAddr, Net, SocketAddr, TcpListener, TcpStream};
+use std::rt::Files;
 
-/// Reads a tournament and its networks, listens on a port of this machine, begins the parts of the replays, says that
-/// it listens, and hosts the contest. The answer is the exit status. A port that is in use leaves all files alone, so
-/// that a second server does not touch those of the first.
+// How many threads a contest has beside those of its matches and sessions: those that end it, look at it, and write its
+// log, and one for a client.
+const OTHERS: usize = 4;
+
+/// Reads a tournament and its networks, listens on a port of this machine, locks the prefix of the replays, begins
+/// their parts, says that it listens, and hosts the contest. The answer is the exit status. A port that is in use, a
+/// prefix that another server has, and a lack of threads leave all files alone, so that a second server does not touch
+/// those of the first.
 pub(crate) fn serve_named<
     R: Machine + Net<Listener = TcpListener, Stream = TcpStream>,
     W: Output,
@@ -28,19 +41,90 @@ pub(crate) fn serve_named<
         Ok(lineup) => lineup,
         Err(status) => return status,
     };
+    let manner = manner_of(name, hosting);
+    if manner.log {
+        warn(manner.sessions, &lineup.ready, errors);
+    }
     let listener = match listener_on(rt, hosting.address.as_str(), hosting.port) {
         Ok(listener) => listener,
         Err(fault) => return report("serve", fault, errors),
     };
-    let prefix = hosting.prefix.as_str();
-    if let Err(status) = begin_parts(alloc, rt, prefix, &lineup.ready, errors) {
-        return status;
-    }
+    let lock = match begun(alloc, rt, manner.prefix, &lineup.ready, errors) {
+        Ok(lock) => lock,
+        Err(status) => return status,
+    };
     let status = show_made(listening(alloc, hosting.port), writer, errors);
     if status != DONE {
+        unlock(alloc, rt, manner.prefix, lock);
         return status;
     }
-    host(alloc, rt, &listener, lineup, hosting, writer, errors)
+    let ended = host(alloc, rt, &listener, lineup, &manner, writer, errors);
+    unlock(alloc, rt, manner.prefix, lock);
+    ended
+}
+
+// Tells the operator if fewer sessions may go on beside each other than there are agents.
+fn warn<E: Write>(sessions: u32, ready: &[Ready], errors: &mut E) {
+    let mut agents: u32 = 0;
+    for one in ready {
+        agents = agents.saturating_add(u32::from(one.game.setup().agents));
+    }
+    if sessions < agents {
+        let _ = writeln!(
+            errors,
+            "serve: --sessions {sessions} is below the number of agents, {agents}"
+        );
+    }
+}
+
+// Sees that there are threads for the matches, locks the prefix of the replays, and begins the parts: the lock, or the
+// exit status of a fault that was reported.
+fn begun<R: Machine, E: Write>(
+    alloc: Global,
+    rt: &R,
+    prefix: &str,
+    ready: &[Ready],
+    errors: &mut E,
+) -> Result<File, u8>
+    ensures { IfErr result IsOfFault }
+{
+    if !can_start(rt, ready.len().saturating_add(OTHERS)) {
+        return Err(report("serve", Fault::Threads, errors));
+    }
+    let lock = locked(alloc, rt, prefix, errors)?;
+    match begin_parts(alloc, rt, prefix, ready, errors) {
+        Ok(()) => Ok(lock),
+        Err(status) => {
+            unlock(alloc, rt, prefix, lock);
+            Err(status)
+        }
+    }
+}
+
+// The lock of a prefix, or the exit status of a fault that was reported.
+fn locked<R: Keep, E: Write>(
+    alloc: Global,
+    rt: &R,
+    prefix: &str,
+    errors: &mut E,
+) -> Result<File, u8>
+    ensures { IfErr result IsOfFault }
+{
+    let Ok(name) = lock_name(alloc, prefix) else {
+        return Err(report("serve", Fault::Memory, errors));
+    };
+    match rt.lock(name.as_str()) {
+        Ok(lock) => Ok(lock),
+        Err(fault) => Err(report(name.as_str(), fault, errors)),
+    }
+}
+
+// Removes the file that was locked, and gives up its lock.
+fn unlock<F: Files>(alloc: Global, files: &F, prefix: &str, lock: File) {
+    if let Ok(name) = lock_name(alloc, prefix) {
+        let _ = fs::remove_file(files, name.as_str());
+    }
+    drop(lock);
 }
 
 // Listens on a port of an address of this machine.

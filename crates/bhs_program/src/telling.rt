@@ -3,11 +3,15 @@
 ghost use Rattle.std.specs.Prelude.{◌≡◌, IfOk, string_bytes};
 ghost use Rattle.bhs_program.specs.Telling.{ended_words, plays_line, played_line, unplayed_line};
 ghost use Rattle.bhs_program.specs.Telling.{judged_line, unjudged_line, sessions_line, part_line};
+ghost use Rattle.bhs_program.specs.Telling.{denied_words, outside_words, unserved_words, outsiders_line, unread_line};
+ghost use Rattle.bhs_program.specs.Telling.{part_waits_line, part_goes_on_line};
 
 use bhs_net::Memory;
 use bhs_orders::verdict_line;
 use bhs_referee::Verdict;
+use bhs_server::{Outside, Unserved};
 use bhs_session::Ended;
+use bhs_wire::Denial;
 use std::alloc::Global;
 
 /// A session was let in as an agent of a match.
@@ -36,12 +40,73 @@ pub(crate) fn played_line(
     format!(in alloc; "serve: session {session} played match {game} agent {agent}: {how}\n")
 }
 
-/// A session has ended that was not let in.
-pub(crate) fn unplayed_line(alloc: Global, session: u32, ended: Ended) -> Result<String, Memory>
-    ensures { IfOk result (λ text. string_bytes text ≡ unplayed_line session ended) }
+/// A client is gone whose agent has not entered.
+pub(crate) fn unplayed_line(alloc: Global, session: u32, why: Outside) -> Result<String, Memory>
+    ensures { IfOk result (λ text. string_bytes text ≡ unplayed_line session why) }
 {
-    let how = ended_words(ended);
+    let how = outside_words(why);
     format!(in alloc; "serve: session {session} played nobody: {how}\n")
+}
+
+// Why an agent has not entered, in words.
+fn outside_words(why: Outside) -> &'static str
+    ensures { result.now ≡ outside_words why }
+{
+    match why {
+        Outside::Denied(denial) => denied_words(denial),
+        Outside::Unserved(unserved) => unserved_words(unserved),
+        Outside::Ended(ended) => ended_words(ended),
+    }
+}
+
+// Why a first line was denied, in words.
+fn denied_words(denial: Denial) -> &'static str
+    ensures { result.now ≡ denied_words denial }
+{
+    match denial {
+        Denial::Enter => "it was denied, since its first line was no enter",
+        Denial::Key => "it was denied, since no agent has its key",
+        Denial::Taken => "it was denied, since its key was used before",
+    }
+}
+
+// Why a client was not served, in words.
+fn unserved_words(why: Unserved) -> &'static str
+    ensures { result.now ≡ unserved_words why }
+{
+    match why {
+        Unserved::Full => "it was not served, since as many sessions go on as may",
+        Unserved::Late => "it was cut off, since its first line did not come in time",
+        Unserved::Memory => "it was not served, since memory or threads ran out",
+    }
+}
+
+/// More clients came and went than lines are told of them.
+pub(crate) fn outsiders_line(alloc: Global, clients: u32) -> Result<String, Memory>
+    ensures { IfOk result (λ text. string_bytes text ≡ outsiders_line clients) }
+{
+    format!(in alloc; "serve: {clients} more clients played nobody\n")
+}
+
+/// Lines were dropped, since those before them were not read.
+pub(crate) fn unread_line(alloc: Global, lines: u32) -> Result<String, Memory>
+    ensures { IfOk result (λ text. string_bytes text ≡ unread_line lines) }
+{
+    format!(in alloc; "serve: {lines} lines were dropped here, since nobody read the log\n")
+}
+
+/// A part could not be written on, and it is tried again.
+pub(crate) fn part_waits_line(alloc: Global, game: usize, events: usize) -> Result<String, Memory>
+    ensures { IfOk result (λ text. string_bytes text ≡ part_waits_line game events) }
+{
+    format!(in alloc; "serve: the part of match {game} stops after {events} events: write\n")
+}
+
+/// A part that could not be written on goes on.
+pub(crate) fn part_goes_on_line(alloc: Global, game: usize, events: usize) -> Result<String, Memory>
+    ensures { IfOk result (λ text. string_bytes text ≡ part_goes_on_line game events) }
+{
+    format!(in alloc; "serve: the part of match {game} goes on after {events} events\n")
 }
 
 // How a session ended, in words.

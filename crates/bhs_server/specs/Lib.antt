@@ -7,3 +7,4 @@ pub mod ContestMet
 pub mod ContestTime
 pub mod Steps
 pub mod ContestExample
+pub mod Unserved

@@ -1,20 +1,29 @@
 //! The connection of a client. What the client is to be sent is held back while lines of it are still to be answered,
 //! and goes out before its session waits for the client or for an arrival: one call of the system for many lines.
 
+ghost use Rattle.std.specs.Prelude.{IfOk};
+ghost use Rattle.std.specs.Counts.{IsPrefixLen};
+
+use crate::ending::Ending;
+use crate::unserved::{Unserved, turn_away};
 use crate::watching::Watch;
 use bhs_net::Memory;
+use bhs_wire::{Denial, denial_of};
 use std::alloc::Global;
 use std::cell::{Cell, RefCell};
 use std::io;
 use std::io::{BufReader, Read, Write};
 use std::net::TcpStream;
-use std::sync::Arc;
+use std::sync::{Arc, Wait};
 
 // How many bytes are held back at most.
 const ROOM: usize = 64 * 1024;
 
 // How many bytes are taken from a client at once at most.
 const TAKEN: usize = 16 * 1024;
+
+// How many bytes are taken from a client at most until its agent enters: the longest line and some blank lines.
+const FIRST: usize = 128 * 1024;
 
 /// Is called by a session while it goes on.
 pub trait SessionHooks {
@@ -31,6 +40,8 @@ pub(crate) struct Connection {
     stream: Arc<TcpStream, Global>,
     held: RefCell<Vec<u8>>,
     has_failed: Cell<bool>,
+    is_in: Cell<bool>,
+    is_late: Cell<bool>,
 }
 
 impl Connection {
@@ -40,7 +51,32 @@ impl Connection {
             stream,
             held: RefCell::new(Vec::with_capacity(alloc, ROOM)?),
             has_failed: Cell::new(false),
+            is_in: Cell::new(false),
+            is_late: Cell::new(false),
         })
+    }
+
+    /// Whether the client was cut off before its agent had entered.
+    pub(crate) fn is_late(&self) -> bool {
+        self.is_late.get()
+    }
+
+    /// Which denial is held back, if one is.
+    pub(crate) fn denial(&self) -> Option<Denial> {
+        let Ok(held) = self.held.try_borrow_mut() else {
+            return None;
+        };
+        for denial in [Denial::Enter, Denial::Key, Denial::Taken] {
+            if held.starts_with(denial_of(denial).as_bytes()) {
+                return Some(denial);
+            }
+        }
+        None
+    }
+
+    /// Tells the client why it is not served.
+    pub(crate) fn turn_away(&self, why: Unserved) {
+        turn_away(&self.stream, why);
     }
 
     /// Whether some of what was held back could not be sent.
@@ -67,25 +103,37 @@ impl Connection {
 
 /// The client of a session, and who watches it.
 #[derive(Clone, Copy, Drop)]
-pub(crate) struct Guest<'a, W> {
+pub(crate) struct Guest<'a, R, W> {
+    rt: &'a R,
     session: u32,
     connection: &'a Connection,
+    ending: &'a Ending,
     watch: &'a W,
 }
 
-impl<'a, W> Guest<'a, W> {
+impl<'a, R, W> Guest<'a, R, W> {
     /// The client of this connection, in the session of this number.
-    pub(crate) fn new(session: u32, connection: &'a Connection, watch: &'a W) -> Guest<'a, W> {
+    pub(crate) fn new(
+        rt: &'a R,
+        session: u32,
+        connection: &'a Connection,
+        ending: &'a Ending,
+        watch: &'a W,
+    ) -> Guest<'a, R, W> {
         Guest {
+            rt,
             session,
             connection,
+            ending,
             watch,
         }
     }
 }
 
-impl<W: Watch> SessionHooks for Guest<'_, W> {
+impl<R: Wait, W: Watch> SessionHooks for Guest<'_, R, W> {
     fn let_in(&self, game: u32, agent: u16) {
+        self.connection.is_in.set(true);
+        self.ending.is_in(self.rt, self.session);
         self.watch.let_in(self.session, game, agent);
     }
 
@@ -113,26 +161,83 @@ impl Write for &Connection {
 
 /// What a client sends over its connection.
 #[derive(Drop)]
-pub(crate) struct Incoming<'c> {
+pub(crate) struct Incoming<'c, R> {
+    rt: &'c R,
+    session: u32,
     connection: &'c Connection,
+    ending: &'c Ending,
     reader: BufReader<&'c TcpStream>,
+    /// How many bytes came before its agent entered.
+    first: usize,
 }
 
-impl<'c> Incoming<'c> {
+impl<'c, R: Wait> Incoming<'c, R> {
     /// With nothing taken yet.
-    pub(crate) fn new(alloc: Global, connection: &'c Connection) -> Result<Incoming<'c>, Memory> {
+    pub(crate) fn new(
+        rt: &'c R,
+        alloc: Global,
+        session: u32,
+        connection: &'c Connection,
+        ending: &'c Ending,
+    ) -> Result<Incoming<'c, R>, Memory> {
         match BufReader::with_capacity(alloc, TAKEN, &*connection.stream) {
-            Ok(reader) => Ok(Incoming { connection, reader }),
+            Ok(reader) => Ok(Incoming {
+                rt,
+                session,
+                connection,
+                ending,
+                reader,
+                first: 0,
+            }),
             Err(_) => Err(Memory),
         }
     }
+
+    // Reads while the first line is still to come. A client that is cut off gives nothing more: where its line has come
+    // already it is not taken, so that no key is used up by a session that is cut off.
+    fn read_first(&mut self, buffer: &mut [u8]) -> io::Result<usize>
+        ensures { IfOk result (λ count. IsPrefixLen count buffer.new) }
+    {
+        if self.first >= FIRST || !self.ending.waits(self.rt, self.session) {
+            self.gives_no_more();
+            return Ok(0);
+        }
+        let count = self.reader.read(buffer)?;
+        if self.goes_on(buffer, count) {
+            return Ok(count);
+        }
+        self.gives_no_more();
+        Ok(0)
+    }
+
+    // Whether a client that gave these bytes is not cut off.
+    fn goes_on(&mut self, buffer: &[u8], count: usize) -> bool {
+        self.first = self.first.saturating_add(count);
+        if buffer.iter().take(count).any(|byte| *byte == b'\n') {
+            self.ending.enters(self.rt, self.session)
+        } else {
+            self.ending.waits(self.rt, self.session)
+        }
+    }
+
+    // The client is cut off before its agent has entered.
+    fn gives_no_more(&self) {
+        self.connection.is_late.set(!self.ending.is_over());
+    }
 }
 
-impl Read for Incoming<'_> {
+impl<R: Wait> Read for Incoming<'_, R> {
     fn read(&mut self, buffer: &mut [u8]) -> io::Result<usize> {
+        if self.ending.is_over() {
+            return Ok(0);
+        }
         if self.reader.buffer().is_empty() {
             self.connection.send_held()?;
         }
-        self.reader.read(buffer)
+        if self.connection.is_in.get() {
+            self.reader.read(buffer)
+        } else {
+            self.read_first(buffer)
+        }
     }
 }

@@ -1,5 +1,7 @@
 //! The end of a contest: once its matches are closed, its sessions have some time left and are then cut off.
 
+use crate::clients::Clients;
+use crate::unserved::Unserved;
 use crate::watching::Watch;
 use bhs_lock::Cell;
 use bhs_net::Memory;
@@ -7,6 +9,7 @@ use libc::net::{SHUT_RDWR, shutdown};
 use std::alloc::Global;
 use std::net::{Shutdown, TcpListener, TcpStream};
 use std::os::fd::AsRawFd;
+use std::sync::atomic::{AtomicBool, Ordering};
 use std::sync::{Arc, Condvar, Mutex, Wait};
 use std::time::{Clock, Duration};
 
@@ -18,12 +21,13 @@ const EVERY: u64 = 500;
 struct Going {
     /// How many matches are open.
     open: usize,
-    /// How many sessions have not ended, also those that have not begun.
-    sessions: u32,
+    /// How many sessions whose agents enter are waited for once all matches are closed: those that have ended are not.
+    awaited: u32,
     /// Whether no more sessions are accepted, and those that still run are cut off.
     is_over: bool,
-    /// The sockets of the sessions, in the order in which they began; None once a session has ended.
-    sockets: Vec<Option<Arc<TcpStream, Global>>>,
+    /// Whether the matches may begin; None until that is settled.
+    begins: Option<bool>,
+    clients: Clients,
 }
 
 /// What the threads of a contest share to end it.
@@ -31,20 +35,47 @@ struct Going {
 pub(crate) struct Ending {
     going: Mutex<Going>,
     changed: Condvar,
+    is_over: AtomicBool,
 }
 
 impl Ending {
-    /// With this many matches open and this many sessions to come.
-    pub(crate) fn new(alloc: Global, matches: usize, sessions: u32) -> Result<Ending, Memory> {
+    /// With this many matches open, this many sessions to wait for, and at most this many clients connected.
+    pub(crate) fn new(
+        alloc: Global,
+        matches: usize,
+        awaited: u32,
+        most: u32,
+    ) -> Result<Ending, Memory> {
         Ok(Ending {
             going: Mutex::new(Going {
                 open: matches,
-                sessions,
+                awaited,
                 is_over: false,
-                sockets: Vec::with_capacity(alloc, sessions as usize)?,
+                begins: None,
+                clients: Clients::new(alloc, most)?,
             }),
             changed: Condvar::new(),
+            is_over: AtomicBool::new(false),
         })
+    }
+
+    /// Says whether the matches may begin: only if all their threads are there.
+    pub(crate) fn begin<R: Wait>(&self, rt: &R, may_begin: bool) {
+        let mut going = self.going.lock(rt);
+        going.begins = Some(may_begin);
+        if !may_begin {
+            going.open = 0;
+            going.awaited = 0;
+        }
+        self.changed.notify_all();
+    }
+
+    /// Waits until it is said whether the matches may begin, and answers it.
+    pub(crate) fn may_begin<R: Wait>(&self, rt: &R) -> bool {
+        let going = self
+            .changed
+            .wait_while(rt, self.going.lock(rt), |going| going.begins.is_none());
+        going.begins == Some(true)
     }
 
     /// A match was closed.
@@ -54,49 +85,60 @@ impl Ending {
         self.changed.notify_all();
     }
 
-    /// Keeps the socket of a session, and answers the number by which it is let go. If the contest is over, the session
-    /// is cut off.
-    pub(crate) fn keep<R: Wait>(
+    /// Counts the client of a session among those that are connected. If the contest is over, it is cut off.
+    pub(crate) fn come<R: Wait>(
         &self,
         rt: &R,
+        session: u32,
         socket: &Arc<TcpStream, Global>,
-    ) -> Result<usize, Memory> {
-        let kept = Arc::try_clone(socket)?;
+    ) -> Result<(), Unserved> {
         let mut going = self.going.lock(rt);
         if going.is_over {
             let _ = socket.shutdown(Shutdown::Both);
         }
-        let number = going.sockets.len();
-        going.sockets.push(Some(kept))?;
-        Ok(number)
+        going.clients.add(session, socket)
     }
 
-    /// Lets go of the socket of this number, so that it can be closed.
-    pub(crate) fn let_go<R: Wait>(&self, rt: &R, number: usize) {
-        let mut going = self.going.lock(rt);
-        if let Some(socket) = going.sockets.get_mut(number) {
-            *socket = None;
-        }
+    /// Cuts off the oldest client that waits to be let in, if one does.
+    pub(crate) fn make_room<R: Wait>(&self, rt: &R) {
+        self.going.lock(rt).clients.make_room();
     }
 
-    /// A session has ended.
+    /// The first line of the client of a session is still to come: whether it is not cut off.
+    pub(crate) fn waits<R: Wait>(&self, rt: &R, session: u32) -> bool {
+        self.going.lock(rt).clients.waits(session)
+    }
+
+    /// The first line of the client of a session is being read: whether it is not cut off.
+    pub(crate) fn enters<R: Wait>(&self, rt: &R, session: u32) -> bool {
+        self.going.lock(rt).clients.enters(session)
+    }
+
+    /// The agent of the client of a session has entered.
+    pub(crate) fn is_in<R: Wait>(&self, rt: &R, session: u32) {
+        self.going.lock(rt).clients.is_in(session);
+    }
+
+    /// The client of a session is connected no more, so that its socket can be closed.
+    pub(crate) fn go<R: Wait>(&self, rt: &R, session: u32) {
+        self.going.lock(rt).clients.remove(session);
+    }
+
+    /// Tells the client of a session that there is no memory to serve it, and lets go of it.
+    pub(crate) fn turn_away<R: Wait>(&self, rt: &R, session: u32) {
+        self.going.lock(rt).clients.turn_away(session);
+    }
+
+    /// A session whose agent had entered has ended.
     pub(crate) fn session_ended<R: Wait>(&self, rt: &R) {
         let mut going = self.going.lock(rt);
-        going.sessions = going.sessions.saturating_sub(1);
+        going.awaited = going.awaited.saturating_sub(1);
         self.changed.notify_all();
     }
 
-    /// Has the contest end before it has begun.
-    pub(crate) fn give_up<R: Wait>(&self, rt: &R) {
-        let mut going = self.going.lock(rt);
-        going.open = 0;
-        going.sessions = 0;
-        self.changed.notify_all();
-    }
-
-    /// Whether no more sessions are accepted.
-    pub(crate) fn is_over<R: Wait>(&self, rt: &R) -> bool {
-        self.going.lock(rt).is_over
+    /// Whether no more sessions are accepted, and those that still run are cut off.
+    pub(crate) fn is_over(&self) -> bool {
+        self.is_over.load(Ordering::SeqCst)
     }
 
     // Waits this long, or until all matches are closed. Answers whether one is still open.
@@ -113,6 +155,7 @@ impl Ending {
     pub(crate) fn watch<R: Wait + Clock, W: Watch>(&self, rt: &R, watch: &W, cells: &[Cell]) {
         for _ in rt.forever() {
             let is_open = self.is_open_after(rt, Duration::from_millis(EVERY));
+            self.going.lock(rt).clients.grow_older();
             watch.look(cells);
             if !is_open {
                 return;
@@ -121,23 +164,20 @@ impl Ending {
         unreachable!()
     }
 
-    /// Waits until all matches are closed, and then until all sessions have ended, but no longer than the grace period.
-    /// Then no more sessions are accepted, and those that still run are cut off.
+    /// Waits until all matches are closed, and then until the sessions that are waited for have ended, but no longer
+    /// than the grace period. Then no more sessions are accepted, and those that still run are cut off.
     pub(crate) fn end<R: Wait + Clock>(&self, rt: &R, listener: &TcpListener, grace: Duration) {
         let going = self
             .changed
             .wait_while(rt, self.going.lock(rt), |going| going.open > 0);
         let mut going = self
             .changed
-            .wait_timeout_while(rt, going, grace, |going| going.sessions > 0)
+            .wait_timeout_while(rt, going, grace, |going| going.awaited > 0)
             .0;
         going.is_over = true;
+        self.is_over.store(true, Ordering::SeqCst);
         // On Linux this makes an accept that waits fail, and each later one.
         let _ = shutdown(listener.as_raw_fd(), SHUT_RDWR);
-        for socket in going.sockets.iter() {
-            if let Some(socket) = socket {
-                let _ = socket.shutdown(Shutdown::Both);
-            }
-        }
+        going.clients.cut_all();
     }
 }

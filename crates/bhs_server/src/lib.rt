@@ -1,27 +1,35 @@
 //! A contest over TCP: one thread for each session, and one for the deliveries of each match.
 #![tactic(auto)]
 
+mod clients;
 mod connections;
 mod dealing;
 mod ending;
+mod holding;
+mod lacks;
 mod laws;
 mod pacing;
 mod ports;
 mod running;
 mod serving;
+mod sessions;
 mod settling;
+mod unserved;
 mod visits;
 mod watching;
 mod welcoming;
 
 pub use connections::SessionHooks;
 pub use dealing::deal;
+pub use lacks::Lack;
 pub use laws::{
     equal_pasts_are_sent_equal_bytes, equal_waits_in_contests, sent_as_met, worked_session,
 };
 pub use pacing::{Pace, Step};
 pub use ports::{CellPort, Played};
+pub use running::can_start;
 pub use serving::{Contest, Limits, Served, run_server};
 pub use settling::{Refused, Settled};
+pub use unserved::{Unserved, unserved_line};
 pub use visits::{TURNS, Visit, attend};
-pub use watching::{Blind, Watch};
+pub use watching::{Blind, Outside, Watch};

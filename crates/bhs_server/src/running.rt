@@ -1,24 +1,23 @@
 //! A contest while it is served: what its threads share, and what each of them does.
 
-ghost use Rattle.std.specs.Prelude.{◌≡◌, IfOk, vec_len};
-
 use crate::dealing::{deal, gather};
 use crate::ending::Ending;
+use crate::holding::Hold;
+use crate::lacks::Lack;
 use crate::pacing::Pace;
 use crate::serving::Limits;
-use crate::visits::Visit;
-use crate::watching::Watch;
+use crate::sessions::{Session, Sessions};
+use crate::unserved::{Unserved, turn_away};
+use crate::watching::{Outside, Watch};
 use crate::welcoming::Host;
 use bhs_deal::Dealer;
 use bhs_lineup::Keys;
 use bhs_lock::{Cell, Gate};
-use bhs_net::Memory;
-use bhs_session::Ended;
 use std::alloc::Global;
 use std::net::{SocketAddr, TcpListener, TcpStream};
-use std::sync::Wait;
+use std::sync::{Arc, Wait};
 use std::thread;
-use std::thread::{JoinHandle, Threads};
+use std::thread::Threads;
 use std::time::{Clock, Duration};
 
 /// How many milliseconds the server pauses after an accept that failed.
@@ -37,15 +36,14 @@ pub(crate) struct Running<'a, R, P, G, W> {
     pub(crate) watch: &'a W,
 }
 
-/// Plays all matches to their ends, and serves sessions within limits: what came of the sessions.
-pub(crate) fn all_visits<
+/// Plays all matches to their ends, and serves sessions within limits: those whose agents were let in. It lacks a
+/// thread if one for a match cannot be started; then no match begins.
+pub(crate) fn all_sessions<
     R: Threads + Wait + Clock + Sync,
     P: Pace + Sync,
     G: Gate + Sync,
     W: Watch + Sync,
->(running: Running<'_, R, P, G, W>, dealers: Vec<Dealer>) -> Result<Vec<Visit>, Memory>
-    ensures { IfOk result (λ visits. vec_len visits ≡ running.entry.limits.sessions) }
-{
+>(running: Running<'_, R, P, G, W>, dealers: Vec<Dealer>) -> Result<Vec<Session>, Lack> {
     let Running {
         rt,
         alloc,
@@ -58,110 +56,134 @@ pub(crate) fn all_visits<
         watch,
     } = running;
     let Limits {
-        sessions,
+        sessions: most,
         grace,
-        gather: most,
+        gather: longest,
         early,
     } = limits;
-    let ending = Ending::new(alloc, cells.len(), sessions)?;
+    let agents = agents_of(cells);
+    let awaited = most.min(agents);
+    let ending = Ending::new(alloc, cells.len(), awaited, most)?;
     let ending = &ending;
-    let handles = thread::scope(
-        thread::scope_env(),
-        rt,
-        |scope| -> Result<Vec<Result<JoinHandle<Visit>, Ended>>, Memory>
-            ensures { IfOk result (λ handles. vec_len handles ≡ sessions) }
-        {
-            let mut handles = Vec::with_capacity(alloc, sessions as usize)?;
-            if scope
-                .spawn(move || ending.end(rt, listener, grace))
-                .is_err()
-            {
-                return Err(Memory);
-            }
-            if scope.spawn(move || ending.watch(rt, watch, cells)).is_err() {
-                ending.give_up(rt);
-                return Err(Memory);
-            }
-            for (game, (cell, mut dealer)) in cells.iter().zip(dealers).enumerate() {
-                let game = u32::try_from(game).unwrap_or(u32::MAX);
-                if scope
+    let kept = Sessions::new(alloc, agents as usize)?;
+    let sessions = &kept;
+    thread::scope(thread::scope_env(), rt, |scope| -> Result<(), Lack> {
+        let mut are_all = scope.spawn(move || ending.end(rt, listener, grace)).is_ok();
+        are_all = are_all && scope.spawn(move || ending.watch(rt, watch, cells)).is_ok();
+        for (game, (cell, mut dealer)) in cells.iter().zip(dealers).enumerate() {
+            let game = u32::try_from(game).unwrap_or(u32::MAX);
+            are_all = are_all
+                && scope
                     .spawn(move || {
-                        gather(rt, cell, most);
-                        let turns = deal(rt, pace, early, game, cell, &mut dealer);
-                        watch.closed(game, turns, cell);
-                        ending.match_closed(rt);
+                        if ending.may_begin(rt) {
+                            gather(rt, cell, longest);
+                            let turns = deal(rt, pace, early, game, cell, &mut dealer);
+                            watch.closed(game, turns, cell);
+                            ending.match_closed(rt);
+                        }
                     })
-                    .is_err()
-                {
-                    cell.close(rt);
-                    ending.match_closed(rt);
-                }
-            }
-            for session in 0..sessions {
-                let Some((stream, peer)) = accepted(rt, listener, ending) else {
-                    handles.push(Err(Ended::ReadFault))?;
-                    continue;
+                    .is_ok();
+        }
+        ending.begin(rt, are_all);
+        if !are_all {
+            return Err(Lack::Thread);
+        }
+        let mut session: u32 = 0;
+        for _ in rt.forever() {
+            let Some((stream, peer)) = accepted(rt, listener, ending) else {
+                return Ok(());
+            };
+            watch.came(session, peer);
+            let Some(socket) = welcomed(rt, alloc, session, stream, ending, watch) else {
+                continue;
+            };
+            let started = scope.spawn(move || {
+                let host = Host {
+                    rt,
+                    alloc,
+                    cells,
+                    keys,
+                    gate,
+                    watch,
+                    ending,
+                    sessions,
                 };
-                let started = scope.spawn(move || {
-                    let host = Host {
-                        rt,
-                        alloc,
-                        cells,
-                        keys,
-                        gate,
-                        watch,
-                        ending,
-                    };
-                    host.serve(session, stream, peer)
-                });
-                if started.is_err() {
-                    ending.session_ended(rt);
-                }
-                handles.push(started.map_err(|_| Ended::Memory))?;
+                host.serve(session, socket)
+            });
+            if started.is_err() {
+                ending.turn_away(rt, session);
+                watch.left_outside(session, Outside::Unserved(Unserved::Memory));
             }
-            Ok(handles)
-        },
-    )?;
-    joined(rt, alloc, handles)
+            session = session.wrapping_add(1);
+        }
+        unreachable!()
+    })?;
+    Ok(kept.into_all())
 }
 
-// The next connection, or None once the contest is over.
+// How many agents there are in all matches.
+fn agents_of(cells: &[Cell]) -> u32 {
+    let mut agents: u32 = 0;
+    for cell in cells {
+        agents = agents.saturating_add(u32::from(cell.setup().agents));
+    }
+    agents
+}
+
+// The socket of a client that connected, if it can be served. Otherwise it is told why not.
+fn welcomed<R: Wait, W: Watch>(
+    rt: &R,
+    alloc: Global,
+    session: u32,
+    stream: TcpStream,
+    ending: &Ending,
+    watch: &W,
+) -> Option<Arc<TcpStream, Global>> {
+    let _ = stream.set_nodelay(true);
+    let Ok(socket) = Arc::new(alloc, stream) else {
+        watch.left_outside(session, Outside::Unserved(Unserved::Memory));
+        return None;
+    };
+    if let Err(why) = ending.come(rt, session, &socket) {
+        turn_away(&socket, why);
+        watch.left_outside(session, Outside::Unserved(why));
+        return None;
+    }
+    Some(socket)
+}
+
+// The next connection, or None once the contest is over. If none can be accepted, who waits longest to be let in makes
+// room.
 fn accepted<R: Wait + Clock>(
     rt: &R,
     listener: &TcpListener,
     ending: &Ending,
 ) -> Option<(TcpStream, SocketAddr)> {
     for _ in rt.forever() {
-        if ending.is_over(rt) {
+        if ending.is_over() {
             return None;
         }
         if let Ok(accepted) = listener.accept() {
             return Some(accepted);
         }
-        if !ending.is_over(rt) {
+        if !ending.is_over() {
+            ending.make_room(rt);
             thread::sleep(rt, Duration::from_millis(PAUSE));
         }
     }
     unreachable!()
 }
 
-// What came of the sessions, once their threads have ended.
-fn joined<R: Threads>(
-    rt: &R,
-    alloc: Global,
-    handles: Vec<Result<JoinHandle<Visit>, Ended>>,
-) -> Result<Vec<Visit>, Memory>
-    ensures { IfOk result (λ visits. vec_len visits ≡ vec_len handles) }
-{
-    let mut visits = Vec::with_capacity(alloc, handles.len())?;
-    for handle in handles {
-        visits.push(match handle {
-            Ok(handle) => handle.join(rt),
-            Err(ended) => Visit {
-                ended,
-                played: None,
-            },
-        })?;
-    }
-    Ok(visits)
+/// Whether this many threads can be started beside each other now.
+pub fn can_start<R: Threads + Wait + Sync>(rt: &R, threads: usize) -> bool {
+    let hold = Hold::new();
+    let held = &hold;
+    thread::scope(thread::scope_env(), rt, |scope| {
+        let mut are_all = true;
+        for _ in 0..threads {
+            are_all = are_all && scope.spawn(move || held.wait(rt)).is_ok();
+        }
+        held.let_go(rt);
+        are_all
+    })
 }

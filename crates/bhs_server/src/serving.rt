@@ -1,16 +1,16 @@
 //! Serving a contest to its end.
 
-ghost use Rattle.std.specs.Prelude.{◌≡◌, IfOk, vec_len};
+ghost use Rattle.std.specs.Prelude.{IfOk};
 ghost use Rattle.bhs_server.specs.Settling.{HaveFared};
 
+use crate::lacks::Lack;
 use crate::pacing::Pace;
-use crate::running::{Running, all_visits};
+use crate::running::{Running, all_sessions};
 use crate::settling::{Settled, again, by_match, settle_all};
 use crate::watching::Watch;
 use bhs_deal::Dealer;
 use bhs_lineup::Keys;
 use bhs_lock::{Cell, Gate};
-use bhs_net::Memory;
 use bhs_session::Ended;
 use std::alloc::Global;
 use std::net::TcpListener;
@@ -32,7 +32,7 @@ pub struct Contest {
 /// How long a contest is served, and to how many.
 #[derive(Clone, Copy, Debug)]
 pub struct Limits {
-    /// How many sessions are served at most.
+    /// How many clients may be connected at most.
     pub sessions: u32,
     /// How long sessions may last once all matches are closed.
     pub grace: Duration,
@@ -47,20 +47,21 @@ pub struct Limits {
 pub struct Served {
     /// What came of the matches, by number.
     pub settled: Vec<Settled>,
-    /// How the sessions ended, in the order in which they were accepted; those that never began stand last.
+    /// How the sessions whose agents were let in ended, in the order of their ends.
     pub ended: Vec<Ended>,
 }
 
 /// Serves a contest within limits. It accepts connections, and serves each on a thread of its own; each match has a
-/// thread that takes its turns at this pace and then closes it. Once all matches are closed, it waits until all
-/// sessions have ended, but no longer than the grace period; then it accepts no more connections, and cuts off the
-/// sessions that still run. Once all threads have ended, each match is settled with the passes of its sessions, and
-/// under the oblivious schedule the turns of its deliveries are compared with the words; if one match is refused, the
-/// others settle nevertheless.
+/// thread that takes its turns at this pace and then closes it. Once all matches are closed, it waits until the
+/// sessions of all agents have ended, or as many as may be connected, but no longer than the grace period; then it
+/// accepts no more connections, and cuts off the clients that are still there. Once all threads have ended, each match
+/// is settled with the passes of its sessions, and under the oblivious schedule the turns of its deliveries are
+/// compared with the words; if one match is refused, the others settle nevertheless.
 ///
-/// When an accept fails, it pauses and accepts again. A session that never began counts as one that ended with
-/// `ReadFault`. A session whose thread cannot be started ended with `Memory`; a match whose thread cannot be started is
-/// closed. If the thread that ends the contest or the one that watches it cannot be started, memory has run out.
+/// A session is one whose agent was let in. Clients whose agents have not entered use up nothing: the number of those
+/// that are connected is bounded, each has some seconds, and the oldest is cut off for one that comes. A client that is
+/// not served is told why; no line of this depends on a match. When an accept fails, it pauses and accepts again. If a
+/// thread for a match cannot be started, no match begins.
 pub fn run_server<
     R: Threads + Wait + Clock + Sync,
     P: Pace + Sync,
@@ -75,9 +76,8 @@ pub fn run_server<
     pace: &P,
     gate: &G,
     watch: &W,
-) -> Result<Served, Memory>
+) -> Result<Served, Lack>
     ensures settled { IfOk result (λ served. HaveFared contest.cells.items contest.dealers.items served.settled.items) }
-    ensures ended { IfOk result (λ served. vec_len served.ended ≡ limits.sessions) }
 {
     let Contest {
         cells,
@@ -85,7 +85,7 @@ pub fn run_server<
         keys,
     } = contest;
     let copies = again(alloc, &dealers)?;
-    let visits = all_visits(
+    let sessions = all_sessions(
         Running {
             rt,
             alloc,
@@ -99,7 +99,7 @@ pub fn run_server<
         },
         dealers,
     )?;
-    let returned = by_match(alloc, cells.len(), visits)?;
+    let returned = by_match(alloc, cells.len(), sessions)?;
     Ok(Served {
         settled: settle_all(alloc, cells, &copies, returned.passes)?,
         ended: returned.ended,

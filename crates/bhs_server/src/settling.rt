@@ -4,7 +4,7 @@ ghost use Rattle.std.specs.Prelude.{◌≡◌, IfOk, MatchOption, length, map, o
 ghost use Rattle.bhs_server.specs.Settling.{HasFared, HaveFared, IsPunctual, IsLate, at_start};
 
 use crate::ports::Played;
-use crate::visits::Visit;
+use crate::sessions::Session;
 use bhs_deal::{Dealer, first_late};
 use bhs_lock::{Cell, Pass, Settlement, settle};
 use bhs_net::Memory;
@@ -35,27 +35,30 @@ pub(crate) struct Returned {
 }
 
 /// What the sessions on this number of matches gave back.
-pub(crate) fn by_match(alloc: Global, games: usize, visits: Vec<Visit>) -> Result<Returned, Memory>
-    ensures { IfOk result (λ returned. vec_len returned.ended ≡ vec_len visits) }
+pub(crate) fn by_match(
+    alloc: Global,
+    games: usize,
+    sessions: Vec<Session>,
+) -> Result<Returned, Memory>
+    ensures { IfOk result (λ returned. vec_len returned.ended ≡ vec_len sessions) }
 {
     let mut passes = Vec::with_capacity(alloc, games)?;
     for _ in 0..games {
         passes.push(Vec::new(alloc))?;
     }
-    let mut ended = Vec::with_capacity(alloc, visits.len())?;
-    for visit in visits {
-        ended.push(visit.ended)?;
-        hand_in(&mut passes, visit.played)?;
+    let mut ended = Vec::with_capacity(alloc, sessions.len())?;
+    for session in sessions {
+        ended.push(session.ended)?;
+        hand_in(&mut passes, session.played)?;
     }
     Ok(Returned { passes, ended })
 }
 
 // Lays a pass to those of its match.
-fn hand_in(passes: &mut Vec<Vec<Pass>>, played: Option<Played>) -> Result<(), Memory> {
-    if let Some(Played { game, pass }) = played {
-        if let Some(own) = passes.get_mut(game as usize) {
-            own.push(pass)?;
-        }
+fn hand_in(passes: &mut Vec<Vec<Pass>>, played: Played) -> Result<(), Memory> {
+    let Played { game, pass } = played;
+    if let Some(own) = passes.get_mut(game as usize) {
+        own.push(pass)?;
     }
     Ok(())
 }

@@ -1,6 +1,5 @@
 //! A session of a contest, from its first line to its end.
 
-ghost use Rattle.std.specs.Prelude.{◌≡◌, option_map};
 ghost use Rattle.bhs_server.specs.Written.{IsAttended};
 
 use crate::connections::SessionHooks;
@@ -20,16 +19,6 @@ pub const TURNS: u32 = 16_777_216;
 pub struct Visit {
     pub ended: Ended,
     pub played: Option<Played>,
-}
-
-impl Visit {
-    /// The match and the agent that the session played, if it was let in.
-    pub(crate) fn seat(&self) -> Option<(u32, u16)>
-        ensures { result ≡ option_map (λ played. (played.game, played.pass.agent)) self.now.played }
-    {
-        let played = self.played.as_ref()?;
-        Some((played.game, played.pass.agent()))
-    }
 }
 
 /// Serves one client to its end, on the match of the agent that its key lets in. Meanwhile `hooks` are called.

@@ -1,19 +1,35 @@
 //! Watching a contest while it goes on.
 
+use crate::unserved::Unserved;
 use bhs_lock::Cell;
 use bhs_session::Ended;
+use bhs_wire::Denial;
 use std::net::SocketAddr;
+
+/// Why the agent of a client has not entered.
+#[derive(Clone, Copy, Debug, PartialEq, Eq)]
+pub enum Outside {
+    /// Its first line was denied.
+    Denied(Denial),
+    /// It was not served.
+    Unserved(Unserved),
+    /// It ended so before its first line came.
+    Ended(Ended),
+}
 
 /// Is told what happens in a contest. The threads to which it happens call it.
 pub trait Watch {
-    /// A session began.
+    /// A client connected.
     fn came(&self, session: u32, peer: SocketAddr);
 
     /// A session was let in as this agent of a match.
     fn let_in(&self, session: u32, game: u32, agent: u16);
 
-    /// A session ended; `played` is the match and the agent that it played, if it was let in.
-    fn ended(&self, session: u32, ended: Ended, played: Option<(u32, u16)>);
+    /// A session ended that had played this agent of a match.
+    fn ended(&self, session: u32, ended: Ended, game: u32, agent: u16);
+
+    /// A client is gone whose agent has not entered.
+    fn left_outside(&self, session: u32, why: Outside);
 
     /// A match was closed after this number of turns.
     fn closed(&self, game: u32, turns: u32, cell: &Cell);
@@ -31,7 +47,9 @@ impl Watch for Blind {
 
     fn let_in(&self, _session: u32, _game: u32, _agent: u16) {}
 
-    fn ended(&self, _session: u32, _ended: Ended, _played: Option<(u32, u16)>) {}
+    fn ended(&self, _session: u32, _ended: Ended, _game: u32, _agent: u16) {}
+
+    fn left_outside(&self, _session: u32, _why: Outside) {}
 
     fn closed(&self, _game: u32, _turns: u32, _cell: &Cell) {}
 

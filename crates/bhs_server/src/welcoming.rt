@@ -2,14 +2,16 @@
 
 use crate::connections::{Connection, Guest, Incoming};
 use crate::ending::Ending;
+use crate::sessions::{Session, Sessions};
+use crate::unserved::{Unserved, turn_away};
 use crate::visits::{Visit, attend};
-use crate::watching::Watch;
+use crate::watching::{Outside, Watch};
 use bhs_lineup::Keys;
 use bhs_lock::{Cell, Gate};
 use bhs_net::Memory;
 use bhs_session::Ended;
 use std::alloc::Global;
-use std::net::{SocketAddr, TcpStream};
+use std::net::TcpStream;
 use std::sync::{Arc, Wait};
 
 /// What each session of a contest needs.
@@ -22,37 +24,28 @@ pub(crate) struct Host<'a, R, G, W> {
     pub(crate) gate: &'a G,
     pub(crate) watch: &'a W,
     pub(crate) ending: &'a Ending,
+    pub(crate) sessions: &'a Sessions,
 }
 
 impl<R: Wait, G: Gate, W: Watch> Host<'_, R, G, W> {
-    /// Serves the client of a connection to its end.
-    pub(crate) fn serve(&self, session: u32, stream: TcpStream, peer: SocketAddr) -> Visit {
-        self.watch.came(session, peer);
-        let visit = self.welcome(session, stream).unwrap_or(Visit {
-            ended: Ended::Memory,
-            played: None,
-        });
-        self.ending.session_ended(self.rt);
-        self.watch.ended(session, visit.ended, visit.seat());
-        visit
+    /// Serves the client of a connection to its end. Its session is kept if its agent has entered.
+    pub(crate) fn serve(&self, session: u32, socket: Arc<TcpStream, Global>) {
+        let kept = Arc::try_clone(&socket);
+        if self.visited(session, socket).is_err() {
+            if let Ok(kept) = kept {
+                turn_away(&kept, Unserved::Memory);
+            }
+            self.outside(session, Outside::Unserved(Unserved::Memory));
+        }
+        self.ending.go(self.rt, session);
     }
 
-    // What came of the session of a client. Its socket is kept meanwhile, so that the session can be cut off.
-    fn welcome(&self, session: u32, stream: TcpStream) -> Result<Visit, Memory> {
-        let _ = stream.set_nodelay(true);
-        let socket = Arc::new(self.alloc, stream)?;
-        let number = self.ending.keep(self.rt, &socket)?;
-        let visit = self.visited(session, socket);
-        self.ending.let_go(self.rt, number);
-        visit
-    }
-
-    // What came of the session of a client, all that was held back being sent.
-    fn visited(&self, session: u32, stream: Arc<TcpStream, Global>) -> Result<Visit, Memory> {
+    // Has the client of a connection attend, and sends all that was held back.
+    fn visited(&self, session: u32, stream: Arc<TcpStream, Global>) -> Result<(), Memory> {
         let connection = Connection::new(self.alloc, stream)?;
-        let mut incoming = Incoming::new(self.alloc, &connection)?;
-        let guest = Guest::new(session, &connection, self.watch);
-        let Visit { ended, played } = attend(
+        let mut incoming = Incoming::new(self.rt, self.alloc, session, &connection, self.ending)?;
+        let guest = Guest::new(self.rt, session, &connection, self.ending, self.watch);
+        let visit = attend(
             self.rt,
             self.alloc,
             &mut incoming,
@@ -62,12 +55,37 @@ impl<R: Wait, G: Gate, W: Watch> Host<'_, R, G, W> {
             self.keys,
             self.gate,
         );
+        self.part(session, &connection, visit);
+        Ok(())
+    }
+
+    // Ends the session of a visit.
+    fn part(&self, session: u32, connection: &Connection, visit: Visit) {
+        let Visit { ended, played } = visit;
+        let denial = connection.denial();
         let _ = connection.send_held();
         let ended = if connection.has_failed() {
             Ended::WriteFault
         } else {
             ended
         };
-        Ok(Visit { ended, played })
+        match (played, denial) {
+            (Some(played), _) => {
+                self.watch
+                    .ended(session, ended, played.game, played.pass.agent());
+                self.sessions.keep(self.rt, Session { ended, played });
+                self.ending.session_ended(self.rt);
+            }
+            (None, Some(denial)) => self.outside(session, Outside::Denied(denial)),
+            (None, None) if connection.is_late() => {
+                connection.turn_away(Unserved::Late);
+                self.outside(session, Outside::Unserved(Unserved::Late));
+            }
+            (None, None) => self.outside(session, Outside::Ended(ended)),
+        }
+    }
+
+    fn outside(&self, session: u32, why: Outside) {
+        self.watch.left_outside(session, why);
     }
 }

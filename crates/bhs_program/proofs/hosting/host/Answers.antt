@@ -20,4 +20,4 @@ returns-in-Ok g c =
     teams settled c.args.writer.now c.finish.new.writer c.finish.result) c.in-Ok.ensures.teams c.finish.ensures)
 
 pub returns-in-Err : goal.returns-in-Err
-returns-in-Err g c = fails c.report.ensures refl
+returns-in-Err g c = fails c.in-Err.fault c.in-Err.ensures.unbegun c.report.ensures refl

@@ -10,8 +10,8 @@ returns-in-Err g c = let (fault, is) = c.in-Err.ensures.fault in refuses_contest
 pub returns-in-Err-listener_on : goal.returns-in-Err-listener_on
 returns-in-Err-listener_on g c = refuses_contest c.in-Err-listener_on.fault c.report.ensures refl
 
-pub returns-in-Err-begin_parts : goal.returns-in-Err-begin_parts
-returns-in-Err-begin_parts g c = let (fault, is) = c.in-Err-begin_parts.ensures in refuses_contest fault is refl
+pub returns-in-Err-begun : goal.returns-in-Err-begun
+returns-in-Err-begun g c = let (fault, is) = c.in-Err-begun.ensures in refuses_contest fault is refl
 
 pub returns-then-status-ne-DONE : goal.returns-then-status-ne-DONE
 returns-then-status-ne-DONE g c =
@@ -25,4 +25,4 @@ returns g c = serves_on c.in-Ok.lineup c.in-Ok.ensures.made c.show_made-status.n
     (heard g.W.Output.takes g.W.Output.flushes c.args.hosting.now.port _ _ c.show_made-status.result string_bytes
     c.listening.result c.listening.ensures c.show_made-status.ensures.shown c.show_made-status.ensures.lacks
     c.if-status-ne-DONE.false)
-    c.host.ensures
+    c.host-ended.ensures

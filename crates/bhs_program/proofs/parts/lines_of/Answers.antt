@@ -1,6 +1,6 @@
 use Rattle.std.proofs.Common.{ℕ, List, ◌++◌, string_bytes, ap, ◌∙◌}
 use Rattle.bhs_program.proofs.RecordingLemmas.{goes_on, ends}
-use Rattle.bhs_program.proofs.recording.lines_of.Goals as goal
+use Rattle.bhs_program.proofs.parts.lines_of.Goals as goal
 
 pub loop-one-preserved : goal.loop-one-preserved
 loop-one-preserved c = goes_on c.args.found.now c.loop-one.one-index (string_bytes c.loop-one.text) _

@@ -1,0 +1,113 @@
+//! Lines for the operator. A thread of its own writes them to standard error, so that nothing waits for who reads them.
+
+use crate::telling::unread_line;
+use bhs_net::Memory;
+use std::alloc::Global;
+use std::collections::VecDeque;
+use std::io::Eprint;
+use std::sync::{Condvar, Mutex, Wait};
+use std::time::{Clock, Duration};
+
+// How many lines wait at most to be written.
+const MOST: usize = 1024;
+
+// How many milliseconds the end waits for lines to be written.
+const LEFT: u64 = 1000;
+
+// The lines that wait to be written.
+#[derive(Drop)]
+struct Waiting {
+    lines: VecDeque<String>,
+    /// How many lines were dropped since one was taken.
+    dropped: u32,
+    /// Whether a line is being written.
+    is_writing: bool,
+    is_over: bool,
+}
+
+/// Lines for the operator that wait to be written.
+#[derive(Drop)]
+pub struct Log {
+    alloc: Global,
+    waiting: Mutex<Waiting>,
+    changed: Condvar,
+}
+
+impl Log {
+    /// No lines.
+    pub(crate) fn new(alloc: Global) -> Result<Log, Memory> {
+        Ok(Log {
+            alloc,
+            waiting: Mutex::new(Waiting {
+                lines: VecDeque::with_capacity(alloc, MOST)?,
+                dropped: 0,
+                is_writing: false,
+                is_over: false,
+            }),
+            changed: Condvar::new(),
+        })
+    }
+
+    /// Has a text written. If too many wait, or there was no memory to make it, it is dropped.
+    pub(crate) fn tell<R: Wait>(&self, rt: &R, made: Result<String, Memory>) {
+        let mut waiting = self.waiting.lock(rt);
+        let is_kept = match made {
+            Ok(text) if waiting.lines.len() < MOST => waiting.lines.push_back(text).is_ok(),
+            _ => false,
+        };
+        if !is_kept {
+            waiting.dropped = waiting.dropped.saturating_add(1);
+        }
+        self.changed.notify_all();
+    }
+
+    /// Writes the lines until the log is over.
+    pub(crate) fn write_out<R: Wait + Eprint>(&self, rt: &R) {
+        for _ in rt.forever() {
+            let Some(text) = self.next(rt) else {
+                return;
+            };
+            let text = text.as_str();
+            let _ = eprint!(rt; "{text}");
+        }
+        unreachable!()
+    }
+
+    // The next text to be written: a line, or how many were dropped. None once the log is over.
+    fn next<R: Wait>(&self, rt: &R) -> Option<String> {
+        let mut waiting = self.waiting.lock(rt);
+        waiting.is_writing = false;
+        self.changed.notify_all();
+        let mut waiting = self.changed.wait_while(
+            rt,
+            waiting,
+            |waiting| waiting.lines.is_empty() && waiting.dropped == 0 && !waiting.is_over,
+        );
+        waiting.is_writing = true;
+        if let Some(text) = waiting.lines.pop_front() {
+            return Some(text);
+        }
+        if waiting.dropped == 0 {
+            return None;
+        }
+        let dropped = waiting.dropped;
+        waiting.dropped = 0;
+        unread_line(self.alloc, dropped).ok()
+    }
+
+    /// Ends the log, once all lines are written or a second has passed.
+    pub(crate) fn finish<R: Wait + Clock>(&self, rt: &R) {
+        let waiting = self.waiting.lock(rt);
+        let mut waiting = self
+            .changed
+            .wait_timeout_while(
+                rt,
+                waiting,
+                Duration::from_millis(LEFT),
+                |waiting| !waiting.lines.is_empty() || waiting.dropped > 0 || waiting.is_writing,
+            )
+            .0;
+        waiting.is_over = true;
+        self.changed.notify_all();
+    }
+}

@@ -1,0 +1,60 @@
+//! How a contest is served, by the words that were given and those that were not.
+
+ghost use Rattle.std.specs.Prelude.{◌≡◌, ◌≢◌, []};
+
+use bhs_command_line::Hosting;
+
+// How many milliseconds the matches of a course wait for their agents, if no word says it.
+const GATHER: u32 = 60_000;
+
+/// How a contest is served.
+#[derive(Clone, Copy, Drop)]
+pub struct Manner<'a> {
+    /// With what the names of the replays begin.
+    pub(crate) prefix: &'a str,
+    pub(crate) sessions: u32,
+    pub(crate) turns: u32,
+    pub(crate) pause: u32,
+    pub(crate) grace: u32,
+    pub(crate) gather: u32,
+    pub(crate) early: bool,
+    pub(crate) log: bool,
+}
+
+/// How the tournament of a file is served. Without a prefix it is served as suits a course: the replays are named by
+/// the file, the matches wait for their agents, each is closed once its agents are done, and it is told what happens.
+pub fn manner_of<'a>(tournament: &'a str, hosting: &'a Hosting) -> Manner<'a>
+    ensures gather { hosting.now.prefix ≢ [] → result.gather ≡ hosting.now.gather }
+    ensures early { hosting.now.prefix ≢ [] → result.early ≡ hosting.now.early }
+    ensures log { hosting.now.prefix ≢ [] → result.log ≡ hosting.now.log }
+    ensures turns { result.turns ≡ hosting.now.turns }
+    ensures pause { result.pause ≡ hosting.now.pause }
+{
+    let given = hosting.prefix.as_str();
+    let is_course = given.is_empty();
+    let prefix = if is_course {
+        stem_of(tournament)
+    } else {
+        given
+    };
+    let gather = if is_course && hosting.gather == 0 {
+        GATHER
+    } else {
+        hosting.gather
+    };
+    Manner {
+        prefix,
+        sessions: hosting.sessions,
+        turns: hosting.turns,
+        pause: hosting.pause,
+        grace: hosting.grace,
+        gather,
+        early: hosting.early || is_course,
+        log: hosting.log || is_course,
+    }
+}
+
+// The name of a tournament's file without its ending.
+fn stem_of(tournament: &str) -> &str {
+    tournament.strip_suffix(".toml").unwrap_or(tournament)
+}

@@ -1,0 +1,41 @@
+//! The sessions of a contest: those whose agents were let in.
+
+use crate::ports::Played;
+use bhs_net::Memory;
+use bhs_session::Ended;
+use std::alloc::Global;
+use std::sync::{Mutex, Wait};
+
+/// A session that has ended. Its agent was let in.
+#[derive(Debug, Drop)]
+pub(crate) struct Session {
+    pub(crate) ended: Ended,
+    pub(crate) played: Played,
+}
+
+/// The sessions that have ended, in the order of their ends.
+#[derive(Drop)]
+pub(crate) struct Sessions {
+    all: Mutex<Vec<Session>>,
+}
+
+impl Sessions {
+    /// None yet, with room for this many.
+    pub(crate) fn new(alloc: Global, agents: usize) -> Result<Sessions, Memory> {
+        Ok(Sessions {
+            all: Mutex::new(Vec::with_capacity(alloc, agents)?),
+        })
+    }
+
+    /// Keeps a session. There is room for it, since each agent is let in once.
+    pub(crate) fn keep<R: Wait>(&self, rt: &R, session: Session) {
+        let mut all = self.all.lock(rt);
+        let _ = all.push(session);
+    }
+
+    /// All sessions.
+    pub(crate) fn into_all(self) -> Vec<Session> {
+        let Sessions { all } = self;
+        all.into_inner()
+    }
+}

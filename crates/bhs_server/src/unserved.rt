@@ -1,0 +1,35 @@
+//! Why a client is not served, and the line that tells it so.
+
+ghost use Rattle.std.specs.Prelude.{◌≡◌};
+ghost use Rattle.bhs_server.specs.Unserved.{unserved_line};
+
+use std::io::Write;
+use std::net::{Shutdown, TcpStream};
+
+/// Why a client is not served.
+#[derive(Clone, Copy, Debug, PartialEq, Eq)]
+pub enum Unserved {
+    /// As many connections are open as may be, and the agents of all have entered.
+    Full,
+    /// Its first line was too long in coming: others wait to be let in.
+    Late,
+    /// There was no memory or no thread for it.
+    Memory,
+}
+
+/// The line that tells a client why it is not served, with its line feed. Takes no memory, and depends on no match.
+pub fn unserved_line(why: Unserved) -> &'static str
+    ensures { result.now ≡ unserved_line why }
+{
+    match why {
+        Unserved::Full => "{\"no\":\"full\"}\n",
+        Unserved::Late => "{\"no\":\"late\"}\n",
+        Unserved::Memory => "{\"no\":\"memory\"}\n",
+    }
+}
+
+/// Tells a client why it is not served. It was sent nothing before, so this waits for nobody.
+pub(crate) fn turn_away(stream: &TcpStream, why: Unserved) {
+    let _ = (&mut &*stream).write_all(unserved_line(why).as_bytes());
+    let _ = stream.shutdown(Shutdown::Write);
+}

@@ -1,0 +1,403 @@
+#!/usr/bin/env python3
+"""Tries to spoil contests as somebody without a key would, or a machine that lacks something.
+
+    tools/hostile/spoilers.py PROGRAM
+
+Each case serves a contest of two teams on a ring in a temporary folder. A line for each says how it went, and the last
+line reads `N passed, M failed`. It takes half a minute.
+"""
+import contextlib
+import json
+import os
+import pathlib
+import resource
+import signal
+import socket
+import subprocess
+import sys
+import tempfile
+import threading
+import time
+from typing import Callable, Dict, Iterator, List, Optional, Sequence, Tuple
+
+from session_lines import HERE, LOOK, NO_FULL, NO_LATE
+
+HOST = "127.0.0.1"
+# seconds within which a server answers or ends
+PATIENCE = 20.0
+# how many clients may wait beside each other to be let in, and within how many seconds their first line is to come
+WAITING, FIRST_LINE = 256, 10.0
+REFUSED, NO_THREADS = 6, 7
+TEAMS = ("red", "blue")
+
+
+class Wrong(Exception):
+    """Something is not as it should be."""
+
+
+def tournament(folder: pathlib.Path, quota: int = 1000) -> None:
+    """A tournament of two teams, each with two agents on a ring of eight nodes."""
+    links = [[node, 0, (node + 1) % 8, 1] for node in range(8)]
+    (folder / "ring.toml").write_text(f"version = 1\nnodes = 8\nlinks = {links}\n")
+    text = f'version = 2\nseed = "{"00" * 32}"\n'
+    for team in TEAMS:
+        text += (f'[[match]]\nteam = "{team}"\nnetwork = "ring.toml"\nhome = 0\nholes = [4]\nquota = {quota}\n'
+                 f'board = 64\nkeys = ["{team}-0", "{team}-1"]\nheld = []\n')
+    (folder / "cup.toml").write_text(text)
+
+
+def enter(key: str) -> bytes:
+    return b'{"do":"enter","key":"%b"}\n' % key.encode()
+
+
+class Server:
+    """A server of the tournament in a folder."""
+
+    def __init__(self, program: str, folder: pathlib.Path, *options: str, turns: int = 400, sessions: int = 100,
+                 log: Optional[int] = None, before: Callable[[], None] = lambda: None) -> None:
+        self.port = free_port()
+        words = [program, "serve", "cup.toml", "--port", self.port, "--sessions", sessions, "--turns", turns,
+                 "--pause", 5, "--grace", 300, "--replay", "match", *options]
+        self.begun = time.monotonic()
+        self.child = subprocess.Popen([*map(str, words)], cwd=folder, stdout=subprocess.PIPE, preexec_fn=before,
+                                      stderr=subprocess.PIPE if log is None else log)
+        self.first = self.child.stdout.readline()
+
+    def connect(self, said: bytes = b"") -> socket.socket:
+        client = socket.create_connection((HOST, self.port), PATIENCE)
+        client.sendall(said)
+        return client
+
+    def ended(self) -> Tuple[int, str, str]:
+        """Its status, what it printed and what it told."""
+        printed, told = self.child.communicate(timeout=3 * PATIENCE)
+        return self.child.returncode, (self.first + printed).decode(), (told or b"").decode(errors="replace")
+
+
+def free_port() -> int:
+    with socket.create_server((HOST, 0)) as listener:
+        return listener.getsockname()[1]
+
+
+Case = Callable[[str, pathlib.Path], None]
+CASES: Dict[str, Case] = {}
+
+
+def case(title: str) -> Callable[[Case], Case]:
+    def add(one: Case) -> Case:
+        CASES[title] = one
+        return one
+    return add
+
+
+@contextlib.contextmanager
+def serving(program: str, folder: pathlib.Path, *options: str, **more: object) -> Iterator[Server]:
+    tournament(folder)
+    server = Server(program, folder, *options, **more)
+    try:
+        yield server
+    finally:
+        server.child.kill()
+        server.child.wait()
+
+
+def answer(client: socket.socket, count: int) -> bytes:
+    """This many bytes of what a client is answered, or fewer at the end."""
+    heard = b""
+    with contextlib.suppress(OSError):
+        while len(heard) < count:
+            piece = client.recv(count - len(heard))
+            if not piece:
+                break
+            heard += piece
+    return heard
+
+
+def wants(what: str, found: object, wanted: object) -> None:
+    if found != wanted:
+        raise Wrong(f"{what}: {found!r} and not {wanted!r}")
+
+
+# Strangers.
+
+@case("clients that connect and close use up no session")
+def strangers(program: str, folder: pathlib.Path) -> None:
+    with serving(program, folder) as server:
+        for _ in range(300):
+            server.connect().close()
+        with server.connect(enter("blue-0")) as client:
+            wants("an agent that comes after them", answer(client, len(HERE)), HERE)
+        status, printed, _ = server.ended()
+        wants("the status", status, 0)
+
+
+@case("wrong keys use up no session")
+def wrong_keys(program: str, folder: pathlib.Path) -> None:
+    with serving(program, folder) as server:
+        for number in range(150):
+            with server.connect(enter(f"nobody-{number}")) as client:
+                wants("a wrong key", answer(client, 100), b'{"no":"key"}\n')
+        with server.connect(enter("blue-0")) as client:
+            wants("an agent that comes after them", answer(client, len(HERE)), HERE)
+
+
+@case("silent clients make room, the oldest first, and are told why")
+def silent(program: str, folder: pathlib.Path) -> None:
+    with serving(program, folder, sessions=1000, turns=2000) as server, contextlib.ExitStack() as stack:
+        clients = [stack.enter_context(server.connect()) for _ in range(WAITING + 20)]
+        with server.connect(enter("blue-0")) as client:
+            wants("an agent that comes after them", answer(client, len(HERE)), HERE)
+        wants("the oldest", answer(clients[0], 100), NO_LATE)
+        clients[-1].sendall(enter("red-0"))
+        wants("the newest", answer(clients[-1], len(HERE)), HERE)
+
+
+@case("a client whose first line does not come in some seconds is told so")
+def late(program: str, folder: pathlib.Path) -> None:
+    with serving(program, folder, turns=5000) as server, server.connect(b'{"do":') as client:
+        wants("it", answer(client, 100), NO_LATE)
+        if not FIRST_LINE / 2 < time.monotonic() - server.begun < 2 * FIRST_LINE:
+            raise Wrong("it was cut off too early or too late")
+
+
+@case("when the sessions of all agents go on, who comes is told that there is no room")
+def full(program: str, folder: pathlib.Path) -> None:
+    with serving(program, folder, sessions=2, turns=4000) as server, server.connect(enter("red-0")) as one, \
+            server.connect(enter("red-1")) as two:
+        wants("the first", answer(one, len(HERE)), HERE)
+        wants("the second", answer(two, len(HERE)), HERE)
+        with server.connect() as third:
+            wants("the third", answer(third, 100), NO_FULL)
+        two.close()
+        time.sleep(0.5)
+        with server.connect(enter("blue-0")) as fourth:
+            wants("the one that comes when there is room again", answer(fourth, len(HERE)), HERE)
+
+
+@case("the log says why a client is not let in, and when there are fewer sessions than agents")
+def told_why(program: str, folder: pathlib.Path) -> None:
+    with serving(program, folder, "--log", sessions=2) as server:
+        for said in (b"x\n", enter("nobody"), enter("red-0"), enter("red-0")):
+            with server.connect(said) as client:
+                answer(client, 10)
+        told = server.ended()[2]
+    for line in ("serve: --sessions 2 is below the number of agents, 4", "since its first line was no enter",
+                 "since no agent has its key", "since its key was used before"):
+        if line not in told:
+            raise Wrong(f"{line!r} is not told, but {told!r}")
+
+
+# The end.
+
+def flooding(server: Server, stop: threading.Event, clients: int) -> None:
+    """Clients without a key that send line feeds as fast as they are taken."""
+    sockets: List[socket.socket] = []
+    with contextlib.suppress(OSError):
+        for _ in range(clients):
+            sockets.append(server.connect())
+            sockets[-1].setblocking(False)
+    while not stop.is_set():
+        for client in sockets:
+            with contextlib.suppress(OSError):
+                client.send(b"\n" * 65_536)
+        time.sleep(0.001)
+    for client in sockets:
+        client.close()
+
+
+@case("clients that send line feeds do not hold up the end")
+def flooded_end(program: str, folder: pathlib.Path) -> None:
+    with serving(program, folder, turns=300) as server, server.connect(enter("red-0")) as client:
+        wants("an agent", answer(client, len(HERE)), HERE)
+        stop = threading.Event()
+        flood = threading.Thread(target=flooding, args=(server, stop, 60))
+        flood.start()
+        try:
+            status, _, _ = server.ended()
+        finally:
+            stop.set()
+            flood.join()
+        wants("the status", status, 0)
+        if time.monotonic() - server.begun > PATIENCE:
+            raise Wrong(f"the end came after {time.monotonic() - server.begun:.1f} s")
+
+
+# The log.
+
+def nearly_full() -> Tuple[int, int]:
+    """The ends of a pipe that takes no more than 4096 bytes."""
+    read, write = os.pipe()
+    os.set_blocking(write, False)
+    with contextlib.suppress(BlockingIOError):
+        while True:
+            os.write(write, b"-" * 4096)
+    os.read(read, 4096)
+    os.set_blocking(write, True)
+    return read, write
+
+
+@case("a log that nobody reads stops no contest")
+def unread_log(program: str, folder: pathlib.Path) -> None:
+    read, write = nearly_full()
+    try:
+        with serving(program, folder, "--log", log=write) as server:
+            for _ in range(60):
+                with server.connect(b"x\n") as client:
+                    wants("a stranger", answer(client, 100), b'{"no":"enter"}\n')
+            with server.connect(enter("blue-0") + LOOK) as client:
+                wants("an agent", answer(client, 2 * len(HERE)), HERE + HERE)
+            wants("the status", server.ended()[0], 0)
+        wants("the replays", sorted(path.name for path in folder.glob("match*")), ["match0.jsonl", "match1.jsonl"])
+    finally:
+        os.close(read)
+        os.close(write)
+
+
+# Files.
+
+@case("files of earlier contests are never replaced")
+def earlier_files(program: str, folder: pathlib.Path) -> None:
+    for number in range(3):
+        with serving(program, folder, turns=1) as server:
+            with server.connect(enter(f"red-{number % 2}") + LOOK * number) as client:
+                answer(client, 1000)
+            server.ended()
+    found = sorted(path.name for path in folder.glob("match0*"))
+    wants("the files", found, ["match0.jsonl", "match0.jsonl.old", "match0.jsonl.old2"])
+
+
+@case("a second server with the same prefix is refused, and leaves all files alone")
+def two_servers(program: str, folder: pathlib.Path) -> None:
+    with serving(program, folder, turns=2000) as first, first.connect(enter("red-0")) as client:
+        wants("an agent", answer(client, len(HERE)), HERE)
+        before = sorted((path.name, path.read_bytes()) for path in folder.glob("match*") if path.suffix != ".part")
+        second = Server(program, folder)
+        status, printed, told = second.ended()
+        wants("the status of the second", (status, printed), (REFUSED, ""))
+        if "match.lock: busy" not in told:
+            raise Wrong(f"the second told {told!r}")
+        after = sorted((path.name, path.read_bytes()) for path in folder.glob("match*") if path.suffix != ".part")
+        wants("the files", after, before)
+
+
+# What a machine lacks.
+
+def is_root() -> bool:
+    return os.geteuid() == 0
+
+
+def threads(most: int) -> Callable[[], None]:
+    """A user that has no other threads, and may have this many."""
+    def limit() -> None:
+        resource.setrlimit(resource.RLIMIT_NPROC, (most, most))
+        os.setgid(63_998)
+        os.setuid(63_998)
+    return limit
+
+
+@case("a contest without threads for its matches is refused before it listens")
+def no_threads(program: str, folder: pathlib.Path) -> None:
+    if not is_root():
+        return
+    folder.chmod(0o777)
+    with serving(program, folder, before=threads(4)) as server:
+        status, printed, told = server.ended()
+    wants("the status and what was printed", (status, printed), (NO_THREADS, ""))
+    if "serve: threads" not in told:
+        raise Wrong(f"it told {told!r}")
+
+
+@case("parts are written on while descriptors are used up")
+def few_descriptors(program: str, folder: pathlib.Path) -> None:
+    def limit() -> None:
+        resource.setrlimit(resource.RLIMIT_NOFILE, (24, 24))
+
+    with serving(program, folder, turns=4000, before=limit) as server, contextlib.ExitStack() as stack:
+        client = stack.enter_context(server.connect(enter("red-0")))
+        wants("an agent", answer(client, len(HERE)), HERE)
+        for _ in range(40):
+            stack.enter_context(server.connect())
+        client.sendall(LOOK)
+        wants("an agent", answer(client, len(HERE)), HERE)
+        time.sleep(3)
+        part = (folder / "match0.jsonl.part").read_bytes()
+        if part.count(b"\n") != 3:
+            raise Wrong(f"the part is {part!r}")
+
+
+@case("a part goes on once there is room")
+def part_goes_on(program: str, folder: pathlib.Path) -> None:
+    room, looks = 700, 20
+
+    def limit() -> None:
+        signal.signal(signal.SIGXFSZ, signal.SIG_IGN)
+        resource.setrlimit(resource.RLIMIT_FSIZE, (room, resource.RLIM_INFINITY))
+
+    with serving(program, folder, turns=4000, before=limit) as server:
+        with server.connect(enter("red-0") + LOOK * looks) as client:
+            answer(client, (1 + looks) * len(HERE))
+            time.sleep(1.5)
+            part = folder / "match0.jsonl.part"
+            if part.stat().st_size > room:
+                raise Wrong(f"the part has {part.stat().st_size} bytes")
+            resource.prlimit(server.child.pid, resource.RLIMIT_FSIZE, (resource.RLIM_INFINITY, resource.RLIM_INFINITY))
+            time.sleep(1.5)
+            lines = part.read_text().splitlines()
+            wants("the lines of the part", len(lines), 2 + looks)
+            for line in lines:
+                json.loads(line)
+
+
+@case("a tournament alone is served as suits a course")
+def course(program: str, folder: pathlib.Path) -> None:
+    tournament(folder)
+    port = free_port()
+    with subprocess.Popen([program, "serve", "cup.toml", "--port", str(port)], cwd=folder, stdout=subprocess.PIPE,
+                          stderr=subprocess.PIPE, text=True) as child:
+        try:
+            wants("the first line", child.stdout.readline(), f"listening {port}\n")
+            for team in TEAMS:
+                for agent in range(2):
+                    with socket.create_connection((HOST, port), PATIENCE) as client:
+                        client.sendall(enter(f"{team}-{agent}") + b'{"do":"leave"}\n')
+                        wants("an agent", answer(client, 1000), HERE + b'{"ok":"bye"}\n')
+            told = child.communicate(timeout=PATIENCE)[1]
+        finally:
+            child.kill()
+    wants("the replays", sorted(path.name for path in folder.glob("cup*l")), ["cup.toml", "cup0.jsonl", "cup1.jsonl"])
+    if "serve: session 0 plays match 0 agent 0" not in told:
+        raise Wrong(f"told was {told!r}")
+
+
+@case("a name controls no terminal")
+def shown_names(program: str, folder: pathlib.Path) -> None:
+    name = "a\u009b\u202e\u2066b"
+    run = subprocess.run([program, "judge", name], cwd=folder, capture_output=True, text=True, check=False)
+    told = run.stderr.splitlines()[-1]
+    wants("the fault", told, r"a\u{9b}\u{202e}\u{2066}b: read")
+
+
+def try_case(program: str, title: str) -> bool:
+    with tempfile.TemporaryDirectory() as name:
+        try:
+            CASES[title](program, pathlib.Path(name))
+        except (Wrong, OSError, subprocess.TimeoutExpired) as fault:
+            print(f"{title}: {fault}", flush=True)
+            return False
+    print(f"{title}: as it should be", flush=True)
+    return True
+
+
+def main(given: Sequence[str]) -> int:
+    if len(given) not in (1, 2):
+        print(__doc__.strip())
+        return 2
+    program = str(pathlib.Path(given[0]).resolve())
+    chosen = [title for title in CASES if len(given) == 1 or given[1] in title]
+    passed = sum(try_case(program, title) for title in chosen)
+    print(f"{passed} passed, {len(chosen) - passed} failed", flush=True)
+    return int(passed != len(chosen))
+
+
+if __name__ == "__main__":
+    sys.exit(main(sys.argv[1:]))
