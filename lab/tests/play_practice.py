@@ -1,5 +1,5 @@
-"""The match for practice of `examples/practice.toml`: a team that takes a long silence for the black hole is wrong, and
-one that decides nothing by time is silent. Without the held link no team is wrong."""
+"""The match for practice of `examples/practice.toml`: a team that takes a long silence for the black hole is wrong,
+and one that decides nothing by time is silent. Without the held link no team is wrong."""
 import unittest
 from typing import List
 
@@ -12,8 +12,8 @@ from lab.schedulers import Oblivious
 from lab.teams import INSIDE, AgentWords, Together
 from lab.tests.playing import RING, InFolder, program
 
-# One agent steps to the next node and comes back, node after node. The other waits behind it, and takes it for destroyed
-# if it stays away for a long time.
+# One agent steps to the next node and comes back, node after node. The other waits behind it, and takes it for
+# destroyed if it stays away for a long time.
 TIMED = '''
 NAPS = 200
 

@@ -33,7 +33,8 @@ use Rattle.bhs_time.proofs.StampLemmas.{IsStamped, initial_stamped, happened_sta
 use Rattle.bhs_time.proofs.TimelyLemmas.{away_by_past}
 use Rattle.bhs_match.specs.Matches.{Play, world_in}
 use Rattle.bhs_deal.specs.Delaying.{departed_in}
-use Rattle.bhs_deal.specs.Lateness.{words_by, whole_schedule, stamps_in, noted, is_late, late_from, late_in, IsFirstLate}
+use Rattle.bhs_deal.specs.Lateness.{words_by, whole_schedule, stamps_in, noted, is_late, late_from, late_in}
+use Rattle.bhs_deal.specs.Lateness.{IsFirstLate}
 use Rattle.bhs_deal.proofs.LateLemmas.{first_told, first_untold}
 
 -- ---- the turns of departure
@@ -122,7 +123,8 @@ module _ (world : World) (timed : TimedState) (stamped : IsStamped timed) (legal
       AreNoted (told_then world (record timed { turn = turn }) agent command)
       (noted departures (Tell agent command) (node_said world (timed.state.position agent) command) turn)
   told_noted agent command other within bound =
-      let inside : other < length departures = subst (λ (n : ℕ). other < n) (length_noted departures (Tell agent command)
+      let inside : other < length departures =
+      subst (λ (n : ℕ). other < n) (length_noted departures (Tell agent command)
       (node_said world (timed.state.position agent) command) turn) within in
       elim (eqb_tells other agent) [
         | inl h ↦ rw h.0 (subst (λ (who : ℕ). departed_in (noted departures (Tell agent command)
@@ -166,7 +168,8 @@ kept_bound : (world : World) (state : State) (lost : ℕ → Bool) (agent : ℕ)
 kept_bound world state lost agent is_kept = go state.closed (state.position agent) is_kept
   where
     go : (closed : Bool) (position : Position) →
-        ((not closed && is_let_through world position) || ((not closed && is_doomed world position) && not (lost agent)))
+        ((not closed && is_let_through world position)
+        || ((not closed && is_doomed world position) && not (lost agent)))
         ≡ true → is_bound position ≡ true
     go closed (Bound node port) e = refl
     go true Before e = absurd (false≢true e)
@@ -222,7 +225,8 @@ module _ (schedule : Schedule) (world : World) (agents : ℕ) (few : (turn : ℕ
   -- an agent that a turn releases is one of the match
   released_inside : (agent departed : ℕ) → IsFirst schedule agent departed turn → agent < length departures
   released_inside agent departed first =
-      let same : agent ≡ schedule.picked turn = is_same (and_parts (agent == schedule.picked turn) _ first.released).0 in
+      let same : agent ≡ schedule.picked turn =
+      is_same (and_parts (agent == schedule.picked turn) _ first.released).0 in
       omega (arith, same, few turn, count)
     where
       is_same : (agent == schedule.picked turn) ≡ true → agent ≡ schedule.picked turn
@@ -313,7 +317,8 @@ pub found_lemma : (dealer : ChaCha) (law : DelayLaw) (play : Play) (turns : List
 found_lemma dealer law play turns all long some =
     go (late_in (whole_schedule dealer play.setup.agents law) play turns)
     (finds_from (whole_schedule dealer play.setup.agents law) (world_in play) play.setup.agents
-    (λ turn. mod-lt ((words_by dealer).picks turn) some) timed_initial [] nobody (replicate play.setup.agents 0) 0 play.log turns
+    (λ turn. mod-lt ((words_by dealer).picks turn) some) timed_initial [] nobody (replicate play.setup.agents 0) 0
+    play.log turns
     refl initial_stamped all (none_noted (replicate play.setup.agents 0)) (length-replicate play.setup.agents 0) long)
   where
     go : (found : Option ℕ) → Finds (whole_schedule dealer play.setup.agents law) (world_in play) timed_initial

@@ -1,6 +1,7 @@
 -- Which turn is the first that releases an agent, and which Deliver of a log was not made in time.
 use Rattle.std.proofs.Common.{arith, ℕ, zero, suc, ◌≡◌, ◌<◌, ◌≤◌, ◌+◌, ◌-◌, ◌%◌, Bool, true, false, not, ◌&&◌, ◌==◌}
-use Rattle.std.proofs.Common.{Option, Some, None, List, length, get_or, drop, drop-cons, nat_le, refl, sym, ap, ◌∙◌, subst}
+use Rattle.std.proofs.Common.{Option, Some, None, List, length, get_or, drop, drop-cons, nat_le, refl, sym, ap}
+use Rattle.std.proofs.Common.{◌∙◌, subst}
 use Rattle.std.proofs.Common.{inl, inr}
 use Rattle.std.proofs.lemmas.Bool.{cond-true, and_parts, true≢false, false≢true}
 use Rattle.std.proofs.lemmas.Bool.Decides.{eqb_tells, leb_tells}
@@ -28,7 +29,8 @@ release_by dealer words agents law agent departed turn at =
 -- what is left to look at behind a turn
 pub rest_by : (schedule : Schedule) (agent departed from turn : ℕ) → from < turn →
     none_released schedule agent departed from (turn - from)
-    ≡ (not (releases schedule agent departed from) && none_released schedule agent departed (from + 1) (turn - (from + 1)))
+    ≡ (not (releases schedule agent departed from)
+    && none_released schedule agent departed (from + 1) (turn - (from + 1)))
 rest_by schedule agent departed from turn before =
     let more : turn - from ≡ suc (turn - (from + 1)) = omega (arith, before) in
     ap (none_released schedule agent departed from) more
@@ -49,12 +51,14 @@ rest_ended schedule agent departed from turn before released =
     ∙ ap (λ (b : Bool). not b && none_released schedule agent departed (from + 1) (turn - (from + 1))) released
 
 -- the same by what the calls answer
-pub released : (dealer words : ChaCha) (agents : ℕ) (law : DelayLaw) (agent departed turn word from more wait drawn : ℕ) →
+pub released : (dealer words : ChaCha) (agents : ℕ) (law : DelayLaw)
+    (agent departed turn word from more wait drawn : ℕ) →
     words ≡ record dealer { word_pos = turn % words_of_a_stream } → word ≡ next_word words → from ≡ departed →
     more ≡ wait → wait ≡ delay law.odds law.scales drawn → drawn ≡ delay_word dealer agent departed →
     (agent == word % agents && nat_le (from + more) turn)
     ≡ releases (whole_schedule dealer agents law) agent departed turn
-released dealer words agents law agent departed turn word from more wait drawn at is_word is_from is_more is_wait is_drawn =
+released dealer words agents law agent departed turn word from more wait drawn at is_word is_from is_more is_wait
+    is_drawn =
     rw (is_word, is_from, is_more, is_wait, is_drawn) (release_by dealer words agents law agent departed turn at)
 
 pub next_at : (dealer words after : ChaCha) (turn : ℕ) → after ≡ moved_on words →
@@ -131,7 +135,8 @@ first_told schedule agent departed turn is =
       later = later;
       released = more.0;
       none_before = λ earlier from before.
-          none_told schedule agent departed departed (turn - departed) more.1 earlier from (omega (arith, later, before));
+          none_told schedule agent departed departed (turn - departed) more.1 earlier from
+          (omega (arith, later, before));
     }
   where
     from_le : (m n : ℕ) → nat_le m n ≡ true → m ≤ n

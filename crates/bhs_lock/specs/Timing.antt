@@ -1,5 +1,6 @@
 -- The turns of a match under its lock, and whom a turn delivers.
-use Rattle.std.specs.Prelude.{ℕ, ◌≡◌, ◌≤◌, ◌+◌, ◌-◌, ◌^◌, min, Bool, Option, Some, None, List, [], ◌∷◌, ◌++◌, length, nat_lt}
+use Rattle.std.specs.Prelude.{ℕ, ◌≡◌, ◌≤◌, ◌+◌, ◌-◌, ◌^◌, min, Bool, Option, Some, None, List, [], ◌∷◌, ◌++◌}
+use Rattle.std.specs.Prelude.{length, nat_lt}
 use Rattle.std.specs.Prelude.{if◌then◌else◌, replicate, slice_set}
 use Rattle.rand_chacha.specs.ChaCha.{ChaCha}
 use Rattle.bhs_model.specs.declared.events.Event.{Event}

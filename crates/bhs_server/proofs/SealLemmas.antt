@@ -49,11 +49,12 @@ other_copies (dealer ∷ dealers) = refl
 pub all_later : (cells : List Given) (dealers : List ChaCha) (settled : List Fared) →
     HaveFared cells (map at_start dealers) settled → HaveFared cells dealers settled
 all_later [] dealers [] all = tt
-all_later (given ∷ cells) dealers (one ∷ settled) all =
-    (fared_later given (slice_get dealers 0) one
-    (subst (λ (dealer : Option ChaCha). HasFared given dealer one) (first_copy dealers) all.0),
-    all_later cells (drop 1 dealers) settled
-    (subst (λ (left : List ChaCha). HaveFared cells left settled) (other_copies dealers) all.1))
+all_later (given ∷ cells) dealers (one ∷ settled) all = (
+  fared_later given (slice_get dealers 0) one
+      (subst (λ (dealer : Option ChaCha). HasFared given dealer one) (first_copy dealers) all.0),
+  all_later cells (drop 1 dealers) settled
+      (subst (λ (left : List ChaCha). HaveFared cells left settled) (other_copies dealers) all.1),
+)
 all_later [] dealers (one ∷ settled) all = absurd all
 all_later (given ∷ cells) dealers [] all = absurd all
 
@@ -68,9 +69,11 @@ HaveFared-snoc : (cells : List Given) (dealers : List ChaCha) (settled : List Fa
     HaveFared cells dealers settled → HasFared given (slice_get dealers (length settled)) one →
     HaveFared (cells ++ given ∷ []) dealers (settled ++ one ∷ [])
 HaveFared-snoc [] dealers [] given one all is = (is, tt)
-HaveFared-snoc (first ∷ cells) dealers (before ∷ settled) given one all is =
-    (all.0, HaveFared-snoc cells (drop 1 dealers) settled given one all.1
-    (subst (λ (dealer : Option ChaCha). HasFared given dealer one) (get_later dealers (length settled)) is))
+HaveFared-snoc (first ∷ cells) dealers (before ∷ settled) given one all is = (
+  all.0,
+  HaveFared-snoc cells (drop 1 dealers) settled given one all.1
+      (subst (λ (dealer : Option ChaCha). HasFared given dealer one) (get_later dealers (length settled)) is),
+)
 HaveFared-snoc [] dealers (before ∷ settled) given one all is = absurd all
 HaveFared-snoc (first ∷ cells) dealers [] given one all is = absurd all
 
@@ -80,6 +83,8 @@ pub next_settled : (cells done rest others : List Given) (dealers : List ChaCha)
     HasFared given (option_map at_start (slice_get dealers (length settled))) one →
     (more : List Given) × (cells ≡ more ++ others) × HaveFared more dealers (settled ++ one ∷ [])
 next_settled cells done rest others dealers given settled one split next all is =
-    let moved = ap (λ xs. done ++ xs) next ∙ sym (append_assoc done (given ∷ []) others) in
-    (done ++ given ∷ [], split ∙ moved,
-    HaveFared-snoc done dealers settled given one all (fared_later given (slice_get dealers (length settled)) one is))
+    let moved = ap (λ xs. done ++ xs) next ∙ sym (append_assoc done (given ∷ []) others) in (
+      done ++ given ∷ [],
+      split ∙ moved,
+      HaveFared-snoc done dealers settled given one all (fared_later given (slice_get dealers (length settled)) one is),
+    )

@@ -56,8 +56,8 @@ in_time given dealer law one ended =
     ended.fared.1
 
 pub waits_in_contests_lemma : EqualWaitsInContests
-waits_in_contests_lemma given other dealer another law one two ended also same agent before turn later sight seen arrived
-    came =
+waits_in_contests_lemma given other dealer another law one two ended also same agent before turn later sight seen
+    arrived came =
     record {
       past = sym (past_of one agent ended.fared.0.count) ∙ ap bare arrived;
       other_past = sym (past_of two agent also.fared.0.count) ∙ ap bare came;

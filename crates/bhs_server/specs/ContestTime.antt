@@ -32,8 +32,8 @@ pub record WaitAlike (one two : Settlement) (agent : ℕ) (before : TimedView) (
   pub turns : turn ≡ later
 
 -- The headline in time. Take two matches of any two contests, which settled, and whose schedules are the same. They may
--- differ in their networks, in what destroys, in held links and in all that is said. If an agent with the same timed view
--- before has arrived next in both, then it arrived after equally many turns.
+-- differ in their networks, in what destroys, in held links and in all that is said. If an agent with the same timed
+-- view before has arrived next in both, then it arrived after equally many turns.
 abbrev pub EqualWaitsInContests : Type 0
 EqualWaitsInContests = (given other : Given) (dealer another : ChaCha) (law : DelayLaw) (one two : Settlement) →
     HasEnded given dealer law one → HasEnded other another law two →

@@ -18,8 +18,9 @@ use Rattle.bhs_server.specs.declared.settling.Refused.TheVariants.{Unsettled, La
 abbrev pub at_start : ChaCha → ChaCha
 at_start dealer = record dealer { word_pos = 0 }
 
--- Under the oblivious schedule by the words of this dealer, each delivery of a match was made in time: at the first turn
--- since its agent's departure that releases the agent. Under the adaptive one, and without a dealer, nothing is asked.
+-- Under the oblivious schedule by the words of this dealer, each delivery of a match was made in time: at the first
+-- turn since its agent's departure that releases the agent. Under the adaptive one, and without a dealer, nothing is
+-- asked.
 abbrev pub IsPunctual : ScheduleKind → Option ChaCha → Play → (turns : List ℕ) → Type 0
 IsPunctual (Oblivious law) (Some dealer) play turns =
     AreInTime (whole_schedule dealer play.setup.agents law) (world_in play) (stamps_in play.log turns)

@@ -21,8 +21,9 @@ use Rattle.bhs_time.proofs.WaitLemmas.{first_once}
 -- ---- the events of a timed execution with their turns
 
 -- the turn that a log's state has shows nowhere, since each event brings its own
-met_from : (world : World) (held : Held) (schedule : Schedule) (timed : TimedState) (acts : List TimedAct) (agent late : ℕ)
-    → (stamped_run_from world (record timed { turn = late }) (stamps_from world held schedule timed acts)).pasts agent
+met_from : (world : World) (held : Held) (schedule : Schedule) (timed : TimedState) (acts : List TimedAct)
+    (agent late : ℕ) →
+    (stamped_run_from world (record timed { turn = late }) (stamps_from world held schedule timed acts)).pasts agent
     ≡ (timed_run_from world held schedule timed acts).pasts agent
 met_from world held schedule timed [] agent late = refl
 met_from world held schedule timed (act ∷ acts) agent late =
@@ -102,7 +103,8 @@ punctual_lemma schedule world stamps agent in_time =
     all_punctual schedule world timed_initial stamps (λ other. tt) in_time agent
 
 pub equal_waits_in_logs_lemma : EqualWaitsInLogs
-equal_waits_in_logs_lemma schedule world other stamps others agent before turn later sight seen in_time also arrived came =
+equal_waits_in_logs_lemma schedule world other stamps others agent before turn later sight seen in_time also arrived
+    came =
     let one = subst (λ (past : TimedView). IsPunctual schedule agent past) arrived
     (punctual_lemma schedule world stamps agent in_time) in
     let two = subst (λ (past : TimedView). IsPunctual schedule agent past) came
