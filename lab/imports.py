@@ -13,6 +13,8 @@ from typing import Dict, Iterable, List, NamedTuple, Optional, Sequence, Set, Tu
 # calls that import the module whose name is their first argument
 CALLS = ("import_module", "__import__")
 SUFFIX = ".py"
+# what stands before the name of an installed package
+PACKAGE = "package "
 # a longer text is not looked into: it may be a stranger's, and made to take long
 MOST_BYTES = 1 << 18
 
@@ -86,7 +88,8 @@ def modules_of(name: str, package: str, folders: Sequence[str]) -> List[Module]:
     where, path = list(folders), ""
     for part in filter(None, full.split(".")):
         path = f"{path}.{part}" if path else part
-        spec = PathFinder.find_spec(path, where)
+        # by its last part: a folder without __init__.py would look its parent up among loaded modules
+        spec = PathFinder.find_spec(part, where)
         if spec is None:
             break
         inside = spec.submodule_search_locations
@@ -94,7 +97,7 @@ def modules_of(name: str, package: str, folders: Sequence[str]) -> List[Module]:
         found.append(Module(file, path if inside is not None else path.rpartition(".")[0]))
         if inside is None:
             break
-        where = list(inside)
+        where = [folder for folder in (os.path.join(it, part) for it in where) if os.path.isdir(folder)]
     return found
 
 
@@ -107,7 +110,7 @@ def files_behind(path: pathlib.Path, folders: Sequence[str] = (), more: Iterable
     for name in more:
         reader.follow(name)
     found = {named(file): digest_of(file) for file in reader.files.values()}
-    packages = {f"package {name}": package_digest(name) for name in sorted(reader.elsewhere)} if folders else {}
+    packages = {f"{PACKAGE}{name}": package_digest(name) for name in sorted(reader.elsewhere)} if folders else {}
     return {**found, **{name: digest for name, digest in packages.items() if digest}}
 
 
@@ -122,6 +125,11 @@ def named(path: pathlib.Path) -> str:
 def digest_of(path: pathlib.Path) -> str:
     """The SHA-256 of a file, or nothing if there is no such file."""
     return hashlib.sha256(path.read_bytes()).hexdigest() if path.is_file() else ""
+
+
+def digest_named(name: str) -> str:
+    """The SHA-256 of the file or of the installed package that a name in `files_behind` means."""
+    return package_digest(name[len(PACKAGE):]) if name.startswith(PACKAGE) else digest_of(pathlib.Path(name))
 
 
 def digest_of_all(paths: Iterable[pathlib.Path], folder: pathlib.Path) -> str:

@@ -150,8 +150,8 @@ def data_of(program: Optional[str], replay: pathlib.Path, twin: Optional[int], t
     met = {code[1:].partition(":")[0] for code in match["events"].split(",")} - {""}
     pasts = {str(agent): runs(past) for agent, past in pasts_of(program, replay, sorted(map(int, met))).items()}
     data = {
-        "name": title or replay.name, "verdict": verdict, "spots": layout(match["head"]), "pasts": pasts, "match": match,
-        "twin": None,
+        "name": title or replay.name, "verdict": verdict, "spots": layout(match["head"]), "pasts": pasts,
+        "match": match, "twin": None,
     }
     if twin is not None:
         if program is None:

@@ -20,7 +20,7 @@ from lab.agent_files import NoAgent
 from lab.built import NoProgram
 from lab.engines import TOP, Differs, Refused
 from lab.grid import Case
-from lab.imports import digest_of
+from lab.imports import digest_named, digest_of
 from lab.missing import Missing, needed
 from lab.networks import NoNetwork
 from lab.schedulers import Impossible
@@ -164,7 +164,7 @@ def own_digests() -> Dict[str, str]:
 
 def other_files(files: Dict[str, str]) -> List[str]:
     """The files that are other ones here."""
-    return [name for name, digest in files.items() if digest_of(pathlib.Path(name)) != digest]
+    return [name for name, digest in files.items() if digest_named(name) != digest]
 
 
 def serve() -> None:

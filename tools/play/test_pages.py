@@ -256,7 +256,8 @@ def refused(browser: Browser) -> None:
     source.write_text("".join(line + "\n" for line in dark_replay().split("\n")[:-2]), encoding="utf-8")
     tool = [sys.executable, "-m", "lab", "page", str(source)]
     ran = subprocess.run(tool, cwd=TOP, stderr=subprocess.PIPE, text=True)
-    right = ran.returncode == 3 and ran.stderr.startswith(f"{source}: end: ") and not source.with_suffix(".html").exists()
+    is_said = ran.stderr.startswith(f"{source}: end: ")
+    right = ran.returncode == 3 and is_said and not source.with_suffix(".html").exists()
     browser.check(right, f"cut: status {ran.returncode}, {ran.stderr}")
 
 
