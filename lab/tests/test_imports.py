@@ -12,7 +12,8 @@ from lab.spread import other_files
 from lab.teams import INSIDE, OUTSIDE, AgentWords, digests_of
 
 FILES = {
-    "agent.py": "import one\nfrom two import three\n\ndef search(agent, key):\n    import late\n    from four import *\n",
+    "agent.py": "import one\nfrom two import three\n\n"
+                "def search(agent, key):\n    import late\n    from four import *\n",
     "one.py": "import importlib\nimportlib.import_module('named')\n__import__('again')\n",
     "two/__init__.py": "from . import inner\n", "two/three.py": "from .deep.er import x\nimport agent\n",
     "two/inner.py": "", "two/deep/er.py": "x = 1\n", "two/unused.py": "", "late.py": "", "named.py": "",

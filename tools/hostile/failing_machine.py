@@ -21,8 +21,8 @@ import tempfile
 import threading
 from typing import Callable, Counter
 
-from commands import (COMMANDS, DONE, FAILED_STREAM, NO_MEMORY, NO_THREADS, PATIENCE, REFUSED_TEXT, TOP, Lab, Run, ended,
-                      free_port)
+from commands import (COMMANDS, DONE, FAILED_STREAM, NO_MEMORY, NO_THREADS, PATIENCE, REFUSED_TEXT, TOP, Lab, Run,
+                      ended, free_port)
 
 sys.path.insert(0, str(TOP / "bench"))
 

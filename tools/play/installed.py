@@ -7,8 +7,8 @@ package in a bare Debian 12.
 Makes the release twice and compares the bytes. Then it installs the wheel with `pip`, which fetches greenlet and
 others, and the Debian package with `apt-get` in a root that `debootstrap` makes in FOLDER, or in a temporary one. In
 each it asks for the version, plays the sample contest (in the root), the first commands of the lab's tutorial and a
-page, and looks for man pages and completions. It needs root, debootstrap and a network, and takes some minutes. The last line reads `N
-passed, M failed`, and the exit status is 1 if one failed.
+page, and looks for man pages and completions. It needs root, debootstrap and a network, and takes some minutes. The
+last line reads `N passed, M failed`, and the exit status is 1 if one failed.
 """
 import argparse
 import contextlib
