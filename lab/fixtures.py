@@ -8,7 +8,8 @@ from lab import networks
 from lab.delays import OBLIVIOUS, Delays
 from lab.model import Object, Place, Setup, command_of, place_of, text_of
 
-SEED = "0" * 64
+SEED_BYTES = 32
+SEED = "0" * 2 * SEED_BYTES
 MOST_AGENTS = 64
 # the team of a match that has none
 OWN_TEAM = "lab"
@@ -79,9 +80,17 @@ def read_tournament(path: str) -> Tournament:
     """The tournament of a file, which must be right: ask `arena check`."""
     try:
         found = tomllib.loads(pathlib.Path(path).read_text(encoding="utf-8"))
-        return Tournament(found["seed"], [fixture_in(row) for row in found["match"]], delays_in(found))
+        return Tournament(seed_in(found), [fixture_in(row) for row in found["match"]], delays_in(found))
     except (ValueError, KeyError, TypeError) as fault:
         raise NoMatch(f"{path}: it is no tournament ({networks.fault_text(fault)}); `arena check` says more") from None
+
+
+def seed_in(found: Object) -> str:
+    """The seed of a tournament."""
+    seed: str = found["seed"]
+    if len(bytes.fromhex(seed)) != SEED_BYTES:
+        raise ValueError(f"its seed has not {2 * SEED_BYTES} hexadecimal digits")
+    return seed
 
 
 def delays_in(found: Object) -> Optional[Delays]:

@@ -14,7 +14,7 @@ from client import Agent, Here, Swap
 from tests import TOP
 
 TOURNAMENT = """version = 2
-seed = "00"
+seed = "0707070707070707070707070707070707070707070707070707070707070707"
 
 [[match]]
 team = "red"
