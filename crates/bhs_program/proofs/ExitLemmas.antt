@@ -1,8 +1,8 @@
 -- The exit statuses of what the program does.
 use Rattle.std.proofs.Common.{inl, inr, ℕ, List, Option, None, Some, Bool, true, false, Result}
 use Rattle.std.specs.Prelude.{◌==◌, if◌then◌else◌}
-use Rattle.bhs_match.specs.Matches.{Play}
-use Rattle.bhs_lock.specs.declared.settling.Unsettled.{Unsettled}
+use Rattle.bhs_lock.specs.declared.settling.Settlement.{Settlement}
+use Rattle.bhs_server.specs.declared.settling.Refused.{Refused}
 use Rattle.bhs_lineup.specs.declared.lineups.Ready.{Ready}
 use Rattle.bhs_time.specs.declared.kinds.ScheduleKind.{ScheduleKind}
 use Rattle.bhs_stream.specs.Streams.{Chunk, Taken}
@@ -57,23 +57,23 @@ of_either false one two first second = first
 
 module _ {P O : Type 0} (files : P → List ℕ → Taken → P → Type 0) (takes : O → List ℕ → Taken → O → Type 0)
     (flushes : O → Bool → O → Type 0) where
-  of_files : (settled : List (Result Play Unsettled)) (code : ℕ) → Files files settled code → IsStatus code
+  of_files : (settled : List (Result Settlement Refused)) (code : ℕ) → Files files settled code → IsStatus code
   of_files settled code (all_filed is filed) = inl is
   of_files settled code (unfiled_one fault is) = inr (inr (fault, is))
 
-  of_table : (teams : List (List ℕ)) (settled : List (Result Play Unsettled)) (output output' : O) (code : ℕ)
+  of_table : (teams : List (List ℕ)) (settled : List (Result Settlement Refused)) (output output' : O) (code : ℕ)
       → Tables takes flushes teams settled output output' code → IsStatus code
   of_table teams settled output output' code (tabled plays are table) =
       of_text takes flushes output output' code _ table
   of_table teams settled output output' code (untabled fault why is kept) = inr (inr (fault, is))
 
-  of_host : (schedule : ScheduleKind) (matches : List Ready) (output output' : O) (code : ℕ)
-      → Hosts files takes flushes schedule matches output output' code → IsStatus code
-  of_host schedule matches output output' code (fares settled fared ended) =
+  of_host : (seed : List ℕ) (schedule : ScheduleKind) (matches : List Ready) (output output' : O) (code : ℕ)
+      → Hosts files takes flushes seed schedule matches output output' code → IsStatus code
+  of_host seed schedule matches output output' code (fares settled fared ended) =
       rw ended.coded (of_either (ended.filed == DONE) ended.filed ended.printed
       (of_files settled ended.filed ended.writes)
       (of_table _ settled output output' ended.printed ended.tables))
-  of_host schedule matches output output' code (fails fault unbegun is kept) = inr (inr (fault, is))
+  of_host seed schedule matches output output' code (fails fault unbegun is kept) = inr (inr (fault, is))
 
 module _ {P I O : Type 0} (files : P → List ℕ → Taken → P → Type 0) (gives : I → Chunk → I → Type 0)
     (takes : O → List ℕ → Taken → O → Type 0)
@@ -104,7 +104,7 @@ module _ {P I O : Type 0} (files : P → List ℕ → Taken → P → Type 0) (g
 
   of_served : (port : ℕ) → Serves files takes flushes port output output' code → IsStatus code
   of_served port (serves_on lineup assembled heard shows hosts) =
-      of_host files takes flushes _ _ heard output' code hosts
+      of_host files takes flushes _ _ _ heard output' code hosts
   of_served port (goes_unheard lineup assembled is print) = inr (inr (Write, is))
   of_served port (refuses_contest fault is kept) = inr (inr (fault, is))
 

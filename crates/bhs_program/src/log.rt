@@ -25,6 +25,19 @@ struct Waiting {
     is_over: bool,
 }
 
+impl Waiting {
+    // Has a text wait, unless too many do or there was no memory: whether it waits.
+    fn keeps(&mut self, made: Result<String, Memory>) -> bool {
+        let Ok(text) = made else {
+            return false;
+        };
+        if self.lines.len() >= MOST {
+            return false;
+        }
+        self.lines.push_back(text).is_ok()
+    }
+}
+
 /// Lines for the operator that wait to be written.
 #[derive(Drop)]
 pub struct Log {
@@ -51,11 +64,7 @@ impl Log {
     /// Has a text written. If too many wait, or there was no memory to make it, it is dropped.
     pub(crate) fn tell<R: Wait>(&self, rt: &R, made: Result<String, Memory>) {
         let mut waiting = self.waiting.lock(rt);
-        let is_kept = match made {
-            Ok(text) if waiting.lines.len() < MOST => waiting.lines.push_back(text).is_ok(),
-            _ => false,
-        };
-        if !is_kept {
+        if !waiting.keeps(made) {
             waiting.dropped = waiting.dropped.saturating_add(1);
         }
         self.changed.notify_all();
