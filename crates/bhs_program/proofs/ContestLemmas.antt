@@ -37,9 +37,9 @@ one_more_settled settled rest others before one is next =
     ∙ ap (λ (xs : List (Result Settlement Refused)). xs ++ others) (sym (map-append Ok before (one ∷ [])))
 
 -- as many matches settled as there are, if all did
-pub all_counted : (settled : List (Result Settlement Refused)) (all : List Settlement) → settled ≡ map Ok all
-    → length settled ≡ length all
-all_counted settled all are = ap length are ∙ length-map all Ok
+pub all_counted : (settled : List (Result Settlement Refused)) (settlements : List Settlement) → settled ≡ map Ok settlements
+    → length settled ≡ length settlements
+all_counted settled settlements are = ap length are ∙ length-map settlements Ok
 
 -- the line that says that the program listens
 module _ {O : Type 0} (takes : O → List ℕ → Taken → O → Type 0) (flushes : O → Bool → O → Type 0) (port : ℕ)
