@@ -37,8 +37,8 @@ one_more_settled settled rest others before one is next =
     ∙ ap (λ (xs : List (Result Settlement Refused)). xs ++ others) (sym (map-append Ok before (one ∷ [])))
 
 -- as many matches settled as there are, if all did
-pub all_counted : (settled : List (Result Settlement Refused)) (settlements : List Settlement) → settled ≡ map Ok settlements
-    → length settled ≡ length settlements
+pub all_counted : (settled : List (Result Settlement Refused)) (settlements : List Settlement) →
+    settled ≡ map Ok settlements → length settled ≡ length settlements
 all_counted settled settlements are = ap length are ∙ length-map settlements Ok
 
 -- the line that says that the program listens
