@@ -210,7 +210,7 @@ def words_are_utf_8(stage: Stage) -> None:
 
 HELP_LINE = "\n  -h, --help\n          Print help (see a summary with '-h')\n"
 OUT_OF_MEMORY = "\n  5  Memory ran out\n"
-SERVE = "\n\nUsage: arena serve [OPTIONS] --port <PORT> --sessions <SESSIONS> --turns <TURNS> "
+SERVE = "\n\nUsage: arena serve [OPTIONS] <TOURNAMENT>\n"
 PORT_HELP = "\n      --port <PORT>\n          The port to listen on, 1 to 65535\n"
 REHEARSE = ["\n\nUsage: arena rehearse [OPTIONS] [TOURNAMENT]\n", OUT_OF_MEMORY, """  printf '%s\\n' \\
     '0 {"do":"enter","key":"ka"}' \\
