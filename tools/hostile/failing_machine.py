@@ -13,6 +13,7 @@ import collections
 import contextlib
 import os
 import pathlib
+import re
 import resource
 import socket
 import subprocess
@@ -150,6 +151,10 @@ def served(lab: Lab, sessions: int, limit: Callable[[], None]) -> Run:
     return run._replace(printed=first + run.printed)
 
 
+# each part takes a descriptor while a contest goes on; without one the replay is whole nevertheless
+NO_PART = re.compile(r"serve: the part of match \d+ stops after \d+ events: write")
+
+
 def servers(lab: Lab) -> None:
     """A contest of many sessions with little memory, so that threads cannot start, and with few descriptors."""
     seen: Counter = collections.Counter()
@@ -159,8 +164,8 @@ def servers(lab: Lab) -> None:
         found = served(lab, SESSIONS, limited(kind, most))
         lines = found.printed.decode(errors="replace").splitlines()
         told = {line.rpartition(": ")[2] for line in found.told.splitlines()}
-        if found.status == DONE and len(lines) == 6 and not told:
-            seen["served"] += 1
+        if found.status == DONE and len(lines) == 6 and all(map(NO_PART.fullmatch, found.told.splitlines())):
+            seen["served without all parts" if told else "served"] += 1
         elif (found.status, told) in ((NO_MEMORY, {"memory"}), (FAILED_STREAM, {"read"}), (FAILED_STREAM, {"listen"}),
                                       (FAILED_STREAM, {"write"}), (NO_THREADS, {"threads"})):
             seen["".join(told)] += 1
