@@ -48,14 +48,14 @@ class Rules(NamedTuple):
 
 
 def teams(contests: int) -> List[str]:
-    """The teams of some contests: `honest 0`, `timeout-8 0` and so on."""
+    """The teams of some contests: `honest-0`, `timeout-8-0` and so on."""
     kinds = ["honest", *(f"timeout-{turns}" for turns in TIMEOUTS)]
-    return [f"{kind} {number}" for number in range(contests) for kind in kinds]
+    return [f"{kind}-{number}" for number in range(contests) for kind in kinds]
 
 
 def tournament(rules: Rules, network: pathlib.Path, names: List[str]) -> str:
     rows = "".join(f'\n[[match]]\nteam = "{name}"\nnetwork = "{network}"\nhome = 0\nholes = [{rules.nodes // 2}]\n'
-                   f'quota = {QUOTA}\nboard = {BOARD}\nkeys = ["{name}/0", "{name}/1"]\nheld = []\n' for name in names)
+                   f'quota = {QUOTA}\nboard = {BOARD}\nkeys = ["{name}-a", "{name}-b"]\nheld = []\n' for name in names)
     return f'version = 3\nseed = "{"07" * 32}"\n{SCHEDULES[rules.schedule]}{rows}'
 
 
@@ -90,7 +90,7 @@ def is_back(agent: Agent, seconds: float, every: float) -> bool:
 
 def plays(port: int, rules: Rules, name: str, number: int) -> Callable[[], None]:
     """What an agent of a team does."""
-    key, pause = f"{name}/{number}", rules.pause / 1000
+    key, pause = f"{name}-{'ab'[number]}", rules.pause / 1000
 
     def play() -> None:
         agent = Agent.connect("127.0.0.1", port)
@@ -102,7 +102,7 @@ def plays(port: int, rules: Rules, name: str, number: int) -> Callable[[], None]
             if number == 0:
                 step_out(agent, rules.nodes)
             else:
-                timeout = int(name.partition("-")[2].split()[0])
+                timeout = int(name.split("-")[1])
                 watch(agent, rules.nodes, timeout * pause, max(1, timeout // 8) * pause / 2)
         except Refused:
             pass
@@ -114,7 +114,7 @@ def plays(port: int, rules: Rules, name: str, number: int) -> Callable[[], None]
 def table_of(text: str) -> Dict[str, str]:
     """The outcome of each team, by the table that the server prints."""
     rows = [line.split() for line in text.splitlines()[1:]]
-    return {" ".join(row[1:3]): row[3] for row in rows}
+    return {row[1]: row[2] for row in rows}
 
 
 def contest(rules: Rules, contests: int) -> Dict[str, str]:
@@ -149,7 +149,7 @@ def main(arguments: List[str]) -> int:
         some = min(left, AT_ONCE)
         try:
             for name, outcome in contest(rules, some).items():
-                found[name.split()[0]][outcome] += 1
+                found[name.rpartition("-")[0]][outcome] += 1
         except (Failed, OSError) as fault:
             print(fault, file=sys.stderr)
             return 1
