@@ -1,8 +1,8 @@
 """Modules that one agent inside the lab has for itself, as a program outside has: its file, what it imports from beside
 it, and `random`. They stand in their places while the agent runs, and those of the lab stand there else.
 """
-import importlib.util
 import os
+import random
 import sys
 import threading
 from types import ModuleType
@@ -30,13 +30,13 @@ def own_names(folders: Collection[str], shared: Collection[str] = ()) -> List[st
 
 
 def random_from(seed: int) -> ModuleType:
-    """A module `random` of its own that begins with this seed."""
-    spec = importlib.util.find_spec(RANDOM)
-    if spec is None or spec.loader is None:
-        raise ImportError("this Python has no module random")
-    made = importlib.util.module_from_spec(spec)
-    spec.loader.exec_module(made)
-    made.seed(seed)
+    """A module `random` of its own that begins with this seed. It is not loaded anew, since each `random` that is
+    loaded stays in memory until the process ends, to be seeded again when it forks."""
+    own, made = random.Random(seed), ModuleType(RANDOM, random.__doc__)
+    for name, value in vars(random).items():
+        is_of_one = getattr(value, "__self__", None) is random._inst
+        setattr(made, name, getattr(own, name) if is_of_one else value)
+    setattr(made, "_inst", own)
     return made
 
 
