@@ -11,6 +11,7 @@ use crate::finishing::{Finished, finish};
 use crate::log::Log;
 use crate::machines::Machine;
 use crate::manners::Manner;
+use crate::parts::parts_of;
 use crate::recording::Recorder;
 use bhs_host::{Hosted, Steady, contest_of};
 use bhs_lineup::Lineup;
@@ -85,8 +86,8 @@ fn settled<R: Machine>(
     ensures { IfOk result (λ settled. HaveFared contest.cells.items contest.dealers.items settled.items) }
 {
     let log = started_log(alloc, rt)?;
-    let prefix = manner.prefix;
-    let recorder = Recorder::new(rt, alloc, prefix, manner.log, &log, contest.cells.len())?;
+    let parts = parts_of(alloc, manner.prefix, contest.cells.len())?;
+    let recorder = Recorder::new(rt, alloc, manner.log, &log, parts);
     let pace = Steady::new(rt, manner.turns, manner.pause);
     let limits = Limits {
         sessions: manner.sessions,

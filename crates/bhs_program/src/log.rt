@@ -101,7 +101,11 @@ impl Log {
         }
         let dropped = waiting.dropped;
         waiting.dropped = 0;
-        unread_line(self.alloc, dropped).ok()
+        // Without memory for this line the log goes on without it.
+        match unread_line(self.alloc, dropped) {
+            Ok(text) => Some(text),
+            Err(_) => Some(String::new(self.alloc)),
+        }
     }
 
     /// Ends the log, once all lines are written or a second has passed.

@@ -1,6 +1,6 @@
 //! How a contest is served, by the words that were given and those that were not.
 
-ghost use Rattle.std.specs.Prelude.{◌≡◌, ◌≢◌, []};
+ghost use Rattle.std.specs.Prelude.{◌≡◌, ◌≢◌, [], true};
 
 use bhs_command_line::Hosting;
 
@@ -27,8 +27,14 @@ pub fn manner_of<'a>(tournament: &'a str, hosting: &'a Hosting) -> Manner<'a>
     ensures gather { hosting.now.prefix ≢ [] → result.gather ≡ hosting.now.gather }
     ensures early { hosting.now.prefix ≢ [] → result.early ≡ hosting.now.early }
     ensures log { hosting.now.prefix ≢ [] → result.log ≡ hosting.now.log }
+    ensures prefix { hosting.now.prefix ≢ [] → result.prefix.now ≡ hosting.now.prefix }
+    ensures early_course { hosting.now.prefix ≡ [] → result.early ≡ true }
+    ensures log_course { hosting.now.prefix ≡ [] → result.log ≡ true }
+    ensures gather_course { hosting.now.prefix ≡ [] → result.gather ≢ 0 }
+    ensures sessions { result.sessions ≡ hosting.now.sessions }
     ensures turns { result.turns ≡ hosting.now.turns }
     ensures pause { result.pause ≡ hosting.now.pause }
+    ensures grace { result.grace ≡ hosting.now.grace }
 {
     let given = hosting.prefix.as_str();
     let is_course = given.is_empty();

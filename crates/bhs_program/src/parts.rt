@@ -19,6 +19,9 @@ use std::sync::Wait;
 /// How far the part of a match is. Its file stays open, so that it is written on while descriptors are used up.
 #[derive(Drop)]
 pub(crate) struct Part {
+    /// The number of its match.
+    game: usize,
+    name: String,
     file: Option<File>,
     /// How many bytes of the file are whole lines. What stands behind them is cut away before more is written.
     bytes: u64,
@@ -30,10 +33,21 @@ pub(crate) struct Part {
     has_failed: bool,
 }
 
+/// The parts of this number of matches, which have no event yet.
+pub(crate) fn parts_of(alloc: Global, prefix: &str, matches: usize) -> Result<Vec<Part>, Memory> {
+    let mut parts = Vec::with_capacity(alloc, matches)?;
+    for game in 0..matches {
+        parts.push(Part::new(game, part_name(alloc, prefix, game)?))?;
+    }
+    Ok(parts)
+}
+
 impl Part {
-    /// No event yet.
-    pub(crate) fn new() -> Part {
+    // The part of a match, with no event yet.
+    fn new(game: usize, name: String) -> Part {
         Part {
+            game,
+            name,
             file: None,
             bytes: 0,
             events: 0,
@@ -53,26 +67,24 @@ impl Part {
         &mut self,
         rt: &R,
         alloc: Global,
-        prefix: &str,
-        game: usize,
         cell: &Cell,
         log: &Log,
     ) -> bool {
-        match self.appended(rt, alloc, prefix, game, cell) {
+        match self.appended(rt, alloc, cell) {
             Ok(0) => false,
             Ok(_) => {
-                self.goes_on(rt, alloc, game, log);
+                self.goes_on(rt, alloc, log);
                 true
             }
             Err(_) => {
-                self.fails(rt, alloc, game, log);
+                self.fails(rt, alloc, log);
                 false
             }
         }
     }
 
     /// Sees that what was written is on the disk.
-    pub(crate) fn sync<R: Wait>(&mut self, rt: &R, alloc: Global, game: usize, log: &Log) {
+    pub(crate) fn sync<R: Wait>(&mut self, rt: &R, alloc: Global, log: &Log) {
         if self.synced == self.events {
             return;
         }
@@ -82,7 +94,7 @@ impl Part {
         if file.sync_data().is_ok() {
             self.synced = self.events;
         } else {
-            self.fails(rt, alloc, game, log);
+            self.fails(rt, alloc, log);
         }
     }
 
@@ -91,11 +103,9 @@ impl Part {
         &mut self,
         rt: &R,
         alloc: Global,
-        prefix: &str,
-        game: usize,
         cell: &Cell,
     ) -> Result<usize, Fault> {
-        self.open(rt, alloc, prefix, game)?;
+        self.open(rt)?;
         let found = cell.copies(rt, alloc, self.events, FEW)?;
         if found.is_empty() {
             return Ok(0);
@@ -107,18 +117,11 @@ impl Part {
     }
 
     // Opens its file, if it is not open.
-    fn open<R: Keep>(
-        &mut self,
-        rt: &R,
-        alloc: Global,
-        prefix: &str,
-        game: usize,
-    ) -> Result<(), Fault> {
+    fn open<R: Keep>(&mut self, rt: &R) -> Result<(), Fault> {
         if self.file.is_some() {
             return Ok(());
         }
-        let name = part_name(alloc, prefix, game)?;
-        let file = rt.open(name.as_str())?;
+        let file = rt.open(self.name.as_str())?;
         let Ok(found) = file.metadata() else {
             return Err(Fault::Write);
         };
@@ -143,17 +146,17 @@ impl Part {
     }
 
     // It could not be written on, which is told once.
-    fn fails<R: Wait>(&mut self, rt: &R, alloc: Global, game: usize, log: &Log) {
+    fn fails<R: Wait>(&mut self, rt: &R, alloc: Global, log: &Log) {
         if !self.has_failed {
-            log.tell(rt, part_waits_line(alloc, game, self.events));
+            log.tell(rt, part_waits_line(alloc, self.game, self.events));
         }
         self.has_failed = true;
     }
 
     // It was written on.
-    fn goes_on<R: Wait>(&mut self, rt: &R, alloc: Global, game: usize, log: &Log) {
+    fn goes_on<R: Wait>(&mut self, rt: &R, alloc: Global, log: &Log) {
         if self.has_failed {
-            log.tell(rt, part_goes_on_line(alloc, game, self.events));
+            log.tell(rt, part_goes_on_line(alloc, self.game, self.events));
         }
         self.has_failed = false;
     }

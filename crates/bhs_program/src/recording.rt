@@ -19,10 +19,10 @@ use std::sync::{Mutex, Wait};
 // How many looks lie between two reports of how far the matches are. There are two looks a second.
 const LOOKS: u32 = 120;
 
-// Of how many clients that are not let in lines are told between two reports of how many more there were.
+// The log tells at most this many clients that were not let in. Then it counts them until the next report.
 const OUTSIDERS: u32 = 64;
 
-// How many looks lie between two such reports.
+// How many looks lie between two reports of the clients that were counted.
 const COUNTED: u32 = 20;
 
 /// Keeps the parts of the replays, and tells the operator what happens.
@@ -30,7 +30,6 @@ const COUNTED: u32 = 20;
 pub(crate) struct Recorder<'a, R> {
     rt: &'a R,
     alloc: Global,
-    prefix: &'a str,
     /// Whether it is told what happens. What cannot be written is told anyway.
     is_telling: bool,
     log: &'a Log,
@@ -53,23 +52,17 @@ struct Going {
 }
 
 impl<'a, R> Recorder<'a, R> {
-    /// Of this number of matches, whose parts have no event yet.
+    /// Of matches with these parts. Nothing goes on yet.
     pub(crate) fn new(
         rt: &'a R,
         alloc: Global,
-        prefix: &'a str,
         is_telling: bool,
         log: &'a Log,
-        matches: usize,
-    ) -> Result<Recorder<'a, R>, Memory> {
-        let mut parts = Vec::with_capacity(alloc, matches)?;
-        for _ in 0..matches {
-            parts.push(Part::new())?;
-        }
-        Ok(Recorder {
+        parts: Vec<Part>,
+    ) -> Recorder<'a, R> {
+        Recorder {
             rt,
             alloc,
-            prefix,
             is_telling,
             log,
             parts: Mutex::new(parts),
@@ -79,7 +72,7 @@ impl<'a, R> Recorder<'a, R> {
                 came: 0,
                 outside: 0,
             }),
-        })
+        }
     }
 }
 
@@ -98,27 +91,16 @@ impl<R: Keep + Wait> Recorder<'_, R> {
         let parts = &mut *guard;
         for _ in 0..TIMES {
             let mut is_done = true;
-            for (game, cell) in cells.iter().enumerate() {
-                if let Some(part) = parts.get_mut(game) {
-                    let has_more = part.write_on(
-                        self.rt,
-                        self.alloc,
-                        self.prefix,
-                        game,
-                        cell,
-                        self.log,
-                    );
-                    is_done = is_done && !has_more;
-                }
+            for (part, cell) in parts.iter_mut().zip(cells) {
+                let has_more = part.write_on(self.rt, self.alloc, cell, self.log);
+                is_done = is_done && !has_more;
             }
             if is_done {
                 break;
             }
         }
-        for game in 0..cells.len() {
-            if let Some(part) = parts.get_mut(game) {
-                part.sync(self.rt, self.alloc, game, self.log);
-            }
+        for part in parts.iter_mut() {
+            part.sync(self.rt, self.alloc, self.log);
         }
     }
 
