@@ -165,23 +165,23 @@ fn a_match_has_64_agents(rt: HostRuntime) -> Result<(), Fail> {
 }
 
 #[test]
-fn a_whiteboard_holds_4096_bytes(rt: HostRuntime) -> Result<(), Fail> {
+fn a_whiteboard_holds_65535_bytes(rt: HostRuntime) -> Result<(), Fail> {
     let alloc = rt.alloc();
     let setup = Setup {
-        board: 4096,
+        board: 65_535,
         ..setup(alloc)?
     };
     let mut game = Match::new(alloc, network(alloc)?, setup)?;
     game.apply(tell(0, Command::Enter));
     let mut text = String::new(alloc);
-    for _ in 0..4096 {
+    for _ in 0..65_535 {
         text.push('a')?;
     }
     let full = write(alloc, "", text.as_str())?;
     let longer = write(alloc, text.as_str(), format!(in alloc; "{text}a")?.as_str())?;
     assert_eq!(rt; game.apply(tell(0, full)).mark, Some(Mark::Written));
     assert_eq!(rt; game.apply(tell(0, longer)).mark, no(Why::Long));
-    assert_eq!(rt; game.seen(0).len(), 4096);
+    assert_eq!(rt; game.seen(0).len(), 65_535);
     Ok(())
 }
 

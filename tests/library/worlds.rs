@@ -36,19 +36,17 @@ fn sized(alloc: Global, home: u16, agents: u16, quota: u16, board: u16) -> Resul
 fn the_first_fault_of_a_setup_is_told(rt: HostRuntime) -> Result<(), Fail> {
     let alloc = rt.alloc();
     for (setup, fault) in vec![in alloc;
-        (sized(alloc, 3, 0, 1001, 4097)?, Some(SetupFault::Home)),
+        (sized(alloc, 3, 0, 0, 8)?, Some(SetupFault::Home)),
         (holes(alloc, &[0])?, Some(SetupFault::Hole)),
         (holes(alloc, &[3])?, Some(SetupFault::Hole)),
         (holes(alloc, &[2, 2])?, Some(SetupFault::Hole)),
-        (sized(alloc, 0, 0, 1001, 4097)?, Some(SetupFault::Agents)),
-        (sized(alloc, 0, 65, 1001, 4097)?, Some(SetupFault::Agents)),
-        (sized(alloc, 0, 64, 1001, 4097)?, Some(SetupFault::Quota)),
-        (sized(alloc, 0, 1, 0, 4097)?, Some(SetupFault::Quota)),
-        (sized(alloc, 0, 1, 1000, 4097)?, Some(SetupFault::Board)),
+        (sized(alloc, 0, 0, 0, 8)?, Some(SetupFault::Agents)),
+        (sized(alloc, 0, 65, 0, 8)?, Some(SetupFault::Agents)),
+        (sized(alloc, 0, 64, 0, 8)?, Some(SetupFault::Quota)),
         (dark(alloc, &[(0, 2)])?, Some(SetupFault::Dark)),
         (dark(alloc, &[(0, 1), (2, 1)])?, Some(SetupFault::Dark)),
         (dark(alloc, &[(0, 1)])?, None),
-        (sized(alloc, 0, 64, 1000, 4096)?, None),
+        (sized(alloc, 0, 64, 65_535, 65_535)?, None),
         (setup(alloc)?, None),
     ]? {
         assert_eq!(rt; World::new(alloc, network(alloc)?, setup).err(), fault);

@@ -1,9 +1,10 @@
 -- What a tournament and its networks make: matches that can be played, and the keys; or the first fault.
-use Rattle.std.specs.Prelude.{ℕ, ◌+◌, List, [], ◌∷◌, map, length, slice_index_or, Option, Some, None, option_map}
-use Rattle.std.specs.Prelude.{Result, Ok, Err}
+use Rattle.std.specs.Prelude.{ℕ, ◌+◌, not, nat_lt, if◌then◌else◌, List, [], ◌∷◌, map, length, slice_index_or, Option}
+use Rattle.std.specs.Prelude.{Some, None, option_map, Result, Ok, Err}
 use Rattle.std.specs.List.{position_or_len}
 use Rattle.std.specs.Option.{option_or}
 use Rattle.bhs_net.specs.Network.{Network}
+use Rattle.bhs_model.specs.declared.limits.TheConstants.{SMALL_QUOTA, SMALL_BOARD}
 use Rattle.bhs_model.specs.declared.setups.Setup.{Setup}
 use Rattle.bhs_model.specs.Setups.{normal}
 use Rattle.bhs_world.specs.Faults.{first_fault}
@@ -59,9 +60,25 @@ abbrev pub of_setup : (game : ℕ) → SetupFault → FileFault
 of_setup game setup_faults.Memory = faults.Memory
 of_setup game fault = faults.Setup game fault
 
+-- what a match has too much of for the version of its file: the earlier ones allow less than the model
+abbrev pub excess : Planned → Option SetupFault
+excess planned =
+    if not (nat_lt planned.version 3) then None
+    else (if nat_lt SMALL_QUOTA planned.quota then Some setup_faults.Quota
+    else (if nat_lt SMALL_BOARD planned.board then Some setup_faults.Board
+    else None))
+
+-- The first fault of a setup that has this first fault, or none, and this excess. An excess of commands or bytes has
+-- the place of their faults, before that of the dark links alone.
+abbrev pub with_excess : (excess first : Option SetupFault) → Option SetupFault
+with_excess excess None = excess
+with_excess excess (Some setup_faults.Dark) = option_or excess (Some setup_faults.Dark)
+with_excess excess (Some fault) = Some fault
+
 -- the fault of a match's setup
 abbrev pub setup_fault : Network → (game : ℕ) → Planned → Option FileFault
-setup_fault net game planned = option_map (faults.Setup game) (first_fault net (setup_of planned))
+setup_fault net game planned =
+    option_map (faults.Setup game) (with_excess (excess planned) (first_fault net (setup_of planned)))
 
 -- the first of a match's held links that is no port of a node
 abbrev pub held_fault : Network → (game : ℕ) → Planned → Option FileFault

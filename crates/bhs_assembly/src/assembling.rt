@@ -1,6 +1,6 @@
 //! Putting a tournament and its networks together.
 
-ghost use Rattle.std.specs.Prelude.{ℕ, List, ◌≡◌, ◌<◌, ◌^◌, length, map, option_map, IfOk, Ok, vec_len, IsTrue};
+ghost use Rattle.std.specs.Prelude.{ℕ, List, ◌≡◌, ◌<◌, ◌^◌, length, map, option_map, IfOk, Ok, vec_len, IsTrue, Some};
 ghost use Rattle.std.specs.List.{zip};
 ghost use Rattle.bhs_deal.specs.Links.{first_strange};
 ghost use Rattle.bhs_world.specs.Faults.{first_fault};
@@ -11,7 +11,7 @@ ghost use Rattle.bhs_lineup.specs.Lineups.{contest};
 ghost use Rattle.bhs_assembly.specs.KeyTable.{LetsIn};
 ghost use Rattle.bhs_files.specs.Tournaments.{plan, planned, key_lists};
 ghost use Rattle.bhs_assembly.specs.Lineups.{network_named, setup_of, start_of, begins, of_setup, setup_fault, unless};
-ghost use Rattle.bhs_assembly.specs.Lineups.{contest_in, all_ready};
+ghost use Rattle.bhs_assembly.specs.Lineups.{excess, with_excess, contest_in, all_ready};
 ghost use Rattle.bhs_assembly.specs.Passes.{each_in, begun, readied};
 
 use crate::key_table::keys_of;
@@ -19,7 +19,7 @@ use bhs_deal::{Held, HeldFault};
 use bhs_files::{FileFault, Fixture, Tournament};
 use bhs_lineup::{Lineup, Ready};
 use bhs_match::Match;
-use bhs_model::{Setup, Text};
+use bhs_model::{SMALL_BOARD, SMALL_QUOTA, Setup, Text};
 use bhs_net::Net;
 use bhs_world::SetupFault;
 use indexmap::IndexSet;
@@ -129,15 +129,52 @@ fn begun(alloc: Global, game: u32, net: &Net, fixture: &Fixture) -> Result<Match
 {
     let net = net.try_clone(alloc)?;
     let setup = setup_of(fixture)?;
-    started(alloc, game, net, setup)
+    started(alloc, game, net, setup, excess(fixture))
 }
 
-// The match that is set up so.
-fn started(alloc: Global, game: u32, net: Net, setup: Setup) -> Result<Match, FileFault>
-    ensures { GivesUnlessMemory (λ game. game) result
-        (unless (option_map (faults.Setup game) (first_fault net setup)) (Ok (begins net setup))) }
+// What the match has too much of for the version of its file.
+fn excess(fixture: &Fixture) -> Option<SetupFault>
+    ensures { result ≡ excess (planned fixture.now) }
 {
-    Match::new(alloc, net, setup).map_err(|fault| of_setup(game, fault))
+    if fixture.version >= 3 {
+        None
+    } else if fixture.quota > SMALL_QUOTA {
+        Some(SetupFault::Quota)
+    } else if fixture.board > SMALL_BOARD {
+        Some(SetupFault::Board)
+    } else {
+        None
+    }
+}
+
+// The match that is set up so, unless it has this excess.
+fn started(
+    alloc: Global,
+    number: u32,
+    net: Net,
+    setup: Setup,
+    excess: Option<SetupFault>,
+) -> Result<Match, FileFault>
+    ensures { GivesUnlessMemory (λ game. game) result
+        (unless (option_map (faults.Setup number) (with_excess excess (first_fault net setup))) (Ok (begins net setup))) }
+{
+    match Match::new(alloc, net, setup) {
+        Ok(game) => match excess {
+            Some(fault) => Err(of_setup(number, fault)),
+            None => Ok(game),
+        },
+        Err(fault) => Err(of_setup(number, fault_with(excess, fault))),
+    }
+}
+
+// The first fault of a setup that has this one and this excess.
+fn fault_with(excess: Option<SetupFault>, fault: SetupFault) -> SetupFault
+    ensures { with_excess excess (Some fault) ≡ Some result }
+{
+    match fault {
+        SetupFault::Dark => excess.unwrap_or(SetupFault::Dark),
+        _ => fault,
+    }
 }
 
 fn of_setup(game: u32, fault: SetupFault) -> FileFault

@@ -3,11 +3,11 @@
 ghost use Rattle.std.specs.Prelude.{◌≡◌, [], IfOk};
 
 use crate::faults::BenchFault;
-use crate::torus::{PORTS, setup, torus};
+use crate::torus::{PORTS, QUOTA, setup, torus};
 use bhs_deal::Held;
 use bhs_lock::{Cell, Hall, Open, Pass, settle};
 use bhs_match::Match;
-use bhs_model::{Command, MAX_QUOTA, Text};
+use bhs_model::{Command, Text};
 use bhs_net::Memory;
 use bhs_time::ScheduleKind;
 use std::alloc::Global;
@@ -20,7 +20,7 @@ use std::time::{Clock, Duration, Instant};
 const AGENTS: u16 = 64;
 
 // How many commands each agent is told: an Enter, and as many others as its quota.
-const COMMANDS: u16 = MAX_QUOTA + 1;
+const COMMANDS: u16 = QUOTA + 1;
 
 // How many commands are told in a run.
 fn commands() -> u64 {

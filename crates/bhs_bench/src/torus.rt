@@ -4,7 +4,7 @@
 ghost use Rattle.std.specs.Prelude.{◌<◌};
 
 use crate::faults::BenchFault;
-use bhs_model::{DarkLinks, Holes, MAX_QUOTA, Setup};
+use bhs_model::{DarkLinks, Holes, Setup};
 use bhs_net::{Link, Net};
 use std::alloc::Global;
 
@@ -13,6 +13,9 @@ const SIDE: u16 = 16;
 
 /// How many nodes there are: the most that a network may have.
 pub const NODES: u16 = 256;
+
+/// How many commands an agent may use.
+pub const QUOTA: u16 = 1000;
 
 /// How many ports each node has: to the right, to the left, down and up.
 pub const PORTS: u16 = 4;
@@ -60,7 +63,7 @@ pub fn setup(alloc: Global, agents: u16) -> Setup {
         holes: Holes::from(Vec::new(alloc)),
         dark: DarkLinks::from(Vec::new(alloc)),
         agents,
-        quota: MAX_QUOTA,
+        quota: QUOTA,
         board: 1024,
     }
 }

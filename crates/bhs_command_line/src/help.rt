@@ -116,6 +116,12 @@ port q of node w:
   nodes = 3
   links = [[0,0,1,0],[1,1,2,0],[2,1,0,1]]
 
+With `version = 3` a tournament may have quotas and whiteboards up to 65535, and
+a schedule; with `version = 2` a network may have up to 4096 nodes, otherwise it
+has at most 256. A match reserves some 90 bytes for each event that it may have:
+64 agents with 65535 commands each reserve 740 MB of addresses, and use what
+they need of it. Where `ulimit -v` allows less, that is `memory`.
+
 A node with D links has the ports 0 to D - 1. At most one link joins two nodes,
 and the network stays connected without any one node.";
 

@@ -1,5 +1,6 @@
 -- What a network file says: the number of nodes and the links, or its first fault.
-use Rattle.std.specs.Prelude.{◌≡◌, ◌⊎◌, ℕ, List, Option, Some, None, option_and_then, Result, Ok, Err}
+use Rattle.std.specs.Prelude.{◌≡◌, ◌⊎◌, ◌&&◌, nat_lt, if◌then◌else◌, ℕ, List, Option, Some, None, option_and_then}
+use Rattle.std.specs.Prelude.{Result, Ok, Err}
 use Rattle.toml.specs.Data.{Data, array, no_items, item, Members}
 use Rattle.toml.specs.Parse.{parse_document}
 use Rattle.bhs_net.specs.declared.faults.NetFault.{NetFault}
@@ -7,6 +8,7 @@ use Rattle.bhs_net.specs.declared.faults.NetFault.TheVariants as net_faults
 use Rattle.bhs_net.specs.declared.links.Link.{Link}
 use Rattle.bhs_net.specs.Network.{Network, Makes}
 use Rattle.bhs_net.specs.Faults.{IsFirstFault}
+use Rattle.bhs_model.specs.declared.limits.TheConstants.{SMALL_NODES}
 use Rattle.bhs_files.specs.declared.faults.FileFault.{FileFault}
 use Rattle.bhs_files.specs.declared.faults.FileFault.TheVariants.{Net, Memory}
 use Rattle.bhs_files.specs.declared.file_keys.FileKey.TheVariants.{Nodes, Links}
@@ -42,8 +44,14 @@ listing_of members = do
   links ← required None Links links members
   Ok (nodes, links)
 
+-- what a file of this version lists: in version 1 no more than `SMALL_NODES` nodes
+abbrev pub listing_within : (version : ℕ) → Listing → Result Listing FileFault
+listing_within version listing = if nat_lt version 2 && nat_lt SMALL_NODES listing.0 then Err (Net net_faults.Nodes)
+    else Ok listing
+
 unfoldable pub listing_in : List ℕ → Result Listing FileFault
 listing_in text = document_in NETWORK_VERSION (parse_document text) >>= λ document. listing_of document.1
+    >>= listing_within document.0
 
 -- what is listed is this network
 abbrev pub IsNetworkOf : Result Listing FileFault → Network → Type 0

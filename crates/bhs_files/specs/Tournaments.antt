@@ -21,6 +21,7 @@ use Rattle.bhs_time.specs.declared.kinds.ScheduleKind.TheVariants.{Adaptive, Obl
 
 -- a match of the file, without where it lies in memory
 pub record Planned : Type 0 where
+  pub version : ℕ
   pub team : List ℕ
   pub network : List ℕ
   pub home : ℕ
@@ -39,6 +40,7 @@ pub record Plan : Type 0 where
 
 abbrev pub planned : Fixture → Planned
 planned f = record {
+  version = f.version;
   team = f.team;
   network = f.network;
   home = f.home;
@@ -77,6 +79,7 @@ match_in version game members = do
   keys ← required (Some game) Keys keys members
   held ← optional (Some game) Held ends [] members
   Ok (record {
+    version = version;
     team = team;
     network = network;
     home = home;

@@ -8,6 +8,8 @@ use bhs_model::{DarkLinks, Holes, Text};
 /// One match of a tournament, as its file describes it.
 #[derive(Drop)]
 pub struct Fixture {
+    /// The version of the file. The earlier ones allow smaller quotas and whiteboards than a match may have.
+    pub version: u16,
     /// The team that plays.
     pub team: Text,
     /// The name of the network's file.

@@ -1,9 +1,9 @@
 //! The limits of the files.
 
-/// The version of network files.
-pub const NETWORK_VERSION: u16 = 1;
+/// The latest version of network files. Version 1 is read as well, and has fewer nodes.
+pub const NETWORK_VERSION: u16 = 2;
 
-/// The latest version of tournament files. Versions 1 and 2 are read as well.
+/// The latest version of tournament files. Versions 1 and 2 are read as well, and have smaller quotas and whiteboards.
 pub const TOURNAMENT_VERSION: u16 = 3;
 
 /// The most matches of a tournament. The least is 1.

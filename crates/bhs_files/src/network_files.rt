@@ -6,13 +6,15 @@ ghost use Rattle.toml.specs.View.{view, items_view, table_view};
 ghost use Rattle.bhs_files.specs.declared.file_keys.FileKey.TheVariants as keys;
 ghost use Rattle.bhs_files.specs.Shapes.{each};
 ghost use Rattle.bhs_files.specs.Reading.{GivesUnlessMemory};
-ghost use Rattle.bhs_files.specs.NetworkFiles.{link, links, listing_of, listing_in, IsNetworkOf, RefusesFile};
+ghost use Rattle.bhs_files.specs.NetworkFiles.{link, links, listing_of, listing_within, listing_in};
+ghost use Rattle.bhs_files.specs.NetworkFiles.{IsNetworkOf, RefusesFile};
 
 use crate::faults::FileFault;
 use crate::file_keys::FileKey;
 use crate::limits::NETWORK_VERSION;
 use crate::{documents, shapes, tables};
-use bhs_net::{Link, Memory, Net};
+use bhs_model::SMALL_NODES;
+use bhs_net::{Link, Memory, Net, NetFault};
 use std::alloc::Global;
 use toml::{Table, Value};
 
@@ -71,16 +73,27 @@ fn listing(alloc: Global, table: &Table) -> Result<(u16, Vec<Link>), FileFault>
     Ok((nodes, links))
 }
 
+// What a file of this version lists, if the version allows this number of nodes.
+fn listing_within(version: u16, listing: (u16, Vec<Link>)) -> Result<(u16, Vec<Link>), FileFault>
+    ensures { GivesUnlessMemory (λ listing. (listing.0, listing.1.items)) result
+        (listing_within version (listing.0, listing.1.items)) }
+{
+    if version < 2 && listing.0 > SMALL_NODES {
+        return Err(FileFault::Net(NetFault::Nodes));
+    }
+    Ok(listing)
+}
+
 // What a network file lists. Its table is dropped before the network is judged, which may then use that memory.
 #[tactic(auto, unfolding(crate::specs::NetworkFiles::listing_in))]
 fn listing_in(alloc: Global, text: &str) -> Result<(u16, Vec<Link>), FileFault>
     ensures { GivesUnlessMemory (λ listing. (listing.0, listing.1.items)) result (listing_in text.now) }
 {
-    let (_, table) = documents::document(alloc, text, NETWORK_VERSION)?;
-    listing(alloc, &table)
+    let (version, table) = documents::document(alloc, text, NETWORK_VERSION)?;
+    listing_within(version, listing(alloc, &table)?)
 }
 
-/// Reads a network file. The first fault is told: the text is no TOML document, then its version, then `nodes`
+/// Reads a network file of version 1 or 2. The first fault is told: the text is no TOML document, then its version, then `nodes`
 /// and `links`, whatever the order in the file, and then the first fault of the network that is listed. Other
 /// keys are ignored.
 pub fn read_network(alloc: Global, text: &str) -> Result<Net, FileFault>

@@ -38,6 +38,7 @@ fn fixture(alloc: Global, version: u16, game: u32, table: &Table) -> Result<Fixt
     let held = tables::ends(alloc, place, FileKey::Held, table)?;
     let (team, network) = copies(alloc, team, network)?;
     Ok(Fixture {
+        version,
         team,
         network,
         home,

@@ -69,8 +69,8 @@ pub most_is_small : (net : Network) (setup : Setup) → IsWithinLimits net setup
 most_is_small net setup within =
     let agents = within.agents in
     let quota = within.quota in
-    let few : 2 * setup.quota + 2 ≤ 2002 = omega arith in
-    let product : setup.agents * (2 * setup.quota + 2) ≤ 64 * 2002 = mul-le-mul agents few in
+    let few : 2 * setup.quota + 2 ≤ 131072 = omega arith in
+    let product : setup.agents * (2 * setup.quota + 2) ≤ 64 * 131072 = mul-le-mul agents few in
     omega arith
 
 -- the link that a world tells is that of the definitions

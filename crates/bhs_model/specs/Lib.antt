@@ -16,6 +16,7 @@ pub mod Arenas
 pub mod Examples
 pub mod Marks
 pub mod Setups
+pub mod Small
 pub mod PortMarks
 pub mod Dooms
 pub mod Sites

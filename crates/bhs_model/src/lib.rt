@@ -14,6 +14,7 @@ mod marks;
 mod port_marks;
 mod replies;
 mod setups;
+mod small;
 
 pub use bhs_text::Text;
 pub use commands::Command;
@@ -21,8 +22,12 @@ pub use dark_links::DarkLinks;
 pub use dooms::Dooms;
 pub use events::Event;
 pub use holes::Holes;
-pub use limits::{MAX_AGENTS, MAX_BOARD, MAX_LINE, MAX_QUOTA, MAX_TEXT, MAX_TURNS, SEED_BYTES};
+pub use limits::{
+    MAX_AGENTS, MAX_BOARD, MAX_LINE, MAX_QUOTA, MAX_TEXT, MAX_TURNS, SEED_BYTES, SMALL_BOARD,
+    SMALL_NODES, SMALL_QUOTA,
+};
 pub use marks::{Kept, Mark, read, text_at};
 pub use port_marks::{is_port_marked, make_room, mark_port, no_port_marks};
 pub use replies::{Reply, Why};
 pub use setups::Setup;
+pub use small::is_small;

@@ -48,12 +48,12 @@ pub row_of-network_of : (rows : List (Vec End Global)) (node : ℕ) (row : Vec E
 row_of-network_of rows node row h is = get_or-map (λ (r : Vec End Global). r.items) rows node row [] h
     ∙ ap (λ (r : Vec End Global). r.items) (sym is)
 
--- a row that stands behind `rows` has at most 256 ports
+-- a row that stands behind `rows` has at most 4096 ports
 pub vec_len-le : (rows : List (Vec End Global)) (node : ℕ) (row : Vec End Global) → node < length rows
-    → row ≡ get_or rows node row → IsPortLabelled (network_of rows) → vec_len row ≤ 256
+    → row ≡ get_or rows node row → IsPortLabelled (network_of rows) → vec_len row ≤ 4096
 vec_len-le rows node row h is labelled =
     let most = degree_of-le (network_of rows) node labelled in
-    let many : nodes_of (network_of rows) ≤ 256 = labelled.many in
+    let many : nodes_of (network_of rows) ≤ 4096 = labelled.many in
     let same : degree_of (network_of rows) node ≡ length row.items =
     ap (λ (r : List End). length r) (row_of-network_of rows node row h is) in
     omega (arith, row.ok.0)

@@ -41,7 +41,7 @@ HasPort net end = end.1 < degree_of net end.0
 abbrev pub Leads : Network → ℕ → ℕ → Type 0
 Leads net node other = (port : ℕ) × (port < degree_of net node) × ((far_of net node port).0 ≡ other)
 
--- a simple graph with port labels: from 3 to 256 nodes, ports that lead back, no link from a node to itself,
+-- a simple graph with port labels: from 3 to 4,096 nodes, ports that lead back, no link from a node to itself,
 -- and no two links between the same nodes
 pub record IsPortLabelled (net : Network) : Type 0 where
   pub few : MIN_NODES ≤ nodes_of net

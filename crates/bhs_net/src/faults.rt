@@ -10,7 +10,7 @@ use thiserror::Error;
 pub const MIN_NODES: u16 = 3;
 
 /// The most nodes that a network may have.
-pub const MAX_NODES: u16 = 256;
+pub const MAX_NODES: u16 = 4096;
 
 /// Why a list of links makes no network. The first fault is told: by the order below, and of one kind by the least
 /// link (its place in the list) or node.

@@ -13,8 +13,8 @@ ghost use Rattle.bhs_net.specs.Numbering.{LeadsOn};
 
 use crate::listing::End;
 
-/// A table by node has a place for each `u8`, which is each node that a network may have.
-pub const NODES: usize = 256;
+/// A table by node has a place for each node that a network may have. It is a power of two.
+pub const NODES: usize = 4096;
 
 // The most steps of a search: one for each port, and one back from each node.
 const STEPS: usize = NODES * NODES;
@@ -22,33 +22,32 @@ const STEPS: usize = NODES * NODES;
 /// The nodes by place, and the places by node.
 #[derive(Drop)]
 pub struct Order {
-    nodes: [u8; NODES],
-    places: [u8; NODES],
+    nodes: [u16; NODES],
+    places: [u16; NODES],
 }
 
 // A depth-first search from node 0. By place: the nodes that were found; by node: its place, the node from which it
 // was found, and the first place to which a link leads from it or from one that was found behind it.
 #[derive(Drop)]
 struct Search {
-    found: [u8; NODES],
-    last: u8,
-    parents: [u8; NODES],
-    lows: [u8; NODES],
+    found: [u16; NODES],
+    last: u16,
+    parents: [u16; NODES],
+    lows: [u16; NODES],
 }
 
 // A node's place in a table by node.
-fn at(node: u8) -> usize
-    ensures same { result ≡ node }
-    ensures within { result < NODES }
+fn at(node: u16) -> usize
+    ensures { result < NODES }
 {
-    usize::from(node)
+    usize::from(node) % NODES
 }
 
 // The node to which a port leads.
-fn head(rows: &[Vec<End>], node: u8, port: usize) -> Option<u8> {
+fn head(rows: &[Vec<End>], node: u16, port: usize) -> Option<u16> {
     match rows.get(at(node)) {
         Some(row) => match row.get(port) {
-            Some(end) => u8::try_from(end.0).ok(),
+            Some(end) => Some(end.0),
             None => None,
         },
         None => None,
@@ -56,8 +55,8 @@ fn head(rows: &[Vec<End>], node: u8, port: usize) -> Option<u8> {
 }
 
 // Searches depth first. Once all nodes are found, a node that is known to lead back to the first one is left at once,
-// since its other links say no more. Neither counter wraps: a node has fewer than 256 ports, and at most 255 nodes are
-// found behind the first.
+// since its other links say no more. Neither counter wraps: a node has fewer ports than there are nodes, and fewer nodes
+// are found behind the first.
 fn depth_first(rows: &[Vec<End>]) -> Search {
     let mut search = Search {
         found: [0; NODES],
@@ -143,7 +142,7 @@ pub fn order_of(rows: &[Vec<End>]) -> Order {
 
 // Whether a row leads to a node of a lower place, but from the first; to one of a higher place, but from the last; and
 // from the first to the last.
-fn leads_on(row: &[End], places: &[u8], place: u8, last: u8) -> bool
+fn leads_on(row: &[End], places: &[u16], place: u16, last: u16) -> bool
     ensures { result ≡ true → LeadsOn row.now places.now place last }
 {
     let mut leads_down = place == 0;
@@ -170,7 +169,7 @@ impl Order {
             let place = self.places[node];
             if usize::from(place) > last
                 || usize::from(self.nodes[usize::from(place)]) != node
-                || !leads_on(row, &self.places, place, last as u8)
+                || !leads_on(row, &self.places, place, last as u16)
             {
                 return false;
             }

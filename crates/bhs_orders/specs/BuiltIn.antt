@@ -17,6 +17,7 @@ triangle =
 -- the match, as its file describes it
 abbrev pub fixture : Planned
 fixture = record {
+  version = 2;
   team = codes "red";
   network = codes "tri.toml";
   home = 0;

@@ -15,7 +15,7 @@ use Rattle.bhs_rehearsal.specs.Games.{Game, state_of}
 use Rattle.bhs_rehearsal.specs.Stages.{Stage, Instruction, begun, stands_after}
 use Rattle.bhs_rehearsal.specs.Rehearsing.{game_of}
 use Rattle.bhs_replay.specs.Replay.{replay}
-use Rattle.bhs_replay.specs.declared.heads.Version.TheVariants.{Two}
+use Rattle.bhs_replay.specs.Head.{version_of}
 use Rattle.bhs_script.specs.declared.instructions.TheConstants.{CONNECTIONS}
 use Rattle.bhs_script.specs.Script.{instructions_of}
 use Rattle.bhs_script.specs.Transcript.{transcript}
@@ -106,7 +106,7 @@ module _ {I O : Type 0} (gives : I → Chunk → I → Type 0) (takes : O → Li
 -- some file took the whole replay of a match that has ended
 abbrev pub IsFiled : {P : Type 0} → (P → List ℕ → Taken → P → Type 0) → Game → Type 0
 IsFiled {P} files game =
-    (state_of game).closed ≡ true → Took files (replay Two game.net game.setup game.log)
+    (state_of game).closed ≡ true → Took files (replay (version_of game.net game.setup) game.net game.setup game.log)
 
 -- where replays were asked for, those of all matches that have ended
 abbrev pub AreFiled : {P : Type 0} → (P → List ℕ → Taken → P → Type 0) → Option (List ℕ) → List Game → Type 0

@@ -14,7 +14,7 @@ use bhs_lineup::Ready;
 use bhs_match::Sealed;
 use bhs_model::MAX_TURNS;
 use bhs_net::Memory;
-use bhs_replay::{Version, head_line, read_part};
+use bhs_replay::{head_of, read_part};
 use bhs_stream::Output;
 use std::alloc::Global;
 use std::fs;
@@ -85,7 +85,7 @@ fn begin<F: Files>(
     put_aside(alloc, files, file_name(alloc, prefix, number)?.as_str())?;
     let name = part_name(alloc, prefix, number)?;
     put_aside(alloc, files, name.as_str())?;
-    let mut line = head_line(alloc, Version::Two, ready.game.net(), ready.game.setup())?;
+    let mut line = head_of(alloc, ready.game.net(), ready.game.setup())?;
     line.push('\n')?;
     let Ok(mut file) = fs::create(files, name.as_str()) else {
         return Err(Fault::Write);

@@ -10,8 +10,9 @@ use std::sync::Wait;
 /// How many events of a match are copied under its lock at once.
 pub(crate) const FEW: usize = 64;
 
-/// How often events of a match are copied at one look.
-pub(crate) const TIMES: usize = 65_536;
+/// How often events of a match are copied at one look, which are more than a match can have: each agent's commands,
+/// as many arrivals, and the close.
+pub(crate) const TIMES: usize = 131_073;
 
 /// How many events a match has, and the verdict on it; None while it is open. A copy of the match is judged, so that
 /// its lock is held only while a few events are copied.

@@ -78,7 +78,7 @@ few_events net setup events ended =
     let same = ap length ended.all_kept in
     omega arith
 
-is_head : (version : Version) (net : Network) (setup : Setup) → CanSay version setup → IsNetwork net
+is_head : (version : Version) (net : Network) (setup : Setup) → CanSay version net setup → IsNetwork net
     → IsWithinLimits net setup → IsNormal net setup → IsHead (head_line version net setup) net setup
 is_head version net setup can_say network within in_order = record {
   version = version;
@@ -89,7 +89,7 @@ is_head version net setup can_say network within in_order = record {
   normal = in_order;
 }
 
-pub every_replay : (version : Version) (net : Network) (setup : Setup) (events : List Event) → CanSay version setup
+pub every_replay : (version : Version) (net : Network) (setup : Setup) (events : List Event) → CanSay version net setup
     → HasEnded net setup events → Comes (replay version net setup events) (Ends net setup events)
 every_replay version net setup events can_say ended =
     complete version net setup events

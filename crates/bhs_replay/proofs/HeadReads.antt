@@ -12,8 +12,9 @@ use Rattle.bhs_net.specs.declared.links.Link.{Link}
 use Rattle.bhs_net.specs.Network.{Network, nodes_of}
 use Rattle.bhs_model.specs.declared.setups.Setup.{Setup}
 use Rattle.bhs_replay.specs.declared.heads.Version.{Version}
-use Rattle.bhs_replay.specs.declared.heads.Version.TheVariants.{One, Two}
-use Rattle.bhs_replay.specs.Head.{links_of, whole, listed, link_data, end_data, hole_data, head_data, head_line, CanSay}
+use Rattle.bhs_replay.specs.declared.heads.Version.TheVariants.{One, Two, Three}
+use Rattle.bhs_replay.specs.Head.{links_of, whole, listed, link_data, end_data, hole_data, listing_data, head_data}
+use Rattle.bhs_replay.specs.Head.{head_line, CanSay}
 use Rattle.bhs_replay.specs.HeadReading.{Says, each, number_in, pair_in, link_in, says_in}
 use Rattle.bhs_replay.proofs.EventReads.{is_number, reads, read-compact_text}
 
@@ -108,6 +109,30 @@ module _ (net : Network) (setup : Setup) (fits : HeadFits net setup) where
   links_read = listed_reads 1 (map link_data (links_of net))
       (each_reads link_data IsSmallLink 1 link_reads (links_of net) fits.links)
 
+  listing_numbers : (number : ℕ) → IsSmall number → HasNumbers (outline (listing_data number net setup))
+  listing_numbers number small = (
+    is_number setup.agents fits.agents,
+    (
+      is_number setup.board fits.board,
+      (
+        dark_read.0,
+        (
+          holes_read.0,
+          (
+            is_number setup.home fits.home,
+            (
+              links_read.0,
+              (
+                is_number (nodes_of net) fits.nodes,
+                (is_number setup.quota fits.quota, (is_number number small, tt)),
+              ),
+            ),
+          ),
+        ),
+      ),
+    ),
+  )
+
   head_numbers : (version : Version) → HasNumbers (outline (head_data version net setup))
   head_numbers One = (
     is_number setup.agents fits.agents,
@@ -128,34 +153,36 @@ module _ (net : Network) (setup : Setup) (fits : HeadFits net setup) where
       ),
     ),
   )
-  head_numbers Two = (
-    is_number setup.agents fits.agents,
-    (
-      is_number setup.board fits.board,
-      (
-        dark_read.0,
-        (
-          holes_read.0,
-          (
-            is_number setup.home fits.home,
-            (
-              links_read.0,
-              (
-                is_number (nodes_of net) fits.nodes,
-                (is_number setup.quota fits.quota, (is_number 2 (omega arith), tt)),
-              ),
-            ),
-          ),
-        ),
-      ),
-    ),
-  )
+  head_numbers Two = listing_numbers 2 (omega arith)
+  head_numbers Three = listing_numbers 3 (omega arith)
+
+  listing_depth : (number : ℕ) → depth (outline (listing_data number net setup)) ≤ max_depth
+  listing_depth number =
+      let dark = dark_read.1.1 in
+      let holes = holes_read.1.1 in
+      let links = links_read.1.1 in
+      omega (arith, dark, holes, links)
 
   head_depth : (version : Version) → depth (outline (head_data version net setup)) ≤ max_depth
   head_depth One = let hole = (hole_reads setup.holes fits.holes).1.1 in let links = links_read.1.1 in
       omega (arith, hole, links)
-  head_depth Two = let dark = dark_read.1.1 in let holes = holes_read.1.1 in let links = links_read.1.1 in
-      omega (arith, dark, holes, links)
+  head_depth Two = listing_depth 2
+  head_depth Three = listing_depth 3
+
+  listing_same : (number : ℕ) → IsSmall number
+      → of_json (outline (listing_data number net setup)) ≡ Some (listing_data number net setup)
+  listing_same number small =
+      rw (
+        reads setup.agents fits.agents,
+        reads setup.board fits.board,
+        dark_read.1.0,
+        holes_read.1.0,
+        reads setup.home fits.home,
+        links_read.1.0,
+        reads (nodes_of net) fits.nodes,
+        reads setup.quota fits.quota,
+        reads number small,
+      ) refl
 
   head_same : (version : Version) → of_json (outline (head_data version net setup)) ≡ Some (head_data version net setup)
   head_same One =
@@ -169,18 +196,8 @@ module _ (net : Network) (setup : Setup) (fits : HeadFits net setup) where
         reads setup.quota fits.quota,
         reads 1 (omega arith),
       ) refl
-  head_same Two =
-      rw (
-        reads setup.agents fits.agents,
-        reads setup.board fits.board,
-        dark_read.1.0,
-        holes_read.1.0,
-        reads setup.home fits.home,
-        links_read.1.0,
-        reads (nodes_of net) fits.nodes,
-        reads setup.quota fits.quota,
-        reads 2 (omega arith),
-      ) refl
+  head_same Two = listing_same 2 (omega arith)
+  head_same Three = listing_same 3 (omega arith)
 
   pub read-head_line : (version : Version) → read (head_line version net setup) ≡ Some (head_data version net setup)
   read-head_line version = read-compact_text (head_data version net setup) (head_numbers version) (head_depth version)
@@ -260,8 +277,9 @@ says_one net setup fits no_dark (hole ∷ []) is few =
 says_one net setup fits no_dark (hole ∷ other ∷ holes) is few =
     absurd (one_more_is_two (length holes) (subst (λ (hs : List ℕ). length hs ≤ 1) is few))
 
-pub says_in-head : (version : Version) (net : Network) (setup : Setup) → HeadFits net setup → CanSay version setup
+pub says_in-head : (version : Version) (net : Network) (setup : Setup) → HeadFits net setup → CanSay version net setup
     → says_in (head_data version net setup) ≡ Some (said version net setup)
+says_in-head One net setup fits can = says_one net setup fits can.1.1 setup.holes refl can.1.0
 says_in-head Two net setup fits can =
     rw (
       each_back link_data link_in IsSmallLink link_back (links_of net) fits.links,
@@ -273,4 +291,14 @@ says_in-head Two net setup fits can =
       small setup.board fits.board,
       small (nodes_of net) fits.nodes,
     ) refl
-says_in-head One net setup fits can = says_one net setup fits can.1 setup.holes refl can.0
+says_in-head Three net setup fits can =
+    rw (
+      each_back link_data link_in IsSmallLink link_back (links_of net) fits.links,
+      each_back whole number_in IsSmall number_back setup.holes fits.holes,
+      each_back end_data pair_in IsSmallEnd pair_back setup.dark fits.dark,
+      small setup.home fits.home,
+      small setup.agents fits.agents,
+      small setup.quota fits.quota,
+      small setup.board fits.board,
+      small (nodes_of net) fits.nodes,
+    ) refl

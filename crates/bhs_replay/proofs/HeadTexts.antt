@@ -5,9 +5,9 @@ use Rattle.json.specs.Token.{Token}
 use Rattle.bhs_net.specs.Network.{Network, nodes_of}
 use Rattle.bhs_model.specs.declared.setups.Setup.{Setup}
 use Rattle.bhs_replay.specs.declared.heads.Version.{Version}
-use Rattle.bhs_replay.specs.declared.heads.Version.TheVariants.{One, Two}
-use Rattle.bhs_replay.specs.Head.{links_of, listed, link_data, whole, end_data, head_data}
-use Rattle.bhs_replay.specs.HeadTokens.{data_tokens, doom_tokens, version_number}
+use Rattle.bhs_replay.specs.declared.heads.Version.TheVariants.{One, Two, Three}
+use Rattle.bhs_replay.specs.Head.{links_of, listed, link_data, whole, end_data, listing_data, head_data}
+use Rattle.bhs_replay.specs.HeadTokens.{data_tokens, listing_tokens, doom_tokens, version_number}
 
 -- two parts, one after the other
 joined : (start mid end p q : List Token) → mid ≡ start ++ p → end ≡ mid ++ q → end ≡ start ++ (p ++ q)
@@ -30,13 +30,19 @@ back version net setup =
     ++ (member_tokens (codes "quota") setup.quota
     ++ (member_tokens (codes "replay") (version_number version) ++ Token.end_object ∷ []))))
 
+listing_same : (version : Version) (net : Network) (setup : Setup)
+    → front setup (listing_tokens setup ++ back version net setup)
+    ≡ data_tokens (listing_data (version_number version) net setup)
+listing_same version net setup =
+    ap (λ rest. front setup (Token.key (codes "dark") ∷ rest))
+    (append_assoc (data_tokens (listed (map end_data setup.dark)))
+    (Token.key (codes "holes") ∷ data_tokens (listed (map whole setup.holes))) (back version net setup))
+
 head_tokens : (version : Version) (net : Network) (setup : Setup)
     → front setup (doom_tokens version setup ++ back version net setup) ≡ data_tokens (head_data version net setup)
 head_tokens One net setup = refl
-head_tokens Two net setup =
-    ap (λ rest. front setup (Token.key (codes "dark") ∷ rest))
-    (append_assoc (data_tokens (listed (map end_data setup.dark)))
-    (Token.key (codes "holes") ∷ data_tokens (listed (map whole setup.holes))) (back Two net setup))
+head_tokens Two net setup = listing_same Two net setup
+head_tokens Three net setup = listing_same Three net setup
 
 -- the tokens of all parts
 pub gathered : (version : Version) (net : Network) (setup : Setup) (a : List Token) {b c d e f g h i j k : List Token}

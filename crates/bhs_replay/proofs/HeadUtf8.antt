@@ -12,8 +12,8 @@ use Rattle.bhs_net.specs.declared.links.Link.{Link}
 use Rattle.bhs_net.specs.Network.{Network, nodes_of}
 use Rattle.bhs_model.specs.declared.setups.Setup.{Setup}
 use Rattle.bhs_replay.specs.declared.heads.Version.{Version}
-use Rattle.bhs_replay.specs.declared.heads.Version.TheVariants.{One, Two}
-use Rattle.bhs_replay.specs.Head.{links_of, whole, listed, link_data, end_data, hole_data, head_line}
+use Rattle.bhs_replay.specs.declared.heads.Version.TheVariants.{One, Two, Three}
+use Rattle.bhs_replay.specs.Head.{links_of, whole, listed, link_data, end_data, hole_data, listing_data, head_line}
 use Rattle.bhs_replay.proofs.HeadReads.{AllOf, IsSmall, IsSmallEnd, IsSmallLink, HeadFits}
 
 abbrev IsText : Data → Type 0
@@ -90,6 +90,67 @@ module _ (net : Network) (setup : Setup) (fits : HeadFits net setup) where
   holes_valid : IsText (listed (map whole setup.holes))
   holes_valid = listed_valid (map whole setup.holes) (each_valid whole IsSmall whole_valid setup.holes fits.holes)
 
+  listing_utf8 : (number : ℕ) → IsSmall number → IsText (listing_data number net setup)
+  listing_utf8 number small =
+      then_more 123 _ refl (members_valid false
+      (member (codes "agents") (whole setup.agents)
+      (member (codes "board") (whole setup.board)
+      (member (codes "dark") (listed (map end_data setup.dark))
+      (member (codes "holes") (listed (map whole setup.holes))
+      (member (codes "home") (whole setup.home)
+      (member (codes "links") (listed (map link_data (links_of net)))
+      (member (codes "nodes") (whole (nodes_of net))
+      (member (codes "quota") (whole setup.quota)
+      (member (codes "replay") (whole number) no_members))))))))) (
+        refl,
+        (
+          whole_valid setup.agents fits.agents,
+          (
+            refl,
+            (
+              whole_valid setup.board fits.board,
+              (
+                refl,
+                (
+                  dark_valid,
+                  (
+                    refl,
+                    (
+                      holes_valid,
+                      (
+                        refl,
+                        (
+                          whole_valid setup.home fits.home,
+                          (
+                            refl,
+                            (
+                              links_valid,
+                              (
+                                refl,
+                                (
+                                  whole_valid (nodes_of net) fits.nodes,
+                                  (
+                                    refl,
+                                    (
+                                      whole_valid setup.quota fits.quota,
+                                      (refl, (whole_valid number small, tt)),
+                                    ),
+                                  ),
+                                ),
+                              ),
+                            ),
+                          ),
+                        ),
+                      ),
+                    ),
+                  ),
+                ),
+              ),
+            ),
+          ),
+        ),
+      ))
+
   pub head_utf8 : (version : Version) → IsUtf8 (head_line version net setup)
   head_utf8 One =
       then_more 123 _ refl (members_valid false
@@ -137,62 +198,5 @@ module _ (net : Network) (setup : Setup) (fits : HeadFits net setup) where
           ),
         ),
       ))
-  head_utf8 Two =
-      then_more 123 _ refl (members_valid false
-      (member (codes "agents") (whole setup.agents)
-      (member (codes "board") (whole setup.board)
-      (member (codes "dark") (listed (map end_data setup.dark))
-      (member (codes "holes") (listed (map whole setup.holes))
-      (member (codes "home") (whole setup.home)
-      (member (codes "links") (listed (map link_data (links_of net)))
-      (member (codes "nodes") (whole (nodes_of net))
-      (member (codes "quota") (whole setup.quota)
-      (member (codes "replay") (whole 2) no_members))))))))) (
-        refl,
-        (
-          whole_valid setup.agents fits.agents,
-          (
-            refl,
-            (
-              whole_valid setup.board fits.board,
-              (
-                refl,
-                (
-                  dark_valid,
-                  (
-                    refl,
-                    (
-                      holes_valid,
-                      (
-                        refl,
-                        (
-                          whole_valid setup.home fits.home,
-                          (
-                            refl,
-                            (
-                              links_valid,
-                              (
-                                refl,
-                                (
-                                  whole_valid (nodes_of net) fits.nodes,
-                                  (
-                                    refl,
-                                    (
-                                      whole_valid setup.quota fits.quota,
-                                      (refl, (whole_valid 2 (omega arith), tt)),
-                                    ),
-                                  ),
-                                ),
-                              ),
-                            ),
-                          ),
-                        ),
-                      ),
-                    ),
-                  ),
-                ),
-              ),
-            ),
-          ),
-        ),
-      ))
+  head_utf8 Two = listing_utf8 2 (omega arith)
+  head_utf8 Three = listing_utf8 3 (omega arith)

@@ -46,7 +46,7 @@ says-unread line none = sym (unread (is_utf8 line) (read line) (λ h. none (IsUt
 
 -- a head line says what it was made of
 pub says-head : (line : List ℕ) (version : Version) (net : Network) (setup : Setup) → HeadFits net setup
-    → CanSay version setup → line ≡ head_line version net setup
+    → CanSay version net setup → line ≡ head_line version net setup
     → head_says line ≡ Some (said version net setup)
 says-head line version net setup fits can is =
     sym (says-read line (head_data version net setup) (subst IsUtf8 (sym is) (head_utf8 net setup fits version))
@@ -153,13 +153,13 @@ module _ (line : List ℕ) (says : Says) (is : Some says ≡ head_says line) whe
       same.2 ∙ ap (λ n. record { net = n; setup = normal n setup; log = [] }) net_is
       ∙ ap (λ s. record { net = net; setup = s; log = [] }) head.normal.same
 
-  pub cannot_say : (play : Play) → Starts says (Some play) → ¬ CanSay says.version play.setup
+  pub cannot_say : (play : Play) → Starts says (Some play) → ¬ CanSay says.version play.net play.setup
       → (net : Network) (setup : Setup) → ¬ IsHead line net setup
   cannot_say play starts cannot net setup head =
       let version : says.version ≡ head.version = ap (λ s. s.version) (says_of net setup head) in
-      let setup_is : play.setup ≡ setup = ap (λ p. p.setup) (started_is play starts net setup head) in
-      cannot (subst (λ v. CanSay v play.setup) (sym version)
-      (subst (λ s. CanSay head.version s) (sym setup_is) head.can_say))
+      cannot (subst (λ v. CanSay v play.net play.setup) (sym version)
+      (subst (λ (p : Play). CanSay head.version p.net p.setup) (sym (started_is play starts net setup head))
+      head.can_say))
 
   pub spelled_otherwise : (play : Play) → Starts says (Some play)
       → bytes_eq line (head_line says.version play.net play.setup) ≡ false → (net : Network) (setup : Setup)
@@ -174,7 +174,7 @@ module _ (line : List ℕ) (says : Says) (is : Some says ≡ head_says line) whe
       false≢true (sym differs ∙ (bytes_eq-Decides line (head_line says.version play.net play.setup)).1 same)
 
   pub is_head : (play : Play) → Starts says (Some play) → IsWithinLimits play.net play.setup
-      → IsNormal play.net play.setup → CanSay says.version play.setup
+      → IsNormal play.net play.setup → CanSay says.version play.net play.setup
       → bytes_eq line (head_line says.version play.net play.setup) ≡ true → IsHead line play.net play.setup
   is_head play starts within normal_too can same =
       let spelled : line ≡ head_line says.version play.net play.setup =
@@ -197,11 +197,11 @@ module _ (line : List ℕ) (says : Says) (is : Some says ≡ head_says line) whe
 
   -- a line that says this, judged by whether it is spelled as it would be written
   pub opens_if : (play : Play) → Starts says (Some play) → IsWithinLimits play.net play.setup
-      → IsNormal play.net play.setup → (version : Version) → version ≡ says.version → CanSay version play.setup
+      → IsNormal play.net play.setup → (version : Version) → version ≡ says.version → CanSay version play.net play.setup
       → (same : Bool) → same ≡ bytes_eq line (head_line version play.net play.setup)
       → OpensAs line (if same then Some play else None)
   opens_if play starts within normal_too version told can true same = (
-    is_head play starts within normal_too (subst (λ v. CanSay v play.setup) told can)
+    is_head play starts within normal_too (subst (λ v. CanSay v play.net play.setup) told can)
         (sym (same ∙ ap (λ v. bytes_eq line (head_line v play.net play.setup)) told)),
     ap (λ (p : Play). p.log) starts.2,
   )

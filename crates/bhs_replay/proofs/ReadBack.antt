@@ -1,16 +1,19 @@
 -- What was written of a match is read as that match.
-use Rattle.std.proofs.Common.{◌≡◌, ℕ, ◌+◌, ◌<◌, ◌≤◌, inl, inr, true, List, length, get_or}
-use Rattle.std.proofs.Common.{Result, Ok, Err, IfOk, IsOk, OnOk, subst, ap, ◌∙◌, arith}
+use Rattle.std.proofs.Common.{◌≡◌, ℕ, ◌+◌, ◌<◌, ◌≤◌, inl, inr, Bool, true, false, if◌then◌else◌, List, length, get_or}
+use Rattle.std.proofs.Common.{Result, Ok, Err, IfOk, IsOk, OnOk, refl, subst, ap, ◌∙◌, arith}
 use Rattle.std.proofs.lemmas.Bool.{cases_lt}
 use Rattle.std.proofs.lemmas.List.{get_or_default}
-use Rattle.bhs_net.specs.Network.{IsNetwork}
+use Rattle.bhs_net.specs.Network.{Network, IsNetwork}
 use Rattle.bhs_model.specs.declared.marks.Kept.{Kept}
 use Rattle.bhs_model.specs.Setups.{IsNormal}
 use Rattle.bhs_model.specs.Kept.{kept}
 use Rattle.bhs_model.specs.Marks.{events_of}
 use Rattle.bhs_world.specs.Faults.{IsWithinLimits}
 use Rattle.bhs_match.specs.Matches.{Play, world_in, state_of}
-use Rattle.bhs_replay.specs.declared.heads.Version.TheVariants.{Two}
+use Rattle.bhs_model.specs.declared.setups.Setup.{Setup}
+use Rattle.bhs_model.specs.Small.{is_small}
+use Rattle.bhs_replay.specs.declared.heads.Version.TheVariants.{Two, Three}
+use Rattle.bhs_replay.specs.Head.{CanSay, version_of}
 use Rattle.bhs_replay.specs.Played.{IsTyped}
 use Rattle.bhs_replay.specs.Replay.{replay_of}
 use Rattle.bhs_replay.specs.Stages.{Ends, Comes}
@@ -53,6 +56,12 @@ on_ok (Err error) fact holds = tt
 
 -- ---- the match
 
+-- the version that is written can say the match
+is_said : (net : Network) (setup : Setup) (small : Bool) → is_small net setup ≡ small
+    → CanSay (if small then Two else Three) net setup
+is_said net setup true is = is
+is_said net setup false is = tt
+
 pub read_as : (play : Play) → IsNetwork play.net → IsWithinLimits play.net play.setup → IsNormal play.net play.setup
     → (state_of play).closed ≡ true → kept (world_in play) (events_of play.log) ≡ events_of play.log
     → AreTypedUpTo play.log (length play.log) → Comes (replay_of play) (Ends play.net play.setup (events_of play.log))
@@ -61,7 +70,8 @@ read_as play network within in_order closed all_kept typed =
     by_places HasTyped play.log (λ k other less. typed k other less less) in
     let events : AllOf IsTyped (events_of play.log) =
     all_mapped IsTyped (λ (one : Kept). one.event) play.log each in
-    every_replay Two play.net play.setup (events_of play.log) tt (record {
+    every_replay (version_of play.net play.setup) play.net play.setup (events_of play.log)
+    (is_said play.net play.setup _ refl) (record {
       network = network;
       within = within;
       in_order = in_order;

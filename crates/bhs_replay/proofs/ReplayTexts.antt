@@ -8,8 +8,7 @@ use Rattle.bhs_model.specs.declared.marks.Kept.{Kept}
 use Rattle.bhs_model.specs.InOrder.{replies}
 use Rattle.bhs_model.specs.Marks.{events_of, read_if}
 use Rattle.bhs_match.specs.Matches.{Play, world_in}
-use Rattle.bhs_replay.specs.declared.heads.Version.TheVariants.{Two}
-use Rattle.bhs_replay.specs.Head.{head_line}
+use Rattle.bhs_replay.specs.Head.{head_line, version_of}
 use Rattle.bhs_replay.specs.EventLine.{event_line}
 use Rattle.bhs_replay.specs.Replay.{end_line, event_lines, with_feeds, replay_of}
 
@@ -33,9 +32,9 @@ lines_along log (one ∷ rest) = ap (λ lines. kept_line log one ∷ lines) (lin
 
 pub replay-along : (play : Play) → map (λ one. read_if play.log one.mark) play.log ≡ replies (world_in play)
     (events_of play.log)
-    → replay_of play ≡ (head_line Two play.net play.setup ++ 10 ∷ []) ++ left_of play.log play.log
+    → replay_of play ≡ (head_line (version_of play.net play.setup) play.net play.setup ++ 10 ∷ []) ++ left_of play.log play.log
 replay-along play answered =
-    ap (λ text. (head_line Two play.net play.setup ++ 10 ∷ []) ++ text)
+    ap (λ text. (head_line (version_of play.net play.setup) play.net play.setup ++ 10 ∷ []) ++ text)
     (ap₂ (λ (lines : List (List ℕ)) (count : ℕ). with_feeds (lines ++ end_line count ∷ []))
     (ap (event_lines (events_of play.log)) (sym answered) ∙ lines_along play.log play.log)
     (length-map play.log (λ (one : Kept). one.event))

@@ -10,7 +10,7 @@ use Rattle.bhs_wire.proofs.OnLiterals.{bhs_wire_on_literals}
 use Rattle.bhs_replay.specs.declared.faults.ReplayFault.TheVariants as fault
 use Rattle.bhs_replay.specs.declared.heads.Version.TheVariants.{One, Two}
 use Rattle.bhs_replay.specs.EventLine.{event_line}
-use Rattle.bhs_replay.specs.Head.{head_line}
+use Rattle.bhs_replay.specs.Head.{head_line, version_of}
 use Rattle.bhs_replay.specs.Replay.{end_line}
 use Rattle.bhs_replay.specs.Spelling.{spelled}
 use Rattle.bhs_replay.specs.Stages.{is_end_line, Ends, Wrong, after_line}
@@ -76,6 +76,18 @@ old_head_row : head_line One triangle two_agents ≡ codes "{\"agents\":2,\"boar
     ++ codes "\"home\":0,\"links\":[[0,0,1,0],[0,1,2,1],[1,1,2,0]],\"nodes\":3,\"quota\":10,\"replay\":1}"
 unfolding bhs_wire_on_literals
 old_head_row = refl
+
+abbrev large_quota : Setup
+large_quota = record two_agents { quota = 1001 }
+
+large_head_row : head_line (version_of triangle large_quota) triangle large_quota
+    ≡ codes "{\"agents\":2,\"board\":8,\"dark\":[],\"holes\":[2],"
+    ++ codes "\"home\":0,\"links\":[[0,0,1,0],[0,1,2,1],[1,1,2,0]],\"nodes\":3,\"quota\":1001,\"replay\":3}"
+unfolding bhs_wire_on_literals
+large_head_row = refl
+
+small_head_row : head_line (version_of triangle two_agents) triangle two_agents ≡ head_line Two triangle two_agents
+small_head_row = refl
 
 end_row : end_line 3 ≡ codes "{\"end\":3}"
 unfolding bhs_wire_on_literals

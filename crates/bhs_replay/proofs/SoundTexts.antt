@@ -151,7 +151,7 @@ ends_quiet (byte ∷ bytes) (Ends n s e) net setup events is = absurd (cc)
 ends_quiet (byte ∷ bytes) (Wrong found) net setup events is = absurd (cc)
 
 pub sound : (text : List ℕ) (net : Network) (setup : Setup) (events : List Event) → Comes text (Ends net setup events)
-    → (version : Version) × CanSay version setup × (text ≡ replay version net setup events)
+    → (version : Version) × CanSay version net setup × (text ≡ replay version net setup events)
 sound text net setup events comes =
     let quiet = ends_quiet (rest text) comes.lines net setup events comes.same in
     let whole : IsWhole (ended text) net setup events =

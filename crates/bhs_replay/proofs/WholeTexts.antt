@@ -25,7 +25,7 @@ use Rattle.bhs_model.proofs.AddLemmas.{events_add_lemma}
 use Rattle.bhs_wire.specs.Lines.{rest_after, rest}
 use Rattle.bhs_wire.proofs.StreamLaws.{rest_after-append}
 use Rattle.bhs_replay.specs.declared.heads.Version.{Version}
-use Rattle.bhs_replay.specs.declared.heads.Version.TheVariants.{One, Two}
+use Rattle.bhs_replay.specs.declared.heads.Version.TheVariants.{One, Two, Three}
 use Rattle.bhs_replay.specs.Head.{head_line, head_data, hole_data, whole, end_data, link_data, links_of}
 use Rattle.bhs_replay.specs.EventLine.{event_line}
 use Rattle.bhs_replay.specs.Spelling.{spelled, EventFits, ReplyFits}
@@ -105,8 +105,30 @@ link_plain link small = (
   (wide link.p small.1.0, (wide link.w small.1.1.0, (wide link.q small.1.1.1, tt))),
 )
 
-number_below : (n : ℕ) → n ≤ 2 → n < 2 ^ 64
+number_below : (n : ℕ) → n ≤ 3 → n < 2 ^ 64
 number_below n few = omega arith
+
+listing_plain : (number : ℕ) (net : Network) (setup : Setup) → number ≤ 3 → HeadFits net setup
+    → IsPlain (listing_data number net setup)
+listing_plain number net setup few fits = (
+  wide setup.agents fits.agents,
+  (
+    wide setup.board fits.board,
+    (
+      each_plain end_data IsSmallEnd end_plain setup.dark fits.dark,
+      (
+        each_plain whole IsSmall wide setup.holes fits.holes,
+        (
+          wide setup.home fits.home,
+          (
+            each_plain link_data IsSmallLink link_plain (links_of net) fits.links,
+            (wide (nodes_of net) fits.nodes, (wide setup.quota fits.quota, (number_below number few, tt))),
+          ),
+        ),
+      ),
+    ),
+  ),
+)
 
 head_plain : (version : Version) (net : Network) (setup : Setup) → HeadFits net setup
     → IsPlain (head_data version net setup)
@@ -126,25 +148,8 @@ head_plain One net setup fits = (
     ),
   ),
 )
-head_plain Two net setup fits = (
-  wide setup.agents fits.agents,
-  (
-    wide setup.board fits.board,
-    (
-      each_plain end_data IsSmallEnd end_plain setup.dark fits.dark,
-      (
-        each_plain whole IsSmall wide setup.holes fits.holes,
-        (
-          wide setup.home fits.home,
-          (
-            each_plain link_data IsSmallLink link_plain (links_of net) fits.links,
-            (wide (nodes_of net) fits.nodes, (wide setup.quota fits.quota, (number_below 2 (omega arith), tt))),
-          ),
-        ),
-      ),
-    ),
-  ),
-)
+head_plain Two net setup fits = listing_plain 2 net setup (omega arith) fits
+head_plain Three net setup fits = listing_plain 3 net setup (omega arith) fits
 
 head_flat : (line : List ℕ) (net : Network) (setup : Setup) → IsHead line net setup → IsFlat line
 head_flat line net setup head =

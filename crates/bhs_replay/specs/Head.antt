@@ -1,5 +1,5 @@
 -- The first line of a replay: the network, and how the match is set up.
-use Rattle.std.specs.Prelude.{ℕ, ◌≤◌, ◌≡◌, true, List, [], ◌∷◌, codes, length, map}
+use Rattle.std.specs.Prelude.{ℕ, ◌≤◌, ◌≡◌, true, if◌then◌else◌, List, [], ◌∷◌, codes, length, map}
 use Rattle.serde_json.specs.Data.{Data, null, number, unsigned, array, object, no_members, member}
 use Rattle.serde_json.specs.View.{items_of}
 use Rattle.serde_json.specs.Written.{compact_text}
@@ -8,8 +8,9 @@ use Rattle.bhs_net.specs.Links.{End}
 use Rattle.bhs_net.specs.Network.{Network, nodes_of, far_of}
 use Rattle.bhs_model.specs.declared.setups.Setup.{Setup}
 use Rattle.bhs_model.specs.Setups.{links_where}
+use Rattle.bhs_model.specs.Small.{is_small}
 use Rattle.bhs_replay.specs.declared.heads.Version.{Version}
-use Rattle.bhs_replay.specs.declared.heads.Version.TheVariants.{One, Two}
+use Rattle.bhs_replay.specs.declared.heads.Version.TheVariants.{One, Two, Three}
 
 -- the link at an end, named from there
 abbrev pub link_from : Network → End → Link
@@ -39,9 +40,9 @@ abbrev pub hole_data : List ℕ → Data
 hole_data [] = null
 hole_data (hole ∷ more) = whole hole
 
--- the keys stand in the order of their bytes
-abbrev pub head_data : Version → Network → Setup → Data
-head_data Two net setup = object
+-- the head of a version that lists what destroys; the keys stand in the order of their bytes
+abbrev pub listing_data : (number : ℕ) → Network → Setup → Data
+listing_data number net setup = object
     (member (codes "agents") (whole setup.agents)
     (member (codes "board") (whole setup.board)
     (member (codes "dark") (listed (map end_data setup.dark))
@@ -50,7 +51,10 @@ head_data Two net setup = object
     (member (codes "links") (listed (map link_data (links_of net)))
     (member (codes "nodes") (whole (nodes_of net))
     (member (codes "quota") (whole setup.quota)
-    (member (codes "replay") (whole 2) no_members)))))))))
+    (member (codes "replay") (whole number) no_members)))))))))
+
+-- the head, whose keys stand in the order of their bytes too
+abbrev pub head_data : Version → Network → Setup → Data
 head_data One net setup = object
     (member (codes "agents") (whole setup.agents)
     (member (codes "board") (whole setup.board)
@@ -60,12 +64,20 @@ head_data One net setup = object
     (member (codes "nodes") (whole (nodes_of net))
     (member (codes "quota") (whole setup.quota)
     (member (codes "replay") (whole 1) no_members))))))))
+head_data Two net setup = listing_data 2 net setup
+head_data Three net setup = listing_data 3 net setup
 
 -- the line, without its line feed
 abbrev pub head_line : Version → Network → Setup → List ℕ
 head_line version net setup = compact_text (head_data version net setup)
 
--- what a version can say: version 1 has one black hole or none, and no dark link
-abbrev pub CanSay : Version → Setup → Type 0
-CanSay One setup = (length setup.holes ≤ 1) × (setup.dark ≡ [])
-CanSay Two setup = Unit {0}
+-- what a version can say: versions 1 and 2 have small matches, and version 1 has one black hole or none, and no dark
+-- link
+abbrev pub CanSay : Version → Network → Setup → Type 0
+CanSay One net setup = (is_small net setup ≡ true) × ((length setup.holes ≤ 1) × (setup.dark ≡ []))
+CanSay Two net setup = is_small net setup ≡ true
+CanSay Three net setup = Unit {0}
+
+-- the version that is written: the second, if it can say the match
+abbrev pub version_of : Network → Setup → Version
+version_of net setup = if is_small net setup then Two else Three

@@ -9,7 +9,7 @@ use Rattle.bhs_net.specs.declared.links.Link.{Link}
 use Rattle.bhs_model.specs.declared.setups.Setup.{Setup}
 use Rattle.bhs_wire.specs.First.{if_port, port_at}
 use Rattle.bhs_replay.specs.declared.heads.Version.{Version}
-use Rattle.bhs_replay.specs.declared.heads.Version.TheVariants.{One, Two}
+use Rattle.bhs_replay.specs.declared.heads.Version.TheVariants.{One, Two, Three}
 
 -- what a head says
 pub record Says : Type 0 where
@@ -46,7 +46,9 @@ module _ {A : Type 0} (shape : Data → Option A) where
   list_at key value = option_and_then each (option_and_then as_array (get key value))
 
 abbrev pub version_by : ℕ → Option Version
-version_by number = if number == 1 then Some One else (if number == 2 then Some Two else None)
+version_by number = if number == 1 then Some One
+    else (if number == 2 then Some Two
+    else (if number == 3 then Some Three else None))
 
 abbrev pub version_in : Data → Option Version
 version_in value = option_and_then version_by (port_at (codes "replay") value)
@@ -55,10 +57,12 @@ version_in value = option_and_then version_by (port_at (codes "replay") value)
 abbrev pub holes_in : Version → Data → Option (List ℕ)
 holes_in One value = Some (option_to_list (port_at (codes "hole") value))
 holes_in Two value = list_at number_in (codes "holes") value
+holes_in Three value = list_at number_in (codes "holes") value
 
 abbrev pub dark_in : Version → Data → Option (List (ℕ × ℕ))
 dark_in One value = Some []
 dark_in Two value = list_at pair_in (codes "dark") value
+dark_in Three value = list_at pair_in (codes "dark") value
 
 abbrev pub setup_with : List ℕ → List (ℕ × ℕ) → Data → Option Setup
 setup_with holes dark value =

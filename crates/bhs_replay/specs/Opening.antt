@@ -13,7 +13,7 @@ use Rattle.bhs_replay.specs.HeadReading.{Says}
 -- has no fault and is in normal form
 pub record IsHead (line : List ℕ) (net : Network) (setup : Setup) : Type 0 where
   pub version : Version
-  pub can_say : CanSay version setup
+  pub can_say : CanSay version net setup
   pub spelled : line ≡ head_line version net setup
   pub made : Makes (nodes_of net) (links_of net) net
   pub fits : first_fault net setup ≡ None

@@ -9,8 +9,7 @@ use Rattle.bhs_model.specs.InOrder.{replies}
 use Rattle.bhs_model.specs.Marks.{events_of}
 use Rattle.bhs_match.specs.Matches.{Play}
 use Rattle.bhs_replay.specs.declared.heads.Version.{Version}
-use Rattle.bhs_replay.specs.declared.heads.Version.TheVariants.{Two}
-use Rattle.bhs_replay.specs.Head.{head_line}
+use Rattle.bhs_replay.specs.Head.{head_line, version_of}
 use Rattle.bhs_replay.specs.EventLine.{event_line}
 
 -- the last line, which says how many events there are
@@ -37,4 +36,4 @@ replay version net setup events = with_feeds (head_line version net setup ∷ bo
 
 -- the text of a match as it is written
 abbrev pub replay_of : Play → List ℕ
-replay_of play = replay Two play.net play.setup (events_of play.log)
+replay_of play = replay (version_of play.net play.setup) play.net play.setup (events_of play.log)

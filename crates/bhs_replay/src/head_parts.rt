@@ -74,6 +74,7 @@ fn version_in(value: &Value) -> Option<Version>
     match port_of(value, "replay")? {
         1 => Some(Version::One),
         2 => Some(Version::Two),
+        3 => Some(Version::Three),
         _ => None,
     }
 }
@@ -112,7 +113,7 @@ fn holes_in(alloc: Global, version: Version, value: &Value) -> Result<Option<Vec
 {
     match version {
         Version::One => Ok(Some(hole_in(alloc, value)?)),
-        Version::Two => match list_of(value, "holes") {
+        Version::Two | Version::Three => match list_of(value, "holes") {
             Some(items) => numbers(alloc, items),
             None => Ok(None),
         },
@@ -138,7 +139,7 @@ fn dark_in(
 {
     match version {
         Version::One => Ok(Some(Vec::new(alloc))),
-        Version::Two => match list_of(value, "dark") {
+        Version::Two | Version::Three => match list_of(value, "dark") {
             Some(items) => pairs(alloc, items),
             None => Ok(None),
         },

@@ -3,11 +3,12 @@
 ghost use Rattle.std.specs.Prelude.{◌≡◌, ◌++◌, ◌∷◌, [], codes, string_bytes, map, IfOk, OnOk};
 ghost use Rattle.json.specs.Token.{key, number};
 ghost use Rattle.bhs_net.specs.Network.{IsNetwork};
-ghost use Rattle.bhs_replay.specs.Head.{head_line, head_data, links_of, whole, listed, end_data, link_data, hole_data};
+ghost use Rattle.bhs_replay.specs.Head.{version_of, head_line, head_data, links_of, whole, listed, end_data, link_data};
+ghost use Rattle.bhs_replay.specs.Head.{hole_data};
 ghost use Rattle.bhs_replay.specs.HeadTokens.{data_tokens, doom_tokens, version_number};
 
 use crate::links::links_of;
-use bhs_model::Setup;
+use bhs_model::{Setup, is_small};
 use bhs_net::{Link, Memory, Net};
 use bhs_wire::write_number;
 use json::Writer;
@@ -20,10 +21,26 @@ pub enum Version {
     One,
     /// Black holes and dark links.
     Two,
+    /// More nodes, commands and bytes. It is written if version 2 cannot say the match.
+    Three,
 }
 
-/// The head of a match on this network, set up so, without its line feed.
-pub fn head_line(
+/// The head that a match on this network, set up so, is written with, without its line feed.
+pub fn head_of(alloc: Global, net: &Net, setup: &Setup) -> Result<String, Memory>
+    ensures line { IfOk result (λ text. string_bytes text
+        ≡ head_line (version_of net.now setup.now) net.now setup.now) }
+    ensures network { OnOk result (IsNetwork net.now) }
+{
+    let version = if is_small(net, setup) {
+        Version::Two
+    } else {
+        Version::Three
+    };
+    head_line(alloc, version, net, setup)
+}
+
+/// The head of this version, without its line feed.
+pub(crate) fn head_line(
     alloc: Global,
     version: Version,
     net: &Net,
@@ -69,6 +86,7 @@ fn number_of(version: Version) -> u16
     match version {
         Version::One => 1,
         Version::Two => 2,
+        Version::Three => 3,
     }
 }
 
@@ -79,7 +97,7 @@ fn write_dooms(out: &mut Writer, version: Version, setup: &Setup) -> Result<(), 
 {
     match version {
         Version::One => write_hole(out, setup.holes.nodes()),
-        Version::Two => {
+        Version::Two | Version::Three => {
             write_dark(out, setup.dark.ends())?;
             write_holes(out, setup.holes.nodes())
         }

@@ -33,13 +33,13 @@ pub fn one_spelling()
 pub fn only_replays_are_read()
     ensures { (text : List ℕ) (net : Network) (setup : Setup) (events : List Event)
         → Comes text (Ends net setup events)
-        → (version : Version) × CanSay version setup × (text ≡ replay version net setup events) }
+        → (version : Version) × CanSay version net setup × (text ≡ replay version net setup events) }
 {}
 
 /// The replay of each match that has ended is read as that match, in each version that can say how it was set up.
 pub fn every_replay_is_read()
     ensures { (version : Version) (net : Network) (setup : Setup) (events : List Event)
-        → CanSay version setup → HasEnded net setup events
+        → CanSay version net setup → HasEnded net setup events
         → Comes (replay version net setup events) (Ends net setup events) }
 {}
 

@@ -20,7 +20,7 @@ mod writing;
 
 pub use events::each_event_is_typed;
 pub use faults::{ReplayFault, WritingFault};
-pub use heads::{Version, head_line};
+pub use heads::{Version, head_of};
 pub use laws::{
     a_match_has_ended, every_replay_is_read, fronts_are_parts, one_reading, one_spelling,
     only_replays_are_read,

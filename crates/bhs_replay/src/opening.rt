@@ -1,6 +1,6 @@
 //! The match that the first line of a replay opens.
 
-ghost use Rattle.std.specs.Prelude.{◌≡◌, ◌≢◌, ◌↔◌, if◌then◌else◌, Some, None, IfOk, OnOk, IsTrue};
+ghost use Rattle.std.specs.Prelude.{◌≡◌, ◌≢◌, ◌↔◌, ◌≤◌, [], length, if◌then◌else◌, Some, None, IfOk, OnOk, IsTrue};
 ghost use Rattle.bhs_replay.specs.Head.{CanSay};
 ghost use Rattle.bhs_replay.specs.HeadReading.{Says as Said, head_says};
 ghost use Rattle.bhs_replay.specs.HeadSeen.{seen};
@@ -9,7 +9,7 @@ ghost use Rattle.bhs_replay.specs.Opening.{OpensAs, Starts};
 use crate::head_parts::{Says, head_says};
 use crate::heads::{Version, head_line};
 use bhs_match::Match;
-use bhs_model::Setup;
+use bhs_model::{Setup, is_small};
 use bhs_net::{Memory, Net, NetFault};
 use bhs_world::SetupFault;
 use std::alloc::Global;
@@ -57,7 +57,7 @@ fn is_head(alloc: Global, line: &[u8], version: Version, game: &Match) -> Result
     ensures { (says : Said) → Some says ≡ head_says line.now → version ≡ says.version → Starts says (Some game.now)
         → IfOk result (λ is. OpensAs line.now (if is then Some game.now else None)) }
 {
-    if !can_say(version, game.setup()) {
+    if !can_say(version, game.net(), game.setup()) {
         return Ok(false);
     }
     let text = head_line(alloc, version, game.net(), game.setup())?;
@@ -109,12 +109,20 @@ fn refused_setup(fault: SetupFault) -> Result<(), Memory>
     }
 }
 
-// Version 1 has one black hole or none, and no dark link.
-fn can_say(version: Version, setup: &Setup) -> bool
-    ensures { IsTrue result ↔ CanSay version setup.now }
+// Versions 1 and 2 have small matches, and version 1 has one black hole or none, and no dark link.
+fn can_say(version: Version, net: &Net, setup: &Setup) -> bool
+    ensures { IsTrue result ↔ CanSay version net.now setup.now }
 {
     match version {
-        Version::One => setup.holes.nodes().len() <= 1 && setup.dark.ends().is_empty(),
-        Version::Two => true,
+        Version::One => is_small(net, setup) && has_one_hole(setup),
+        Version::Two => is_small(net, setup),
+        Version::Three => true,
     }
+}
+
+// Whether there is one black hole or none, and no dark link.
+fn has_one_hole(setup: &Setup) -> bool
+    ensures { IsTrue result ↔ ((length setup.now.holes ≤ 1) × (setup.now.dark ≡ [])) }
+{
+    setup.holes.nodes().len() <= 1 && setup.dark.ends().is_empty()
 }

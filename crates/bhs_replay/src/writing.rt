@@ -8,7 +8,7 @@ ghost use Rattle.bhs_replay.specs.Stages.{Ends, Comes};
 ghost use Rattle.bhs_replay.specs.Writing.{Breaks};
 
 use crate::faults::WritingFault;
-use crate::heads::{Version, head_line};
+use crate::heads::head_of;
 use crate::lines::line_in;
 use bhs_match::Sealed;
 use bhs_net::Memory;
@@ -30,10 +30,7 @@ pub fn write_replay<W: Output>(
         (Ends sealed.now.net sealed.now.setup (events_of sealed.now.log))) }
 {
     let log = sealed.log();
-    send_line(
-        head_line(alloc, Version::Two, sealed.net(), sealed.setup()),
-        writer,
-    )?;
+    send_line(head_of(alloc, sealed.net(), sealed.setup()), writer)?;
     for one in log {
         send_line(line_in(alloc, sealed, one), writer)?;
     }

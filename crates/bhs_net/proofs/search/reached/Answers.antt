@@ -77,7 +77,7 @@ offset_bounds-rows-node c =
     let lt : c.index-node.result.now < length c.args.rows.now =
     (next_node c.args.rows.now c.args.start c.args.removed c.loop-next.marks.items c.loop-next.found.items
     c.loop-next.next c.index-node.result.now c.loop-next.invariant.search next c.index-node.ensures).0 in
-    let many : nodes_of (network_of c.args.rows.now) ≤ 256 = c.requires.labelled.many in
+    let many : nodes_of (network_of c.args.rows.now) ≤ 4096 = c.requires.labelled.many in
     let all = length-map c.args.rows.now (λ (r : Vec End Global). r.items) in
     grind arith
 

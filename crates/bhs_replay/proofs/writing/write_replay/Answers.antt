@@ -8,19 +8,21 @@ use Rattle.bhs_match.specs.Matches.{Play, world_in}
 use Rattle.bhs_stream.specs.Streams.{Taken}
 use Rattle.bhs_model.specs.declared.marks.Kept.{Kept}
 use Rattle.bhs_stream.proofs.PutsLemmas.{IsSentUpTo, sent_more}
-use Rattle.bhs_replay.specs.declared.heads.Version.TheVariants.{Two}
-use Rattle.bhs_replay.specs.Head.{head_line}
+use Rattle.bhs_replay.specs.Head.{head_line, version_of}
 use Rattle.bhs_replay.specs.Replay.{end_line, replay_of}
 use Rattle.bhs_replay.proofs.ReplayTexts.{kept_line, left_of, replay-along, left-next, drop-next, left-last}
 use Rattle.bhs_replay.proofs.ReadBack.{AreTypedUpTo, none_typed, one_more, all_typed, was_made, on_ok, read_as}
 use Rattle.bhs_replay.proofs.WritingLemmas.{fault_is, breaks_at, first_line, ends_whole, ends_broken}
 use Rattle.bhs_replay.proofs.writing.write_replay.Goals as goal
 
+abbrev head_of : Play → List ℕ
+head_of play = head_line (version_of play.net play.setup) play.net play.setup
+
 begun : {O : Type 0} (takes : O → List ℕ → Taken → O → Type 0) (a : O) (play : Play)
     → map (λ one. read_if play.log one.mark) play.log ≡ replies (world_in play) (events_of play.log)
-    → IsSentUpTo takes a a (replay_of play) ((head_line Two play.net play.setup ++ 10 ∷ [])
+    → IsSentUpTo takes a a (replay_of play) ((head_of play ++ 10 ∷ [])
     ++ left_of play.log play.log)
-begun takes a play answered = first_line takes a (replay_of play) (head_line Two play.net play.setup ++ 10 ∷ [])
+begun takes a play answered = first_line takes a (replay_of play) (head_of play ++ 10 ∷ [])
     (left_of play.log play.log) (replay-along play answered)
 
 -- before the event at a place
@@ -43,27 +45,27 @@ pub returns-in_err-send_line-clause-err : goal.returns-in_err-send_line-clause-e
 returns-in_err-send_line-clause-err g c =
     let play : Play = c.args.sealed.now in
     let made =
-    IfOk-weaker c.head_line.result _ _ (λ text is. is ∙ ap₂ (λ (n : Network) (s : Setup). head_line Two n s)
-    c.net.ensures c.setup.ensures.setup) c.head_line.ensures.line
+    IfOk-weaker c.head_of.result _ _ (λ text is. is ∙ ap₂ (λ (n : Network) (s : Setup). head_line (version_of n s) n s)
+    c.net.ensures c.setup.ensures.setup) c.head_of.ensures.line
     in
     fault_is c.from_residual.result c.in_err-send_line.field-0.0 _ c.from_residual.ensures.1
-    (breaks_at g.W.Output.takes _ _ _ (replay_of play) (head_line Two play.net play.setup ++ 10 ∷ [])
+    (breaks_at g.W.Output.takes _ _ _ (replay_of play) (head_of play ++ 10 ∷ [])
     (left_of play.log play.log) _
     (begun g.W.Output.takes c.args.writer.now play c.log-log.ensures.replies)
-    (c.in_err-send_line.ensures.err (head_line Two play.net play.setup) made))
+    (c.in_err-send_line.ensures.err (head_of play) made))
 
 pub loop-one-init : goal.loop-one-init
 loop-one-init g c =
     let play : Play = c.args.sealed.now in
     let made =
-    IfOk-weaker c.head_line.result _ _ (λ text is. is ∙ ap₂ (λ (n : Network) (s : Setup). head_line Two n s)
-    c.net.ensures c.setup.ensures.setup) c.head_line.ensures.line
+    IfOk-weaker c.head_of.result _ _ (λ text is. is ∙ ap₂ (λ (n : Network) (s : Setup). head_line (version_of n s) n s)
+    c.net.ensures c.setup.ensures.setup) c.head_of.ensures.line
     in (
       rw c.log-log.ensures.log
-          (sent_more g.W.Output.takes _ _ _ (replay_of play) (head_line Two play.net play.setup ++ 10 ∷ [])
+          (sent_more g.W.Output.takes _ _ _ (replay_of play) (head_of play ++ 10 ∷ [])
           (left_of play.log play.log)
           (begun g.W.Output.takes c.args.writer.now play c.log-log.ensures.replies)
-          (c.in_ok-send_line.ensures.ok (head_line Two play.net play.setup) made)),
+          (c.in_ok-send_line.ensures.ok (head_of play) made)),
       none_typed c.log-log.result.now,
     )
 
@@ -119,7 +121,7 @@ returns-clause-read g c =
     let play : Play = c.args.sealed.now in
     let log : List Kept = c.log-log.result.now in
     let network : IsNetwork play.net = subst IsNetwork c.net.ensures
-    (was_made c.head_line.result _ c.in_ok-send_line.ensures.made c.head_line.ensures.network) in
+    (was_made c.head_of.result _ c.in_ok-send_line.ensures.made c.head_of.ensures.network) in
     let all : AreTypedUpTo play.log (length play.log) =
     rw c.log-log.ensures.log at (all_typed log c.loop-one.one-index c.loop-one-test.false c.loop-one.invariant.1)
     in
