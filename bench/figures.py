@@ -37,7 +37,7 @@ from typing import Callable, Dict, Iterable, List, NamedTuple, Optional, Sequenc
 TOP = pathlib.Path(__file__).resolve().parent.parent
 sys.path.insert(0, str(TOP))
 
-from lab import built  # noqa: E402
+from lab.support import built  # noqa: E402
 
 PAGE = TOP / "bench" / "FIGURES.md"
 BENCHMARK = TOP / "crates" / "bhs_bench" / "out" / "bhs_bench"

@@ -38,7 +38,7 @@ from inputs import MAX_AGENTS, MAX_BOARD, MAX_QUOTA, Run, median_run, run, torus
 TOP = pathlib.Path(__file__).resolve().parent.parent
 sys.path.insert(0, str(TOP))
 
-from lab.model import spelled  # noqa: E402
+from lab.rules.model import spelled  # noqa: E402
 
 PROGRAM = TOP / "crates" / "bhs_main" / "out" / "bhs_main"
 SIDE = 16

@@ -35,7 +35,7 @@ from typing import Dict, Iterator, List
 TOP = pathlib.Path(__file__).resolve().parent.parent
 sys.path.insert(0, str(TOP))
 
-from lab import built  # noqa: E402
+from lab.support import built  # noqa: E402
 
 AGENTS = TOP / "examples" / "agents"
 RELEASED_RING = TOP / "bin" / "ring"

@@ -28,7 +28,7 @@ from typing import Callable, List, NamedTuple, Optional, Tuple
 import numpy as np
 
 from experiments.turns import Run, played
-from lab.agent_files import AGENTS, loaded
+from lab.play.agent_files import AGENTS, loaded
 
 ring3 = loaded(AGENTS / "ring3.py")
 

@@ -30,9 +30,9 @@ from typing import Callable, Dict, List, Mapping, NamedTuple, Sequence, Tuple
 
 from experiments.division import Table, bound, of_ring, of_ring3, ring3
 from experiments.turns import played
-from lab import grid, report, sweep, tables
+from lab.sweep import grid, report, sweeping, tables
 from lab.__main__ import main as lab
-from lab.engines import TOP, add_engine, name_of, program_of
+from lab.rules.engines import TOP, add_engine, name_of, program_of
 
 EXPERIMENTS = TOP / "experiments"
 DOCUMENT = TOP / "docs" / "EXPERIMENTS.md"
@@ -223,7 +223,7 @@ def which(rows: Sequence[report.Row]) -> str:
 
 def is_solved_without_limit(spec: grid.Grid, case: grid.Case) -> bool:
     """Whether a run is solved if agents have more commands than the arena gives; the Python model plays it."""
-    row = sweep.row_of(sweep.Work("", None), spec._replace(quota=NO_LIMIT), case)
+    row = sweeping.row_of(sweeping.Work("", None), spec._replace(quota=NO_LIMIT), case)
     return report.is_solved(dict(zip(tables.COLUMNS, row)))
 
 

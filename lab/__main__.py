@@ -7,26 +7,11 @@ import sys
 from typing import List, NamedTuple, Optional, Tuple
 
 import lab
-from lab import BY_PYTHON, refusals
-from lab.built import NoProgram
-from lab.engines import Differs, Refused
-from lab.grid import NoSweep
-from lab.missing import Missing, missing_of
-from lab.networks import NoNetwork
-from lab.pasts import NoFunction
-from lab.schedulers import Impossible
-from lab.schedules import NoSchedule
-from lab.games import Stopped
-from lab.spread import NoCluster
-from lab.tables import NoTable
-from lab.agent_files import NoAgent
-from lab.users import NoUser
-from lab.walls import NoCell
-
-FAULTS = (Differs, Impossible, Missing, NoAgent, NoCell, NoCluster, NoFunction, NoNetwork, NoProgram, NoSchedule,
-          NoSweep, NoTable, NoUser,
-          Stopped)
-
+from lab import BY_PYTHON
+from lab.rules import refusals
+from lab.rules.engines import Refused
+from lab.support.faults import Fault
+from lab.support.missing import Missing, missing_of
 
 # modules of Debian's packages: to play agents inside the lab, to lay out pages
 PLAYS, PAGES = ("greenlet", "tqdm"), ("networkx", "numpy", "scipy")
@@ -42,28 +27,28 @@ class Command(NamedTuple):
 
 
 COMMANDS = {
-    "run": Command("lab.run", "play a team under schedules of a scheduler", PLAYS + PAGES),
-    "hunt": Command("lab.hunt", "look for a schedule after which the team fails, or moves most",
+    "run": Command("lab.commands.run", "play a team under schedules of a scheduler", PLAYS + PAGES),
+    "hunt": Command("lab.commands.hunt", "look for a schedule after which the team fails, or moves most",
                     PLAYS + PAGES + ("hypothesis",)),
-    "explore": Command("lab.explore", "try every schedule of a small network", PLAYS + PAGES),
-    "replay": Command("lab.replay", "play a schedule again, and compare every byte", PLAYS + PAGES),
-    "mutants": Command("lab.mutation", "try whether the lab finds out wrong versions of the sample agents",
+    "explore": Command("lab.commands.explore", "try every schedule of a small network", PLAYS + PAGES),
+    "replay": Command("lab.commands.replay", "play a schedule again, and compare every byte", PLAYS + PAGES),
+    "mutants": Command("lab.commands.mutants", "try whether the lab finds out wrong versions of the sample agents",
                        PLAYS + ("networkx", "hypothesis")),
-    "endure": Command("lab.endurance", "play the sample agents under many drawn schedules", PLAYS + ("networkx",)),
-    "speed": Command("lab.speed", "measure how many steps a second the lab plays"),
-    "compare": Command("lab.compare", "compare the program with the Python model, byte for byte",
+    "endure": Command("lab.commands.endure", "play the sample agents under many drawn schedules", PLAYS + ("networkx",)),
+    "speed": Command("lab.commands.speed", "measure how many steps a second the lab plays"),
+    "compare": Command("lab.commands.compare", "compare the program with the Python model, byte for byte",
                        PLAYS + ("networkx",)),
-    "serve": Command("lab.server", "a stand-in for `arena serve`, to try agents without building the program", ()),
-    "network": Command("lab.network", "write a network file", ("networkx",)),
-    "tournament": Command("lab.tournament", "write a tournament of teams, networks and black holes, with their keys",
+    "serve": Command("lab.commands.serve", "a stand-in for `arena serve`, to try agents without building the program", ()),
+    "network": Command("lab.commands.network", "write a network file", ("networkx",)),
+    "tournament": Command("lab.commands.tournament", "write a tournament of teams, networks and black holes, with their keys",
                           ("networkx",)),
-    "sweep": Command("lab.sweep", "play teams over a grid of networks and schedules, and write a report",
+    "sweep": Command("lab.commands.sweep", "play teams over a grid of networks and schedules, and write a report",
                      PLAYS + PAGES + ("matplotlib",)),
-    "grade": Command("lab.grade", "grade the programs of a course: a league table, and a page for each team",
+    "grade": Command("lab.commands.grade", "grade the programs of a course: a league table, and a page for each team",
                      PLAYS + PAGES),
-    "page": Command("lab.page", "write a page on which one watches a match that has ended", PAGES),
-    "watch": Command("lab.projector", "show a contest that goes on, for a projector", PAGES + ("aiohttp",)),
-    "pages": Command("lab.contest_pages", "write a page of each match of a contest, and one that lists them", PAGES),
+    "page": Command("lab.commands.page", "write a page on which one watches a match that has ended", PAGES),
+    "watch": Command("lab.commands.watch", "show a contest that goes on, for a projector", PAGES + ("aiohttp",)),
+    "pages": Command("lab.commands.pages", "write a page of each match of a contest, and one that lists them", PAGES),
 }
 
 ABOUT = """Plays agents under a schedule that you choose, records it, and plays it again byte for byte.
@@ -122,10 +107,10 @@ def main(given: Optional[List[str]] = None, name: str = BY_PYTHON) -> int:
         # who reads has heard enough
         os.dup2(os.open(os.devnull, os.O_WRONLY), sys.stdout.fileno())
         return 2
-    except (Refused, OSError, *FAULTS) as fault:
+    except (Fault, OSError) as fault:
         said = told_of(fault, COMMANDS[words.command])
         print(said if isinstance(fault, Refused) else f"lab: {said}", file=sys.stderr)
-        return fault.status if isinstance(fault, Refused) else 1 if isinstance(fault, (Differs, Impossible)) else 2
+        return fault.status if isinstance(fault, Fault) else 2
 
 
 def told_of(fault: Exception, command: Command) -> str:

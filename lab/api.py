@@ -18,23 +18,21 @@ all of a team of `count`; a list names each. A scheduler is a name, or a functio
 (choices, state). `engine` is "model" for the Python model, of which nothing is proved, "program" for the program that
 `python3 -m lab` takes, or the path of a program.
 """
-import argparse
 import contextlib
 import pathlib
-from typing import Any, Callable, Iterable, List, NamedTuple, Optional, Sequence, Tuple, Union
+from typing import Any, Callable, Iterable, List, NamedTuple, Optional, Sequence, Union
 
-from lab import explore as exploring
-from lab import finds, hunt as hunting, networks
-from lab.agent_files import NoAgent, client_module
-from lab.engines import MODEL, PROGRAM, name_of, program_at
-from lab.fixtures import MOST_AGENTS, Fixture, NoMatch
-from lab.games import Asked, Record, Row, SchedulerName, rows_of
-from lab.model import Place, Verdict
-from lab.networks import Network
-from lab.progress import bar
-from lab.schedulers import NAMED as SCHEDULERS
-from lab.schedules import schedule_of
-from lab.teams import BOARD, INSIDE, LIMIT, NAPS, OUTSIDE, QUOTA, AgentWords, Game
+from lab.play import finds
+from lab.play.agent_files import NoAgent, client_module
+from lab.play.games import Asked, Record, Row, SchedulerName, rows_of
+from lab.play.schedulers import NAMED as SCHEDULERS
+from lab.play.teams import BOARD, INSIDE, LIMIT, NAPS, OUTSIDE, QUOTA, AgentWords, Game, filled
+from lab.rules import networks
+from lab.rules.engines import MODEL, PROGRAM, name_of, program_at
+from lab.rules.model import Place, Verdict
+from lab.rules.networks import Network
+from lab.search import explore as exploring, hunt as hunting
+from lab.support.progress import bar
 
 __all__ = ["SCHEDULERS", "Exploration", "Found", "Game", "Network", "Record", "Row", "client", "engine_name", "explore",
            "game", "hunt", "play", "program"]
@@ -66,14 +64,7 @@ def team_of(agents: Union[AgentLike, Sequence[AgentLike]], count: Optional[int])
     """The agents of a team."""
     is_list = isinstance(agents, (list, tuple)) and not isinstance(agents, AgentWords)
     named = [agent_of(it) for it in agents] if is_list else [agent_of(agents)]  # type: ignore[union-attr, arg-type]
-    wanted = (max(2, len(named)) if len(named) == 1 else len(named)) if count is None else count
-    if not 1 <= wanted <= MOST_AGENTS:
-        raise NoMatch(f"a match has 1 to {MOST_AGENTS} agents, and not {wanted}")
-    if len(named) == 1:
-        return named * wanted
-    if len(named) != wanted:
-        raise NoAgent(f"{len(named)} agents are named, and the match has {wanted}")
-    return named
+    return filled(named, count)
 
 
 def game(network: NetworkLike, agents: Union[AgentLike, Sequence[AgentLike]], *, count: Optional[int] = None,
@@ -143,24 +134,14 @@ def explore(network: NetworkLike, agents: Union[AgentLike, Sequence[AgentLike]],
     """Tries every schedule, with each node but the home base as the black hole unless something that destroys is named.
     The Python model is explored; the engine plays what is kept."""
     asked, path = game(network, agents, **more), path_of(engine)
-    if any(agent.kind != INSIDE for agent in asked.agents):
-        raise NoAgent("explore plays agents inside the lab: programs are for play and hunt")
-    fixtures = [asked.fixture(seed) for seed in range(1 if asked.is_fixed() else asked.network.nodes - 1)]
-    words = argparse.Namespace(limit=asked.limit, states=states)
-    found: List[Tuple[Fixture, exploring.Explored]] = []
     with bar(None, "state") as shown:
-        for fixture in fixtures:
-            found.append((fixture, exploring.explored(fixture, asked.agents, words, shown)))
-            if not found[-1][1].is_whole or exploring.rank_of(found[-1][1])[0]:
-                break
-    fixture, worst = max(found, key=lambda pair: exploring.rank_of(pair[1]))
-    record = None
+        found = list(exploring.tried(asked, states, shown))
+    worst, record = max(found, key=exploring.Explored.rank), None
     if worst.explorer.worst:
-        choices = worst.explorer.schedule(worst.explorer.worst.number)
-        schedule = schedule_of(fixture, asked.agents, "explore", choices)
+        schedule = worst.schedule(asked)
         record = Record(schedule, finds.played_again(schedule, path, asked.limit), path)
-    return Exploration(sum(one.explorer.states() for _, one in found), all(one.is_whole for _, one in found),
-                       exploring.rank_of(worst)[0], sum(one.seconds for _, one in found), record)
+    return Exploration(sum(one.explorer.states() for one in found), all(one.is_whole for one in found),
+                       worst.rank()[0], sum(one.seconds for one in found), record)
 
 
 class Found(NamedTuple):

@@ -2,7 +2,8 @@
 import os
 import sys
 
-from lab import INSTALLED, built
+from lab import INSTALLED
+from lab.support import built
 
 
 def arena() -> int:

@@ -11,9 +11,9 @@ import compare
 import contest
 import inputs
 import rehearse
-from lab import chacha8
-from lab.model import Verdict
-from lab.server import table
+from lab.rules import chacha8
+from lab.rules.model import Verdict
+from lab.play.server import table
 
 
 class Inputs(unittest.TestCase):

@@ -9,7 +9,7 @@ from typing import Iterator
 
 import inputs
 import replays
-from lab.model import judge, played
+from lab.rules.model import judge, played
 
 
 class LargeReplays(unittest.TestCase):

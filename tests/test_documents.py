@@ -4,7 +4,7 @@ import re
 import unittest
 from typing import Iterator, Tuple
 
-from lab.model import played
+from lab.rules.model import played
 from tests import TOP
 
 ARCHITECTURE = TOP / "docs" / "ARCHITECTURE.md"

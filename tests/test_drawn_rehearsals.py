@@ -4,7 +4,7 @@ import unittest
 from typing import Counter
 
 from drawn_rehearsals import Ready, Rehearsal, drawn
-from lab.model import Match, Setup
+from lab.rules.model import Match, Setup
 
 TRIANGLE = [(0, 0, 1, 0), (1, 1, 2, 0), (2, 1, 0, 1)]
 

@@ -26,7 +26,7 @@ debian, manual, wheel = release.debian, release.manual, release.wheel
 PROJECT = (TOP / "pyproject.toml").read_bytes()
 READABLE, RUNNABLE = wheel.READABLE, wheel.RUNNABLE
 RELEASED = {
-    "README.md": "read\n", "CHANGELOG.md": "changes\n", "docs/PROOFS.md": "claims\n", "lab/built.py": "built = 1\n",
+    "README.md": "read\n", "CHANGELOG.md": "changes\n", "docs/PROOFS.md": "claims\n", "lab/support/built.py": "built = 1\n",
     "lab/README.md": "# The lab\n", "examples/agents/ring.py": "agent\n", "examples/contest.py": "contest\n",
     "BUILD": "arena 1.2.3, proved\n", "PROVED.txt": "proved\n", "VERSION": "1.2.3\n", "tools/version.py": "",
     "SHA256SUMS": "sums\n",
@@ -152,8 +152,8 @@ class Wheels(unittest.TestCase):
             self.assertEqual(archive.namelist(), [
                 "arena_lab-1.2.3.data/data/share/man/man1/arena.1", "arena_lab-1.2.3.dist-info/METADATA",
                 "arena_lab-1.2.3.dist-info/WHEEL", "arena_lab-1.2.3.dist-info/entry_points.txt", "lab/README.md",
-                "lab/built.py", "lab/examples/agents/ring.py", "lab/program/BUILD", "lab/program/PROVED.txt",
-                "lab/program/arena", "arena_lab-1.2.3.dist-info/RECORD"])
+                "lab/examples/agents/ring.py", "lab/program/BUILD", "lab/program/PROVED.txt",
+                "lab/program/arena", "lab/support/built.py", "arena_lab-1.2.3.dist-info/RECORD"])
             self.assertEqual(archive.getinfo("lab/program/arena").external_attr >> 16, 0o100755)
             told = archive.read("arena_lab-1.2.3.dist-info/METADATA").decode()
             for line in ("Name: arena-lab", "Version: 1.2.3", "Requires-Python: >=3.11", "Requires-Dist: greenlet",

@@ -5,7 +5,7 @@ from typing import List, Sequence, Set
 
 import program_contests
 from program_contests import ADAPTIVE, OBLIVIOUS, SIDES, Rule, Side, made_by, words_of
-from lab.model import PRESENT, Match, Place, Setup
+from lab.rules.model import PRESENT, Match, Place, Setup
 
 COMMANDS = {"0": {"do": "depart", "port": 0}, "1": {"do": "depart", "port": 1}, "a": {"do": "accuse", "port": 0},
             "l": {"do": "leave"}}

@@ -3,12 +3,12 @@ import random
 import sys
 import unittest
 
-from lab import schedulers
-from lab.agent_files import NoAgent, script_of
-from lab.networks import ring
-from lab.play import play
-from lab.rehearsal import Rehearsal
-from lab.teams import INSIDE, AgentWords, Together
+from lab.play import schedulers
+from lab.play.agent_files import NoAgent, script_of
+from lab.play.matches import play
+from lab.play.teams import INSIDE, AgentWords, Together
+from lab.rules.networks import ring
+from lab.rules.rehearsal import Rehearsal
 from lab.tests.playing import MAP, RING, InFolder, fixture, network_fixture, played, ring_fixture
 
 RINGS = range(3, 33)

@@ -12,9 +12,9 @@ from typing import Any, Dict, List
 import networkx
 
 import lab.api as lab
-from lab.agent_files import NoAgent
-from lab.engines import BY_MODEL, TOP, Differs, name_of
-from lab.networks import NoNetwork, of_graph, ring
+from lab.play.agent_files import NoAgent
+from lab.rules.engines import BY_MODEL, TOP, Differs, name_of
+from lab.rules.networks import NoNetwork, of_graph, ring
 from lab.tests.playing import RING, InFolder, program
 
 NOTEBOOK = TOP / "examples" / "notebook.ipynb"

@@ -13,13 +13,15 @@ import unittest
 from typing import Any, Dict, List, Optional
 from unittest import mock
 
-from lab import cells, course, schedulers, tables, watch
 from lab.__main__ import main
-from lab.cells import Walls, Yard
-from lab.engines import TOP
-from lab.grade import Graded
-from lab.missing import DEBIANS_PYTHON
-from lab.play import Played
+from lab.course import cells, course, watch
+from lab.course.cells import Walls, Yard
+from lab.course.grading import Graded
+from lab.play import schedulers
+from lab.play.matches import Played
+from lab.rules.engines import TOP
+from lab.support.missing import DEBIANS_PYTHON
+from lab.sweep import tables
 from lab.tests.play_programs import running
 from lab.tests.playing import AGENTS
 

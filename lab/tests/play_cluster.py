@@ -10,9 +10,10 @@ import unittest
 from typing import List
 from unittest import mock
 
-from lab import spread, tables
 from lab.__main__ import main
-from lab.spread import digest_of, other_files
+from lab.play import spread
+from lab.play.spread import digest_of, other_files
+from lab.sweep import tables
 from lab.tests.playing import InFolder, program
 
 TEXT = """title = "A trial"

@@ -9,13 +9,15 @@ import tempfile
 import unittest
 from unittest import mock
 
-from lab import compare, finds, model
 from lab.__main__ import main
-from lab.engines import Differs, Program
-from lab.rehearsal import Rehearsal
-from lab.schedules import read, schedule_of, text_of
+from lab.commands import compare
+from lab.play import finds
+from lab.play.schedules import read, schedule_of, text_of
+from lab.rules import model
+from lab.rules.engines import Differs, Program
+from lab.rules.networks import ring
+from lab.rules.rehearsal import Rehearsal
 from lab.tests.playing import AGENTS, MAP, RING, fixture, network_fixture, played, program
-from lab.networks import ring
 
 MATCHES = 60
 # changes of a find: the file, what is replaced in it by what, the status, and what is said
@@ -43,8 +45,8 @@ class Engines(unittest.TestCase):
             "a write is longer than a whiteboard": mock.patch.object(model.Match, "_write", lambda self, node, expect,
                                                                      put: {"ok": "written"}),
             "a quota has no end": mock.patch.object(model.Match, "_refusal", lambda self, agent, do: None),
-            "nothing is last": mock.patch("lab.rehearsal.LAST", ()),
-            "keys are used twice": mock.patch("lab.rehearsal.denial", lambda command, keys, taken: None),
+            "nothing is last": mock.patch("lab.rules.rehearsal.LAST", ()),
+            "keys are used twice": mock.patch("lab.rules.rehearsal.denial", lambda command, keys, taken: None),
         }
         for title, wrong in wrongs.items():
             with self.subTest(title), wrong:

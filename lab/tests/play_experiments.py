@@ -7,9 +7,9 @@ from typing import Dict, List
 
 from experiments import make
 from experiments.division import Table, bound, of_ring, of_ring3
-from lab import grid, report, sweep, tables
-from lab.engines import TOP
-from lab.sweep import Work
+from lab.rules.engines import TOP
+from lab.sweep import grid, report, sweeping, tables
+from lab.sweep.sweeping import Work
 
 DOCUMENT = make.DOCUMENT
 SMALL = {"rings": ("rings", ["ring:4", "ring:6"]), "no-map": ("no_map", ["hypercube:3"]),
@@ -47,7 +47,7 @@ class Experiments(unittest.TestCase):
     def test_small_parts_of_the_sweeps(self) -> None:
         for name, (file, networks) in SMALL.items():
             spec = grid.read(make.EXPERIMENTS / f"{file}.toml")._replace(names=networks)
-            rows = [sweep.row_of(Work("", None), spec, case) for case in spec.cases()]
+            rows = [sweeping.row_of(Work("", None), spec, case) for case in spec.cases()]
             groups = report.groups_of([dict(zip(tables.COLUMNS, row)) for row in rows], spec)
             given = rows_by_network(name)
             hunted = hunted_in(given) if name == "rings" else {}
@@ -69,7 +69,7 @@ class Experiments(unittest.TestCase):
         scheduler, seed = which.partition(";")[0].replace(",", "").split()[:2]
         case = next(case for case in spec.cases() if (case.network, case.scheduler, case.seed) == (
             network, scheduler, int(seed)))
-        row = dict(zip(tables.COLUMNS, sweep.row_of(Work("", None), spec, case)))
+        row = dict(zip(tables.COLUMNS, sweeping.row_of(Work("", None), spec, case)))
         self.assertEqual((row["outcome"], int(row["agents"]) - int(row["lost"])), ("silent", 1))
         self.assertTrue(make.is_solved_without_limit(spec, case))
 

@@ -9,12 +9,15 @@ import unittest
 from typing import Dict, Iterator, List
 from unittest import mock
 
-from lab import cells, engines, league, schedulers, tables
 from lab.__main__ import main
-from lab.cells import Cell, Walls, Yard
-from lab.engines import TOP
-from lab.grade import Graded
-from lab.hand_in import HandIn
+from lab.course import cells, league
+from lab.course.cells import Cell, Walls, Yard
+from lab.course.grading import Graded
+from lab.course.hand_in import HandIn
+from lab.play import schedulers
+from lab.rules import engines
+from lab.rules.engines import TOP
+from lab.sweep import tables
 from lab.tests.play_programs import running
 from lab.tests.playing import AGENTS, InFolder, program
 

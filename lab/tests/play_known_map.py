@@ -4,12 +4,12 @@ import unittest
 from types import SimpleNamespace
 from typing import Iterator, Tuple
 
-from lab import schedulers
-from lab.engines import Program
-from lab.explore import explored
-from lab.fixtures import Fixture
-from lab.missing import needed
-from lab.networks import Network, drawn, named, numbered, shuffled
+from lab.play import schedulers
+from lab.rules.engines import Program
+from lab.rules.fixtures import Fixture
+from lab.rules.networks import Network, drawn, named, numbered, shuffled
+from lab.search.explore import explored
+from lab.support.missing import needed
 from lab.tests.playing import KNOWN_MAP, fixture, played, program
 
 NETWORKS = ("ring:32", "hypercube:5", "torus:6x6", "complete:20", "ccc:3")
@@ -31,11 +31,11 @@ def matches_on(network: Network) -> Iterator[Tuple[int, int]]:
 
 class KnownMap(unittest.TestCase):
     def test_no_schedule_fails_on_any_network_of_three_to_five_nodes(self) -> None:
-        words, shown = SimpleNamespace(limit=5, states=100_000), SimpleNamespace(update=lambda count: None)
+        shown = SimpleNamespace(update=lambda count: None)
         count = 0
         for network in small_networks(5):
             for home, hole in matches_on(network):
-                found = explored(fixture(network, hole, home=home), [KNOWN_MAP] * 2, words, shown)
+                found = explored(fixture(network, hole, home=home), [KNOWN_MAP] * 2, shown)
                 count += 1
                 with self.subTest(links=network.links, home=home, hole=hole):
                     self.assertTrue(found.is_whole)

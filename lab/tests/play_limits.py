@@ -8,9 +8,9 @@ import unittest
 from typing import Any, Callable, List
 from unittest import mock
 
-from lab import players
-from lab.engines import TOP
-from lab.players import Team, faults_of
+from lab.play import players
+from lab.play.players import Team, faults_of
+from lab.rules.engines import TOP
 
 SECONDS = 0.2
 

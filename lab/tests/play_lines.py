@@ -13,13 +13,14 @@ import unittest
 from typing import Set, Tuple
 from unittest import mock
 
-from lab import missing, refusals
 from lab.__main__ import COMMANDS, main
-from lab.engines import TOP, Program
-from lab.finds import keep
-from lab.fixtures import read_tournament, toml_of
-from lab.networks import ring
-from lab.schedules import read, schedule_of
+from lab.play.finds import keep
+from lab.play.schedules import read, schedule_of
+from lab.rules import refusals
+from lab.rules.engines import TOP, Program
+from lab.rules.fixtures import read_tournament, toml_of
+from lab.rules.networks import ring
+from lab.support import missing
 from lab.tests.playing import RING, InFolder, fixture, played, program
 
 MODEL = ("--engine", "model")

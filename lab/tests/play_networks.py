@@ -11,8 +11,8 @@ import unittest
 from typing import Tuple
 
 from lab.__main__ import main
-from lab.fixtures import read_tournament
-from lab.networks import Network, cut_of
+from lab.rules.fixtures import read_tournament
+from lab.rules.networks import Network, cut_of
 from lab.tests.playing import program
 
 NAMES = ("ring:32", "torus:5x5", "hypercube:4", "complete:8", "ccc:3", "random:40:deg4:seed7", "random:12:deg3:seed1",

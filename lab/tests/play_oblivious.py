@@ -11,15 +11,15 @@ import unittest
 from types import ModuleType
 from typing import List
 
-from lab.delays import Delays
-from lab.engines import TOP
-from lab.fixtures import Fixture, fixture_of, tournament_text
-from lab.model import Setup
-from lab.networks import ring, text_of
-from lab.play import play
-from lab.rehearsal import Rehearsal
-from lab.schedulers import Oblivious, Scheduler, fair
-from lab.teams import INSIDE, AgentWords, Together
+from lab.play.matches import play
+from lab.play.schedulers import Oblivious, Scheduler, fair
+from lab.play.teams import INSIDE, AgentWords, Together
+from lab.rules.delays import Delays
+from lab.rules.engines import TOP
+from lab.rules.fixtures import Fixture, fixture_of, tournament_text
+from lab.rules.model import Setup
+from lab.rules.networks import ring, text_of
+from lab.rules.rehearsal import Rehearsal
 from lab.tests.playing import InFolder, program
 
 sys.path[:0] = [str(TOP / "examples"), str(TOP / "examples" / "agents")]

@@ -2,7 +2,8 @@
 import random
 import unittest
 
-from lab import page, schedulers
+from lab.pages import page
+from lab.play import schedulers
 from lab.tests.playing import KNOWN_MAP, MAP, RING, InFolder, network_fixture, played, program, ring_fixture
 
 

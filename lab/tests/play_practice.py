@@ -3,13 +3,13 @@ and one that decides nothing by time is silent. Without the held link no team is
 import unittest
 from typing import List
 
-from lab.delays import Delays
-from lab.engines import Program
-from lab.fixtures import Fixture, read_tournament
-from lab.play import play
-from lab.rehearsal import Rehearsal
-from lab.schedulers import Oblivious
-from lab.teams import INSIDE, AgentWords, Together
+from lab.play.matches import play
+from lab.play.schedulers import Oblivious
+from lab.play.teams import INSIDE, AgentWords, Together
+from lab.rules.delays import Delays
+from lab.rules.engines import Program
+from lab.rules.fixtures import Fixture, read_tournament
+from lab.rules.rehearsal import Rehearsal
 from lab.tests.playing import RING, InFolder, program
 
 # One agent steps to the next node and comes back, node after node. The other waits behind it, and takes it for

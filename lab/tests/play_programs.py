@@ -7,13 +7,13 @@ import tempfile
 import unittest
 from typing import List
 
-from lab import finds, schedulers
-from lab.agent_files import NoAgent
-from lab.networks import ring
-from lab.play import Played, play
-from lab.rehearsal import Rehearsal
-from lab.schedules import schedule_of
-from lab.teams import OUTSIDE, AgentWords, Together
+from lab.play import finds, schedulers
+from lab.play.agent_files import NoAgent
+from lab.play.matches import Played, play
+from lab.play.schedules import schedule_of
+from lab.play.teams import OUTSIDE, AgentWords, Together
+from lab.rules.networks import ring
+from lab.rules.rehearsal import Rehearsal
 from lab.tests.playing import AGENTS, RING, fixture, played, program
 
 PYTHON = AgentWords(OUTSIDE, f"{sys.executable} {AGENTS / 'ring.py'} {{host}} {{port}} {{key}} {{nodes}}")

@@ -11,9 +11,9 @@ import textwrap
 import unittest
 from typing import Iterator, List, Tuple
 
-from lab import built
 from lab.__main__ import main
-from lab.engines import TOP, name_of
+from lab.rules.engines import TOP, name_of
+from lab.support import built
 from lab.tests.playing import program
 
 README = TOP / "lab" / "README.md"

@@ -5,13 +5,13 @@ from types import SimpleNamespace
 
 from experiments import adversary, turns
 from experiments.division import Table, of_ring, of_ring3, ring3
-from lab import schedulers
-from lab.agent_files import AGENTS
-from lab.explore import explored
-from lab.fixtures import Fixture, fixture_of
-from lab.model import Setup
-from lab.networks import Network, flipped_ring, ring
-from lab.teams import INSIDE, AgentWords
+from lab.play import schedulers
+from lab.play.agent_files import AGENTS
+from lab.play.teams import INSIDE, AgentWords
+from lab.rules.fixtures import Fixture, fixture_of
+from lab.rules.model import Setup
+from lab.rules.networks import Network, flipped_ring, ring
+from lab.search.explore import explored
 from lab.tests.playing import played
 from lab.tests.test_ring3 import most_moves
 
@@ -25,9 +25,9 @@ def fixture(network: Network, hole: int, home: int = 0) -> Fixture:
 
 class Ring3(unittest.TestCase):
     def test_every_schedule_of_small_rings(self) -> None:
-        words, shown = SimpleNamespace(limit=5, states=1_000_000), SimpleNamespace(update=lambda count: None)
+        shown = SimpleNamespace(update=lambda count: None)
         for nodes in range(3, 8):
-            found = [explored(fixture(ring(nodes), hole), [RING3] * 2, words, shown) for hole in range(1, nodes)]
+            found = [explored(fixture(ring(nodes), hole), [RING3] * 2, shown) for hole in range(1, nodes)]
             with self.subTest(nodes=nodes):
                 self.assertTrue(all(it.is_whole and not it.explorer.worst.has_failed for it in found))
                 self.assertEqual(max(it.explorer.worst.verdict.moves for it in found), most_moves(nodes))

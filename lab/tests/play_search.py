@@ -8,15 +8,18 @@ import unittest
 from typing import Iterator, List, Sequence
 from unittest import mock
 
-from lab import explore, finds, hunt, mutation, pasts
 from lab.__main__ import main, parser
-from lab.fixtures import Fixture
-from lab.model import Verdict
-from lab.networks import ring
-from lab.play import play
-from lab.rehearsal import Rehearsal
-from lab.schedulers import Choice
-from lab.teams import INSIDE, AgentWords, Together
+from lab.commands import mutants
+from lab.commands.words import game_of
+from lab.play import finds
+from lab.play.matches import play
+from lab.play.schedulers import Choice
+from lab.play.teams import INSIDE, AgentWords, Together
+from lab.rules.fixtures import Fixture
+from lab.rules.model import Verdict
+from lab.rules.networks import ring
+from lab.rules.rehearsal import Rehearsal
+from lab.search import explore, hunt, pasts
 from lab.tests.playing import MAP, RING, fixture, program
 
 WORST = {3: 4, 4: 9, 5: 14, 6: 23}
@@ -56,7 +59,7 @@ def sleeps(agent, key, sleep):
 '''
 
 
-FORGETFUL = mutation.FOLDER / "forgets_to_mark.py"
+FORGETFUL = mutants.FOLDER / "forgets_to_mark.py"
 
 
 def one_by_one(given: Fixture, agent: AgentWords) -> Iterator[Verdict]:
@@ -95,8 +98,8 @@ class Searches(unittest.TestCase):
 class Exploring(Searches):
     def explored(self, *words: str) -> explore.Explorer:
         given: argparse.Namespace = parser().parse_args(["explore", *words])
-        fixture, agents = explore.fixtures_for(given)[-1], explore.teams.team_of(given)
-        return explore.explored(fixture, agents, given, mock.Mock()).explorer
+        game = game_of(given)
+        return explore.explored(game.fixtures()[-1], game.agents, mock.Mock()).explorer
 
     def test_the_most_moves_on_rings(self) -> None:
         for nodes, moves in WORST.items():
@@ -183,19 +186,19 @@ class Mutants(Searches):
     def test_two_are_caught(self) -> None:
         for name in ("reads_once", "counts_nodes_alone", "counts_naps"):
             with self.subTest(name):
-                for found in mutation.caught(name, program()):
+                for found in mutants.caught(name, program()):
                     self.assertTrue(found.is_caught)
-                    self.assertNotEqual(found.verdict.split()[0], "solved")
+                    self.assertNotEqual(found.verdict.outcome, "solved")
 
     def test_a_timeout_fails_under_a_scheduler_if_agents_may_nap(self) -> None:
-        agent = f"{mutation.FOLDER / 'counts_naps.py'} {{nodes}} {{links}}"
+        agent = f"{mutants.FOLDER / 'counts_naps.py'} {{nodes}} {{links}}"
         words = ["run", "--network", "ring:8", "--agents", "3", "--agent", agent, "--runs", "10", "--engine", "model"]
         self.assertEqual(self.command(*words, "--naps", "1"), 0)
         self.assertEqual(self.command(*words, *self.kept()[:2]), 1)
         self.assertEqual(self.command("replay", self.folder / "find", "--engine", "model"), 0)
 
     def test_each_has_a_plan(self) -> None:
-        self.assertEqual(sorted(path.stem for path in mutation.FOLDER.glob("*.py")), sorted(mutation.PLANS))
+        self.assertEqual(sorted(path.stem for path in mutants.FOLDER.glob("*.py")), sorted(mutants.PLANS))
 
 
 if __name__ == "__main__":

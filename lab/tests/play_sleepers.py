@@ -9,8 +9,9 @@ import unittest
 from typing import Dict, List
 from unittest import mock
 
-from lab import explore
 from lab.__main__ import main, parser
+from lab.commands.words import game_of
+from lab.search import explore
 from lab.tests.playing import RING
 
 # The black hole of ring:3 is node 1. One agent walks by node 2, writes x and then y at home, and accuses.
@@ -145,8 +146,8 @@ class Sleepers(unittest.TestCase):
     def worst(self, names: List[str], *words: str) -> explore.End:
         """The worst end of a match of these agents."""
         given: argparse.Namespace = parser().parse_args(["explore", *WITHOUT_NAPS, *words, *self.agents(names)])
-        fixture = explore.fixtures_for(given)[-1]
-        end = explore.explored(fixture, explore.teams.team_of(given), given, mock.Mock()).explorer.worst
+        game = game_of(given)
+        end = explore.explored(game.fixtures()[-1], game.agents, mock.Mock()).explorer.worst
         assert end is not None
         return end
 
@@ -192,8 +193,9 @@ class Sleepers(unittest.TestCase):
     def test_the_most_moves_for_each_black_hole(self) -> None:
         most: Dict[int, int] = {}
         given: argparse.Namespace = parser().parse_args(["explore", "--network", "ring:6", "--agent", RING.words])
-        for fixture in explore.fixtures_for(given):
-            end = explore.explored(fixture, explore.teams.team_of(given), given, mock.Mock()).explorer.worst
+        game = game_of(given)
+        for fixture in game.fixtures():
+            end = explore.explored(fixture, game.agents, mock.Mock()).explorer.worst
             assert end is not None and not end.has_failed
             most[fixture.setup.holes[0]] = end.verdict.moves
         self.assertEqual(most, {1: 23, 2: 23, 3: 19, 4: 19, 5: 19})

@@ -12,9 +12,10 @@ import time
 import unittest
 from typing import List, Tuple
 
-from lab import finds, sweep, tables
 from lab.__main__ import main
-from lab.engines import BY_MODEL, TOP, name_of
+from lab.play import finds
+from lab.rules.engines import BY_MODEL, TOP, name_of
+from lab.sweep import sweeping, tables
 from lab.tests.playing import InFolder, program
 
 TEXT = """title = "A <small> trial"
@@ -56,7 +57,7 @@ class Sweeps(InFolder):
         self.check_report(self.folder / "more", BY_MODEL)
 
     def check_report(self, folder: pathlib.Path, engine: str) -> None:
-        page = (folder / sweep.REPORT).read_text()
+        page = (folder / sweeping.REPORT).read_text()
         self.assertIn("A &lt;small&gt; trial", page)
         self.assertIn(f"played and judged by {engine}", page)
         links = re.findall('href="(worst/[^"]*)"', page)
@@ -71,12 +72,12 @@ class Sweeps(InFolder):
 
     def test_it_goes_on_behind_the_last_whole_row(self) -> None:
         rows = self.swept("whole", *MODEL)
-        report = (self.folder / "whole" / sweep.REPORT).read_bytes()
+        report = (self.folder / "whole" / sweeping.REPORT).read_bytes()
         self.swept("torn", *MODEL)
         path = self.folder / "torn" / tables.RUNS
         path.write_bytes(rows[:len(rows) // 2])
         self.assertEqual(self.swept("torn", "--workers", "2", *MODEL), rows)
-        self.assertEqual((self.folder / "torn" / sweep.REPORT).read_bytes(), report)
+        self.assertEqual((self.folder / "torn" / sweeping.REPORT).read_bytes(), report)
 
     def test_who_interrupts_it_is_told_that_it_can_go_on(self) -> None:
         self.file.write_text(TEXT.replace("seeds = 6", "seeds = 500"))

@@ -10,9 +10,9 @@ import time
 import unittest
 from typing import Any, Callable, Dict, List
 
-from lab.engines import TOP
-from lab.model import Match, Setup, spelled
-from lab.networks import ring, text_of
+from lab.rules.engines import TOP
+from lab.rules.model import Match, Setup, spelled
+from lab.rules.networks import ring, text_of
 from lab.tests.playing import InFolder
 
 sys.path.insert(0, str(TOP / "examples"))

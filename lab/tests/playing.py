@@ -6,14 +6,14 @@ import tempfile
 import unittest
 from typing import Any
 
-from lab import schedulers
-from lab.engines import TOP, program_at
-from lab.fixtures import Fixture, fixture_of
-from lab.model import Setup
-from lab.networks import Network, drawn, flipped_ring, ring
-from lab.play import Played, play
-from lab.rehearsal import Rehearsal
-from lab.teams import INSIDE, AgentWords, Together
+from lab.play import schedulers
+from lab.play.matches import Played, play
+from lab.play.teams import INSIDE, AgentWords, Together
+from lab.rules.engines import TOP, program_at
+from lab.rules.fixtures import Fixture, fixture_of
+from lab.rules.model import Setup
+from lab.rules.networks import Network, drawn, flipped_ring, ring
+from lab.rules.rehearsal import Rehearsal
 
 AGENTS = TOP / "examples" / "agents"
 RING = AgentWords(INSIDE, f"{AGENTS / 'ring.py'} {{nodes}}")

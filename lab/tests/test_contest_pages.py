@@ -4,10 +4,10 @@ import tempfile
 import unittest
 from unittest import mock
 
-from lab import contest_pages
-from lab.contest_pages import Shown, matches_of, page_of, write_pages
-from lab.model import Verdict
-from lab.networks import NoNetwork
+from lab.pages import contest_pages
+from lab.pages.contest_pages import Shown, matches_of, page_of, write_pages
+from lab.rules.model import Verdict
+from lab.rules.networks import NoNetwork
 
 TOURNAMENT = """version = 2
 [[match]]

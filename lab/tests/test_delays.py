@@ -4,11 +4,11 @@ import tempfile
 import unittest
 from typing import List, Optional
 
-from lab.delays import Delays, Turns
-from lab.fixtures import fixture_of, read_tournament, tournament_text
-from lab.model import Setup
-from lab.networks import ring
-from lab.server import Game
+from lab.play.server import Game
+from lab.rules.delays import Delays, Turns
+from lab.rules.fixtures import fixture_of, read_tournament, tournament_text
+from lab.rules.model import Setup
+from lab.rules.networks import ring
 
 DELAYS = Delays(3, 4)
 SEED = "07" * 32

@@ -3,9 +3,9 @@ import pathlib
 import tempfile
 import unittest
 
-from lab.fixtures import NoMatch, checked, read_tournament
-from lab.model import Setup
-from lab.networks import NoNetwork, in_file, ring
+from lab.rules.fixtures import NoMatch, checked, read_tournament
+from lab.rules.model import Setup
+from lab.rules.networks import NoNetwork, in_file, ring
 
 NETWORK = ring(4)
 RIGHT = Setup(4, NETWORK.links, 0, [2], 2, 1000, 4096)

@@ -7,13 +7,15 @@ import unittest
 from typing import Any, Dict, List
 from unittest import mock
 
-from lab import course, league, programs, tables, users
-from lab.cells import Walls
-from lab.course import Course, course_of
-from lab.cutting import Cut, Runs, in_words, runs_of, tidy
-from lab.grid import NoSweep
-from lab.league import Failure
-from lab.schedulers import ANSWER, Choice, in_runs
+from lab.course import course, league, users
+from lab.course.cells import Walls
+from lab.course.course import Course, course_of
+from lab.course.league import Failure
+from lab.play import programs
+from lab.play.schedulers import ANSWER, Choice, in_runs
+from lab.search.cutting import Cut, Runs, in_words, runs_of, tidy
+from lab.sweep import tables
+from lab.sweep.grid import NoSweep
 
 HEAD = 'title = "T"\nnetworks = ["ring:4", "ring:5"]\n'
 TEAM = '[[team]]\nname = "a"\nfiles = ["agent.py"]\ncommand = "python3 agent.py {port} {key}"\n'

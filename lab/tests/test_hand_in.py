@@ -10,8 +10,8 @@ import unittest
 from typing import Dict
 from unittest import mock
 
-from lab import hand_in
-from lab.hand_in import HandIn
+from lab.course import hand_in
+from lab.course.hand_in import HandIn
 
 
 class HandIns(unittest.TestCase):

@@ -6,10 +6,10 @@ import tempfile
 import unittest
 from typing import Dict
 
-from lab import imports
-from lab.imports import digest_named, files_behind, names_in
-from lab.spread import other_files
-from lab.teams import INSIDE, OUTSIDE, AgentWords, digests_of
+from lab.play import imports
+from lab.play.imports import digest_named, files_behind, names_in
+from lab.play.spread import other_files
+from lab.play.teams import INSIDE, OUTSIDE, AgentWords, digests_of
 
 FILES = {
     "agent.py": "import one\nfrom two import three\n\n"

@@ -3,10 +3,10 @@ import pathlib
 import tempfile
 import unittest
 
-from lab import judging
-from lab.agent_files import TOP
-from lab.engines import Refused
-from lab.model import Verdict
+from lab.pages import judging
+from lab.play.agent_files import TOP
+from lab.rules.engines import Refused
+from lab.rules.model import Verdict
 
 EXAMPLES = TOP / "examples"
 

@@ -3,8 +3,8 @@ import random
 import unittest
 from typing import Iterable, List
 
-from lab.agent_files import AGENTS, loaded
-from lab.networks import drawn, named
+from lab.play.agent_files import AGENTS, loaded
+from lab.rules.networks import drawn, named
 
 known_map = loaded(AGENTS / "known_map.py")
 

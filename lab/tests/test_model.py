@@ -1,7 +1,7 @@
 """The Python model: worked rows on the triangle."""
 import unittest
 
-from lab.model import Match, Setup, command_of, judge, outcome_of
+from lab.rules.model import Match, Setup, command_of, judge, outcome_of
 
 TRIANGLE = [(0, 0, 1, 0), (1, 1, 2, 0), (2, 1, 0, 1)]
 ENTER, LOOK, LEAVE = ({"do": word} for word in ("enter", "look", "leave"))

@@ -2,9 +2,9 @@
 import argparse
 import unittest
 
-from lab import networks
-from lab.network import ports_seed
-from lab.tournament import number_or, team_name
+from lab.commands.network import ports_seed
+from lab.rules import networks
+from lab.commands.tournament import number_or, team_name
 
 NAMES = ("ring:5", "hypercube:3", "torus:3x4", "complete:5", "ccc:3", "ccc:5", "random:7")
 

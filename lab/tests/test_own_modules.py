@@ -4,7 +4,7 @@ import random
 import unittest
 import weakref
 
-from lab.own_modules import random_from
+from lab.play.own_modules import random_from
 
 
 class Randoms(unittest.TestCase):

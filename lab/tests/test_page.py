@@ -9,9 +9,9 @@ import tempfile
 import unittest
 from unittest import mock
 
-from lab import page
 from lab.__main__ import main
-from lab.model import Match, Setup
+from lab.pages import page
+from lab.rules.model import Match, Setup
 
 TRIANGLE = [(0, 0, 1, 0), (1, 1, 2, 0), (2, 1, 0, 1)]
 HOSTILE = "</script><b>\u202e{{title}}"

@@ -2,7 +2,7 @@
 import unittest
 from unittest import mock
 
-from lab import parts
+from lab.pages import parts
 
 FILES = {"frame.html": "<title>{{title}}</title><style>{{style}}</style>{{body}}",
          "one.html": "<h1>{{title}}</h1>{{text}}"}

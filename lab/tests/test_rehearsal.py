@@ -10,13 +10,15 @@ import unittest
 from typing import List
 from unittest import mock
 
-from lab import built, networks
 from lab.__main__ import COMMANDS, main
-from lab.engines import TOP, NoProgram, Refused, add_program, asked, name_of, program_at
-from lab.fixtures import Fixture, fixture_of, read_tournament, write_tournament
-from lab.missing import Missing, needed
-from lab.model import Setup
-from lab.rehearsal import Rehearsal
+from lab.commands.words import add_program
+from lab.rules import networks
+from lab.rules.engines import TOP, NoProgram, Refused, asked, name_of, program_at
+from lab.rules.fixtures import Fixture, fixture_of, read_tournament, write_tournament
+from lab.rules.model import Setup
+from lab.rules.rehearsal import Rehearsal
+from lab.support import built
+from lab.support.missing import Missing, needed
 
 ENTER = [b'{"do":"enter","key":"k0"}', b'{"do":"enter","key":"k1"}']
 HERE = '{"board":"","from":null,"ok":"here","ports":2}'
@@ -130,7 +132,7 @@ class CommandLine(unittest.TestCase):
                             (["replay", "/nowhere", "--engine", "model"], "there is no such file or folder"),
                             (["explore", "--engine", "model", "--command", "x"], "name them by --agent")):
             with self.subTest(words), contextlib.chdir(TOP):
-                with mock.patch("lab.progress.bar", mock.MagicMock()):
+                with mock.patch("lab.support.progress.bar", mock.MagicMock()):
                     self.assertIn(said, self.told(*words))
 
     def test_each_command_has_a_help(self) -> None:

@@ -3,7 +3,7 @@ import argparse
 import unittest
 from typing import Any, Dict
 
-from lab.run import Tally, rank, seeds
+from lab.commands.run import Tally, rank, seeds
 
 
 def row(**more: Any) -> Dict[str, Any]:

@@ -3,8 +3,8 @@ import unittest
 from types import SimpleNamespace
 from typing import Any, List
 
-from lab import schedulers
-from lab.schedulers import ANSWER, ARRIVE, WAKE, Choice, Ended, Impossible
+from lab.play import schedulers
+from lab.play.schedulers import ANSWER, ARRIVE, WAKE, Choice, Ended, Impossible
 
 ANSWERS = [Choice(ANSWER, agent) for agent in range(3)]
 ARRIVALS = [Choice(ARRIVE, agent) for agent in range(3)]

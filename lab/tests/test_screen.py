@@ -3,9 +3,9 @@ import random
 import unittest
 from typing import Any, Dict, List
 
-from lab.model import Match, Setup
-from lab.networks import flipped_ring
-from lab.screen import NOT_BEGUN, OVER, RUNS, Watched, shown, standings
+from lab.pages.screen import NOT_BEGUN, OVER, RUNS, Watched, shown, standings
+from lab.rules.model import Match, Setup
+from lab.rules.networks import flipped_ring
 
 Event = Dict[str, Any]
 

@@ -7,10 +7,10 @@ import unittest
 from typing import Dict, List
 from unittest import mock
 
-from lab import report, statistic, tables, verify
-from lab.grid import Grid, NoSweep, grid_of
-from lab.spread import Result
-from lab.tables import NoTable
+from lab.play.spread import Result
+from lab.sweep import report, statistic, tables, verify
+from lab.sweep.grid import Grid, NoSweep, grid_of
+from lab.sweep.tables import NoTable
 
 HEAD = 'title = "T"\nnetworks = ["ring:4", "ring:5"]\n'
 TEAM = '[[team]]\nname = "a"\nagent = "examples/agents/ring.py {nodes}"\n'
@@ -188,7 +188,7 @@ class Verified(unittest.TestCase):
         self.assertIsNone(verify.differing(0, cells(0), cells(0)))
         self.assertEqual(verify.differing(0, cells(0), now), verify.Differing(0, ["fault"]))
         with contextlib.redirect_stderr(io.StringIO()) as errors, contextlib.redirect_stdout(io.StringIO()) as said, \
-                mock.patch("lab.progress.bar", mock.MagicMock()):
+                mock.patch("lab.support.progress.bar", mock.MagicMock()):
             found = verify.compared([0, 1], [cells(0), cells(1)], [Result(cells(0), ""), Result(None, "no")])
             self.assertEqual(verify.told([0, 1], 9, found), 1)
         self.assertEqual(errors.getvalue(), "run 1 comes out otherwise: fault\n")

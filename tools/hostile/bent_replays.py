@@ -29,7 +29,7 @@ TOP = pathlib.Path(__file__).resolve().parents[2]
 sys.path[:0] = [str(TOP), str(TOP / "tools" / "play")]
 
 from drawn_rehearsals import ready_by_chance  # noqa: E402
-from lab.model import PRESENT, Match, Object  # noqa: E402
+from lab.rules.model import PRESENT, Match, Object  # noqa: E402
 
 REPLAYS, SEED, WORKERS = 10_000, 0, 2
 COMMANDS = ("judge", "explain", "twin")

@@ -18,7 +18,7 @@ TOP = pathlib.Path(__file__).resolve().parents[2]
 sys.path[:0] = [str(TOP), str(TOP / "bench")]
 
 from inputs import MAX_AGENTS, MAX_BOARD, MIB, key  # noqa: E402
-from lab.model import spelled  # noqa: E402
+from lab.rules.model import spelled  # noqa: E402
 from servers import MAX_SESSIONS  # noqa: E402
 from session_lines import (BYE, DEPART, HERE, LEAVE, LOOK, LOOKS, NO_ENTER, NO_KEY, NO_LATE, NO_LINE,  # noqa: E402
                            NO_TAKEN, WRITTEN)

@@ -49,8 +49,8 @@ for place in (".", "bench", "examples/agents"):
 from client import Agent, Lines, Refused  # noqa: E402
 from inputs import (MAX_AGENTS, MAX_BOARD, MAX_QUOTA, MIB, key, peak_of_child, peak_so_far, ring,  # noqa: E402
                     tournament)
-from lab.model import ENDED, Match, judge, played, spelled  # noqa: E402
-from lab.server import table  # noqa: E402
+from lab.rules.model import ENDED, Match, judge, played, spelled  # noqa: E402
+from lab.play.server import table  # noqa: E402
 from servers import MAX_SESSIONS, Failed, free_port, prepare, started, words  # noqa: E402
 
 MATCHES = 4

@@ -33,7 +33,7 @@ from typing import Any, Dict, List, Sequence
 TOP = pathlib.Path(__file__).resolve().parents[2]
 sys.path.insert(0, str(TOP))
 
-from lab import tables  # noqa: E402
+from lab.sweep import tables  # noqa: E402
 
 AGENTS, MUTANT = TOP / "examples" / "agents", TOP / "lab" / "mutants" / "reads_once.py"
 HEAD = """title = "A hostile course"

@@ -7,7 +7,7 @@ import sys
 
 sys.path.insert(0, str(pathlib.Path(__file__).resolve().parents[2]))
 
-from lab.chacha8 import block  # noqa: E402
+from lab.rules.chacha8 import block  # noqa: E402
 
 SIDE, AGENTS, QUOTA, EVENTS_OF_A_MATCH = 16, 16, 1000, 28_000
 

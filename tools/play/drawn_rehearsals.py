@@ -9,7 +9,7 @@ from typing import Counter, Deque, Dict, List, NamedTuple, Optional, Sequence, T
 
 sys.path.insert(0, str(pathlib.Path(__file__).resolve().parents[2]))
 
-from lab.model import AWAY, BAD, BYE, NOTED, OVER, Match, Object, Place, Setup, command_of, spelled  # noqa: E402
+from lab.rules.model import AWAY, BAD, BYE, NOTED, OVER, Match, Object, Place, Setup, command_of, spelled  # noqa: E402
 
 CONNECTIONS = 256
 MAX_LINE = 65_536

@@ -20,7 +20,7 @@ sys.path[:0] = [str(TOP / "tools" / "prove"), str(TOP / "tools"), str(TOP)]
 
 import unproved  # noqa: E402
 import version  # noqa: E402
-from lab.built import SAID, NoProgram  # noqa: E402
+from lab.support.built import SAID, NoProgram  # noqa: E402
 
 EXAMPLES = TOP / "examples"
 CONTEST = "examples/contest.py"

@@ -20,9 +20,9 @@ TOP = pathlib.Path(__file__).resolve().parents[2]
 sys.path[:0] = [str(TOP), str(TOP / "examples")]
 
 from contest import free_port  # noqa: E402
-from lab.chacha8 import word  # noqa: E402
-from lab.model import AWAY, OVER, Match, Object, Place, begun, judge, objects_of, spelled  # noqa: E402
-from lab.server import table  # noqa: E402
+from lab.rules.chacha8 import word  # noqa: E402
+from lab.rules.model import AWAY, OVER, Match, Object, Place, begun, judge, objects_of, spelled  # noqa: E402
+from lab.play.server import table  # noqa: E402
 
 SEED = bytes(range(32))
 TURNS, PAUSE = 400, 5

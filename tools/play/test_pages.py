@@ -18,9 +18,9 @@ TOP = pathlib.Path(__file__).resolve().parents[2]
 sys.path[:0] = [str(TOP), str(TOP / "bench")]
 
 import replays  # noqa: E402
-from lab.engines import asked, program_at  # noqa: E402
-from lab.model import Match, Setup  # noqa: E402
-from lab.networks import hypercube  # noqa: E402
+from lab.rules.engines import asked, program_at  # noqa: E402
+from lab.rules.model import Match, Setup  # noqa: E402
+from lab.rules.networks import hypercube  # noqa: E402
 from lab.tests.playing import MAP, RING, fixture, played, ring_fixture  # noqa: E402
 
 WIDE, PHONE = (1200, 1000), (390, 844)

@@ -1,0 +1,57 @@
+"""Grades the programs of a course: plays them all, and writes a league table and a page for each team.
+
+    python3 -m lab grade examples/course/course.toml --out out/course
+
+Each team plays the same matches. The folder gets `league.html` and `league.csv`, the table of all teams (matches solved
+first, then the moves and the lost agents of these); `team-NAME.html` for each team; `runs.csv`, a row for each
+match; and in `failed` each match that a team failed, with its schedule, its replay and its page, and with the smallest
+schedule that was found after which the team fails on the same network. The same file and programs give the same bytes
+on every run, if the programs are functions of what they are told. Interrupted, the same command goes on behind the last
+row.
+
+A program that crashes, hangs, or sends rubbish fails its own matches, and so does one that is handed in with too much
+or takes too long. Each program runs in a folder of its own, and what else keeps it apart depends on the machine; the
+command says on standard error what does not. With Debian's bubblewrap and python3-seccomp a program sees neither other
+teams' files nor the other agents of its team. Black holes that are drawn, keys, and what schedulers draw come from a
+secret, which the first run draws and keeps in `secret.txt` in the folder. The exit status is 0 if all was graded,
+however teams did, and 1 if the lab itself could not play a match.
+
+For a student: with `--engine model` the command grades a course without a build of the program, and root is not needed.
+"""
+import argparse
+import pathlib
+import sys
+
+from lab.commands.words import add_engine, add_workers, program_of
+from lab.course import cells, course
+from lab.course.cells import Walls, Yard
+from lab.course.grading import Graded, graded_in
+from lab.sweep import tables
+
+
+def add_words(parser: argparse.ArgumentParser) -> None:
+    """The words of the command `grade`."""
+    group = parser.add_argument_group("the file", course.__doc__)
+    group.add_argument("file", metavar="COURSE.toml", type=pathlib.Path, help="the course")
+    parser.add_argument("--out", metavar="FOLDER", type=pathlib.Path, required=True, help="write everything there")
+    parser.add_argument("--secret", metavar="FILE", type=pathlib.Path, help="take the secret that this file has, such "
+                        "as the `secret.txt` of other results, to play the same matches")
+    add_workers(parser)
+    add_engine(parser)
+
+
+def run(words: argparse.Namespace) -> int:
+    path, strongest = words.file.resolve(), cells.strongest()
+    read = course.read(path, "")
+    course.check_networks(read)
+    own = [file for files in read.files.values() for file in files]
+    course.check_walls(strongest, [path.parent, words.out, *own], read.tools)
+    for name in read.grid.schedulers:
+        read.maker(name)
+    if strongest is not Walls.ALL:
+        print(f"lab: {cells.weakness()}; {strongest.value}", file=sys.stderr)
+    program = program_of(words)
+    with tables.alone_in(words.out):
+        secret = course.secret_in(words.out, words.secret)
+        graded = Graded(read.text, path.parent, secret, program, Yard(strongest, read.tools), words.out)
+        return graded_in(graded, words.workers)

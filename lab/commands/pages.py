@@ -1,0 +1,26 @@
+"""Writes a page of each match of a contest, and a page that lists them with their verdicts.
+
+    python3 -m lab pages TOURNAMENT PREFIX --out FOLDER [--program PATH | --engine model]
+
+TOURNAMENT is the file that was served, and PREFIX what its --replay named: the replay of match M is PREFIXM.jsonl. The
+folder gets index.html, which has the table of the contest with links, and beside it the page and the replay of each
+match. All of it opens without a network. A match without a replay, as after a server that was killed, is listed so.
+"""
+import argparse
+import pathlib
+
+from lab.commands.words import add_engine, program_of
+from lab.pages.contest_pages import write_pages
+
+
+def add_words(parser: argparse.ArgumentParser) -> None:
+    """The words of the command `pages`."""
+    parser.add_argument("tournament", metavar="TOURNAMENT", type=pathlib.Path, help="the file that was served")
+    parser.add_argument("prefix", metavar="PREFIX", help="what --replay named: the replay of match M is PREFIXM.jsonl")
+    parser.add_argument("--out", metavar="FOLDER", type=pathlib.Path, required=True, help="write the pages there")
+    add_engine(parser)
+
+
+def run(words: argparse.Namespace) -> int:
+    print(write_pages(program_of(words), words.tournament, words.prefix, words.out))
+    return 0

@@ -1,0 +1,59 @@
+"""Plays a schedule again, and compares every byte of the replay.
+
+    python3 -m lab replay FOLDER|SCHEDULE [--against REPLAY]
+
+FOLDER is one that `run`, `hunt` or `explore` wrote. The command plays its schedule and compares the replay with the one
+in the folder, and the files beside it with what would be written now. The exit status is 1 if something differs, or if
+the agents' files are others. You may change a schedule by hand: it has one choice a line.
+"""
+import argparse
+import pathlib
+import sys
+from typing import List
+
+from lab.commands.words import add_engine, program_of
+from lab.play import finds
+from lab.play.schedules import Schedule, read
+from lab.play.teams import digests_of
+
+
+def add_words(parser: argparse.ArgumentParser) -> None:
+    """The words of the command `replay`."""
+    parser.add_argument("schedule", metavar="FOLDER|SCHEDULE", type=pathlib.Path, help="what was kept, or a schedule")
+    parser.add_argument("--against", metavar="REPLAY", type=pathlib.Path, help="compare with this replay")
+    parser.add_argument("--out", metavar="REPLAY", type=pathlib.Path, help="write the replay there")
+    parser.add_argument("--limit", metavar="SECONDS", type=float, default=5, help="how long an agent may take to send "
+                        "or to wait (5)")
+    add_engine(parser)
+
+
+def run(words: argparse.Namespace) -> int:
+    path, against = words.schedule, words.against
+    folder = path if path.is_dir() else None
+    if folder:
+        path, against = folder / finds.SCHEDULE, against or folder / finds.REPLAY
+    schedule = read(path)
+    others = other_files(schedule)
+    for file in others:
+        print(f"lab: {file} is another file than when the schedule was made", file=sys.stderr)
+    program = program_of(words)
+    played = finds.played_again(schedule, program, words.limit)
+    print(finds.verdict_text(played.verdict()))
+    for fault in played.faults:
+        print(fault)
+    if words.out:
+        words.out.write_bytes(played.replay)
+    if against is None:
+        return 1 if played.has_failed() else 0
+    same = against.read_bytes() == played.replay
+    print(f"the replay is {'the same' if same else 'another one'}, byte for byte: {against}")
+    changed = finds.changed_in(folder, schedule, played, program) if folder else []
+    for name in changed:
+        print(f"{folder / name} is not what belongs to this schedule")
+    return 0 if same and not others and not changed else 1
+
+
+def other_files(schedule: Schedule) -> List[str]:
+    """The files of agents that are others than when the schedule was made, or that its head does not name."""
+    now = digests_of(schedule.agents)
+    return sorted(file for file in {*now, *schedule.files} if now.get(file) != schedule.files.get(file))

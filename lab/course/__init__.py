@@ -1,0 +1,1 @@
+"""Courses: programs that strangers hand in, kept apart and graded."""

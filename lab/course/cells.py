@@ -1,0 +1,252 @@
+"""Cells: where programs of strangers play, each apart from all others.
+
+A program in a cell runs in a folder of its own, which has a copy of its team's files and nothing else. What else keeps
+it apart depends on the machine and on who starts the lab:
+
+- With Debian's bubblewrap and python3-seccomp, where the machine lets its users make namespaces (as Linux does outside
+  containers): the program sees no network but the lab, no processes but its own, and of the disk the system's programs
+  and its folder, which is in memory. A filter refuses the calls of the system by which it could meet other programs,
+  also those of its own team. If root starts the lab, it is besides a user of its own, who has no name.
+- Otherwise, if root starts the lab: the program is a user of its own. It can read what every user of the machine may
+  read, and programs can talk to each other behind the whiteboards' back.
+- Otherwise: the program can read and write what this user can.
+"""
+import contextlib
+import enum
+import functools
+import os
+import pathlib
+import select
+import shutil
+import signal
+import socket
+import subprocess
+import sys
+import tempfile
+from typing import Any, Dict, Iterator, List, NamedTuple, Optional, Sequence, Tuple
+
+from lab.course import users, walls
+from lab.course.cell_start import READY
+from lab.course.hand_in import HandIn
+from lab.course.walls import HOME, PATH, PORT, SPACES, NoCell
+from lab.course.watch import Watch, memory_of, processes_below, space_of
+from lab.play.programs import NoStart, Started
+from lab.support.missing import DEBIANS_PYTHON
+
+STARTER = pathlib.Path(__file__).resolve().parent / "cell_start.py"
+# how long a machine with much other work may take to begin a cell
+SECONDS_TO_BEGIN = 60
+PACKAGES = "apt-get install bubblewrap python3-seccomp"
+NOTHING = HandIn({}).archive()
+
+
+class Walls(enum.Enum):
+    """What keeps a program apart, besides a folder of its own."""
+
+    ALL = "each program has a network, processes and a view of the disk of its own"
+    USER = ("each program has a user of its own, but can read what every user may read, so close the course's folder "
+            "to others by `chmod go= FOLDER`; and a team's programs can talk to each other unseen")
+    NONE = ("teams' programs run as you: they can read and change your files, and what they write to /tmp and "
+            "processes that leave their group stay when a match has ended")
+
+
+class Yard(NamedTuple):
+    """What all cells of a course share: what keeps programs apart, and which folders they see besides the system's."""
+
+    walls: Walls
+    tools: Tuple[str, ...] = ()
+
+
+class Cell:
+    """A place for one program: its team's files and what is told of the network, its user, and what keeps it apart."""
+
+    def __init__(self, yard: Yard, files: bytes, user: Optional[int], place: Optional[pathlib.Path],
+                 facts: Dict[str, str]) -> None:
+        self.yard = yard
+        self.user = user
+        self.place = place
+        self.facts = facts
+        self._files = files
+        self._child: Optional["subprocess.Popen[bytes]"] = None
+        # the first process behind walls, as a file
+        self._first: Optional[int] = None
+        self._fault = ""
+
+    def start(self, words: Sequence[str], errors: Any) -> Started:
+        """Starts a program."""
+        ours, theirs = socket.socketpair()
+        with theirs, contextlib.ExitStack() as held:
+            files = held.enter_context(in_memory(self._files))
+            given, command, port = [theirs.fileno(), files], self._before(), 0
+            if self.place is None:
+                port = PORT
+                given.append(held.enter_context(in_memory(walls.system_filter())))
+                command += [*walls.words(self.yard.tools), "--seccomp", str(given[-1])]
+            command += [python(), "-I", "-S", "-c", STARTER.read_text(encoding="utf-8"), str(theirs.fileno()),
+                        str(files), str(port), *words]
+            path = PATH if self.user is not None else os.environ.get("PATH", PATH)
+            child = self._child = subprocess.Popen(
+                command, pass_fds=given, stdin=subprocess.DEVNULL, stdout=subprocess.DEVNULL, stderr=errors,
+                cwd=self.place, env={"PATH": path, "COUNTED": "" if self.user is None else "yes"},
+                start_new_session=True)
+        return child, functools.partial(self._listener_of, child, ours, errors)
+
+    def _before(self) -> List[str]:
+        """The words that make a program the first that is ended if memory is short, and another user."""
+        first = ["choom", "-n", "1000", "--"]
+        if self.user is None:
+            return first
+        return [*first, "setpriv", f"--reuid={self.user}", f"--regid={self.user}", "--clear-groups", "--no-new-privs",
+                "--"]
+
+    def _listener_of(self, child: "subprocess.Popen[bytes]", channel: socket.socket, errors: Any) -> socket.socket:
+        """Takes the listener, and so waits until the program begins."""
+        try:
+            with channel:
+                channel.settimeout(SECONDS_TO_BEGIN)
+                _, sent, _, _ = socket.recv_fds(channel, len(READY), 1)
+                if self.place is None:
+                    self._first = opened(processes_below(child.pid)[1:2])
+                return socket.socket(fileno=sent[0])
+        except (OSError, IndexError) as fault:
+            self.kill(child)
+            errors.seek(0)
+            said = errors.read().decode(errors="replace").strip()
+            why = f"a cell for a program cannot be made: {said or fault}"
+        if self._files == NOTHING:
+            raise NoCell(why)
+        # if others can be started, it is this program's files or words
+        try_out(self.yard)
+        raise NoStart(why)
+
+    def kill(self, child: "subprocess.Popen[bytes]") -> None:
+        """Ends the program, and all that it has started."""
+        if self._first is not None:
+            # the first process behind walls takes all others with it, and has ended when they have
+            with contextlib.suppress(ProcessLookupError):
+                signal.pidfd_send_signal(self._first, signal.SIGKILL)
+            select.select([self._first], [], [], SECONDS_TO_BEGIN)
+            os.close(self._first)
+            self._first = None
+        elif self.place is not None and self.user is not None:
+            users.end_all_of(self.user)
+        with contextlib.suppress(ProcessLookupError):
+            os.killpg(child.pid, signal.SIGKILL)
+        child.wait()
+
+    def told(self, text: str) -> str:
+        """What a program says, without the name of its folder, which is another one on each run."""
+        return text.replace(f"{self.place or HOME}/", "")
+
+    def fault(self) -> str:
+        """Why the program was ended, if it has taken too much."""
+        return self._fault
+
+    def used(self) -> int:
+        """The bytes of memory that the program takes."""
+        if self._child is None or self._child.returncode is not None:
+            return 0
+        processes = processes_below(self._child.pid)
+        inside = processes[1:2] if self.place is None else []
+        spaces = [space_of(f"/proc/{first}/root{path}") for first in inside for path in SPACES]
+        return memory_of(processes) + sum(spaces)
+
+    def end_for(self, fault: str) -> None:
+        """Ends the program, as it has taken too much."""
+        self._fault = fault
+        if self._child is None:
+            return
+        for process in processes_below(self._child.pid)[1:] if self.place is None else [self._child.pid]:
+            with contextlib.suppress(ProcessLookupError):
+                os.kill(process, signal.SIGKILL)
+
+
+def opened(processes: Sequence[int]) -> Optional[int]:
+    """A process as a file, unless there is none or it has ended."""
+    with contextlib.suppress(ProcessLookupError):
+        return os.pidfd_open(processes[0]) if processes else None
+    return None
+
+
+@contextlib.contextmanager
+def cells(yard: Yard, files: bytes, count: int, facts: Dict[str, str]) -> Iterator[List[Cell]]:
+    """Cells of a team's programs, each with a copy of the files of an archive."""
+    with contextlib.ExitStack() as left:
+        made = []
+        for _ in range(count):
+            has_user = os.geteuid() == 0 and yard.walls is not Walls.NONE
+            user = left.enter_context(users.claimed()) if has_user else None
+            place = None if yard.walls is Walls.ALL else left.enter_context(folder_for(user))
+            made.append(Cell(yard, files, user, place, facts))
+        left.enter_context(Watch([cell.used for cell in made], [cell.end_for for cell in made]))
+        yield made
+
+
+def try_out(yard: Yard) -> None:
+    """Starts a program that does nothing; if even that cannot be started, NoCell says why."""
+    with cells(yard, NOTHING, 1, {}) as made, tempfile.TemporaryFile() as errors:
+        child, listener_of = made[0].start(["true"], errors)
+        listener_of().close()
+        if child.wait() != 0:
+            raise NoCell(f"a program that does nothing has ended with status {child.returncode}")
+
+
+@contextlib.contextmanager
+def folder_for(user: Optional[int]) -> Iterator[pathlib.Path]:
+    """A folder of this user's own, who has nothing else, before and after."""
+    if user is not None:
+        # a command that was killed may have left it
+        users.end_and_remove(user)
+    above = pathlib.Path(tempfile.mkdtemp(prefix="lab-cell-"))
+    try:
+        # a program may rename its folder, if it may write to the one above
+        above.chmod(0o711)
+        (above / "home").mkdir(mode=0o700)
+        if user is not None:
+            os.chown(above / "home", user, user)
+        yield above / "home"
+    finally:
+        if user is not None:
+            users.end_and_remove(user)
+        remove(above)
+
+
+def remove(folder: pathlib.Path) -> None:
+    """Removes a folder, however deep a program has made folders in it."""
+    subprocess.run(["rm", "-rf", "--", str(folder)], stderr=subprocess.DEVNULL)
+
+
+@contextlib.contextmanager
+def in_memory(content: bytes) -> Iterator[int]:
+    """A file in memory, at its beginning."""
+    with open(os.memfd_create("lab"), "wb") as file:
+        file.write(content)
+        file.flush()
+        file.seek(0)
+        yield file.fileno()
+
+
+def python() -> str:
+    """The Python that starts programs: one that every user has, if there is one."""
+    return DEBIANS_PYTHON if os.path.exists(DEBIANS_PYTHON) else sys.executable
+
+
+@functools.lru_cache(maxsize=1)
+def weakness() -> str:
+    """Why there are no walls here, or nothing if there are."""
+    if shutil.which("bwrap") is None or not os.path.exists(DEBIANS_PYTHON) or subprocess.run(
+            [DEBIANS_PYTHON, "-c", "import seccomp"], stderr=subprocess.DEVNULL).returncode != 0:
+        return f"there are no walls between programs: `{PACKAGES}` installs what makes them"
+    try:
+        try_out(Yard(Walls.ALL))
+        return ""
+    except NoCell as fault:
+        return f"this machine makes no walls between programs, as in a container: {fault}"
+
+
+@functools.lru_cache(maxsize=1)
+def strongest() -> Walls:
+    """What can keep programs apart here."""
+    if not weakness():
+        return Walls.ALL
+    return Walls.USER if os.geteuid() == 0 else Walls.NONE

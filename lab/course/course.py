@@ -1,0 +1,235 @@
+"""A course's file: the teams' programs, and the matches that each of them plays.
+
+    title = "Black hole search, autumn term"
+    networks = ["ring:8", "ring:12"]
+    holes = 2
+    schedulers = ["fair", "slow-agents"]
+    seeds = 2
+
+    [[team]]
+    name = "amber"
+    agents = 2
+    files = ["teams/amber"]
+    command = "python3 agent.py {host} {port} {key} {nodes}"
+
+    title         what the league table is called
+    networks      names of networks, as --network takes them, or files
+    schedulers    names of schedulers, as --scheduler takes them
+    ports, home, holes, dark, seeds, quota, board
+                  as in the file of a sweep: see `python3 -m lab sweep --help`
+    limit         how many seconds a program may take to send a line (20)
+    match_limit   how many seconds the lab waits for the programs of a match in all (60)
+    team_limit    how many seconds all matches of a team may take (600, or 5 for each match if that is more)
+    tries         how many schedules are tried to make that of a failed match small (100)
+    tools         folders that programs see to read, besides the system's, such as ["/opt/jdk-21"]
+
+Each [[team]] has a `name`, of 1 to 16 characters out of a to z, 0 to 9 and -; `agents`, a number or "degree" for one
+more than the network's greatest degree (2); `files`, a list of files and folders, whose copies each of its programs
+has; and `command`, the words that start the program of one agent in the folder with the copies. In the words {host},
+{port} and {key} say where it connects and by which key it enters. {nodes}, {links} and {home} say what the team is to
+know of the network; {network} is the network's file, for a team that is to have the map.
+
+Names of files are paths from the folder of the course's file. A hand-in is bounded, and no link in it is followed.
+
+Keys, black holes that are drawn, and the seeds of schedulers come from the course's secret, which is drawn at the first
+run and kept in `secret.txt` beside the results. To grade again by the same draws, name that file by --secret.
+"""
+import functools
+import hashlib
+import os
+import pathlib
+import re
+import secrets
+import shlex
+from typing import Any, Dict, List, NamedTuple, Optional, Sequence, Tuple
+
+from lab.course import hand_in, walls
+from lab.course.cells import Walls
+from lab.play.agent_files import digests
+from lab.play.games import maker_of
+from lab.play.programs import HOST
+from lab.play.schedulers import Maker
+from lab.play.teams import OUTSIDE
+from lab.rules import networks
+from lab.rules.fixtures import Fixture
+from lab.sweep import grid
+from lab.sweep.grid import Case, Grid, NoSweep, is_count, is_text, is_texts, taken
+
+FILES = "files"
+KEYS = grid.KEYS - {"bound"} | {"limit", "match_limit", "team_limit", "tries", "tools"}
+TEAM_KEYS = {"name", "agents", OUTSIDE, FILES}
+LIMIT, TRIES = 20, 100
+# seconds of a match, of all matches of a team, and of these for each match
+MATCH_LIMIT, TEAM_LIMIT, FOR_A_MATCH = 60, 600, 5
+SECRET = "secret.txt"
+WORDS = ("host", "port", "key", "nodes", "links", "home", "network")
+NEEDED = ("port", "key")
+
+
+class Course(NamedTuple):
+    """What a course's file says, and its secret. The files are those of each team."""
+
+    text: str
+    folder: pathlib.Path
+    secret: str
+    grid: Grid
+    files: Dict[str, List[pathlib.Path]]
+    limits: "Limits"
+    tries: int
+    tools: Tuple[str, ...]
+
+    def cases(self) -> List[Case]:
+        """All matches, team by team."""
+        found = list(self.grid.cases(self.secret))
+        return [case._replace(number=number) for number, case in enumerate(
+            case for team in self.grid.teams for case in found if case.team.name == team.name)]
+
+    def fixture(self, case: Case) -> Fixture:
+        """A match. Who has not the course's secret cannot guess its keys."""
+        fixture = self.grid.fixture(case)
+        keys = [self._drawn("key", self.text, case.number, agent)[:20] for agent in range(fixture.setup.agents)]
+        return fixture._replace(team=case.team.name, keys=keys)
+
+    def maker(self, name: str) -> Maker:
+        """The scheduler of a name or a file."""
+        return maker_of(str(self.folder / name) if ".py" in name else name)
+
+    def seed(self, case: Case) -> int:
+        """The seed that a match's scheduler gets, which is the same for all teams. Those of matches that differ in the
+        seed alone follow one another."""
+        drawn = self._drawn("seed", case.network, case.scheduler)
+        return int(drawn[:8], 16) + case.seed
+
+    def hand_in(self, team: str) -> hand_in.HandIn:
+        """What a team has handed in."""
+        return read_once(tuple(self.files[team]), self.folder)
+
+    def digests(self) -> Dict[str, str]:
+        """The SHA-256 of each file and each hand-in on which the matches depend, and of the secret."""
+        own = [self.folder / name.partition(":")[0] for name in [*self.grid.schedulers, *self.grid.names]]
+        return {
+            **digests([str(path) for path in own]),
+            **{f"team {name}": self.hand_in(name).digest() for name in self.files},
+            SECRET: self._drawn("digest"),
+        }
+
+    def _drawn(self, *words: object) -> str:
+        """Digits that nobody can guess without the secret."""
+        return hashlib.sha256("\0".join(map(str, [self.secret, *words])).encode()).hexdigest()
+
+
+class Limits(NamedTuple):
+    """How many seconds programs may take: for a line, in a match, and in all matches of a team."""
+
+    line: int
+    match: int
+    team: int
+
+
+read_once = functools.lru_cache(maxsize=4)(hand_in.read)
+
+
+def read(path: pathlib.Path, secret: str) -> Course:
+    """The course of a file."""
+    try:
+        return course_of(grid.text_in(path), path.parent, secret)
+    except NoSweep as fault:
+        raise NoSweep(f"{path}: {fault}") from None
+
+
+def secret_in(out: pathlib.Path, given: Optional[pathlib.Path]) -> str:
+    """The secret of a course with these results: one that a file gives, or that of the first run, or a new one."""
+    path = out / SECRET
+    said = None if given is None else grid.text_in(given).strip()
+    if said is not None and len(said) < 16:
+        raise NoSweep(f"{given}: a secret has at least 16 characters, or it could be guessed")
+    if path.exists():
+        kept = grid.text_in(path).strip()
+        if said not in (None, kept):
+            raise NoSweep(f"{path} is another secret than {given}: name another folder by --out, or remove this one")
+        return kept
+    out.mkdir(parents=True, exist_ok=True)
+    said = said or secrets.token_hex(32)
+    with open(os.open(path, os.O_WRONLY | os.O_CREAT | os.O_EXCL, 0o600), "w", encoding="utf-8") as file:
+        file.write(said + "\n")
+    return said
+
+
+@functools.lru_cache(maxsize=4)
+def course_of(text: str, folder: pathlib.Path, secret: str) -> Course:
+    """The course that a text says, whose files are looked for in the folder."""
+    found = grid.table_of(text)
+    grid.check_keys(found, KEYS, "a course")
+    line, match, team = (taken(found, name, is_count, "a whole number of seconds from 1", usual) for name, usual in (
+        ("limit", LIMIT), ("match_limit", MATCH_LIMIT), ("team_limit", TEAM_LIMIT)))
+    tries = taken(found, "tries", grid.is_number, "a whole number", TRIES)
+    tools = tools_of(taken(found, "tools", lambda it: it == [] or is_texts(it), "a list of folders", []))
+    files = {}
+    for row in taken(found, "team", grid.is_tables, "given: write [[team]] and its keys below it"):
+        name = check_team(row)
+        files[name] = files_of(row.pop(FILES), name, folder)
+    played = grid.grid_in(found, folder)
+    count = sum(1 for _ in played.cases()) // len(played.teams)
+    limits = Limits(line, match, team if "team_limit" in found else max(team, FOR_A_MATCH * count))
+    return Course(text, folder, secret, played, files, limits, tries, tools)
+
+
+def tools_of(names: List[str]) -> Tuple[str, ...]:
+    """Folders that programs see, besides the system's."""
+    for name in names:
+        if not os.path.isabs(name) or not os.path.isdir(name) or len(pathlib.Path(name).parts) < 3:
+            raise NoSweep(f"tools has {name}, which is no folder that programs may see: write one like /opt/jdk-21")
+    return tuple(names)
+
+
+def check_team(row: Dict[str, Any]) -> str:
+    """Refuses a team that cannot play; gives its name."""
+    grid.check_keys(row, TEAM_KEYS, "a team of a course")
+    name: str = taken(row, "name", lambda it: isinstance(it, str) and bool(re.fullmatch("[a-z0-9-]{1,16}", it)),
+                      "given for each team, of 1 to 16 characters out of a to z, 0 to 9 and -")
+    command = taken(row, OUTSIDE, is_text, f"given for team {name}: the words that start the program of one agent, "
+                    "such as \"python3 agent.py {host} {port} {key} {nodes}\"")
+    taken(row, FILES, is_texts, f"given for team {name}: a list of its files and folders, such as [\"teams/{name}\"]")
+    check_command(command, name)
+    return name
+
+
+def check_command(command: str, team: str) -> None:
+    """Refuses a command whose words cannot be filled in."""
+    try:
+        words = shlex.split(command)
+        said = " ".join(words).format(**{name: f"<{name}>" for name in WORDS})
+    except (KeyError, IndexError, ValueError) as fault:
+        why = f"has {fault}" if isinstance(fault, KeyError) else f"cannot be read: {fault}"
+        known = ", ".join(f"{{{name}}}" for name in WORDS)
+        raise NoSweep(f"the command of team {team} {why}; it may have {known}, and a brace is written twice") from None
+    for name in NEEDED:
+        if f"<{name}>" not in said:
+            raise NoSweep(f"the command of team {team} has no {{{name}}}: the program is to connect to {HOST} at "
+                          "{port}, and to enter with {key}")
+
+
+def files_of(names: List[str], team: str, folder: pathlib.Path) -> List[pathlib.Path]:
+    """A team's files and folders."""
+    found = [folder / name for name in names]
+    for name, path in zip(names, found):
+        if not path.exists():
+            raise NoSweep(f"files of team {team} has {name}, and there is no {path}")
+    return found
+
+
+def check_walls(strongest: Walls, paths: Sequence[pathlib.Path], tools: Sequence[str]) -> None:
+    """Refuses a course and results that teams' programs could read in spite of the walls."""
+    for path in paths:
+        seen = walls.seen_at(path, tools) if strongest is Walls.ALL else None
+        if seen:
+            raise NoSweep(f"{path}: teams' programs see {seen}, to find what they run by: name a folder elsewhere")
+
+
+def check_networks(course: Course) -> None:
+    """Refuses a network on which no team can solve each match."""
+    for name, network in course.grid.networks.items():
+        cut = networks.cut_of(network)
+        if cut:
+            raise NoSweep(f"networks has {name}, which is not biconnected: {cut}; take another, as no team can solve "
+                          "each match on it")

@@ -1,0 +1,79 @@
+"""The pages of a contest: one for each match, and one that lists them."""
+import html
+import pathlib
+import shutil
+import tomllib
+from typing import List, NamedTuple, Optional, Tuple
+
+from lab.pages.judging import verdict_of
+from lab.pages.page import write_page
+from lab.pages.parts import framed, part
+from lab.rules.model import Verdict
+from lab.rules.networks import NoNetwork
+
+RANKS = ("solved", "guess", "unfinished", "silent", "wrong")
+
+
+class Shown(NamedTuple):
+    """A match as the list shows it."""
+    number: int
+    team: str
+    network: str
+    verdict: Optional[Verdict]
+
+
+def matches_of(tournament: pathlib.Path) -> List[Shown]:
+    """The matches of a tournament's file, not judged yet."""
+    try:
+        found = tomllib.loads(tournament.read_text(encoding="utf-8"))["match"]
+        return [Shown(number, one["team"], one["network"], None) for number, one in enumerate(found)]
+    except (tomllib.TOMLDecodeError, KeyError, TypeError) as fault:
+        raise NoNetwork(f"{tournament}: this is not the file of a tournament ({fault}): see `arena check`") from None
+
+
+def rank(shown: Shown) -> Tuple[int, int, int, str]:
+    """Who comes first: as in the arena's table. Matches without a replay come last."""
+    if shown.verdict is None:
+        return (len(RANKS), 0, 0, shown.team)
+    return (RANKS.index(shown.verdict.outcome.split()[0]), shown.verdict.moves, shown.verdict.lost, shown.team)
+
+
+def row_of(place: int, shown: Shown) -> str:
+    """The row of a match in the list."""
+    match = [str(shown.number), html.escape(shown.network)]
+    if shown.verdict is None:
+        cells, kind = ["no replay", "", "", "", *match, ""], ""
+    else:
+        name = f"match{shown.number}"
+        cells = [shown.verdict.outcome, str(shown.verdict.moves), str(shown.verdict.lost),
+                 f'<a href="{name}.html">watch it</a>', *match, f'<a href="{name}.jsonl">replay</a>']
+        kind = "" if shown.verdict.outcome == "solved" else ' class="failed"'
+    return f"<tr{kind}>{''.join(f'<td>{cell}</td>' for cell in [str(place), html.escape(shown.team), *cells])}</tr>"
+
+
+def page_of(title: str, matches: List[Shown]) -> str:
+    """The page that lists the matches."""
+    ranked = sorted(matches, key=rank)
+    solved = sum(one.verdict is not None and one.verdict.outcome == "solved" for one in matches)
+    return framed("contest.html", title, part("report.css"), {
+        "about": f"{len(matches)} matches, {solved} solved.",
+        "rows": "".join(row_of(place, one) for place, one in enumerate(ranked, 1)),
+    })
+
+
+def write_pages(program: Optional[str], tournament: pathlib.Path, prefix: str, folder: pathlib.Path) -> pathlib.Path:
+    """Writes the pages of a contest; gives the page that lists the others."""
+    folder.mkdir(parents=True, exist_ok=True)
+    matches = []
+    for shown in matches_of(tournament):
+        replay = pathlib.Path(f"{prefix}{shown.number}.jsonl")
+        if replay.exists():
+            shown = shown._replace(verdict=verdict_of(program, replay))
+            write_page(program, replay, folder / f"match{shown.number}.html")
+            kept = folder / f"match{shown.number}.jsonl"
+            if kept.resolve() != replay.resolve():
+                shutil.copyfile(replay, kept)
+        matches.append(shown)
+    index = folder / "index.html"
+    index.write_text(page_of(tournament.stem, matches), encoding="utf-8")
+    return index

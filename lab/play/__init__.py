@@ -1,0 +1,1 @@
+"""Players, schedulers, and matches that they play."""

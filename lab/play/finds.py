@@ -1,0 +1,101 @@
+"""Finds: a schedule worth keeping, played by the program and written with all that shows it."""
+import contextlib
+import pathlib
+import tempfile
+from typing import List, Optional
+
+import lab
+from lab.pages.page import write_page
+from lab.play.matches import Played, play
+from lab.play.schedulers import Impossible, recorded
+from lab.play.schedules import Schedule, text_of
+from lab.play.teams import Together
+from lab.rules.engines import Engine, Program, judged, name_of
+from lab.rules.fixtures import write_tournament
+from lab.rules.model import Verdict
+from lab.rules.rehearsal import Rehearsal
+from lab.support import built
+from lab.support.missing import Missing
+
+# where a find is written if nothing else is said
+FOLDER = pathlib.Path("out/find")
+SCHEDULE, SCRIPT, REPLAY, PAGE = "schedule.txt", "script.txt", "match0.jsonl", "match0.html"
+# of each program what it wrote to standard error, which is no part of the match and may be another each time
+ERRORS = "errors"
+
+
+def engine_of(schedule: Schedule, program: Optional[str]) -> Engine:
+    """The program as an engine, or the Python model if no program is given."""
+    if program:
+        return Program(schedule.fixture, program)
+    return Rehearsal(schedule.fixture)
+
+
+def played_again(schedule: Schedule, program: Optional[str], seconds: float = 5) -> Played:
+    """The schedule, played."""
+    team = Together(schedule.agents, schedule.fixture, seconds)
+    played = play(engine_of(schedule, program), team, recorded(schedule.choices), schedule.fixture)
+    count = len(played.choices)
+    if count < len(schedule.choices):
+        surplus = schedule.choices[count]
+        raise Impossible(f"choice {count + 1} is `{surplus.do} {surplus.agent}`, and nothing may happen there")
+    return played
+
+
+def verdict_text(verdict: Verdict) -> str:
+    return f"{verdict.outcome} moves {verdict.moves} lost {verdict.lost}"
+
+
+def write_find(folder: pathlib.Path, schedule: Schedule, played: Played, program: Optional[str]) -> List[str]:
+    """Writes a match that was played: its schedule, the tournament and the script for `arena rehearse`, its replay, and
+    a page of it. Gives what is to be said of it."""
+    folder.mkdir(parents=True, exist_ok=True)
+    (folder / SCHEDULE).write_text(text_of(schedule), encoding="utf-8")
+    write_tournament(schedule.fixture, folder)
+    (folder / SCRIPT).write_bytes(b"".join(line + b"\n" for line in played.script))
+    (folder / REPLAY).write_bytes(played.replay)
+    for number, text in played.errors.items():
+        (folder / f"{ERRORS}{number}.txt").write_text(text, encoding="utf-8")
+    said = [f"{folder}: {len(schedule.choices)} choices; again by `{lab.called} replay {folder}`"]
+    if program is None:
+        said.append("the Python model played it, which proves nothing: the program was not asked")
+        return said + written_page(folder, None, schedule.title())
+    by = "" if name_of(program) == built.PROGRAM else f" (by {name_of(program)})"
+    said.append(f"the program's verdict: {verdict_text(judged(program, folder / REPLAY))}{by}")
+    return said + written_page(folder, program, schedule.title())
+
+
+def changed_in(folder: pathlib.Path, schedule: Schedule, played: Played, program: Optional[str]) -> List[str]:
+    """The files of a find that are not as they would be written now. A page may be missing."""
+    with tempfile.TemporaryDirectory() as name:
+        fresh = pathlib.Path(name)
+        write_find(fresh, schedule, played, program)
+        names = sorted(path.name for path in fresh.iterdir() if path.name not in (SCHEDULE, REPLAY)
+                       and not path.name.startswith(ERRORS))
+        return [name for name in names if bytes_of(folder / name) != bytes_of(fresh / name)
+                and (name != PAGE or (folder / name).exists())]
+
+
+def bytes_of(path: pathlib.Path) -> Optional[bytes]:
+    """What is in a file, if it is there."""
+    return path.read_bytes() if path.exists() else None
+
+
+def keep(folder: pathlib.Path, schedule: Schedule, program: Optional[str]) -> Played:
+    """Plays a schedule that was found, writes it, and says so."""
+    played = played_again(schedule, program)
+    for fault in played.faults:
+        print(fault)
+    print("\n".join(write_find(folder, schedule, played, program)))
+    return played
+
+
+def written_page(folder: pathlib.Path, program: Optional[str], title: str) -> List[str]:
+    """Writes the page, if what lays it out is installed."""
+    try:
+        write_page(program, folder / REPLAY, folder / PAGE, title=title)
+    except Missing as fault:
+        with contextlib.suppress(FileNotFoundError):
+            (folder / PAGE).unlink()
+        return [f"no page was written: {fault}"]
+    return [f"watch it: {folder / PAGE}"]

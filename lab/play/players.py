@@ -1,0 +1,156 @@
+"""Players that run inside the lab: agents in Python. Each is a greenlet, and one runs at a time.
+
+A player runs until it waits for the answer to its line, for its arrival, or to be woken. `state` says which, and `line`
+is the line that it sent, or None if its input has ended.
+"""
+import signal
+import threading
+from collections import deque
+from typing import Any, Deque, List, Mapping, Optional, Sequence
+
+from lab.play.agent_files import Script
+from lab.play.own_modules import OwnModules
+from lab.rules.model import LAST, spelled
+from lab.support.missing import needed
+
+# an answer is due; an arrival is due; it sleeps; nothing more comes
+WAITS, TRAVELS, SLEEPS, DONE = "waits", "travels", "sleeps", "done"
+# what a client is told last
+DENIALS = {spelled({"no": why}) for why in ("enter", "key", "taken")}
+LAST_LINES = DENIALS | {spelled(reply) for reply in LAST}
+
+
+# how many times longer an agent may sleep than compute: a machine with other work lets it wait too
+LONGER = 20
+
+
+class TooSlow(Exception):
+    """An agent's program computes or sleeps, and neither sends nor waits."""
+
+
+class Player:
+    """One agent's program. It has `send` and `receive`, by which the client asks, and `sleep`."""
+
+    def __init__(self, team: "Team", number: int, key: str, script: Script) -> None:
+        self.number = number
+        self.state = WAITS
+        self.line: Optional[bytes] = None
+        self.fault: Optional[str] = None
+        self.errors = ""
+        # those that the script loads for this agent alone
+        self.modules = OwnModules(number)
+        self._team = team
+        self._heard: Deque[str] = deque()
+        self._is_over = False
+        self._is_closed = False
+        self._thread = needed("greenlet").greenlet(lambda: self._run(script, key))
+
+    def hear(self, line: str) -> None:
+        """Tells the agent a line, and lets it go on."""
+        self.line = None
+        self._heard.append(line)
+        self._is_over = self._is_over or line in LAST_LINES
+        self.go_on()
+
+    def go_on(self) -> None:
+        """Lets the program begin, wake, or read what it heard."""
+        self._team.turns += 1
+        with self.modules:
+            self._thread.switch()
+
+    def stop(self, fault: Optional[str] = None) -> None:
+        """Ends the program."""
+        self.fault = self.fault or fault
+        self.state = DONE
+        with self.modules:
+            self._thread.throw()
+
+    def send(self, line: str) -> None:
+        if self._is_closed:
+            raise ConnectionError("the agent has closed its connection")
+        self.line = line.encode(errors="replace")
+
+    def close(self) -> None:
+        """Closes the agent's connection, as a program outside may."""
+        self._is_closed = True
+
+    def receive(self) -> str:
+        if not self._heard:
+            self._wait(WAITS if self.line is not None else TRAVELS)
+        return self._heard.popleft()
+
+    def sleep(self, _seconds: float) -> None:
+        self._wait(SLEEPS)
+
+    def _wait(self, state: str) -> None:
+        self.state = state
+        self._thread.parent.switch()
+
+    def _run(self, script: Script, key: str) -> None:
+        try:
+            script(self, key, self.sleep)
+        except TooSlow as fault:
+            self.fault = str(fault)
+        except (Exception, SystemExit) as fault:
+            self.fault = f"raises {type(fault).__name__}: {fault}"
+        # its connection is closed, as that of a program that ends
+        self.line, self.state = None, DONE if self._is_over else WAITS
+
+
+class Clock:
+    """Ends a program that is still in the same turn when the clock has rung twice."""
+
+    def __init__(self, team: "Team", signals: int, timer: int, seconds: float, does: str) -> None:
+        self._team, self._signal, self._timer, self._seconds = team, signals, timer, seconds
+        self._fault = f"has {does} for {seconds:g} s, and neither sends nor waits"
+        self._seen = 0
+        self._before: Any = None
+
+    def start(self) -> None:
+        # signals reach the main thread alone: in another one nobody ends a program that computes without end
+        if threading.current_thread() is threading.main_thread():
+            self._before = signal.signal(self._signal, self._look)
+            signal.setitimer(self._timer, self._seconds, self._seconds)
+
+    def stop(self) -> None:
+        if self._before is not None:
+            signal.setitimer(self._timer, 0)
+            signal.signal(self._signal, self._before)
+            self._before = None
+
+    def _look(self, *_: Any) -> None:
+        """Ends a program that has been running since the last look."""
+        if self._team.turns == self._seen and needed("greenlet").getcurrent().parent is not None:
+            raise TooSlow(self._fault)
+        self._seen = self._team.turns
+
+
+class Team:
+    """The players of a match. A player that computes longer than its limit is ended. That is time of the processor, as
+    one that is busy with other work must not end an agent; an agent that sleeps has a longer limit."""
+
+    def __init__(self, keys: Sequence[str], scripts: Mapping[int, Script], seconds: float = 5) -> None:
+        """The scripts are by the number of their agent."""
+        self.turns = 0
+        self.players = [Player(self, number, keys[number], script) for number, script in scripts.items()]
+        self._clocks = [Clock(self, signal.SIGPROF, signal.ITIMER_PROF, seconds, "computed"),
+                        Clock(self, signal.SIGALRM, signal.ITIMER_REAL, seconds * LONGER, "slept or computed")]
+
+    def start(self) -> None:
+        """Begins all programs, in order."""
+        for clock in self._clocks:
+            clock.start()
+        for player in self.players:
+            player.go_on()
+
+    def stop(self) -> None:
+        """Ends all programs."""
+        for clock in self._clocks:
+            clock.stop()
+        for player in self.players:
+            player.stop()
+
+
+def faults_of(players: Sequence[Any]) -> List[str]:
+    """A line for each player that has a fault, which names its agent."""
+    return [f"agent {player.number}: {player.fault}" for player in players if player.fault]

@@ -1,0 +1,1 @@
+"""Searches for schedules after which a team fails."""

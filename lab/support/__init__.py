@@ -1,0 +1,1 @@
+"""What every room uses, and the tools beside the lab: which program there is, which packages are missing, progress."""

@@ -1,0 +1,8 @@
+"""The one base of all faults that end a command of the lab with a line."""
+
+
+class Fault(Exception):
+    """Something ends a command; the text says what to change."""
+
+    # the command's exit status
+    status = 2

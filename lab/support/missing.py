@@ -1,0 +1,42 @@
+"""Debian's packages that parts of the lab need, and a clear line if some are missing."""
+import importlib
+import importlib.util
+from types import ModuleType
+from typing import Iterable
+
+import lab
+from lab.support.faults import Fault
+
+PACKAGES = {
+    "greenlet": "python3-greenlet", "hypothesis": "python3-hypothesis", "tqdm": "python3-tqdm",
+    "networkx": "python3-networkx", "numpy": "python3-numpy", "scipy": "python3-scipy",
+    "matplotlib": "python3-matplotlib", "distributed": "python3-distributed", "aiohttp": "python3-aiohttp",
+}
+DEBIANS_PYTHON = "/usr/bin/python3"
+
+
+class Missing(Fault):
+    """Packages are not installed, or this Python does not see them; says what to do."""
+
+    def __init__(self, modules: Iterable[str]) -> None:
+        self.modules = list(dict.fromkeys(modules))
+        is_one = len(self.modules) == 1
+        said = f"module {self.modules[0]} is" if is_one else f"modules {', '.join(self.modules)} are"
+        packages = " ".join(PACKAGES[name] for name in self.modules)
+        by = f"{DEBIANS_PYTHON} -m lab" if lab.called == lab.BY_PYTHON else lab.called
+        super().__init__(f"the Python {said} missing: install Debian's package{'' if is_one else 's'} by `apt-get "
+                         f"install {packages}`, and run the lab by Debian's Python, `{by}`")
+
+
+def needed(name: str) -> ModuleType:
+    """The module of this name; if it is missing, a line that says what to install."""
+    package = name.partition(".")[0]
+    try:
+        return importlib.import_module(name)
+    except ModuleNotFoundError:
+        raise Missing([package]) from None
+
+
+def missing_of(modules: Iterable[str]) -> Iterable[str]:
+    """Which of these modules are not installed."""
+    return [name for name in modules if importlib.util.find_spec(name) is None]

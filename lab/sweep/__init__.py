@@ -1,0 +1,1 @@
+"""Tables of many matches, and reports of them."""

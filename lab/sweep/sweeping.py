@@ -1,0 +1,155 @@
+"""Sweeps: the rows of a grid's matches, and what is written of them."""
+import hashlib
+import pathlib
+import sys
+import tempfile
+from typing import Any, Dict, Iterable, Iterator, List, NamedTuple, Optional, Tuple
+
+from lab.play.agent_files import digests
+from lab.play.finds import engine_of, write_find
+from lab.play.games import maker_of
+from lab.play.matches import Played, play
+from lab.play.schedules import Schedule, schedule_of
+from lab.play.spread import Result, over_cluster, over_processes
+from lab.play.teams import Together
+from lab.rules.engines import Differs, judged, name_of
+from lab.support.progress import along
+from lab.sweep import grid, report, verify
+from lab.sweep.grid import Case, Grid, NoSweep
+from lab.sweep.tables import (RUNS, NoTable, alone_in, cells_in, changed_in, checked, done_in, line_of, made_by, prepared,
+                        rows_in)
+
+SUMMARY, REPORT, WORST = "summary.csv", "report.html", "worst"
+# an agent may wait for a processor that has much other work: a row is not to depend on that
+LIMIT = 60
+
+
+class Work(NamedTuple):
+    """What a worker needs: the sweep's text and the program, or None for the Python model."""
+
+    text: str
+    program: Optional[str]
+
+    def play(self, case: Case) -> List[str]:
+        """The row of a run."""
+        return row_of(self, grid.grid_of(self.text), case)
+
+    def digests(self) -> Dict[str, str]:
+        """The SHA-256 of each file that rows depend on."""
+        return {**grid.grid_of(self.text).files(), **(digests([self.program]) if self.program else {})}
+
+
+def played_case(work: Work, spec: Grid, case: Case) -> Tuple[Schedule, Played]:
+    """Plays a run."""
+    fixture = spec.fixture(case)
+    agents = [case.team.words] * fixture.setup.agents
+    empty = schedule_of(fixture, agents, f"{case.scheduler} {case.seed} on {case.network}", [])
+    scheduler, team = maker_of(case.scheduler)(case.seed), Together(agents, fixture, LIMIT)
+    played = play(engine_of(empty, work.program), team, scheduler, fixture)
+    return empty._replace(choices=played.choices), played
+
+
+def row_of(work: Work, spec: Grid, case: Case) -> List[str]:
+    """The row of a run."""
+    schedule, played = played_case(work, spec, case)
+    return row_for(case, schedule, played, work.program)
+
+
+def row_for(case: Case, schedule: Schedule, played: Played, program: Optional[str]) -> List[str]:
+    """The row of a run that was played. The program judges it, if there is one."""
+    setup, match = schedule.fixture.setup, played.match
+    verdict = played.verdict()
+    if program:
+        with tempfile.NamedTemporaryFile(suffix=".jsonl") as file:
+            file.write(played.replay)
+            file.flush()
+            verdict = judged(program, pathlib.Path(file.name))
+    commands = sum(agent.used for agent in match.agents)
+    found = (case.number, case.network, setup.nodes, len(setup.links), setup.home, case.hole, case.team.name,
+             setup.agents, case.scheduler, case.seed, verdict.outcome, verdict.moves, verdict.lost, commands,
+             len(match.log), hashlib.sha256(played.replay).hexdigest(), "")
+    faults = [" ".join(fault.split()) for fault in played.faults]
+    return checked([*map(str, found), *(faults or [""])])
+
+
+def made_of(spec: Grid, text: str, program: Optional[str]) -> Dict[str, Any]:
+    """What the rows of a folder depend on."""
+    return {**made_by(program), "files": spec.files(), "sweep": hashlib.sha256(text.encode()).hexdigest()}
+
+
+class Way(NamedTuple):
+    """Where a sweep is written, and who plays it: this number of processes, or the workers of a Dask scheduler."""
+
+    out: pathlib.Path
+    workers: int
+    cluster: Optional[str] = None
+
+
+def swept(work: Work, keeper: Work, cases: List[Case], done: int, way: Way) -> int:
+    """Plays the runs that are not done yet, and writes everything. The keeper plays what is kept once more."""
+    try:
+        write_rows(results(work, cases[done:], way), len(cases) - done, way.out)
+    except KeyboardInterrupt:
+        print(f"interrupted; {done_in(way.out / RUNS)} of {len(cases)} runs are done: the same command goes on there")
+        return 130
+    return told(work, keeper, cases, way.out)
+
+
+def verified(work: Work, cases: List[Case], made: Dict[str, Any], way: Way, wanted: int) -> int:
+    """Plays rows of the folder again, whoever made them, and compares them."""
+    for name in changed_in(way.out, made):
+        print(f"lab: {name} is other than when the rows were made", file=sys.stderr)
+    rows = cells_in(way.out / RUNS)
+    if len(rows) > len(cases):
+        raise NoTable(f"{way.out / RUNS} has {len(rows)} rows, and the sweep {len(cases)} runs: it is another sweep")
+    numbers = verify.chosen(len(rows), wanted)
+    found = verify.compared(numbers, rows, results(work, [cases[number] for number in numbers], way))
+    print(f"by {name_of(work.program)}: ", end="")
+    return verify.told(numbers, len(rows), found)
+
+
+def write_rows(results: Iterable[Result], total: int, folder: pathlib.Path) -> None:
+    """Writes the rows of runs as they come."""
+    with (folder / RUNS).open("a", encoding="utf-8", newline="") as file:
+        for result in along(results, total, "run"):
+            if result.fault:
+                raise NoSweep(result.fault)
+            file.write(line_of(result.found))
+            file.flush()
+
+
+def results(work: Work, cases: List[Case], way: Way) -> Iterator[Result]:
+    """The results of runs, by processes or by a cluster."""
+    if not cases:
+        return iter([])
+    if way.cluster:
+        return over_cluster(work, cases, way.cluster)
+    return over_processes(work, cases, way.workers)
+
+
+def told(work: Work, keeper: Work, cases: List[Case], folder: pathlib.Path) -> int:
+    """Writes the summary, the worst runs and the report."""
+    spec, rows = grid.grid_of(work.text), rows_in(folder / RUNS)
+    groups = report.groups_of(rows, spec)
+    (folder / SUMMARY).write_text("".join(map(line_of, report.summary(groups))), encoding="utf-8")
+    pages = [report.Kept(row, kept(keeper, spec, cases[int(row["run"])], row, folder))
+             for row in along(report.worst_runs(rows), len(spec.names) * len(spec.teams), "page")]
+    engine = name_of(work.program)
+    (folder / REPORT).write_text(report.page(spec, groups, pages, engine), encoding="utf-8")
+    failed = sum(not report.is_solved(row) for row in rows)
+    print(f"{len(rows)} runs on {engine}: solved {len(rows) - failed}; failed {failed}")
+    print(f"read {folder / REPORT}; the rows are in {folder / RUNS} and {folder / SUMMARY}")
+    return 1 if failed else 0
+
+
+def kept(work: Work, spec: Grid, case: Case, row: report.Row, folder: pathlib.Path) -> str:
+    """Writes a run with its schedule, its replay and its page; gives the page, or else the schedule, from the folder of
+    the report."""
+    schedule, played = played_case(work, spec, case)
+    if hashlib.sha256(played.replay).hexdigest() != row["replay"]:
+        raise Differs(f"run {case.number} has another replay when it is played again: its agents or its scheduler are "
+                      "no functions of what they are given")
+    place = folder / WORST / str(case.number)
+    write_find(place, schedule, played, work.program)
+    names = [name for name in ("match0.html", "schedule.txt") if (place / name).exists()]
+    return f"{WORST}/{case.number}/{names[0]}"

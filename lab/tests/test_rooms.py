@@ -1,0 +1,62 @@
+"""The lab's rooms stand on each other in one order, and no module imports one that imports it."""
+import ast
+import graphlib
+import pathlib
+import unittest
+from typing import Dict, Iterator, Set
+
+from lab.support.built import LAB
+
+# from the ground up: a room imports from itself and from rooms below it; so do the modules that stand in no room
+ROOMS = ("support", "rules", "pages", "play", "search", "sweep", "course", "api", "commands", "__main__", "start")
+TESTS = ("tests", "mutants")
+
+
+def modules() -> Dict[str, pathlib.Path]:
+    """The lab's modules by their names behind `lab.`, without tests and mutants."""
+    paths = [path.relative_to(LAB).with_suffix("") for path in LAB.rglob("*.py")]
+    return {".".join(path.parts).removesuffix(".__init__"): LAB / path.with_suffix(".py") for path in paths
+            if path.parts[0] not in TESTS and path.parts != ("__init__",)}
+
+
+def imported(text: str, names: Set[str]) -> Iterator[str]:
+    """Which of the modules a file's text imports, when it is loaded or later."""
+    for node in ast.walk(ast.parse(text)):
+        found = []
+        if isinstance(node, ast.Import):
+            found = [it.name for it in node.names]
+        elif isinstance(node, ast.ImportFrom) and node.module:
+            found = [node.module, *(f"{node.module}.{it.name}" for it in node.names)]
+        yield from names.intersection(name.removeprefix("lab.") for name in found if name.startswith("lab."))
+
+
+class Rooms(unittest.TestCase):
+    def setUp(self) -> None:
+        paths = modules()
+        # a room's own file says what it is for, and imports nothing
+        self.graph = {name: set(imported(path.read_text(encoding="utf-8"), set(paths))) - set(ROOMS[:7])
+                      for name, path in paths.items()}
+
+    def test_each_module_stands_in_a_room(self) -> None:
+        self.assertEqual({name.partition(".")[0] for name in self.graph}, set(ROOMS))
+        self.assertIn("rules.model", self.graph["rules.rehearsal"])
+
+    def test_a_room_stands_on_those_below(self) -> None:
+        for name, others in self.graph.items():
+            for other in others:
+                rooms = [ROOMS.index(it.partition(".")[0]) for it in (name, other)]
+                with self.subTest(name, imports=other):
+                    self.assertGreaterEqual(rooms[0], rooms[1])
+
+    def test_no_module_imports_one_that_imports_it(self) -> None:
+        order = list(graphlib.TopologicalSorter(self.graph).static_order())
+        self.assertEqual(set(order), set(self.graph))
+
+    def test_a_cycle_and_a_room_above_are_told(self) -> None:
+        names = {"rules.model", "commands.run", "api"}
+        self.assertEqual(list(imported("def late():\n    from lab.commands import run\n", names)), ["commands.run"])
+        self.assertEqual(list(imported("import lab.api as lab\n", names)), ["api"])
+
+
+if __name__ == "__main__":
+    unittest.main()
