@@ -193,7 +193,7 @@ def thirds_row(nodes: int, drawn: Mapping[Tuple[str, str], str], hunted: Mapping
             f"{counted.moves() / bound(nodes):.2f}", f"{counted.moves() / halves:.2f}"]
 
 
-NO_LIMIT = 100_000
+NO_LIMIT = 65_535
 
 
 def silent(asked: Asked) -> Made:

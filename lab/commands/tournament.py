@@ -21,14 +21,15 @@ from lab.commands.network import add_ports, network_for
 from lab.rules import networks
 from lab.rules.delays import ADAPTIVE, OBLIVIOUS, ODDS, SCALES, Delays
 from lab.rules.fixtures import Fixture, tournament_text
+from lab.rules.limits import MOST_AGENTS, MOST_BOARD, MOST_QUOTA, SMALL_BOARD, SMALL_QUOTA
 from lab.rules.model import Setup
 from lab.rules.networks import Network, NoNetwork
 
 ALL, DEGREE = "all", "degree"
-MOST_MATCHES, MOST_AGENTS = 64, 64
+MOST_MATCHES = 64
 MOST_SCALES, MOST_ODDS = 24, 65_535
 TOURNAMENT = "tournament.toml"
-QUOTA, BOARD = 1000, 4096
+QUOTA, BOARD = SMALL_QUOTA, SMALL_BOARD
 
 
 class Entry(NamedTuple):
@@ -61,10 +62,10 @@ def check_limits(words: argparse.Namespace) -> None:
     """Refuses what no match may have."""
     if len(set(words.team)) < len(words.team):
         raise NoNetwork("two teams have the same name: name each by a --team of its own")
-    if not 1 <= words.quota <= QUOTA:
-        raise NoNetwork(f"an agent has 1 to {QUOTA} commands, and not {words.quota}: name another number by --quota")
-    if not 0 <= words.board <= BOARD:
-        raise NoNetwork(f"a whiteboard has 0 to {BOARD} bytes, and not {words.board}: name another number by --board")
+    if not 1 <= words.quota <= MOST_QUOTA:
+        raise NoNetwork(f"an agent has 1 to {MOST_QUOTA} commands, and not {words.quota}: name another number by --quota")
+    if not 0 <= words.board <= MOST_BOARD:
+        raise NoNetwork(f"a whiteboard has 0 to {MOST_BOARD} bytes, and not {words.board}: name another number by --board")
 
 
 def check_delays(words: argparse.Namespace) -> None:

@@ -7,12 +7,14 @@ from lab.play.matches import Team
 from lab.play.players import Team as Inside
 from lab.play.programs import Team as Outside
 from lab.rules import networks
-from lab.rules.fixtures import MOST_AGENTS, Fixture, NoMatch, fixture_of
+from lab.rules.fixtures import Fixture, NoMatch, fixture_of
+from lab.rules.limits import MOST_AGENTS, SMALL_BOARD, SMALL_QUOTA
 from lab.rules.model import Place, Setup
 from lab.rules.networks import Network
 
 INSIDE, OUTSIDE = "agent", "command"
-QUOTA, BOARD = 1000, 4096
+# what a match has if nothing else is asked for
+QUOTA, BOARD = SMALL_QUOTA, SMALL_BOARD
 # seconds that an agent may take
 LIMIT = 5
 NETWORK = "ring:8"

@@ -6,11 +6,11 @@ from typing import Any, Dict, Iterable, List, NamedTuple, Optional, Sequence, Tu
 
 from lab.rules import networks
 from lab.rules.delays import OBLIVIOUS, Delays
+from lab.rules.limits import MOST_AGENTS, MOST_BOARD, MOST_QUOTA, SMALL_BOARD, SMALL_QUOTA
 from lab.rules.model import Object, Place, Setup, command_of, place_of, text_of
 
 SEED_BYTES = 32
 SEED = "0" * 2 * SEED_BYTES
-MOST_AGENTS = 64
 # the team of a match that has none
 OWN_TEAM = "lab"
 
@@ -36,12 +36,16 @@ def twice(found: Sequence[Any]) -> List[Any]:
 
 
 def checked(setup: Setup) -> Setup:
-    """A setup, if the program takes its nodes, links and agents; quotas and whiteboards may be larger here."""
+    """A setup, if the program takes it. Whether its links make a network is not asked here."""
     ports = {(v, p): (w, q) for v, p, w, q in setup.links} | {(w, q): (v, p) for v, p, w, q in setup.links}
     unknown = [place for place in setup.dark if place not in ports]
     ends = [min(place, ports.get(place, place)) for place in setup.dark]
     if not 1 <= setup.agents <= MOST_AGENTS:
         raise NoMatch(f"a match has 1 to {MOST_AGENTS} agents, and not {setup.agents}")
+    if not 1 <= setup.quota <= MOST_QUOTA:
+        raise NoMatch(f"an agent has 1 to {MOST_QUOTA} commands, and not {setup.quota}: name another number by --quota")
+    if not 0 <= setup.board <= MOST_BOARD:
+        raise NoMatch(f"a whiteboard has 0 to {MOST_BOARD} bytes, and not {setup.board}: name another number by --board")
     if any(not 0 <= node < setup.nodes for v, _, w, _ in setup.links for node in (v, w)):
         raise NoMatch(f"a link has an end that does not exist: nodes are 0 to {setup.nodes - 1}")
     if not 0 <= setup.home < setup.nodes:
@@ -127,10 +131,12 @@ def toml_of(value: Any) -> str:
 def tournament_text(seed: str, matches: Iterable[Tuple[Fixture, str]], delays: Optional[Delays] = None) -> str:
     """The file of a tournament: its seed, the delays of the oblivious schedule if it has that one, and its matches with
     the files of their networks."""
-    head = f'version = {3 if delays else 2}\nseed = "{seed}"\n'
+    rows = list(matches)
+    is_old = all(it.setup.quota <= SMALL_QUOTA and it.setup.board <= SMALL_BOARD for it, _ in rows) and not delays
+    head = f'version = {2 if is_old else 3}\nseed = "{seed}"\n'
     if delays:
         head += f'schedule = "{OBLIVIOUS}"\ndelay_scales = {delays.scales}\ndelay_odds = {delays.odds}\n'
-    return head + "".join(match_text(*match) for match in matches)
+    return head + "".join(match_text(*match) for match in rows)
 
 
 def write_tournament(fixture: Fixture, folder: pathlib.Path) -> pathlib.Path:

@@ -6,6 +6,8 @@ those that they are sent, and a match's log is a list of the objects that stand 
 import json
 from typing import Any, Container, Dict, List, NamedTuple, Optional, Sequence, Set, Tuple
 
+from lab.rules.limits import is_small
+
 Object = Dict[str, Any]
 Place = Tuple[int, int]
 
@@ -261,8 +263,9 @@ class Match:
         setup = self.setup
         links = [[v, p, w, q] if v < w else [w, q, v, p] for v, p, w, q in setup.links]
         dark = [min([v, p], list(self.far[v][p])) for v, p in setup.dark]
+        version = 2 if is_small(setup.nodes, setup.quota, setup.board) else 3
         return {
-            "replay": 2, "agents": setup.agents, "board": setup.board, "quota": setup.quota, "home": setup.home,
+            "replay": version, "agents": setup.agents, "board": setup.board, "quota": setup.quota, "home": setup.home,
             "holes": sorted(setup.holes), "dark": sorted(dark), "nodes": setup.nodes, "links": sorted(links),
         }
 

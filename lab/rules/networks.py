@@ -11,12 +11,14 @@
                     N nodes with K ports each, drawn by the seed S; ports are numbered by chance
     FILE            a network file, as `arena check` reads it
 """
+import collections
 import pathlib
 import random
 import re
 import tomllib
 from typing import Any, Callable, Dict, List, NamedTuple, Tuple
 
+from lab.rules.limits import MOST_NODES, SMALL_NODES
 from lab.rules.model import link_of
 from lab.support.faults import Fault
 from lab.support.missing import needed
@@ -24,7 +26,6 @@ from lab.support.missing import needed
 Link = Tuple[int, int, int, int]
 
 NAMES = "ring:N, hypercube:D, complete:N, torus:RxC, ccc:D, random:SEED, random:N:degK:seedS"
-MOST_NODES = 256
 LARGEST = 24
 LARGEST_DEGREE = 6
 
@@ -159,7 +160,8 @@ def drawn(chance: random.Random, largest: int = LARGEST) -> Network:
 
 def numbered(nodes: int, pairs: List[Tuple[int, int]], chance: random.Random) -> List[Link]:
     """The links between these pairs, each node's ports being numbered by chance."""
-    ports: Dict[int, List[int]] = {v: list(range(sum(v in pair for pair in pairs))) for v in range(nodes)}
+    degrees = collections.Counter(node for pair in pairs for node in pair)
+    ports: Dict[int, List[int]] = {node: list(range(degrees[node])) for node in range(nodes)}
     for labels in ports.values():
         chance.shuffle(labels)
     return [(v, ports[v].pop(), w, ports[w].pop()) for v, w in pairs]
@@ -216,7 +218,7 @@ MADE: Dict[str, Callable[..., Network]] = {
     "random": lambda *sizes: regular(*sizes) if len(sizes) == 3 else drawn(random.Random(*sizes)),
 }
 SMALLEST = {"torus": 3, "ccc": 3}
-LARGEST_SIZE = {"hypercube": 8, "ccc": 8, "ring": MOST_NODES, "complete": MOST_NODES, "torus": MOST_NODES}
+LARGEST_SIZE = {"hypercube": 12, "ccc": 9, "ring": MOST_NODES, "complete": SMALL_NODES, "torus": MOST_NODES}
 
 
 def sizes_of(kind: str, size: str) -> List[int]:
@@ -239,4 +241,5 @@ def biconnected(name: str) -> Network:
 
 def text_of(network: Network) -> str:
     """The network's file."""
-    return f"version = 1\nnodes = {network.nodes}\nlinks = {[list(link) for link in network.links]}\n"
+    version = 1 if network.nodes <= SMALL_NODES else 2
+    return f"version = {version}\nnodes = {network.nodes}\nlinks = {[list(link) for link in network.links]}\n"

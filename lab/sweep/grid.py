@@ -39,6 +39,7 @@ from lab.play.agent_files import digests
 from lab.play.teams import BOARD, INSIDE, OUTSIDE, QUOTA, AgentWords, digests_of
 from lab.rules import networks
 from lab.rules.fixtures import Fixture, NoMatch, checked, fixture_of
+from lab.rules.limits import MOST_BOARD, MOST_QUOTA
 from lab.rules.model import Place, Setup
 from lab.rules.networks import Network, NoNetwork
 from lab.support.faults import Fault
@@ -184,8 +185,8 @@ def grid_in(found: Dict[str, Any], folder: pathlib.Path = pathlib.Path()) -> Gri
         [(v, p) for v, p in taken(found, "dark", is_dark, "a list of nodes with ports, such as [[0, 1]]", [])],
         taken(found, "schedulers", is_texts, "a list of names, such as [\"fair\"]", ["fair"]),
         taken(found, "seeds", is_count, "a whole number from 1", 1),
-        taken(found, "quota", lambda it: is_count(it) and it <= QUOTA, f"1 to {QUOTA}", QUOTA),
-        taken(found, "board", lambda it: is_number(it) and it <= BOARD, f"0 to {BOARD}", BOARD),
+        taken(found, "quota", lambda it: is_count(it) and it <= MOST_QUOTA, f"1 to {MOST_QUOTA}", QUOTA),
+        taken(found, "board", lambda it: is_number(it) and it <= MOST_BOARD, f"0 to {MOST_BOARD}", BOARD),
         taken(found, "bound", lambda it: it in [None, *BOUNDS], f"one of {', '.join(BOUNDS)}", None),
         [team_of(row) for row in taken(found, "team", is_tables, "given: write [[team]] and its keys below it")])
     check_nodes(grid)

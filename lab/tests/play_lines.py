@@ -46,8 +46,8 @@ ROWS: Tuple[Tuple[Tuple[str, ...], int, str], ...] = (
     (("network", "ring:8", "--out", "no/such/place.toml"), 2, "lab: no/such/place.toml: there is no such file or"),
     (("page", "text.md"), 3, "text.md: head: its first line is not the head of a replay"),
     (("page", "nosuch.jsonl"), 6, "nosuch.jsonl: read: it cannot be read"),
-    ((*RUN, "--agent", RING.words, "--quota", "5000"), 3,
-     "tournament.toml: match 0 quota: an agent has 1 to 1000 commands (--quota)"),
+    ((*RUN, "--agent", RING.words, "--quota", "65536"), 2,
+     "lab: an agent has 1 to 65535 commands, and not 65536: name another number by --quota"),
 )
 SCHEDULERS = """def bad(seed):
     return lambda choices, state: None

@@ -109,7 +109,7 @@ class Written(unittest.TestCase):
                             ([*team, "ring:80", "--holes", "all"], "at most 64 matches, and this would have 79"),
                             ([*team, "complete:70", "--agents", "degree"], "1 to 64 agents, and not 70"),
                             ([*team, "ring:6", "--home", "6"], "it has no node 6"),
-                            ([*team, "ring:6", "--quota", "1001"], "1 to 1000 commands"),
+                            ([*team, "ring:6", "--quota", "65536"], "1 to 65535 commands"),
                             ([*team, "ring:6", "--board", "4097"], "0 to 4096 bytes"),
                             ([*team, "ring:6", "--team", "red"], "two teams have the same name")):
             with self.subTest(" ".join(words)):

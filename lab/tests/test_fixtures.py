@@ -3,9 +3,9 @@ import pathlib
 import tempfile
 import unittest
 
-from lab.rules.fixtures import NoMatch, checked, read_tournament
-from lab.rules.model import Setup
-from lab.rules.networks import NoNetwork, in_file, ring
+from lab.rules.fixtures import SEED, NoMatch, checked, fixture_of, read_tournament, tournament_text
+from lab.rules.model import Match, Setup
+from lab.rules.networks import NoNetwork, in_file, ring, text_of
 
 NETWORK = ring(4)
 RIGHT = Setup(4, NETWORK.links, 0, [2], 2, 1000, 4096)
@@ -20,6 +20,9 @@ class Setups(unittest.TestCase):
         wrong = {
             "1 to 64 agents, and not 65": RIGHT._replace(agents=65),
             "1 to 64 agents, and not 0": RIGHT._replace(agents=0),
+            "1 to 65535 commands, and not 0": RIGHT._replace(quota=0),
+            "1 to 65535 commands, and not 65536": RIGHT._replace(quota=65_536),
+            "0 to 65535 bytes, and not 65536": RIGHT._replace(board=65_536),
             "the home base 4 does not exist": RIGHT._replace(home=4),
             "other than the home base 0": RIGHT._replace(holes=[0]),
             "nodes from 0 to 3": RIGHT._replace(holes=[4]),
@@ -30,6 +33,22 @@ class Setups(unittest.TestCase):
         for why, setup in wrong.items():
             with self.subTest(why), self.assertRaisesRegex(NoMatch, why):
                 checked(setup)
+
+
+class Versions(unittest.TestCase):
+    def test_later_versions_are_written_only_if_the_earlier_ones_cannot_say_it(self) -> None:
+        for setup, file, replay in ((RIGHT, 2, 2), (RIGHT._replace(quota=1001), 3, 3), (RIGHT._replace(board=4097), 3, 3),
+                                    (RIGHT._replace(quota=65_535, board=65_535), 3, 3)):
+            with self.subTest(setup=setup):
+                text = tournament_text(SEED, [(fixture_of(setup), "network.toml")])
+                self.assertEqual(text.splitlines()[0], f"version = {file}")
+                self.assertEqual(Match(setup).head()["replay"], replay)
+
+    def test_networks(self) -> None:
+        for nodes, version in ((256, 1), (257, 2), (4096, 2)):
+            with self.subTest(nodes):
+                self.assertEqual(text_of(ring(nodes)).splitlines()[0], f"version = {version}")
+        self.assertEqual(Match(Setup(257, ring(257).links, 0, [2], 1, 10, 8)).head()["replay"], 3)
 
 
 class Files(unittest.TestCase):

@@ -40,10 +40,10 @@ class Networks(unittest.TestCase):
         self.assertEqual(len({tuple(it.links) for it in (network, one, two)}), 3)
 
     def test_names_that_name_none(self) -> None:
-        for name, said in (("ccc:2", "cube-connected cycles 3 dimensions or more"), ("hypercube:40", "3 to 256 nodes"),
-                           ("complete:100000", "3 to 256 nodes"), ("ccc:6", "this one has 384"),
+        for name, said in (("ccc:2", "cube-connected cycles 3 dimensions or more"), ("hypercube:40", "3 to 4096 nodes"),
+                           ("complete:100000", "3 to 4096 nodes"), ("ccc:9", "this one has 4608"),
                            ("random:9:deg3:seed1", "N times K is even"), ("ring:8:deg2:seed1", "a network is ring:N"),
-                           ("random:5000:deg3:seed1", "3 to 256 nodes")):
+                           ("random:5000:deg3:seed1", "3 to 4096 nodes")):
             with self.subTest(name), self.assertRaisesRegex(networks.NoNetwork, said):
                 networks.named(name)
 

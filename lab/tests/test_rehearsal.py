@@ -90,7 +90,7 @@ class Files(unittest.TestCase):
             ends = sorted([(v, p) for v, p, _, _ in network.links] + [(w, q) for _, _, w, q in network.links])
             with self.subTest(name):
                 self.assertEqual(ends, [(node, port) for node in range(nodes) for port in range(degree)])
-        for name in ("ring", "ring:2", "ring:x", "torus:2x5", "star:4", "torus:3", "ring:257"):
+        for name in ("ring", "ring:2", "ring:x", "torus:2x5", "star:4", "torus:3", "ring:4097"):
             with self.subTest(name), self.assertRaises(networks.NoNetwork):
                 networks.named(name)
 
