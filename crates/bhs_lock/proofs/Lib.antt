@@ -8,7 +8,6 @@ pub mod RecordLemmas
 pub mod FitLemmas
 mod PassLemmas
 pub mod SeenLemmas
-mod SpareLemmas
 pub mod TallyLemmas
 pub mod ToldLemmas
 pub mod CompareLemmas

@@ -1,8 +1,4 @@
 pub mod AnsweredLemmas
-pub mod AnsweringLemmas
-pub mod ExampleLemmas
-pub mod HistoryLemmas
-pub mod KnownLemmas
 pub mod MeetingLemmas
 pub mod Moving
 pub mod PastLemmas

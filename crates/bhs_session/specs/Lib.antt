@@ -1,5 +1,4 @@
 pub mod Answering
-pub mod History
 pub mod Input
 pub mod Machine
 pub mod Met
@@ -9,4 +8,3 @@ pub mod Port
 pub mod Sent
 pub mod Session
 pub mod Texts
-pub mod AnsweringExamples

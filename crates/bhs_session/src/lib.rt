@@ -12,9 +12,7 @@ mod replies;
 mod serving;
 
 pub use endings::{Ended, ending_of};
-pub use laws::{
-    histories_answer_by_pasts, lines_in_order, no_turns, worked_answers, written_as_met,
-};
+pub use laws::{lines_in_order, no_turns};
 pub use lines::{command_in, key_in};
 pub use port::{Entered, Port};
 pub use replies::{push_denial, push_reply};
