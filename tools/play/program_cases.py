@@ -16,7 +16,7 @@ from program_rows import DONE, FAILED_STREAM, PATIENCE, REFUSED_TEXT, Run, Stage
 TOP = pathlib.Path(__file__).resolve().parents[2]
 MAX_LINE = 65_536
 MAX_TEXT = 1_048_576
-REFUSED_WORDS, REFUSED_MATCH = 2, 4
+REFUSED_WORDS, REFUSED_MATCH, NO_MEMORY = 2, 4, 5
 
 ENTER = '{"do":"enter","key":"ka"}'
 LOOK = '{"do":"look"}'
@@ -77,6 +77,58 @@ def complete_graph(stage: Stage) -> None:
     links = [[one, other - 1, other, one] for one in range(256) for other in range(one + 1, 256)]
     writes(stage, cup=CUP, tri=f"version = 1\nnodes = 256\nlinks = {links}\n")
     expect(stage.run(["check", "cup.toml"]), b"match 0 red nodes 256 links 32640 agents 2\n")
+
+
+@case("a network of version 2 has 4,096 nodes")
+def most_nodes(stage: Stage) -> None:
+    ring = [[node, 0, (node + 1) % 4096, 1] for node in range(4096)]
+    writes(stage, cup=CUP, tri=f"version = 2\nnodes = 4096\nlinks = {ring}\n")
+    expect(stage.run(["check", "cup.toml"]), b"match 0 red nodes 4096 links 4096 agents 2\n")
+    ran = stage.run(["rehearse", "cup.toml", "--replay", "ring"], f"0 {ENTER}\nclose 0\n".encode())
+    expect(ran, HERE.encode())
+    head = (stage.folder / "ring0.jsonl").read_text().partition("\n")[0]
+    if not head.endswith('"nodes":4096,"quota":10,"replay":3}'):
+        raise Wrong(f"the head ends with {head[-60:]}")
+    expect(stage.run(["judge", "ring0.jsonl"]), b"silent moves 0 lost 0\n")
+
+
+LARGE = CUP.replace("version = 2", "version = 3")
+
+
+@case("a quota of version 3 is used up by its last command")
+def large_quota(stage: Stage) -> None:
+    writes(stage, cup=LARGE.replace("quota = 10", "quota = 2000"), tri=TRIANGLE)
+    script = f"0 {ENTER}\n" + f"0 {LOOK}\n" * 2001
+    ran = stage.run(["rehearse", "cup.toml"], script.encode())
+    expect(ran, (HERE * 2001 + '0 {"no":"spent"}\n').encode())
+
+
+@case("a whiteboard of version 3 holds more than 4,096 bytes")
+def large_board(stage: Stage) -> None:
+    writes(stage, cup=LARGE.replace("board = 8", "board = 65535"), tri=TRIANGLE)
+    text = "a" * 65_000
+    told = [(ENTER, HERE), (f'{{"do":"write","expect":"","put":"{text}"}}', '0 {"ok":"written"}\n'),
+            (LOOK, HERE.replace('""', f'"{text}"')),
+            # a line that names both texts is too long
+            (f'{{"do":"write","expect":"{text}","put":"{text}"}}', BAD),
+            (f'{{"do":"write","expect":"{text}","put":""}}', '0 {"ok":"written"}\n'), (LOOK, HERE)]
+    ran = stage.run(["rehearse", "cup.toml"], "".join(f"0 {line}\n" for line, _ in told).encode())
+    expect(ran, "".join(answer for _, answer in told).encode())
+
+
+# Runs a command that may map this many bytes.
+CRAMPED = """import os, resource, sys
+resource.setrlimit(resource.RLIMIT_AS, (int(sys.argv[1]),) * 2)
+os.execv(sys.argv[2], sys.argv[2:])"""
+
+
+@case("the largest match is told to lack memory where too little may be mapped")
+def large_match(stage: Stage) -> None:
+    keys = ", ".join(f'"k{agent}"' for agent in range(64))
+    writes(stage, cup=LARGE.replace("quota = 10", "quota = 65535").replace('"ka", "kb"', keys), tri=TRIANGLE)
+    expect(stage.run(["check", "cup.toml"]), b"match 0 red nodes 3 links 3 agents 64\n")
+    front = [sys.executable, "-c", CRAMPED, str(400 << 20)]
+    expect(stage.run(["check", "cup.toml"], front=front), b"", b"cup.toml: memory\n", NO_MEMORY)
 
 
 @case("a quota is used up by ten looks")
