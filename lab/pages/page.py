@@ -18,6 +18,8 @@ from lab.support.missing import needed
 
 SCRIPTS = ("match.js", "met.js", "texts.js", "drawing.js", "page.js")
 SCALE = 1000
+# larger networks are laid out by springs alone, since distances take the cube of their nodes
+MOST_BY_DISTANCES = 256
 SEED = 4
 LETTERS = {
     "enter": "e", "look": "l", "leave": "q", "bad": "b", "write": "w", "depart": "d", "accuse": "a", "deliver": "v",
@@ -84,7 +86,9 @@ def laid_out(nodes: int, joined: Tuple[Tuple[int, int], ...]) -> List[List[int]]
     graph = networkx.Graph()
     graph.add_nodes_from(range(nodes))
     graph.add_edges_from(joined)
-    spots = networkx.kamada_kawai_layout(graph, pos=networkx.spring_layout(graph, seed=SEED))
+    spots = networkx.spring_layout(graph, seed=SEED)
+    if nodes <= MOST_BY_DISTANCES:
+        spots = networkx.kamada_kawai_layout(graph, pos=spots)
     return fitted([spots[node] for node in range(nodes)])
 
 
