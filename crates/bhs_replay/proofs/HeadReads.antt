@@ -109,8 +109,8 @@ module _ (net : Network) (setup : Setup) (fits : HeadFits net setup) where
   links_read = listed_reads 1 (map link_data (links_of net))
       (each_reads link_data IsSmallLink 1 link_reads (links_of net) fits.links)
 
-  listing_numbers : (number : ℕ) → IsSmall number → HasNumbers (outline (listing_data number net setup))
-  listing_numbers number small = (
+  listing_numbers : (n : ℕ) → IsSmall n → HasNumbers (outline (listing_data n net setup))
+  listing_numbers n few = (
     is_number setup.agents fits.agents,
     (
       is_number setup.board fits.board,
@@ -124,7 +124,7 @@ module _ (net : Network) (setup : Setup) (fits : HeadFits net setup) where
               links_read.0,
               (
                 is_number (nodes_of net) fits.nodes,
-                (is_number setup.quota fits.quota, (is_number number small, tt)),
+                (is_number setup.quota fits.quota, (is_number n few, tt)),
               ),
             ),
           ),
@@ -156,8 +156,8 @@ module _ (net : Network) (setup : Setup) (fits : HeadFits net setup) where
   head_numbers Two = listing_numbers 2 (omega arith)
   head_numbers Three = listing_numbers 3 (omega arith)
 
-  listing_depth : (number : ℕ) → depth (outline (listing_data number net setup)) ≤ max_depth
-  listing_depth number =
+  listing_depth : (n : ℕ) → depth (outline (listing_data n net setup)) ≤ max_depth
+  listing_depth n =
       let dark = dark_read.1.1 in
       let holes = holes_read.1.1 in
       let links = links_read.1.1 in
@@ -169,9 +169,8 @@ module _ (net : Network) (setup : Setup) (fits : HeadFits net setup) where
   head_depth Two = listing_depth 2
   head_depth Three = listing_depth 3
 
-  listing_same : (number : ℕ) → IsSmall number
-      → of_json (outline (listing_data number net setup)) ≡ Some (listing_data number net setup)
-  listing_same number small =
+  listing_same : (n : ℕ) → IsSmall n → of_json (outline (listing_data n net setup)) ≡ Some (listing_data n net setup)
+  listing_same n few =
       rw (
         reads setup.agents fits.agents,
         reads setup.board fits.board,
@@ -181,7 +180,7 @@ module _ (net : Network) (setup : Setup) (fits : HeadFits net setup) where
         links_read.1.0,
         reads (nodes_of net) fits.nodes,
         reads setup.quota fits.quota,
-        reads number small,
+        reads n few,
       ) refl
 
   head_same : (version : Version) → of_json (outline (head_data version net setup)) ≡ Some (head_data version net setup)

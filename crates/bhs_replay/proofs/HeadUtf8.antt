@@ -90,8 +90,8 @@ module _ (net : Network) (setup : Setup) (fits : HeadFits net setup) where
   holes_valid : IsText (listed (map whole setup.holes))
   holes_valid = listed_valid (map whole setup.holes) (each_valid whole IsSmall whole_valid setup.holes fits.holes)
 
-  listing_utf8 : (number : ℕ) → IsSmall number → IsText (listing_data number net setup)
-  listing_utf8 number small =
+  listing_utf8 : (n : ℕ) → IsSmall n → IsText (listing_data n net setup)
+  listing_utf8 n few =
       then_more 123 _ refl (members_valid false
       (member (codes "agents") (whole setup.agents)
       (member (codes "board") (whole setup.board)
@@ -101,7 +101,7 @@ module _ (net : Network) (setup : Setup) (fits : HeadFits net setup) where
       (member (codes "links") (listed (map link_data (links_of net)))
       (member (codes "nodes") (whole (nodes_of net))
       (member (codes "quota") (whole setup.quota)
-      (member (codes "replay") (whole number) no_members))))))))) (
+      (member (codes "replay") (whole n) no_members))))))))) (
         refl,
         (
           whole_valid setup.agents fits.agents,
@@ -133,7 +133,7 @@ module _ (net : Network) (setup : Setup) (fits : HeadFits net setup) where
                                     refl,
                                     (
                                       whole_valid setup.quota fits.quota,
-                                      (refl, (whole_valid number small, tt)),
+                                      (refl, (whole_valid n few, tt)),
                                     ),
                                   ),
                                 ),

@@ -26,7 +26,7 @@ use Rattle.bhs_wire.specs.Lines.{rest_after, rest}
 use Rattle.bhs_wire.proofs.StreamLaws.{rest_after-append}
 use Rattle.bhs_replay.specs.declared.heads.Version.{Version}
 use Rattle.bhs_replay.specs.declared.heads.Version.TheVariants.{One, Two, Three}
-use Rattle.bhs_replay.specs.Head.{head_line, head_data, hole_data, whole, end_data, link_data, links_of}
+use Rattle.bhs_replay.specs.Head.{head_line, listing_data, head_data, hole_data, whole, end_data, link_data, links_of}
 use Rattle.bhs_replay.specs.EventLine.{event_line}
 use Rattle.bhs_replay.specs.Spelling.{spelled, EventFits, ReplyFits}
 use Rattle.bhs_replay.specs.Replay.{end_line, event_lines, body_lines, with_feeds, replay}
@@ -108,9 +108,9 @@ link_plain link small = (
 number_below : (n : ℕ) → n ≤ 3 → n < 2 ^ 64
 number_below n few = omega arith
 
-listing_plain : (number : ℕ) (net : Network) (setup : Setup) → number ≤ 3 → HeadFits net setup
-    → IsPlain (listing_data number net setup)
-listing_plain number net setup few fits = (
+listing_plain : (n : ℕ) (net : Network) (setup : Setup) → n ≤ 3 → HeadFits net setup
+    → IsPlain (listing_data n net setup)
+listing_plain n net setup few fits = (
   wide setup.agents fits.agents,
   (
     wide setup.board fits.board,
@@ -122,7 +122,7 @@ listing_plain number net setup few fits = (
           wide setup.home fits.home,
           (
             each_plain link_data IsSmallLink link_plain (links_of net) fits.links,
-            (wide (nodes_of net) fits.nodes, (wide setup.quota fits.quota, (number_below number few, tt))),
+            (wide (nodes_of net) fits.nodes, (wide setup.quota fits.quota, (number_below n few, tt))),
           ),
         ),
       ),

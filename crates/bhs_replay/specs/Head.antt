@@ -41,8 +41,8 @@ hole_data [] = null
 hole_data (hole ∷ more) = whole hole
 
 -- the head of a version that lists what destroys; the keys stand in the order of their bytes
-abbrev pub listing_data : (number : ℕ) → Network → Setup → Data
-listing_data number net setup = object
+abbrev pub listing_data : (n : ℕ) → Network → Setup → Data
+listing_data n net setup = object
     (member (codes "agents") (whole setup.agents)
     (member (codes "board") (whole setup.board)
     (member (codes "dark") (listed (map end_data setup.dark))
@@ -51,7 +51,7 @@ listing_data number net setup = object
     (member (codes "links") (listed (map link_data (links_of net)))
     (member (codes "nodes") (whole (nodes_of net))
     (member (codes "quota") (whole setup.quota)
-    (member (codes "replay") (whole number) no_members)))))))))
+    (member (codes "replay") (whole n) no_members)))))))))
 
 -- the head, whose keys stand in the order of their bytes too
 abbrev pub head_data : Version → Network → Setup → Data
