@@ -13,16 +13,18 @@ from lab.model import spelled
 
 SOLVES, FAILS, ENDLESS, EXCEEDS = "solves", "fails", "endless", "exceeds"
 TOO_MANY = "states"
+STOPPED, MORE = "stopped", "more states than were to be visited"
 Found = Dict[str, Any]
 
 
 class Answered(NamedTuple):
-    """What the program found in one match, how much it visited, and in how many seconds. `found` is None if there are
-    more states than were to be visited."""
+    """What the program found in one match, how much it visited, and in how many seconds. If `found` is None, it was
+    stopped before all was visited, and `why` says why."""
 
     found: Optional[Found]
     counts: Found
     seconds: float
+    why: str = ""
 
 
 class Run:
@@ -50,8 +52,8 @@ class Run:
 
 
 def asked(program: str, fixture: Fixture, machines: Machines, most: int, shown: Callable[[int], None]) -> Answered:
-    """Lets the program try all schedules of a match, and answers its questions."""
-    started, run, last = time.monotonic(), Run(machines), []
+    """Lets the program try all schedules of a match, and answers its questions. Ctrl-C stops it."""
+    started, run, last, errors = time.monotonic(), Run(machines), [], b""
     with tempfile.TemporaryDirectory(prefix="lab-") as name:
         write_tournament(fixture, pathlib.Path(name))
         words = [program, "explore", "tournament.toml", "0", "--states", str(most), "--naps", str(fixture.naps)]
@@ -67,6 +69,11 @@ def asked(program: str, fixture: Fixture, machines: Machines, most: int, shown: 
                 else:
                     last.append(said)
             _, errors = child.communicate()
+        except BrokenPipeError:
+            # the program has ended, and says why
+            _, errors = child.communicate()
+        except KeyboardInterrupt:
+            return Answered(None, {}, time.monotonic() - started, STOPPED)
         finally:
             if child.poll() is None:
                 child.kill()
@@ -75,5 +82,5 @@ def asked(program: str, fixture: Fixture, machines: Machines, most: int, shown: 
         return Answered(last[0], last[1], time.monotonic() - started)
     told = text_of_fault(errors)
     if told == f"host: {TOO_MANY}":
-        return Answered(None, {}, time.monotonic() - started)
+        return Answered(None, {}, time.monotonic() - started, MORE)
     raise Refused(told, child.returncode)

@@ -86,9 +86,9 @@ def line_of(tried: Tried) -> str:
     """What was found of one match."""
     if tried.beside is not None:
         return explore.line_of(tried.beside)
-    setup, (found, counts, seconds) = tried.fixture.setup, tried.answered
+    setup, (found, counts, seconds, why) = tried.fixture.setup, tried.answered
     if found is None:
-        said = "more states than were to be visited"
+        said = why
     elif found["found"] == ENDLESS:
         said = f"{counts['states']} states, a schedule goes on for ever"
     else:

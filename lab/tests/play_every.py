@@ -227,6 +227,11 @@ class Exploring(InFolder):
         self.assertIn("more states than were to be visited", self.said)
         self.assertIn("stopped before all were visited", self.said)
 
+    def test_ctrl_c_ends_it_with_what_was_found(self) -> None:
+        with mock.patch("lab.asking.Run.answer", side_effect=KeyboardInterrupt):
+            self.assertEqual(self.command("--network", "ring:3", "--agent", RING.words), 130)
+        self.assertIn("stopped before all were visited; no schedule failed until then", self.said)
+
     def test_what_has_no_name_is_told_by_name(self) -> None:
         self.command("--network", "ring:3", "--hole", 1, *self.odd("sorts"))
         self.assertRegex(self.said, r"\d+ times history stands for what a program holds: the stack of ")

@@ -1,5 +1,5 @@
 -- The exit statuses of what the program does.
-use Rattle.std.proofs.Common.{inl, inr, ℕ, List, Option, None, Some, Bool, true, false, Result}
+use Rattle.std.proofs.Common.{◌≡◌, inl, inr, ℕ, List, Option, None, Some, Bool, true, false, Result}
 use Rattle.std.specs.Prelude.{◌==◌, if◌then◌else◌}
 use Rattle.bhs_lock.specs.declared.settling.Settlement.{Settlement}
 use Rattle.bhs_server.specs.declared.settling.Refused.{Refused}

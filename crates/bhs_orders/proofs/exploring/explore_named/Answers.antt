@@ -1,4 +1,7 @@
-use Rattle.std.proofs.Common.{refl}
+use Rattle.std.proofs.Common.{◌∙◌, refl, sym, ap₂, ℕ, List}
+use Rattle.std.specs.Prelude.{slice_get}
+use Rattle.std.proofs.lemmas.Option.{slice_get_read}
+use Rattle.bhs_lineup.specs.declared.lineups.Ready.{Ready}
 use Rattle.bhs_orders.specs.declared.faults.Fault.TheVariants.{NoMatch}
 use Rattle.bhs_orders.specs.Discoveries.{explores_nothing, explores_on}
 use Rattle.bhs_orders.proofs.exploring.explore_named.Goals as goal
@@ -10,7 +13,11 @@ returns-in-Err g c =
 
 pub returns-in-Some : goal.returns-in-Some
 returns-in-Some g c =
-    explores_on c.in-Ok.lineup c.in-Ok.ensures.made c.in-Some.ready.now ? c.explore_match.ensures
+    let read = c.in-Some.ensures.lookup in
+    explores_on c.in-Ok.lineup c.in-Ok.ensures.made c.in-Some.ready.now
+    (ap₂ (λ (all : List Ready) (n : ℕ). slice_get all n) (sym c.deref.ensures.value) (sym c.from.ensures)
+    ∙ slice_get_read c.deref.result.now _ _ c.in-Some.ready.now refl read.3.0 read.1)
+    c.explore_match.ensures
 
 pub returns : goal.returns
 returns g c =
