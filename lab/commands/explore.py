@@ -2,26 +2,34 @@
 
     python3 -m lab explore --network ring:6 --agent "examples/agents/ring.py {nodes}"
 
-Two matches go on alike once each agent has met the same and each whiteboard says the same, so explore visits such a
-state once. A step that neither reads nor writes a whiteboard meets nobody, and explore takes it at once. If you name
-neither a black hole nor a dark link, each node but the home base is the black hole in turn. The command says how many
-states there are and the most moves of all schedules. It stops at the first schedule that fails. It writes that one, or
-else the one with the most moves, to a folder. The exit status is 1 if a schedule fails.
+If you name neither a black hole nor a dark link, each node but the home base is the black hole in turn. The command
+says how many states there are and the most moves of all schedules. It stops at the first schedule that fails, and
+writes that one to a folder. The exit status is 1 if a schedule fails.
 
-It explores the Python model, and nothing is proved of that; the program plays what is kept. Agents must run inside the
-lab (--agent) and be functions of what they are told; what they draw by `random` is, as it begins with the agent's
-number. A sleeper wakes once after each change of the whiteboard in front of it, and --naps times more: a team that
-waits by counting, as for a timeout, fails once another agent is slower than it counts.
+The program tries the schedules (`arena explore`), and the lab answers what the agents do. What is found is a theorem
+about programs that are functions of what they hold, as they answered here. Of an agent inside the lab (--agent) that is
+what its frames, objects and modules hold; what has no name is told, and the agent's history stands for it. A program of
+its own (--command) is told apart by its history, or by a member "memory" of its lines, by which it declares what it
+holds; that must be all on which it goes on. --check N plays N drawn schedules, and compares what the agents do with
+what they had answered.
+
+An agent that raises or breaks a rule, and one that sleeps where nobody is judged, are no failures of the program's; the
+Python model's search finds them. It also takes over if an agent may use more commands than its quota, and --search
+model asks for it. Nothing is proved of it. It plays agents inside the lab, takes a step that meets nobody at once, and
+writes the schedule with the most moves if none fails.
+
+A sleeper wakes once after each change of the whiteboard in front of it, and --naps times more: a team that waits by
+counting, as for a timeout, fails once another agent is slower than it counts.
 """
 import argparse
 import pathlib
-from typing import List, Optional
 
-from lab.commands.words import add_engine, add_match, at_least_one, game_of, program_of
+from lab.commands import trying
+from lab.commands.words import add_engine, add_match, at_least_one, game_of, not_negative, program_of
 from lab.play import finds
 from lab.play.teams import Game
-from lab.search.explore import MOST_STATES, Explored, check_inside, tried
-from lab.search.pasts import NoFunction
+from lab.rules.engines import MODEL, PROGRAM, program_at
+from lab.search.explore import MOST_STATES, check_inside, tried
 from lab.support.progress import bar
 
 FOLDER = finds.FOLDER
@@ -34,49 +42,29 @@ def add_words(parser: argparse.ArgumentParser) -> None:
                         f"match to visit ({MOST_STATES}); a million take about half a gigabyte")
     parser.add_argument("--keep", metavar="FOLDER", type=pathlib.Path, default=FOLDER, help="write the schedule that "
                         f"is told there ({FOLDER})")
+    parser.add_argument("--search", choices=(PROGRAM, MODEL), help="who tries the schedules: the program, or the "
+                        "Python model, of which nothing is proved (the engine)")
+    parser.add_argument("--check", metavar="N", type=not_negative, default=0, help="after the program's search, play "
+                        "this many drawn schedules of each match by the agents, and compare what they do with what "
+                        "they answered (0)")
     add_engine(parser)
 
 
 def run(words: argparse.Namespace) -> int:
-    game = game_of(words)
+    game, engine = game_of(words), program_of(words)
+    if (words.search or words.engine) == PROGRAM:
+        program = engine or program_at(words.program)
+        return trying.run(trying.Wanted(game, program, engine, words.states, words.check, words.keep))
+    return searched(words, game)
+
+
+def searched(words: argparse.Namespace, game: Game) -> int:
+    """Tries the schedules of all matches by the Python model."""
     check_inside(game)
-    program, all_found = program_of(words), []
+    all_found = []
     with bar(None, "state") as shown:
         for found in tried(game, words.states, shown):
             shown.clear()
-            print(line_of(found), flush=True)
+            print(trying.by_model(found), flush=True)
             all_found.append(found)
-    return told(game, all_found, words.keep, program)
-
-
-def line_of(found: Explored) -> str:
-    """What was found of one match."""
-    explorer, setup = found.explorer, found.explorer.fixture.setup
-    has_failed = found.rank()[0]
-    said = "a schedule fails" if has_failed else "every schedule solves" if found.is_whole else "stopped"
-    moves = explorer.worst.verdict.moves if explorer.worst else 0
-    return (f"home {setup.home} holes {setup.holes}: {explorer.states()} states, {said}, "
-            f"{'its' if has_failed else 'most'} moves {moves}, {found.seconds:.1f} s")
-
-
-def told(game: Game, all_found: List[Explored], keep: pathlib.Path, program: Optional[str]) -> int:
-    """Says what was found of all matches, and writes what is to be kept."""
-    worst, is_whole = max(all_found, key=Explored.rank), all(found.is_whole for found in all_found)
-    states, seconds = (sum(it) for it in zip(*((found.explorer.states(), found.seconds) for found in all_found)))
-    counts, end = f"{states} states in {seconds:.1f} s", worst.explorer.worst
-    has_failed = end is not None and end.has_failed
-    if has_failed:
-        print(f"{counts}: a schedule fails")
-    elif is_whole:
-        print(f"{counts}: no schedule fails, of the Python model")
-    else:
-        print(f"{counts}: stopped before all were visited; no schedule failed until then")
-    if end is not None:
-        setup = worst.explorer.fixture.setup
-        print(f"{'it comes to' if end.has_failed else 'most moves'}: home {setup.home} holes {setup.holes}, "
-              f"{finds.verdict_text(end.verdict)}")
-        played = finds.keep(keep, worst.schedule(game), program)
-        if played.verdict() != end.verdict:
-            raise NoFunction("played again it comes to another verdict: explore needs agents that are functions of "
-                             "what they are told")
-    return 1 if has_failed else 0 if is_whole else 130
+    return trying.told_by_model(game, all_found, words.keep, program_of(words))

@@ -63,9 +63,11 @@ def check_limits(words: argparse.Namespace) -> None:
     if len(set(words.team)) < len(words.team):
         raise NoNetwork("two teams have the same name: name each by a --team of its own")
     if not 1 <= words.quota <= MOST_QUOTA:
-        raise NoNetwork(f"an agent has 1 to {MOST_QUOTA} commands, and not {words.quota}: name another number by --quota")
+        raise NoNetwork(f"an agent has 1 to {MOST_QUOTA} commands, and not {words.quota}: name another number by "
+                        "--quota")
     if not 0 <= words.board <= MOST_BOARD:
-        raise NoNetwork(f"a whiteboard has 0 to {MOST_BOARD} bytes, and not {words.board}: name another number by --board")
+        raise NoNetwork(f"a whiteboard has 0 to {MOST_BOARD} bytes, and not {words.board}: name another number by "
+                        "--board")
 
 
 def check_delays(words: argparse.Namespace) -> None:

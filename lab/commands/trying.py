@@ -1,0 +1,230 @@
+"""`explore` by the program: it tries the schedules, and the lab answers what agents do (lab/search/asking.py). What
+the program cannot do, or does not count as a failure, the Python model's search does, and says so."""
+import pathlib
+from typing import Any, List, NamedTuple, Optional, Sequence, Tuple
+
+from lab.play import finds
+from lab.play.matches import Run
+from lab.play.schedulers import ARRIVE, Choice
+from lab.play.schedules import schedule_of
+from lab.play.teams import INSIDE, AgentWords, Game, Together
+from lab.rules.engines import name_of
+from lab.rules.fixtures import Fixture
+from lab.rules.model import Object
+from lab.rules.rehearsal import Rehearsal
+from lab.search.asking import ENDLESS, EXCEEDS, FAILS, SOLVES, Answered, asked
+from lab.search.explore import Explored, explored
+from lab.search.following import follow
+from lab.search.machines import Machines
+from lab.search.pasts import NoFunction
+from lab.support import built
+from lab.support.progress import bar
+
+THEOREM = "every schedule solves (a theorem about programs that are functions of what they hold, as they answered here)"
+
+
+class Tried(NamedTuple):
+    """A match whose schedules were tried by the program, and by the Python model if the program says nothing of it."""
+
+    fixture: Fixture
+    answered: Answered
+    beside: Optional[Explored] = None
+
+    def has_failed(self) -> bool:
+        if self.beside is not None:
+            return self.beside.rank()[0]
+        return self.answered.found is not None and self.answered.found["found"] in (FAILS, ENDLESS)
+
+    def is_whole(self) -> bool:
+        return self.beside.is_whole if self.beside is not None else self.answered.found is not None
+
+
+class Wanted(NamedTuple):
+    """What is to be tried, by which program, and what of it is kept."""
+
+    game: Game
+    program: str
+    # the program that plays what is kept, or None for the Python model
+    engine: Optional[str]
+    states: int
+    check: int
+    keep: pathlib.Path
+
+
+def run(wanted: Wanted) -> int:
+    """Tries the schedules of all matches, up to the first that fails."""
+    game, fixtures = wanted.game, wanted.game.fixtures()
+    machines, all_tried = Machines(fixtures[0], game.agents, game.limit), []
+    machines.start()
+    try:
+        with bar(None, "answer") as shown:
+            for fixture in fixtures:
+                tried = Tried(fixture, asked(wanted.program, fixture, machines, wanted.states, shown.update))
+                shown.clear()
+                all_tried.append(beside(wanted, machines, tried, shown))
+                print(line_of(all_tried[-1]), flush=True)
+                if not all_tried[-1].is_whole() or all_tried[-1].has_failed():
+                    break
+                if wanted.check and all_tried[-1].beside is None:
+                    checked(wanted, machines, fixture)
+    finally:
+        machines.stop()
+    return told(wanted, all_tried, machines)
+
+
+def beside(wanted: Wanted, machines: Machines, tried: Tried, shown: Any) -> Tried:
+    """The match with what the Python model's search says of it, if it is needed: the program says nothing, or an agent
+    has a fault, which the program does not count as a failure."""
+    found = tried.answered.found
+    if found is None or found["found"] in (FAILS, ENDLESS):
+        return tried
+    if found["found"] == EXCEEDS:
+        why = f"agent {found['agent']} may use {found['commands']} commands"
+    else:
+        machines.look_at_the_end()
+        if not machines.faults:
+            return tried
+        why = machines.faults[0]
+    if any(agent.kind != INSIDE for agent in wanted.game.agents):
+        raise NoFunction(f"{why}, and the Python model's search, which takes over then, plays agents inside the lab "
+                         "alone")
+    print(f"{why}: the Python model's search takes over, of which nothing is proved", flush=True)
+    try:
+        game = wanted.game
+        return tried._replace(beside=explored(tried.fixture, game.agents, shown, wanted.states, game.limit))
+    finally:
+        shown.clear()
+
+
+def line_of(tried: Tried) -> str:
+    """What was found of one match."""
+    if tried.beside is not None:
+        return by_model(tried.beside)
+    setup, (found, counts, seconds, why) = tried.fixture.setup, tried.answered
+    if found is None:
+        said = why
+    elif found["found"] == ENDLESS:
+        said = f"{counts['states']} states, a schedule goes on for ever"
+    else:
+        said = f"{counts['states']} states, " + ("every schedule solves, most" if found["found"] == SOLVES else
+                                                 "a schedule fails, its") + f" moves {found['moves']}"
+    return f"home {setup.home} holes {setup.holes}: {said}, {seconds:.1f} s"
+
+
+def checked(wanted: Wanted, machines: Machines, fixture: Fixture) -> None:
+    """Plays drawn schedules by the agents, and compares what they do with what they answered."""
+    game = wanted.game
+    steps = sum(follow(fixture, game.agents, machines, seed, game.limit) for seed in range(wanted.check))
+    print(f"    {wanted.check} drawn schedules, {steps} steps: the agents did as they had answered", flush=True)
+
+
+def told(wanted: Wanted, all_tried: List[Tried], machines: Machines) -> int:
+    """Says what was found of all matches, and writes the schedule that fails."""
+    last = all_tried[-1]
+    states = sum(tried.answered.counts.get("states", 0) for tried in all_tried)
+    counts = f"{states} states in {sum(tried.answered.seconds for tried in all_tried):.1f} s"
+    for what, count in machines.unnamed.items():
+        print(f"{count} times history stands for what a program holds: {what}")
+    if last.beside is not None and (last.has_failed() or not last.is_whole()):
+        return told_by_model(wanted.game, [last.beside], wanted.keep, wanted.engine)
+    if not last.is_whole():
+        print(f"{counts}: stopped before all were visited; no schedule failed until then")
+        return 130
+    if last.has_failed():
+        print(f"{counts}: a schedule fails")
+        return shown_failure(wanted, last)
+    says_less = any(tried.beside is not None for tried in all_tried)
+    engine = name_of(wanted.program)
+    by = "" if engine == built.PROGRAM else f", by {engine}"
+    print(f"{counts}: {'no schedule fails, in part of the Python model' if says_less else THEOREM}{by}")
+    moves, lost = zip(*(bounds_of(tried) for tried in all_tried))
+    print(f"most moves {max(moves)}, most agents lost {max(lost)}")
+    return 0
+
+
+def bounds_of(tried: Tried) -> Tuple[int, int]:
+    """The most moves of a match, and the most agents lost."""
+    if tried.beside is not None:
+        worst = tried.beside.explorer.worst
+        assert worst is not None, "a match whose schedules were all tried has an end"
+        return worst.verdict.moves, worst.verdict.lost
+    found = found_in(tried)
+    return found["moves"], found["lost"]
+
+
+def found_in(tried: Tried) -> Object:
+    """What the program found of a match that it has tried as a whole."""
+    assert tried.answered.found is not None, "the program says what it found"
+    return tried.answered.found
+
+
+def shown_failure(wanted: Wanted, tried: Tried) -> int:
+    """Writes the schedule that fails, once the agents have played it."""
+    found, setup, game = found_in(tried), tried.fixture.setup, wanted.game
+    choices = choices_of(tried.fixture, game.agents, found["schedule"] + found.get("round", []), game.limit)
+    if found["found"] == ENDLESS:
+        print(f"home {setup.home} holes {setup.holes}: after {len(found['schedule'])} choices, the last "
+              f"{len(found['round'])} of the schedule may be repeated for ever")
+    else:
+        print(f"it comes to: home {setup.home} holes {setup.holes}, {found['outcome']} moves {found['moves']} lost "
+              f"{found['lost']}")
+    schedule = schedule_of(tried.fixture, game.agents, f"explore{game.origin}", choices)
+    played = finds.keep(wanted.keep, schedule, wanted.engine)
+    if found["found"] == FAILS and played.verdict() != (found["outcome"], found["moves"], found["lost"]):
+        raise NoFunction("played again it comes to another verdict: explore needs agents that are functions of what "
+                         "they hold")
+    return 1
+
+
+def choices_of(fixture: Fixture, agents: Sequence[AgentWords], turns: List[int], seconds: float) -> List[Choice]:
+    """What the agents do that have these turns, one after the other. In the end the lost arrive where they are lost."""
+    team = Together(agents, fixture, seconds)
+    run = Run(Rehearsal(fixture), team, fixture)
+    team.start()
+    try:
+        for agent in turns:
+            choice = next((it for it in run.may_happen() if it.agent == agent), None)
+            if choice is None:
+                raise NoFunction(f"agent {agent} does nothing at choice {len(run.choices) + 1}, where it did something")
+            run.happen(choice)
+        for choice in run.may_happen():
+            if choice.do == ARRIVE:
+                run.happen(choice)
+        return run.choices
+    finally:
+        team.stop()
+
+
+# what the Python model's search found
+
+def by_model(found: Explored) -> str:
+    """What was found of one match."""
+    explorer, setup = found.explorer, found.explorer.fixture.setup
+    has_failed = found.rank()[0]
+    said = "a schedule fails" if has_failed else "every schedule solves" if found.is_whole else "stopped"
+    moves = explorer.worst.verdict.moves if explorer.worst else 0
+    return (f"home {setup.home} holes {setup.holes}: {explorer.states()} states, {said}, "
+            f"{'its' if has_failed else 'most'} moves {moves}, {found.seconds:.1f} s")
+
+
+def told_by_model(game: Game, all_found: List[Explored], keep: pathlib.Path, program: Optional[str]) -> int:
+    """Says what was found of all matches, and writes what is to be kept."""
+    worst, is_whole = max(all_found, key=Explored.rank), all(found.is_whole for found in all_found)
+    states, seconds = (sum(it) for it in zip(*((found.explorer.states(), found.seconds) for found in all_found)))
+    counts, end = f"{states} states in {seconds:.1f} s", worst.explorer.worst
+    has_failed = end is not None and end.has_failed
+    if has_failed:
+        print(f"{counts}: a schedule fails")
+    elif is_whole:
+        print(f"{counts}: no schedule fails, of the Python model")
+    else:
+        print(f"{counts}: stopped before all were visited; no schedule failed until then")
+    if end is not None:
+        setup = worst.explorer.fixture.setup
+        print(f"{'it comes to' if end.has_failed else 'most moves'}: home {setup.home} holes {setup.holes}, "
+              f"{finds.verdict_text(end.verdict)}")
+        played = finds.keep(keep, worst.schedule(game), program)
+        if played.verdict() != end.verdict:
+            raise NoFunction("played again it comes to another verdict: explore needs agents that are functions of "
+                             "what they are told")
+    return 1 if has_failed else 0 if is_whole else 130
