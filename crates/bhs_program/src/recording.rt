@@ -246,6 +246,8 @@ impl<R: Keep + Wait + Clock> Watch for Recorder<'_, R> {
 
     fn closed(&self, game: u32, turns: u32, cell: &Cell) {
         self.standings.closed(self.rt, game, turns);
+        // The operator is not told to close what is closed.
+        self.scene.operator.progress().call_off(self.rt, game);
         if self.scene.is_telling {
             let team = self.team(game as usize);
             let judged = judged(self.rt, self.alloc, cell);
