@@ -2,3 +2,4 @@ pub mod ExitLemmas
 pub mod FilingLemmas
 pub mod ContestLemmas
 pub mod RecordingLemmas
+pub mod NumberLemmas
