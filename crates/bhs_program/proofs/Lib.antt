@@ -2,4 +2,3 @@ pub mod ExitLemmas
 pub mod FilingLemmas
 pub mod ContestLemmas
 pub mod RecordingLemmas
-pub mod NumberLemmas

@@ -166,7 +166,10 @@ impl<R: Keep + Wait + Clock> Recorder<'_, R> {
             },
         );
         if !standing.missing.is_empty() {
-            log.tell(self.rt, missing_line(self.alloc, game, team, &standing.missing));
+            log.tell(
+                self.rt,
+                missing_line(self.alloc, game, team, &standing.missing),
+            );
         }
     }
 
