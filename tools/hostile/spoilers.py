@@ -4,7 +4,7 @@
     tools/hostile/spoilers.py PROGRAM
 
 Each case serves a contest of two teams on a ring in a temporary folder. A line for each says how it went, and the last
-line reads `N passed, M failed`. It takes a minute.
+line reads `N passed, M failed`. It takes about a minute.
 """
 import contextlib
 import fcntl
