@@ -152,7 +152,7 @@ def served(lab: Lab, sessions: int, limit: Callable[[], None]) -> Run:
 
 
 # each part takes a descriptor while a contest goes on; without one the replay is whole nevertheless
-NO_PART = re.compile(r"serve: the part of match \d+ stops after \d+ events: write")
+NO_PART = re.compile(r"\d+:\d\d:\d\d serve: the part of match \d+ stops after \d+ events: write")
 
 
 def servers(lab: Lab) -> None:

@@ -59,8 +59,8 @@ QUICK, QUICK_SERVED, MOST_SERVED = 60, 40, 2000
 QUICK_BESIDE = 20
 WORKERS = 8
 # what is told if a part could not be written on or a line could not be told, which keeps nothing else back
-CUT_PART = re.compile(r"(serve: the part of match 0 (stops after \d+ events: write|goes on after \d+ events)\n"
-                      r"|serve: \d+ lines were dropped here, since nobody read the log\n)+")
+CUT_PART = re.compile(r"(\d+:\d\d:\d\d serve: (the part of match 0 (stops after \d+ events: write"
+                      r"|goes on after \d+ events)|\d+ lines were dropped here, since nobody read the log)\n)+")
 # seconds, of a server that takes a third of one
 SOON = 60
 REFUSED_TESTS = "memory::"

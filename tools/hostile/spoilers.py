@@ -4,7 +4,7 @@
     tools/hostile/spoilers.py PROGRAM
 
 Each case serves a contest of two teams on a ring in a temporary folder. A line for each says how it went, and the last
-line reads `N passed, M failed`. It takes a minute.
+line reads `N passed, M failed`. It takes about a minute.
 """
 import contextlib
 import fcntl
@@ -24,7 +24,7 @@ import threading
 import time
 from typing import Callable, Dict, Iterator, List, Optional, Sequence, Tuple
 
-from session_lines import HERE, LOOK, NO_FULL, NO_LATE, OVER
+from session_lines import HERE, LOOK, NO_FULL, NO_LATE, NO_MEMORY, OVER
 
 HOST = "127.0.0.1"
 # seconds within which a server answers or ends
@@ -494,6 +494,38 @@ def no_threads(program: str, folder: pathlib.Path) -> None:
     wants("the status and what was printed", (status, printed), (NO_THREADS, ""))
     if "serve: threads" not in told:
         raise Wrong(f"it told {told!r}")
+
+
+# threads of a contest of two matches before it listens: its own, one of each match, and five more
+THREADS = 8
+
+
+@case("a client for which there is no thread is told so, and can come again; the matches go on")
+def no_thread_for_a_session(program: str, folder: pathlib.Path) -> None:
+    if not is_root():
+        return
+    folder.chmod(0o777)
+    with serving(program, folder, "--log", turns=1000, before=threads(THREADS)) as server, \
+            contextlib.ExitStack() as stack:
+        heard = {}
+        for key in ("red-0", "red-1", "blue-0", "blue-1"):
+            client = stack.enter_context(server.connect(enter(key)))
+            heard[key] = (client, answer(client, len(HERE)))
+        plays = [client for client, said in heard.values() if said == HERE]
+        waits = [key for key, (_, said) in heard.items() if said == NO_MEMORY]
+        if not plays or not waits or len(plays) + len(waits) != len(heard):
+            raise Wrong(f"the agents heard {[said for _, said in heard.values()]}")
+        plays[0].sendall(LOOK)
+        wants("an agent whose session goes on", answer(plays[0], len(HERE)), HERE)
+        plays[0].close()
+        time.sleep(0.5)
+        client = stack.enter_context(server.connect(enter(waits[0])))
+        wants("the same key once there is a thread", answer(client, len(HERE)), HERE)
+        stack.pop_all().close()
+        status, printed, told = server.ended()
+    wants("the status and the lines of the table", (status, len(printed.splitlines())), (0, 4))
+    if "it was not served, since memory or threads ran out" not in told:
+        raise Wrong(f"told was {told!r}")
 
 
 @case("parts are written on while descriptors are used up")

@@ -302,7 +302,9 @@ def no_part(stage: Stage) -> None:
         expect(stage.run(["recover", "p"]), b"", b"p: " + told + b"\n", REFUSED_TEXT)
 
 
-SESSION_0_ENDED = "serve: session 0 played match 1 agent 0: its agent accused"
+SESSION_0_PLAYS = "serve: session 0 plays match 1 (blue) agent 0"
+SESSION_0_ENDED = "serve: session 0 played match 1 (blue) agent 0: its agent accused"
+TIME = re.compile(r"^\d+:[0-5]\d:[0-5]\d (?=serve: )")
 
 
 @case("with --log it is told who comes, who plays, and how sessions and matches end")
@@ -310,15 +312,18 @@ def log(stage: Stage) -> None:
     with served(stage, "--log", sessions=4) as server:
         server.hears(enter("ba") + b'{"do":"accuse","port":1}\n')
         server.hears(enter("zz"))
-        told = server.ended().told.decode().splitlines()
+        timed = server.ended().told.decode().splitlines()
+    told = [TIME.sub("", line, count=1) for line in timed]
     found = sorted(re.sub(r"from 127\.0\.0\.1:\d+$", "from PEER", line) for line in told)
-    if found != ["serve: match 0 closed: turns 20 events 1, silent moves 0 lost 0",
-                 "serve: match 1 closed: turns 20 events 3, guess 1 moves 0 lost 0",
-                 "serve: session 0 from PEER", SESSION_0_ENDED, "serve: session 0 plays match 1 agent 0",
+    if not all(map(TIME.match, timed)):
+        raise Wrong(f"a line has no time: {timed}")
+    if found != ["serve: match 0 (red) closed: turns 20 events 1, silent moves 0 lost 0",
+                 "serve: match 1 (blue) closed: turns 20 events 3, guess 1 moves 0 lost 0",
+                 "serve: session 0 from PEER", SESSION_0_ENDED, SESSION_0_PLAYS,
                  "serve: session 1 from PEER",
                  "serve: session 1 played nobody: it was denied, since no agent has its key"]:
         raise Wrong(f"told was {found}")
-    if told.index("serve: session 0 plays match 1 agent 0") > told.index(SESSION_0_ENDED):
+    if told.index(SESSION_0_PLAYS) > told.index(SESSION_0_ENDED):
         raise Wrong(f"a session is told to play once it has ended: {told}")
 
 
@@ -347,6 +352,7 @@ def no_room(stage: Stage) -> None:
     with served(stage, grace=0, limit=full_disk) as server:
         server.hears(enter("ba") + b'{"do":"look"}\n' * 9 + LEAVE)
         run = server.ended()
+        run = run._replace(told=re.sub(rb"(?m)^\d+:[0-5]\d:[0-5]\d (?=serve: )", b"", run.told))
     part = stage.folder / "match1.jsonl.part"
     events = part.read_bytes().count(b"\n") - 1
     told = "serve: the part of match 1 stops after 0 events: write\nmatch1.jsonl: write\n"

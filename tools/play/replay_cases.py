@@ -83,17 +83,18 @@ def explained_controls(stage: Stage) -> None:
     lines = (stage.folder / "m0.jsonl").read_text().split("\n")[1:-3]
     printed = stage.run(["explain", "m0.jsonl", "0"]).printed.decode()
     shown = printed.split("\n")[:-1]
-    if any(controls(character) for line in shown for character in line):
-        raise Wrong(f"{printed!r} has a character that controls a terminal")
+    for line in shown:
+        if any(map(controls, line)):
+            raise Wrong(f"{line!r} has a character that controls a terminal")
     parts = [line.split(" ", 1) for line in shown]
     if [int(place) for place, _ in parts] != list(range(len(lines))) or len(lines) != len(texts) + 1:
         raise Wrong(f"the places of {len(parts)} lines of {len(lines)} are {[place for place, _ in parts]}")
     if [json.loads(line) for _, line in parts] != [json.loads(line) for line in lines]:
         raise Wrong("the lines are not the JSON of the replay")
-    if not any(controls(character) for line in lines for character in line):
+    if not any(map(controls, "".join(lines))):
         raise Wrong("the replay has no such character, so this shows nothing")
     for (_, line), own in zip(parts, lines):
-        if not any(controls(character) for character in own) and line != own:
+        if not any(map(controls, own)) and line != own:
             raise Wrong(f"{line!r} is not {own!r}, which controls no terminal")
 
 

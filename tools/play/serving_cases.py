@@ -47,15 +47,19 @@ def told_so_far(server: Server, text: bytes) -> bytes:
 
 # Matches by themselves.
 
+def closed_line(match: int) -> bytes:
+    return b"match %d (%b) closed: turns " % (match, (b"red", b"blue")[match])
+
+
 def begins_alone(stage: Stage, match: int, keys: str) -> None:
     """The match whose agents enter takes its turns and is closed; the other one still waits for its agents."""
     with served(stage, "--gather", str(1000 * PATIENCE), "--log", turns=1, grace=0) as server:
         for agent in "ab":
             server.hears(enter(keys + agent) + LEAVE)
-        told = told_so_far(server, b"match %d closed" % match)
-    if b"match %d closed" % match not in told:
+        told = told_so_far(server, closed_line(match))
+    if closed_line(match) not in told:
         raise Wrong(f"match {match} waits for more than its own agents: {told!r}")
-    if b"match %d closed" % (1 - match) in told:
+    if closed_line(1 - match) in told:
         raise Wrong(f"match {1 - match} does not wait for its own agents: {told!r}")
 
 
@@ -74,7 +78,7 @@ def all_turns(stage: Stage) -> None:
     with served(stage, "--log", turns=1200, pause=0, sessions=1, grace=0) as server:
         lines = told_lines(server)
     for match in (0, 1):
-        if not any(f"match {match} closed: turns 1200 " in line for line in lines):
+        if not any(closed_line(match).decode() + "1200 " in line for line in lines):
             raise Wrong(f"told was {lines}")
 
 
@@ -98,7 +102,7 @@ def not_early_on_a_link(stage: Stage) -> None:
 def log_second_agent(stage: Stage) -> None:
     with served(stage, "--log", sessions=1) as server:
         server.hears(enter("rb") + LEAVE)
-        wants(told_lines(server), "plays match 0 agent 1", "played match 0 agent 1: its agent left")
+        wants(told_lines(server), "plays match 0 (red) agent 1", "played match 0 (red) agent 1: its agent left")
 
 
 @case("with --log each ending of a session has its own words")
@@ -111,8 +115,8 @@ def log_endings(stage: Stage) -> None:
             late.sendall(LOOK)
             answers.read()
         server.hears(b"")
-        wants(told_lines(server), "played match 0 agent 0: its input ended",
-              "played match 1 agent 0: its match was over", "played nobody: its input ended")
+        wants(told_lines(server), "played match 0 (red) agent 0: its input ended",
+              "played match 1 (blue) agent 0: its match was over", "played nobody: its input ended")
 
 
 @case("the last of 64 agents is let in")

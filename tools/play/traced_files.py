@@ -1,4 +1,5 @@
 """Cases that look at the calls by which a server writes its files: no contract speaks of the names of files."""
+import contextlib
 import pathlib
 import re
 import socket
@@ -13,7 +14,7 @@ from packages import install  # noqa: E402
 from contest_cases import enter  # noqa: E402
 from program_cases import MATCH, SEED, TRIANGLE, case, writes  # noqa: E402
 from program_rows import DONE, PATIENCE, Stage, Wrong  # noqa: E402
-from session_lines import LEAVE  # noqa: E402
+from session_lines import LEAVE, LOOK  # noqa: E402
 
 CALLS = "write,writev,pwrite64,fsync,fdatasync,rename,renameat,renameat2,unlink,unlinkat"
 # `12 fsync(7</folder/name>) = 0` and `12 rename("name", "other") = 0`, 12 being the thread; a call that another thread
@@ -59,21 +60,22 @@ def steps_in(trace: str, folder: str) -> List[Step]:
     return steps
 
 
-def traced(stage: Stage, cup: str, turns: int, prefix: str = "match", says: bytes = b"") -> List[Step]:
-    """The calls of a server of this tournament, to which one client says this."""
+def traced(stage: Stage, cup: str, turns: int, *says: bytes, prefix: str = "match") -> List[Step]:
+    """The calls of a server of this tournament, to which clients say this at the same time."""
     install(["strace"])
     writes(stage, cup=cup, tri=TRIANGLE)
     port = free_port()
-    given = ["serve", "cup.toml", "--port", port, "--sessions", 1, "--turns", turns, "--pause", 20, "--grace", 0,
+    given = ["serve", "cup.toml", "--port", port, "--sessions", max(1, len(says)), "--turns", turns, "--pause", 20, "--grace", 0,
              "--replay", prefix]
     words = ["strace", "-f", "-y", "-o", "trace", "-e", f"trace={CALLS}", stage.program, *map(str, given)]
     with subprocess.Popen(words, cwd=stage.folder, stdout=subprocess.PIPE, stderr=subprocess.PIPE) as child:
         child.stdout.readline()
-        if says:
-            with socket.create_connection(("127.0.0.1", port), timeout=PATIENCE) as client:
-                client.sendall(says)
-                with client.makefile("rb") as answers:
-                    answers.read()
+        with contextlib.ExitStack() as stack:
+            clients = [stack.enter_context(socket.create_connection(("127.0.0.1", port), PATIENCE)) for _ in says]
+            for client, said in zip(clients, says):
+                client.sendall(said)
+            for client in clients:
+                stack.enter_context(client.makefile("rb")).read()
         _, told = child.communicate(timeout=PATIENCE)
     if child.returncode != DONE:
         raise Wrong(f"the server ended with {child.returncode}: {told!r}")
@@ -85,7 +87,7 @@ RED, BLUE = (MATCH.format(network="tri.toml", key=key) for key in "rb")
 
 @case("a replay gets its name once its text is on the disk, and its part goes after that")
 def put_in_place(stage: Stage) -> None:
-    steps = traced(stage, SEED + RED, turns=1)
+    steps = traced(stage, SEED + RED, 1)
     wanted = [("write", "match0.jsonl.new"), ("sync", "match0.jsonl.new"),
               ("rename", "match0.jsonl.new", "match0.jsonl"), ("sync", "."), ("remove", "match0.jsonl.part")]
     if [step for step in steps if step in wanted or "match0.jsonl" in step] != wanted:
@@ -94,16 +96,26 @@ def put_in_place(stage: Stage) -> None:
 
 @case("what is written to the part of each match is on the disk before more is written")
 def parts_are_synced(stage: Stage) -> None:
-    steps = traced(stage, SEED + RED + BLUE, turns=60, says=enter("ba") + LEAVE)
+    steps = traced(stage, SEED + RED + BLUE, 60, enter("ba") + LEAVE)
     for match, least in ((0, 2), (1, 4)):
         part = [kind for kind, *names in steps if names == [f"match{match}.jsonl.part"] and kind != "remove"]
         if len(part) < least or part != ["write", "sync"] * (len(part) // 2):
             raise Wrong(f"the calls on the part of match {match} were {part}")
 
 
+@case("matches that have much to write take turns: none waits until another has written all")
+def parts_take_turns(stage: Stage) -> None:
+    cup = (SEED + RED + BLUE).replace("quota = 10", "quota = 1000")
+    steps = traced(stage, cup, 100, *(enter(key) + LOOK * 900 + LEAVE for key in ("ra", "ba")))
+    writes_of = [f"match{match}.jsonl.part" for match in (0, 1, 0)]
+    wanted = [("write", name) for name in writes_of]
+    if not any(steps[place:place + 3] == wanted for place in range(len(steps))):
+        raise Wrong(f"no two matches took turns: {steps}")
+
+
 @case("the folder that replays stand in is on the disk")
 def folder_is_synced(stage: Stage) -> None:
     (stage.folder / "out").mkdir()
-    steps = traced(stage, SEED + RED, turns=1, prefix="out/match")
+    steps = traced(stage, SEED + RED, 1, prefix="out/match")
     if ("sync", "out") not in steps or ("sync", ".") in steps:
         raise Wrong(f"the calls were {steps}")

@@ -92,10 +92,10 @@ unjudged_line game team turns =
     ++ codes " and no memory to judge it\n")))))
 
 -- how many sessions go on, how many agents have not entered yet, and how many matches are open
-abbrev pub sessions_line : (sessions missing open_matches : ℕ) → List ℕ
-sessions_line sessions missing open_matches =
+abbrev pub sessions_line : (sessions missing matches : ℕ) → List ℕ
+sessions_line sessions missing matches =
     codes "serve: sessions " ++ (decimal sessions ++ (codes ", agents to come " ++ (decimal missing
-    ++ (codes ", open matches " ++ (decimal open_matches ++ codes "\n")))))
+    ++ (codes ", open matches " ++ (decimal matches ++ codes "\n")))))
 
 -- how many turns a match has taken that goes on, out of how many, and how many events its part has
 abbrev pub open_line : (game : ℕ) (team : List ℕ) (turns most events : ℕ) → List ℕ
@@ -140,11 +140,12 @@ unknown_line lines matches =
     codes "serve: " ++ (decimal lines ++ (codes " lines of standard input are none of close, close M with M below "
     ++ (decimal matches ++ codes ", and status\n")))
 
--- a line with the time at which it is told, this many seconds after the contest began: hours, minutes and seconds
-abbrev pub two_digits : ℕ → List ℕ
-two_digits number = decimal (number / 10) ++ decimal (number % 10)
+-- the two digits of a number below 100, and what stands behind them
+abbrev pub two_digits : (number : ℕ) (behind : List ℕ) → List ℕ
+two_digits number behind = decimal (number / 10) ++ (decimal (number % 10) ++ behind)
 
+-- a line with the time at which it is told, this many seconds after the contest began: hours, minutes and seconds
 abbrev pub timed_line : (seconds : ℕ) (line : List ℕ) → List ℕ
 timed_line seconds line =
-    decimal (seconds / 3600) ++ (codes ":" ++ (two_digits (seconds / 60 % 60) ++ (codes ":"
-    ++ (two_digits (seconds % 60) ++ (codes " " ++ line)))))
+    decimal (seconds / 3600) ++ (codes ":" ++ two_digits (seconds / 60 % 60)
+    (codes ":" ++ two_digits (seconds % 60) (codes " " ++ line)))

@@ -28,11 +28,7 @@ pub(crate) fn judged<R: Wait>(
 }
 
 /// The verdict on a match if it were closed now, on a copy as well.
-pub(crate) fn judged_now<R: Wait>(
-    rt: &R,
-    alloc: Global,
-    cell: &Cell,
-) -> Result<Verdict, Memory> {
+pub(crate) fn judged_now<R: Wait>(rt: &R, alloc: Global, cell: &Cell) -> Result<Verdict, Memory> {
     let mut copy = copied(rt, alloc, cell)?;
     copy.apply(Event::Close);
     match copy.sealed() {

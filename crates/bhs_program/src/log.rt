@@ -75,11 +75,7 @@ impl Log {
     }
 
     // A text with the time before it.
-    fn timed<C: Clock>(
-        &self,
-        clock: &C,
-        made: Result<String, Memory>,
-    ) -> Result<String, Memory> {
+    fn timed<C: Clock>(&self, clock: &C, made: Result<String, Memory>) -> Result<String, Memory> {
         let text = made?;
         timed_line(self.alloc, self.seconds(clock), text.as_str())
     }

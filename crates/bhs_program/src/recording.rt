@@ -166,7 +166,10 @@ impl<R: Keep + Wait + Clock> Recorder<'_, R> {
             },
         );
         if !standing.missing.is_empty() {
-            log.tell(self.rt, missing_line(self.alloc, game, team, &standing.missing));
+            log.tell(
+                self.rt,
+                missing_line(self.alloc, game, team, &standing.missing),
+            );
         }
     }
 
@@ -246,6 +249,8 @@ impl<R: Keep + Wait + Clock> Watch for Recorder<'_, R> {
 
     fn closed(&self, game: u32, turns: u32, cell: &Cell) {
         self.standings.closed(self.rt, game, turns);
+        // The operator is not told to close what is closed.
+        self.scene.operator.progress().call_off(self.rt, game);
         if self.scene.is_telling {
             let team = self.team(game as usize);
             let judged = judged(self.rt, self.alloc, cell);

@@ -41,7 +41,9 @@ pub(crate) fn played_line(
     ensures { IfOk result (λ text. string_bytes text ≡ played_line session game team.now agent ended) }
 {
     let how = ended_words(ended);
-    format!(in alloc; "serve: session {session} played match {game} ({team}) agent {agent}: {how}\n")
+    format!(in alloc;
+        "serve: session {session} played match {game} ({team}) agent {agent}: {how}\n"
+    )
 }
 
 /// A client is gone whose agent has not entered.
@@ -143,7 +145,9 @@ pub(crate) fn judged_line(
 {
     let verdict = verdict_line(alloc, verdict)?;
     let verdict = verdict.as_str();
-    format!(in alloc; "serve: match {game} ({team}) closed: turns {turns} events {events}, {verdict}")
+    format!(in alloc;
+        "serve: match {game} ({team}) closed: turns {turns} events {events}, {verdict}"
+    )
 }
 
 /// A match was closed after this number of turns, and there was no memory to judge it.
@@ -155,7 +159,9 @@ pub(crate) fn unjudged_line(
 ) -> Result<String, Memory>
     ensures { IfOk result (λ text. string_bytes text ≡ unjudged_line game team.now turns) }
 {
-    format!(in alloc; "serve: match {game} ({team}) closed: turns {turns} and no memory to judge it\n")
+    format!(in alloc;
+        "serve: match {game} ({team}) closed: turns {turns} and no memory to judge it\n"
+    )
 }
 
 /// How many sessions go on, how many agents have not entered yet, and how many matches are open.
@@ -163,11 +169,13 @@ pub(crate) fn sessions_line(
     alloc: Global,
     sessions: u32,
     missing: usize,
-    open: usize,
+    matches: usize,
 ) -> Result<String, Memory>
-    ensures { IfOk result (λ text. string_bytes text ≡ sessions_line sessions missing open) }
+    ensures { IfOk result (λ text. string_bytes text ≡ sessions_line sessions missing matches) }
 {
-    format!(in alloc; "serve: sessions {sessions}, agents to come {missing}, open matches {open}\n")
+    format!(in alloc;
+        "serve: sessions {sessions}, agents to come {missing}, open matches {matches}\n"
+    )
 }
 
 /// How far a match is that goes on: how many turns it has taken out of how many, and how many events its part has.
@@ -181,7 +189,9 @@ pub(crate) fn open_line(
 ) -> Result<String, Memory>
     ensures { IfOk result (λ text. string_bytes text ≡ open_line game team.now turns most events) }
 {
-    format!(in alloc; "serve: match {game} ({team}) is open: turns {turns} of {most} events {events}\n")
+    format!(in alloc;
+        "serve: match {game} ({team}) is open: turns {turns} of {most} events {events}\n"
+    )
 }
 
 /// A match was closed after this number of turns, and its part has this number of events.
@@ -254,8 +264,7 @@ pub(crate) fn closing_line(alloc: Global, game: u32) -> Result<String, Memory>
 pub(crate) fn unknown_line(alloc: Global, lines: u32, matches: usize) -> Result<String, Memory>
     ensures { IfOk result (λ text. string_bytes text ≡ unknown_line lines matches) }
 {
-    format!(
-        in alloc;
+    format!(in alloc;
         "serve: {lines} lines of standard input are none of close, close M with M below {matches}, and status\n"
     )
 }
@@ -265,14 +274,9 @@ pub(crate) fn timed_line(alloc: Global, seconds: u64, line: &str) -> Result<Stri
     ensures { IfOk result (λ text. string_bytes text ≡ timed_line seconds line.now) }
 {
     let hours = seconds / 3600;
-    let (ten_minutes, minutes) = two_digits(seconds / 60 % 60);
-    let (ten_seconds, seconds) = two_digits(seconds % 60);
+    let minutes = seconds / 60 % 60;
+    let seconds = seconds % 60;
+    let (ten_minutes, minutes) = (minutes / 10, minutes % 10);
+    let (ten_seconds, seconds) = (seconds / 10, seconds % 10);
     format!(in alloc; "{hours}:{ten_minutes}{minutes}:{ten_seconds}{seconds} {line}")
-}
-
-// The two digits of a number below 100.
-fn two_digits(number: u64) -> (u64, u64)
-    ensures { (result.0 ≡ number / 10) × (result.1 ≡ number % 10) }
-{
-    (number / 10, number % 10)
 }

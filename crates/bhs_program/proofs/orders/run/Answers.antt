@@ -1,4 +1,4 @@
-use Rattle.std.proofs.Common.{inr, refl}
+use Rattle.std.proofs.Common.{inl, inr, refl}
 use Rattle.bhs_orders.specs.declared.faults.Fault.TheVariants.{Memory}
 use Rattle.bhs_program.specs.Program.{obeys, helps}
 use Rattle.bhs_program.proofs.ExitLemmas.{status_of_run}
@@ -18,6 +18,10 @@ returns-in-Ok-Shown-clause-runs g c =
 
 pub returns-in-Ok-Shown-clause-status : goal.returns-in-Ok-Shown-clause-status
 returns-in-Ok-Shown-clause-status g c = status_of_run _ _ _ _ _ _ _ _ _ _ (returns-in-Ok-Shown-clause-runs g c)
+
+pub returns-in-Ok-Refused-clause-status : goal.returns-in-Ok-Refused-clause-status
+returns-in-Ok-Refused-clause-status g c =
+    elim c.tell_refusal.ensures [ inl is ↦ inr (inl is) | inr is ↦ inr (inr (Memory, is)) ]
 
 pub returns-in-Err-clause-status : goal.returns-in-Err-clause-status
 returns-in-Err-clause-status g c = inr (inr (Memory, c.report.ensures))

@@ -1,0 +1,210 @@
+#!/usr/bin/env python3
+"""Floods a contest with clients that have no key, and measures how long honest agents wait for their answers.
+
+    ./arena --help            # builds the program, if it is not built yet
+    python3 bench/flood.py [--teams N] [--nodes N] [--rate R] [--turns K] [--pause MS]
+
+Teams of two agents each (`examples/agents/ring.py`) search a ring, 50 teams if nothing else is said. Meanwhile R clients
+a second connect, 500 if nothing else is said: of three one says nothing, one half a line, and one a wrong key, and each
+stays until the server closes it or four seconds have passed. How long an agent waits is measured for each of its
+commands, up to the first line of the answer, and once for its enter, from before it connects. Then the same is played
+without the flood. A line for each says how many teams solved their networks, and how long the slowest enter, the
+slowest command, and 99 of 100 commands took. The program is ./arena, or what ARENA names.
+"""
+import argparse
+import concurrent.futures
+import multiprocessing
+import pathlib
+import selectors
+import socket
+import sys
+import tempfile
+import threading
+import time
+from typing import Any, Dict, List, NamedTuple, Tuple
+
+from inputs import ring
+from servers import MAX_SESSIONS, TOP, Failed, free_port, prepare, started, words
+
+sys.path.insert(0, str(TOP / "examples" / "agents"))
+
+from client import Agent, Refused  # noqa: E402
+from ring import search  # noqa: E402
+
+HOST = "127.0.0.1"
+QUOTA, BOARD = 1000, 64
+# teams whose agents share a process
+SHARE = 5
+# seconds that a client of the flood stays at most
+STAYS = 4.0
+SAID = (b"", b'{"do":"enter","key"', b'{"do":"enter","key":"nobody"}\n')
+
+
+class Rules(NamedTuple):
+    """What is the same in both contests."""
+    teams: int
+    nodes: int
+    turns: int
+    pause: int
+
+
+class Waits(NamedTuple):
+    """How many seconds agents waited for their enters, and for their other commands."""
+    enters: List[float]
+    others: List[float]
+
+    def add(self, more: "Waits") -> None:
+        self.enters.extend(more.enters)
+        self.others.extend(more.others)
+
+
+class Timed(Agent):
+    """An agent that notes how long its commands take."""
+
+    def __init__(self, lines: Any) -> None:
+        super().__init__(lines)
+        self.waits: List[float] = []
+
+    def _ask(self, command: Dict[str, Any]) -> Dict[str, Any]:
+        begun = time.monotonic()
+        try:
+            return super()._ask(command)
+        finally:
+            self.waits.append(time.monotonic() - begun)
+
+
+def tournament(rules: Rules, network: pathlib.Path) -> str:
+    rows = "".join(f'\n[[match]]\nteam = "t{team}"\nnetwork = "{network}"\nhome = 0\nholes = [{rules.nodes // 2}]\n'
+                   f'quota = {QUOTA}\nboard = {BOARD}\nkeys = ["{team}-0", "{team}-1"]\nheld = []\n'
+                   for team in range(rules.teams))
+    return f'version = 3\nseed = "{"07" * 32}"\n{rows}'
+
+
+def played(port: int, key: str, nodes: int) -> Waits:
+    """How long an agent waited."""
+    begun = time.monotonic()
+    agent = Timed.connect(HOST, port)
+    connected = time.monotonic() - begun
+    try:
+        search(agent, key, nodes)
+    except Refused:
+        pass
+    finally:
+        agent.close()
+    return Waits([connected + agent.waits[0]], agent.waits[1:])
+
+
+def share(port: int, nodes: int, keys: List[str]) -> Waits:
+    """How long some agents waited, each in a thread of its own."""
+    found = Waits([], [])
+    with concurrent.futures.ThreadPoolExecutor(len(keys)) as pool:
+        for waits in pool.map(lambda key: played(port, key, nodes), keys):
+            found.add(waits)
+    return found
+
+
+def flood(port: int, rate: float, stop: Any, count: Any) -> None:
+    """Connects this often a second, and counts how often it did."""
+    selector = selectors.DefaultSelector()
+    waiting: List[Tuple[float, socket.socket]] = []
+    begun, sent = time.monotonic(), 0
+    while not stop.is_set():
+        now = time.monotonic()
+        while sent < (now - begun) * rate:
+            waiting.append((now, stranger(port, SAID[sent % len(SAID)], selector)))
+            sent += 1
+        count.value = sent
+        for key, _ in selector.select(0.002):
+            gone = key.fileobj
+            if not heard(gone):
+                selector.unregister(gone)
+                gone.close()
+        while waiting and waiting[0][0] + STAYS < now:
+            _, client = waiting.pop(0)
+            if client.fileno() >= 0:
+                selector.unregister(client)
+                client.close()
+
+
+def stranger(port: int, said: bytes, selector: selectors.BaseSelector) -> socket.socket:
+    """A client of the flood."""
+    client = socket.socket()
+    client.setblocking(True)
+    client.settimeout(STAYS)
+    try:
+        client.connect((HOST, port))
+        client.sendall(said)
+    except OSError:
+        pass
+    client.setblocking(False)
+    selector.register(client, selectors.EVENT_READ)
+    return client
+
+
+def heard(client: Any) -> bool:
+    """Whether a client is still connected."""
+    try:
+        return bool(client.recv(4096))
+    except OSError:
+        return False
+
+
+def contest(rules: Rules, rate: float) -> Tuple[str, float, Waits]:
+    """The table of a contest under a flood, how many clients a second it had, and how long the agents waited."""
+    keys = [f"{team}-{agent}" for team in range(rules.teams) for agent in range(2)]
+    shares = [keys[place:place + 2 * SHARE] for place in range(0, len(keys), 2 * SHARE)]
+    with tempfile.TemporaryDirectory() as folder_name:
+        folder = pathlib.Path(folder_name)
+        (folder / "ring.toml").write_text(ring(rules.nodes))
+        (folder / "cup.toml").write_text(tournament(rules, folder / "ring.toml"))
+        port = free_port()
+        command = words(folder / "cup.toml", port, MAX_SESSIONS, rules.turns, rules.pause, folder / "match")
+        with started([*command, "--early"], port, folder / "errors") as server:
+            stop, count = multiprocessing.Event(), multiprocessing.Value("q", 0)
+            flooding = multiprocessing.Process(target=flood, args=(port, rate, stop, count), daemon=True)
+            flooding.start()
+            time.sleep(1.0 if rate else 0.0)
+            begun, before, found = time.monotonic(), count.value, Waits([], [])
+            table: List[str] = []
+            reading = threading.Thread(target=lambda: table.append(server.stdout.read()))
+            reading.start()
+            with concurrent.futures.ProcessPoolExecutor(len(shares)) as pool:
+                for waits in pool.map(share, [port] * len(shares), [rules.nodes] * len(shares), shares):
+                    found.add(waits)
+            had = (count.value - before) / (time.monotonic() - begun)
+            stop.set()
+            flooding.join()
+            reading.join()
+    return table[0], had, found
+
+
+def told(rules: Rules, rate: float) -> str:
+    """A line on a contest."""
+    table, had, waits = contest(rules, rate)
+    solved = sum(row.split()[2] == "solved" for row in table.splitlines()[1:])
+    others = sorted(waits.others)
+    return (f"{had:.0f} strangers a second: {solved} of {rules.teams} teams solved their networks; the slowest enter "
+            f"took {1000 * max(waits.enters):.0f} ms, the slowest of {len(others)} commands {1000 * others[-1]:.0f} ms, "
+            f"99 of 100 at most {1000 * others[len(others) * 99 // 100]:.1f} ms")
+
+
+def main(arguments: List[str]) -> int:
+    parser = argparse.ArgumentParser(description=__doc__, formatter_class=argparse.RawDescriptionHelpFormatter)
+    parser.add_argument("--teams", type=int, default=50, help="teams of two agents (default: 50)")
+    parser.add_argument("--nodes", type=int, default=16, help="nodes of the ring (default: 16)")
+    parser.add_argument("--rate", type=float, default=500, help="strangers a second (default: 500)")
+    parser.add_argument("--turns", type=int, default=100_000, help="turns of a match (default: 100,000)")
+    parser.add_argument("--pause", type=int, default=5, help="milliseconds before each turn (default: 5)")
+    given = parser.parse_args(arguments)
+    prepare(8192)
+    rules = Rules(given.teams, given.nodes, given.turns, given.pause)
+    try:
+        for rate in (given.rate, 0.0):
+            print(told(rules, rate), flush=True)
+    except Failed as fault:
+        sys.exit(str(fault))
+    return 0
+
+
+if __name__ == "__main__":
+    sys.exit(main(sys.argv[1:]))
