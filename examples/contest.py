@@ -24,7 +24,6 @@ import os
 import pathlib
 import shlex
 import shutil
-import socket
 import subprocess
 import sys
 import tempfile
@@ -36,6 +35,7 @@ TOP = pathlib.Path(__file__).resolve().parent.parent
 sys.path.insert(0, str(TOP))
 
 from lab.support import built  # noqa: E402
+from lab.support.ports import free_port  # noqa: E402
 
 AGENTS = TOP / "examples" / "agents"
 RELEASED_RING = TOP / "bin" / "ring"
@@ -72,12 +72,6 @@ TEAMS: Dict[str, List[str]] = {
     "violet": ["ring.py", "ring.c"],
     "green": ["map.py"] * 5,
 }
-
-
-def free_port() -> int:
-    """A port on which nobody listens."""
-    with socket.create_server(("127.0.0.1", 0)) as listener:
-        return listener.getsockname()[1]
 
 
 def arena() -> List[str]:

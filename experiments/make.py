@@ -32,7 +32,9 @@ from experiments.division import Table, bound, of_ring, of_ring3, ring3
 from experiments.turns import played
 from lab.sweep import grid, report, sweeping, tables
 from lab.__main__ import main as lab
-from lab.rules.engines import TOP, add_engine, name_of, program_of
+from lab.commands.words import add_engine, program_of
+from lab.rules.engines import name_of
+from lab.support.built import TOP
 
 EXPERIMENTS = TOP / "experiments"
 DOCUMENT = TOP / "docs" / "EXPERIMENTS.md"

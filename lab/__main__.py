@@ -104,7 +104,7 @@ def main(given: Optional[List[str]] = None, name: str = BY_PYTHON) -> int:
         print("lab: interrupted", file=sys.stderr)
         return 130
     except BrokenPipeError:
-        # who reads has heard enough
+        # the reader of our output has closed it
         os.dup2(os.open(os.devnull, os.O_WRONLY), sys.stdout.fileno())
         return 2
     except (Fault, OSError) as fault:

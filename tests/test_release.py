@@ -92,7 +92,7 @@ class Releases(Repositories):
         self.assertEqual(runnable, {"arena", "bin/arena", "bin/ring"})
         build, facts = found["BUILD"][0], found["PROVED.txt"][0]
         self.assertRegex(build, r"^arena 1\.2\.3, proved\ncommit [0-9a-f]{40}, tree clean\ntoolchain kit 1\n"
-                         r"needs Linux on x86-64 with glibc 2\.\d+ or newer, and Python 3\.8 or newer\n$")
+                         r"needs Linux on x86-64 with glibc 2\.\d+ or newer, and Python 3\.11 or newer\n$")
         self.assertTrue(facts.startswith(build))
         for said in (release.digest_of(self.proved.read_bytes()), "compiler 2", "  bhs_main\n", "once each was proved"):
             self.assertIn(said, facts)

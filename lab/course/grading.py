@@ -32,8 +32,8 @@ from lab.sweep.grid import Case, NoSweep
 from lab.sweep.report import Row
 
 HANGS = "a program lets the lab wait, and what happens then depends on the machine"
-DIFFERS = ("under the same schedule the match went another way when it was played again, so the programs are no "
-           "functions of what they are told; look for clocks, random numbers without a seed, and sets")
+DIFFERS = ("under the same schedule the match went another way when it was played again, so the programs do "
+           "something else although they are told the same; look for clocks, random numbers without a seed, and sets")
 TIME_IS_UP = "the time for this was up, so there may be a smaller one"
 # faults of the machine or of the course's file, which end the command: all others are of a match alone
 OF_ALL = (Impossible, Missing, NoAgent, NoCell, NoProgram, NoUser, OSError)

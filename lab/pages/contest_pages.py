@@ -7,10 +7,8 @@ from typing import List, NamedTuple, Optional, Tuple
 from lab.pages.judging import verdict_of
 from lab.pages.page import write_page
 from lab.pages.parts import filled
-from lab.rules.model import Verdict
+from lab.rules.model import RANKS, Verdict, rank
 from lab.rules.networks import NoNetwork
-
-RANKS = ("solved", "guess", "unfinished", "silent", "wrong")
 
 
 class Shown(NamedTuple):
@@ -30,17 +28,15 @@ def matches_of(tournament: pathlib.Path) -> List[Shown]:
         raise NoNetwork(f"{tournament}: this is not the file of a tournament ({fault}): see `arena check`") from None
 
 
-def rank(shown: Shown) -> Tuple[int, int, int, str]:
+def place_of(shown: Shown) -> Tuple[int, int, int, str]:
     """Who comes first: as in the arena's table. Matches without a replay come last."""
-    if shown.verdict is None:
-        return (len(RANKS), 0, 0, shown.team)
-    return (RANKS.index(shown.verdict.outcome.split()[0]), shown.verdict.moves, shown.verdict.lost, shown.team)
+    return (len(RANKS), 0, 0, shown.team) if shown.verdict is None else rank(shown.verdict, shown.team)
 
 
 def page_of(title: str, matches: List[Shown]) -> str:
     """The page that lists the matches."""
     solved = sum(one.verdict is not None and one.verdict.outcome == "solved" for one in matches)
-    return filled("contest.html", title=title, matches=sorted(matches, key=rank), solved=solved)
+    return filled("contest.html", title=title, matches=sorted(matches, key=place_of), solved=solved)
 
 
 def write_pages(program: Optional[str], tournament: pathlib.Path, prefix: str, folder: pathlib.Path) -> pathlib.Path:

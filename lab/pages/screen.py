@@ -7,8 +7,7 @@ for, so pages come when all matches are closed.
 """
 from typing import Any, Dict, List, NamedTuple, Optional, Sequence
 
-from lab.pages.contest_pages import RANKS
-from lab.rules.model import OUTSIDE, Match, judge
+from lab.rules.model import OUTSIDE, RANKS, Match, Verdict, judge, rank
 
 Row = Dict[str, Any]
 NOT_BEGUN, RUNS, OVER = "has not begun", "runs", "is over"
@@ -35,15 +34,15 @@ def shown(watched: Watched, all_closed: bool) -> Row:
     return {"team": team, "state": OVER, "outcome": outcome, "moves": verdict.moves, "lost": verdict.lost}
 
 
-def rank(row: Row) -> Any:
+def place_of(row: Row) -> Any:
     """Matches that are over come first, as in the arena's table; the others stay in the order of their numbers."""
     if row["state"] != OVER:
         return (len(RANKS),)
-    return RANKS.index(row["outcome"].partition(" ")[0]), row["moves"], row["lost"], row["team"]
+    return rank(Verdict(row["outcome"], row["moves"], row["lost"]), row["team"])
 
 
 def standings(all_watched: Sequence[Watched]) -> List[Row]:
     """What may be shown of all matches, best first; `page` says whether the match's page may be opened."""
     all_closed = all(one.match is not None and one.match.closed for one in all_watched)
     rows = [{"match": number, "page": all_closed, **shown(one, all_closed)} for number, one in enumerate(all_watched)]
-    return sorted(rows, key=rank)
+    return sorted(rows, key=place_of)

@@ -19,7 +19,8 @@ import inspect
 import pathlib
 import random
 import sys
-from types import FunctionType, ModuleType
+from importlib.machinery import SourceFileLoader
+from types import CodeType, FunctionType, ModuleType
 from typing import Any, Callable, Dict, List, Sequence, Tuple
 
 from lab.play.imports import files_behind
@@ -64,15 +65,22 @@ def loaded(path: pathlib.Path) -> ModuleType:
         return loaded_anew(path, modules)[0]
 
 
+@functools.lru_cache(maxsize=64)
+def compiled(path: str, text: bytes) -> CodeType:
+    """What a file of this text is compiled to. Each agent executes it anew, as often as a search tries it."""
+    made: CodeType = compile(text, path, "exec", dont_inherit=True)
+    return made
+
+
 def executed(path: pathlib.Path) -> ModuleType:
     """The module in a file, which is executed now."""
     spec = importlib.util.spec_from_file_location(f"lab_agent_{path.stem}", path)
-    if spec is None or spec.loader is None:
+    if spec is None or not isinstance(spec.loader, SourceFileLoader):
         raise NoAgent(f"{path}: it is not in Python: its name ends with .py then")
     module = importlib.util.module_from_spec(spec)
     sys.modules[spec.name] = module
     try:
-        spec.loader.exec_module(module)
+        exec(compiled(str(path), path.read_bytes()), vars(module))
     except SyntaxError as fault:
         raise NoAgent(f"{fault.filename}, line {fault.lineno}: {fault.msg}") from None
     return module

@@ -134,8 +134,8 @@ class Row(Dict[str, Any]):
             return self._record
         record = self._asked.play()
         if hashlib.sha256(record.played.replay).hexdigest() != self["replay"]:
-            raise Differs("played again the match came to another replay: its agents are no functions of what they are "
-                          "told")
+            raise Differs("played again the match came to another replay: its agents do something else although they "
+                          "are told the same")
         return record
 
     def forget(self) -> "Row":

@@ -5,20 +5,27 @@ import os
 import random
 import sys
 import threading
+import weakref
 from types import ModuleType
-from typing import Collection, Dict, List, Sequence, Set
+from typing import Collection, Dict, FrozenSet, List, Sequence, Set
 
 # one thread at a time changes which modules there are
 LOADING = threading.RLock()
 # all folders out of which agents were loaded
 FOLDERS: Set[str] = set()
 RANDOM = "random"
+# of each module the folders that it stands in, as long as there is the module: it is asked at each turn of an agent
+STANDS_IN: "weakref.WeakKeyDictionary[ModuleType, FrozenSet[str]]" = weakref.WeakKeyDictionary()
 
 
 def is_beside(module: ModuleType, folders: Collection[str]) -> bool:
     """Whether a module is a file in one of these folders, or a package in it."""
-    places: Sequence[str] = list(getattr(module, "__path__", None) or [getattr(module, "__file__", None) or ""])
-    return any(os.path.dirname(place) in folders for place in places)
+    # what stands among the modules may be another object
+    found = STANDS_IN.get(module) if isinstance(module, ModuleType) else frozenset()
+    if found is None:
+        places: Sequence[str] = list(getattr(module, "__path__", None) or [getattr(module, "__file__", None) or ""])
+        found = STANDS_IN[module] = frozenset(os.path.dirname(place) for place in places)
+    return not found.isdisjoint(folders)
 
 
 def own_names(folders: Collection[str], shared: Collection[str] = ()) -> List[str]:

@@ -11,6 +11,7 @@ lines that begin with `#` are skipped. The match is closed at the end of the fil
 """
 import json
 import pathlib
+import re
 from typing import Dict, List, NamedTuple
 
 from lab import VERSION
@@ -19,6 +20,9 @@ from lab.play.teams import INSIDE, OUTSIDE, AgentWords, digests_of
 from lab.rules.fixtures import OWN_TEAM, Fixture, NoMatch, checked, pairs
 from lab.rules.model import Object, Setup, link_of, place_of, spelled
 from lab.support.faults import Fault
+
+# an agent's number, as a schedule writes it
+AGENT = "0|[1-9][0-9]*"
 
 
 class NoSchedule(Fault):
@@ -93,7 +97,7 @@ def choices_of(path: pathlib.Path, lines: List[str]) -> List[Choice]:
         if not line.strip() or line.startswith("#"):
             continue
         do, _, agent = line.strip().partition(" ")
-        if do not in (ANSWER, ARRIVE, WAKE) or not agent.isdecimal():
+        if do not in (ANSWER, ARRIVE, WAKE) or not re.fullmatch(AGENT, agent):
             raise NoSchedule(f"{path}: line {number} is no choice, as `arrive 0` is")
         found.append(Choice(do, int(agent)))
     return found

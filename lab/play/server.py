@@ -8,9 +8,7 @@ from typing import Any, Dict, List, NamedTuple, Set, Tuple
 from lab.rules.delays import Turns
 from lab.rules.fixtures import Fixture, read_tournament
 from lab.rules.model import (ENDED, GONE, LAST, MAX_LINE, OUTSIDE, OVER, Match, Object, Verdict, command_of,
-                             denial, judge, spelled, text_of)
-
-RANKS = ["solved", "guess", "unfinished", "silent", "wrong"]
+                             denial, judge, rank, spelled, text_of)
 
 
 class Game:
@@ -150,7 +148,7 @@ def games_of(path: str) -> Tuple[List[Game], Dict[str, Tuple[Game, int]]]:
 
 def table(rows: List[Tuple[str, Verdict]]) -> str:
     """The table of teams and verdicts, best first."""
-    ranked = sorted(rows, key=lambda row: (RANKS.index(row[1].outcome.split()[0]), row[1].moves, row[1].lost, row[0]))
+    ranked = sorted(rows, key=lambda row: rank(row[1], row[0]))
     lines = [("#", "team", "outcome", "moves", "lost")]
     lines += [(str(place), team, verdict.outcome, str(verdict.moves), str(verdict.lost))
               for place, (team, verdict) in enumerate(ranked, 1)]

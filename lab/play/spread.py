@@ -71,7 +71,7 @@ is_over: Any = None
 
 
 def begin(over: Any, parent: int) -> None:
-    """Begins a worker. Who interrupts the command interrupts it alone; it ends its workers."""
+    """Begins a worker. An interrupt of the command reaches the command alone, which then ends its workers."""
     global is_over
     is_over = over
     signal.signal(signal.SIGINT, signal.SIG_IGN)

@@ -316,6 +316,15 @@ class Verdict(NamedTuple):
     lost: int
 
 
+# what a match may come to, best first, as the arena's table ranks it
+RANKS = ("solved", "guess", "unfinished", "silent", "wrong")
+
+
+def rank(verdict: Verdict, team: str) -> Tuple[int, int, int, str]:
+    """Where a verdict stands in the table: by its kind, then by few moves, few lost agents, and the team's name."""
+    return RANKS.index(verdict.outcome.partition(" ")[0]), verdict.moves, verdict.lost, team
+
+
 def judge(match: Match) -> Verdict:
     """The verdict on a match that has ended."""
     moves = sum(event["do"] == "depart" and event["reply"] == GONE for event in match.log)

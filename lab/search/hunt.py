@@ -134,7 +134,7 @@ class Hunter:
 
 
 def hunted(hunter: Hunter) -> None:
-    """Searches, and makes what was found small. Who interrupts it gets what was found."""
+    """Searches, and makes what was found small. An interrupt ends the search, and leaves what was found."""
     try:
         hunter.search(["reuse", "generate", "target", "shrink"])
         best = hunter.best

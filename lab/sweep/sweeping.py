@@ -147,8 +147,8 @@ def kept(work: Work, spec: Grid, case: Case, row: report.Row, folder: pathlib.Pa
     the report."""
     schedule, played = played_case(work, spec, case)
     if hashlib.sha256(played.replay).hexdigest() != row["replay"]:
-        raise Differs(f"run {case.number} has another replay when it is played again: its agents or its scheduler are "
-                      "no functions of what they are given")
+        raise Differs(f"run {case.number} has another replay when it is played again: its agents or its scheduler do "
+                      "something else although they are given the same")
     place = folder / WORST / str(case.number)
     write_find(place, schedule, played, work.program)
     names = [name for name in ("match0.html", "schedule.txt") if (place / name).exists()]

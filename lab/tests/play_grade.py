@@ -162,7 +162,7 @@ class Grading(InFolder):
         file = self.folder / "course.toml"
         file.write_text(HEAD + team("dice", ["dice.py"], "python3 dice.py {port} {key}", 1))
         self.graded(file, "out", "--engine", "model")
-        self.assertIn("no functions of what they are told", (self.folder / "out" / "team-dice.html").read_text())
+        self.assertIn("something else although they are told the same", (self.folder / "out" / "team-dice.html").read_text())
 
 
 # an agent that writes a number by chance on the whiteboard

@@ -24,7 +24,7 @@ from lab.tests.playing import MAP, RING, fixture, program
 
 WORST = {3: 4, 4: 9, 5: 14, 6: 23}
 BY_MODEL = ("--search", "model")
-# agents that are no functions of what they are told, or have other faults
+# agents that do something else although they are told the same, or have other faults
 ODD = '''
 import random
 from ring import Search, Walker

@@ -161,6 +161,12 @@ class Leagues(Folder):
         found = [standing[:5] for standing in league.standings_of(rows, list("abcd"))]
         self.assertEqual(found, [(1, "d", 2, 2, 17), (2, "a", 2, 2, 18), (2, "c", 2, 2, 18), (4, "b", 2, 1, 9)])
 
+    def test_moves_count_before_lost_agents_and_these_before_nothing(self) -> None:
+        few_lost, few_moves = {**row(0, "a", 9), "lost": "0"}, {**row(0, "b", 8), "lost": "5"}
+        rows = [few_lost, few_moves, {**row(0, "c", 9), "lost": "1"}, {**row(0, "d", 9), "lost": "0"}]
+        found = [(it.place, it.team, it.lost) for it in league.standings_of(rows, list("abcd"))]
+        self.assertEqual(found, [(1, "b", 5), (2, "a", 0), (2, "d", 0), (4, "c", 1)])
+
     def test_a_fault_is_no_solution(self) -> None:
         found = league.standings_of([row(0, "a", 9, "solved", "agent 1: has connected twice")], ["a"])
         self.assertEqual(found[0].solved, 0)

@@ -1,7 +1,7 @@
 """The Python model: worked rows on the triangle."""
 import unittest
 
-from lab.rules.model import Match, Setup, command_of, judge, outcome_of
+from lab.rules.model import Match, Setup, Verdict, command_of, judge, outcome_of, rank
 
 TRIANGLE = [(0, 0, 1, 0), (1, 1, 2, 0), (2, 1, 0, 1)]
 ENTER, LOOK, LEAVE = ({"do": word} for word in ("enter", "look", "leave"))
@@ -44,6 +44,26 @@ class Model(unittest.TestCase):
                 match.tell(0, command)
             match.close()
             self.assertEqual(outcome_of(match), outcome)
+
+    def test_the_first_rule_that_holds(self) -> None:
+        match = self.triangle()
+        match.tell(0, ENTER)
+        match.tell(1, ENTER)
+        match.tell(0, accuse(1))
+        self.assertEqual(outcome_of(match), "unfinished")
+        # of several nodes that nobody has reached the least is the guess
+        links = [(v, 0, (v + 1) % 5, 1) for v in range(5)]
+        match = Match(Setup(5, links, 0, [4], 1, 10, 8))
+        match.tell(0, ENTER)
+        match.tell(0, accuse(1))
+        self.assertEqual(outcome_of(match), "guess 1")
+        self.assertEqual(outcome_of(self.triangle(holes=())), "silent")
+
+    def test_the_order_of_the_table(self) -> None:
+        rows = [(Verdict("solved", 2, 9), "z"), (Verdict("solved", 3, 0), "a"), (Verdict("solved", 3, 1), "a"),
+                (Verdict("solved", 3, 1), "b"), (Verdict("guess 7", 0, 0), "a"), (Verdict("unfinished", 0, 0), "a"),
+                (Verdict("silent", 0, 0), "a"), (Verdict("wrong", 0, 0), "a")]
+        self.assertEqual(sorted(reversed(rows), key=lambda row: rank(*row)), rows)
 
     def test_a_dark_link_destroys_and_is_accused(self) -> None:
         match = self.triangle(holes=(), dark=[(0, 1)])

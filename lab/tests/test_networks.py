@@ -1,5 +1,6 @@
 """Networks by name, and how their ports are numbered."""
 import argparse
+import random
 import unittest
 
 from lab.commands.network import ports_seed
@@ -38,6 +39,16 @@ class Networks(unittest.TestCase):
         self.assertEqual(pairs[0], pairs[2])
         self.assertEqual(one, networks.shuffled(network, 1))
         self.assertEqual(len({tuple(it.links) for it in (network, one, two)}), 3)
+
+    def test_drawn_networks_join_two_nodes_once_and_have_few_ports(self) -> None:
+        for seed in range(300):
+            network = networks.drawn(random.Random(seed))
+            pairs = {frozenset((v, w)) for v, _, w, _ in network.links}
+            with self.subTest(seed):
+                self.assertEqual(len(pairs), len(network.links))
+                self.assertEqual({len(pair) for pair in pairs}, {2})
+                self.assertLessEqual(max(network.degrees()), networks.LARGEST_DEGREE)
+                self.assertGreaterEqual(min(network.degrees()), 2)
 
     def test_names_that_name_none(self) -> None:
         for name, said in (("ccc:2", "cube-connected cycles 3 dimensions or more"), ("hypercube:40", "3 to 4096 nodes"),

@@ -1,11 +1,13 @@
 """The lab's rooms stand on each other in one order, and no module imports one that imports it."""
 import ast
 import graphlib
+import importlib
+import importlib.util
 import pathlib
 import unittest
-from typing import Dict, Iterator, Set
+from typing import Dict, Iterator, Set, Tuple
 
-from lab.support.built import LAB
+from lab.support.built import LAB, TOP
 
 # from the ground up: a room imports from itself and from rooms below it; so do the modules that stand in no room
 ROOMS = ("support", "rules", "pages", "play", "search", "sweep", "course", "api", "commands", "__main__", "start")
@@ -30,6 +32,21 @@ def imported(text: str, names: Set[str]) -> Iterator[str]:
         yield from names.intersection(name.removeprefix("lab.") for name in found if name.startswith("lab."))
 
 
+def others() -> Iterator[pathlib.Path]:
+    """Programs in Python beside the lab, and its tests, which no type checker reads."""
+    for folder in ("bench", "examples", "experiments", "tests", "tools", "lab/tests"):
+        for path in (TOP / folder).rglob("*"):
+            if path.suffix == ".py" or path.is_file() and path.read_bytes().startswith(b"#!/usr/bin/env python3"):
+                yield path
+
+
+def taken(text: str) -> Iterator[Tuple[str, str]]:
+    """What a file takes out of the lab: modules, and names in them."""
+    for node in ast.walk(ast.parse(text)):
+        if isinstance(node, ast.ImportFrom) and node.module and node.module.partition(".")[0] == "lab":
+            yield from ((node.module, it.name) for it in node.names)
+
+
 class Rooms(unittest.TestCase):
     def setUp(self) -> None:
         paths = modules()
@@ -51,6 +68,16 @@ class Rooms(unittest.TestCase):
     def test_no_module_imports_one_that_imports_it(self) -> None:
         order = list(graphlib.TopologicalSorter(self.graph).static_order())
         self.assertEqual(set(order), set(self.graph))
+
+    def test_what_others_take_out_of_the_lab_is_there(self) -> None:
+        count = 0
+        for path in others():
+            for module, name in taken(path.read_text(encoding="utf-8")):
+                count += 1
+                with self.subTest(str(path.relative_to(TOP)), module=module, name=name):
+                    found = importlib.import_module(module)
+                    self.assertTrue(hasattr(found, name) or importlib.util.find_spec(f"{module}.{name}"))
+        self.assertGreater(count, 50)
 
     def test_a_cycle_and_a_room_above_are_told(self) -> None:
         names = {"rules.model", "commands.run", "api"}

@@ -7,6 +7,8 @@ from lab.play import schedulers
 from lab.play.schedulers import ANSWER, ARRIVE, WAKE, Choice, Ended, Impossible
 
 ANSWERS = [Choice(ANSWER, agent) for agent in range(3)]
+# a seed whose links have other paces
+SLOW = 1
 ARRIVALS = [Choice(ARRIVE, agent) for agent in range(3)]
 
 
@@ -35,6 +37,16 @@ class Schedulers(unittest.TestCase):
         for _ in range(3000):
             counts[choose(ANSWERS, state([])).agent] += 1
         self.assertLess(min(counts) * 3, max(counts))
+
+    def test_slow_links_are_slow_for_the_whole_match_and_answers_are_not(self) -> None:
+        choose, arrived = schedulers.slow_links(SLOW), [0, 0, 0]
+        for _ in range(3000):
+            arrived[choose(ARRIVALS, state([0, 1, 2])).agent] += 1
+        self.assertLess(min(arrived) * 3, max(arrived))
+        answered = [0, 0, 0]
+        for _ in range(3000):
+            answered[choose(ANSWERS, state([])).agent] += 1
+        self.assertGreater(min(answered) * 3, max(answered))
 
     def test_the_last_that_departed_arrives_first_once_nobody_is_to_be_answered(self) -> None:
         choose = schedulers.last_departed(0)

@@ -92,6 +92,8 @@ class Reports(unittest.TestCase):
         self.assertEqual(report.summary(groups)[1],
                          ["ring:4", "4", "a", "2", "fair", "3", "3", "6.0", "5.0", "5", "6", "7", "8", "1", "1", "16"])
         self.assertEqual(report.summary(groups)[2][7:12], ["9.0", "0.0", "9", "9", "9"])
+        # moves are numbers: 10 are more than 9
+        self.assertEqual(report.groups_of([row(0, 9), row(1, 10)], grid)[0].worst["run"], "1")
 
     def test_the_runs_that_are_kept(self) -> None:
         rows = [row(0, 4), row(1, 8), row(2, 8), row(3, 5, network="ring:5"), row(4, 9, "silent", "ring:5"),
