@@ -14,7 +14,7 @@ from lab.support.faults import Fault
 from lab.support.missing import Missing, missing_of
 
 # modules of Debian's packages: to play agents inside the lab, to lay out pages
-PLAYS, PAGES = ("greenlet", "tqdm"), ("networkx", "numpy", "scipy")
+PLAYS, PAGES = ("greenlet", "tqdm"), ("jinja2", "networkx", "numpy", "scipy")
 
 
 class Command(NamedTuple):

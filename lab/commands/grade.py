@@ -26,7 +26,11 @@ from lab.commands.words import add_engine, add_workers, program_of
 from lab.course import cells, course
 from lab.course.cells import Walls, Yard
 from lab.course.grading import Graded, graded_in
+from lab.support.missing import check
 from lab.sweep import tables
+
+# what the pages of a course are made by, without which it would stop at its end
+NEEDED = ("jinja2",)
 
 
 def add_words(parser: argparse.ArgumentParser) -> None:
@@ -41,6 +45,7 @@ def add_words(parser: argparse.ArgumentParser) -> None:
 
 
 def run(words: argparse.Namespace) -> int:
+    check(*NEEDED)
     path, strongest = words.file.resolve(), cells.strongest()
     read = course.read(path, "")
     course.check_networks(read)

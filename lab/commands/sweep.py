@@ -23,9 +23,13 @@ import pathlib
 from lab.commands.words import add_engine, add_workers, at_least_one, program_of
 from lab.play.games import maker_of
 from lab.rules.engines import program_at
+from lab.support.missing import check
 from lab.sweep import grid, verify
 from lab.sweep.sweeping import Way, Work, made_of, swept, verified
 from lab.sweep.tables import alone_in, prepared
+
+# what a report is made by, without which a sweep would stop at its end
+NEEDED = ("jinja2", "matplotlib")
 
 
 def add_words(parser: argparse.ArgumentParser) -> None:
@@ -42,6 +46,7 @@ def add_words(parser: argparse.ArgumentParser) -> None:
 
 
 def run(words: argparse.Namespace) -> int:
+    check(*NEEDED)
     spec, text = grid.read(words.file), words.file.read_text(encoding="utf-8")
     work = Work(text, program_of(words))
     for name in spec.schedulers:

@@ -1,14 +1,15 @@
 """The league table of a course, and a page for each team."""
-import html
-from typing import Dict, List, NamedTuple, Optional, Sequence, Tuple
+from typing import Any, Dict, List, NamedTuple, Optional, Sequence, Tuple
 
-from lab.pages.parts import framed, part
+from lab.pages.parts import filled
 from lab.play import finds, programs
 from lab.sweep.grid import Grid
 from lab.sweep.report import FAULTS, Row, is_solved
 
 TABLE, PAGE, FAILED, SMALLEST = "league.csv", "league.html", "failed", "smallest"
 HEAD = ("place", "team", "matches", "solved", "moves", "lost")
+# what is kept of a match: its page, if there is one, its schedule and its replay
+FILES = {"watch": finds.PAGE, "schedule": finds.SCHEDULE, "replay": finds.REPLAY}
 MATCH_HEAD = ("match", "network", "black hole", "scheduler", "seed", "came to", "moves", "lost")
 
 # how a match may fail besides by its verdict, each by what its first fault says
@@ -50,6 +51,10 @@ class Standing(NamedTuple):
 
     def cells(self) -> List[str]:
         return [str(value) for value in self[:len(HEAD)]]
+
+    def page(self) -> str:
+        """The file of the team's page."""
+        return page_name(self.team)
 
 
 class Failure(NamedTuple):
@@ -130,95 +135,37 @@ def pages(grid: Grid, rows: Sequence[Row], failures: Dict[int, Failure], engine:
     return found
 
 
-def framed_page(name: str, title: str, given: Dict[str, str]) -> str:
-    """A page of a course, of this title."""
-    return framed(name, title, part("report.css") + part("league.css"), given)
+def met_in(standings: Sequence[Standing]) -> List[str]:
+    """The kinds of failures that there are, in the order of the kinds."""
+    return [kind for kind in KINDS if any(kind in standing.kinds for standing in standings)]
 
 
 def league_page(grid: Grid, standings: Sequence[Standing], engine: str) -> str:
     matches = standings[0].matches
     about = (f"Each of {len(standings)} teams played the same {matches} matches on {', '.join(grid.names)}. Played and "
              f"judged by {engine}.")
-    rows = "".join(league_row(standing) for standing in standings)
-    head = head_of([HEAD[0], HEAD[1], "solved", *standings[0].networks, "moves", "lost", "failed"])
-    return framed_page("league.html", grid.title, {"about": html.escape(about), "kinds": kinds_list(standings),
-                                                   "table": f"{head}<tbody>{rows}</tbody>"})
-
-
-def league_row(standing: Standing) -> str:
-    name = f'<a href="{page_name(standing.team)}">{html.escape(standing.team)}</a>'
-    networks = [f'<span class="{"all" if solved == count else "some"}">{solved} of {count}</span>'
-                for solved, count in standing.networks.values()]
-    failed = " ".join(badge(kind, f"{count} {kind}") for kind, count in standing.kinds.items())
-    return row_of([str(standing.place), name, f"{standing.solved} of {standing.matches}", *networks,
-                   str(standing.moves), str(standing.lost), failed])
-
-
-def badge(kind: str, said: str) -> str:
-    """A word for how matches failed, in its colour."""
-    return f'<span class="kind {KINDS[kind][0]}">{html.escape(said)}</span>'
-
-
-def kinds_list(standings: Sequence[Standing]) -> str:
-    """What the words for failures mean that stand in the table."""
-    met = [kind for kind in KINDS if any(kind in standing.kinds for standing in standings)]
-    return "".join(f"<li>{badge(kind, kind)} {html.escape(KINDS[kind][1])}</li>" for kind in met)
+    head = [HEAD[0], HEAD[1], "solved", *standings[0].networks, "moves", "lost", "failed"]
+    return filled("league.html", title=grid.title, about=about, head=head, standings=standings, kinds=KINDS,
+                  met=met_in(standings))
 
 
 def team_page(grid: Grid, standing: Standing, rows: Sequence[Row], failures: Dict[int, Failure]) -> str:
     failed = [row for row in rows if not is_solved(row)]
     about = (f"Place {standing.place} of {len(grid.teams)} in the league: solved {standing.solved} of "
              f"{standing.matches} matches, with {standing.moves} moves and {standing.lost} lost agents in these.")
-    told = "".join(failure_of(row, failures[int(row["run"])]) for row in failed)
-    matches = "".join(match_row(row, not is_solved(row)) for row in rows)
-    return framed_page("team.html", f"Team {standing.team}", {
-        "course": html.escape(grid.title), "about": html.escape(about), "kinds": kinds_list([standing]),
-        "failed": told or "<p>None: the team solved each of its matches.</p>",
-        "table": f"{head_of(MATCH_HEAD)}<tbody>{matches}</tbody>"})
+    return filled("team.html", title=f"Team {standing.team}", course=grid.title, about=about, kinds=KINDS,
+                  met=met_in([standing]), head=MATCH_HEAD, files=FILES,
+                  failed=[failed_match(row, failures[int(row["run"])]) for row in failed],
+                  rows=[(row, "" if is_solved(row) else kind_of(row)) for row in rows])
 
 
-def failure_of(row: Row, failure: Failure) -> str:
-    """A failed match: what came of it, and where it and its smallest schedule can be watched."""
+def failed_match(row: Row, failure: Failure) -> Dict[str, Any]:
+    """What the page of a team says of a match that it failed."""
     folder = folder_of(row["team"], failure.number)
-    match = f"match {failure.number}: {row['network']}, black hole {row['hole']}, {row['scheduler']} {row['seed']}"
-    verdict = came(row["outcome"], row["moves"], row["lost"])
-    faults = "".join(f"<li>{html.escape(fault)}</li>" for fault in row[FAULTS])
-    said = [html.escape(failure.said)]
-    if failure.has_smallest:
-        said = [f"smallest schedule found ({links(f'{folder}/{SMALLEST}', failure)}): {said[0]}"]
-    if failure.choices is not None:
-        said.append(f"as it was played ({links(folder, failure)}): {failure.choices} choices")
-    kind = kind_of(row)
-    return (f'<section class="match"><h3 id="match-{failure.number}">{badge(kind, kind)} {html.escape(match)}</h3>'
-            f'<p>{html.escape(verdict)}</p><ul class="faults">{faults}</ul><ul>'
-            f'{"".join(f"<li>{it}</li>" for it in said)}</ul></section>')
+    return {"row": row, "failure": failure, "kind": kind_of(row), "folder": folder, "smallest": f"{folder}/{SMALLEST}",
+            "came": came(row["outcome"], row["moves"], row["lost"])}
 
 
 def came(outcome: str, moves: str, lost: str) -> str:
     """What a match came to."""
     return f"{outcome}, {moves} moves, {lost} lost"
-
-
-def links(folder: str, failure: Failure) -> str:
-    """Links to the page of a match, if it has one, and to its schedule and its replay."""
-    files = {"schedule": finds.SCHEDULE, "replay": finds.REPLAY}
-    if failure.has_pages:
-        files = {"watch": finds.PAGE, **files}
-    return ", ".join(f'<a href="{html.escape(folder)}/{file}">{name}</a>' for name, file in files.items())
-
-
-def match_row(row: Row, has_failed: bool) -> str:
-    names = ("run", "network", "hole", "scheduler", "seed", "outcome", "moves", "lost")
-    cells = [html.escape(row[name]) for name in names]
-    if has_failed:
-        cells[0] = f'<a href="#match-{cells[0]}">{cells[0]}</a>'
-        cells[5] = badge(kind_of(row), kind_of(row))
-    return row_of(cells)
-
-
-def head_of(names: Sequence[str]) -> str:
-    return f"<thead><tr>{''.join(f'<th>{html.escape(name)}</th>' for name in names)}</tr></thead>"
-
-
-def row_of(cells: Sequence[str]) -> str:
-    return f"<tr>{''.join(f'<td>{cell}</td>' for cell in cells)}</tr>"

@@ -1,5 +1,4 @@
 """The pages of a contest: one for each match, and one that lists them."""
-import html
 import pathlib
 import shutil
 import tomllib
@@ -7,7 +6,7 @@ from typing import List, NamedTuple, Optional, Tuple
 
 from lab.pages.judging import verdict_of
 from lab.pages.page import write_page
-from lab.pages.parts import framed, part
+from lab.pages.parts import filled
 from lab.rules.model import Verdict
 from lab.rules.networks import NoNetwork
 
@@ -38,27 +37,10 @@ def rank(shown: Shown) -> Tuple[int, int, int, str]:
     return (RANKS.index(shown.verdict.outcome.split()[0]), shown.verdict.moves, shown.verdict.lost, shown.team)
 
 
-def row_of(place: int, shown: Shown) -> str:
-    """The row of a match in the list."""
-    match = [str(shown.number), html.escape(shown.network)]
-    if shown.verdict is None:
-        cells, kind = ["no replay", "", "", "", *match, ""], ""
-    else:
-        name = f"match{shown.number}"
-        cells = [shown.verdict.outcome, str(shown.verdict.moves), str(shown.verdict.lost),
-                 f'<a href="{name}.html">watch it</a>', *match, f'<a href="{name}.jsonl">replay</a>']
-        kind = "" if shown.verdict.outcome == "solved" else ' class="failed"'
-    return f"<tr{kind}>{''.join(f'<td>{cell}</td>' for cell in [str(place), html.escape(shown.team), *cells])}</tr>"
-
-
 def page_of(title: str, matches: List[Shown]) -> str:
     """The page that lists the matches."""
-    ranked = sorted(matches, key=rank)
     solved = sum(one.verdict is not None and one.verdict.outcome == "solved" for one in matches)
-    return framed("contest.html", title, part("report.css"), {
-        "about": f"{len(matches)} matches, {solved} solved.",
-        "rows": "".join(row_of(place, one) for place, one in enumerate(ranked, 1)),
-    })
+    return filled("contest.html", title=title, matches=sorted(matches, key=rank), solved=solved)
 
 
 def write_pages(program: Optional[str], tournament: pathlib.Path, prefix: str, folder: pathlib.Path) -> pathlib.Path:

@@ -4,14 +4,13 @@ It keeps of an event its kind, its agent and its port, and each text once; repli
 rules of docs/MODEL.md, as `arena` has found them to be those of the replay.
 """
 import functools
-import html
 import json
 import pathlib
 import tempfile
 from typing import Any, Dict, Iterable, List, Optional, Tuple
 
 from lab.pages.judging import lines_of, pasts_of, verdict_of
-from lab.pages.parts import filled, part
+from lab.pages.parts import filled
 from lab.rules.engines import asked
 from lab.support.built import NoProgram
 from lab.support.missing import needed
@@ -154,13 +153,8 @@ def data_of(program: Optional[str], replay: pathlib.Path, twin: Optional[int], t
 
 
 def page_of(data: Dict[str, Any]) -> str:
-    """The page. No text of the replay can end the element that it stands in, as `<` is written as its number."""
-    return filled("page.html", {
-        "title": html.escape(data["name"]),
-        "style": part("page.css"),
-        "script": "".join(map(part, SCRIPTS)),
-        "data": json.dumps(data, separators=(",", ":")).replace("<", "\\u003c"),
-    })
+    """The page."""
+    return filled("page.html", title=data["name"], scripts=SCRIPTS, shown=data)
 
 
 def write_page(program: Optional[str], replay: pathlib.Path, page: pathlib.Path, twin: Optional[int] = None,

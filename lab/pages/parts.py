@@ -1,24 +1,41 @@
-"""Pages that are made of parts: files of page_parts, in which `{{name}}` stands for what is put there."""
-import html
+"""Pages are made of files in `templates`, by jinja2 (Debian's python3-jinja2). What is put into a page is escaped, so
+that no text of a stranger is more than text."""
+import functools
+import json
 import pathlib
-import re
-from typing import Dict
+from typing import Any
 
-PARTS = pathlib.Path(__file__).resolve().parent / "page_parts"
-NAME = re.compile(r"\{\{(\w+)\}\}")
+from lab.support.missing import needed
+
+TEMPLATES = pathlib.Path(__file__).resolve().parent / "templates"
 
 
 def part(name: str) -> str:
-    return (PARTS / name).read_text(encoding="utf-8")
+    """A file as it stands: a style or a script."""
+    return (TEMPLATES / name).read_text(encoding="utf-8")
 
 
-def filled(name: str, given: Dict[str, str]) -> str:
-    """A file with what is given, each in the place of its name. What is given is not looked into again."""
-    return NAME.sub(lambda found: given[found[1]], part(name))
+@functools.lru_cache(maxsize=None)
+def environment() -> Any:
+    """What makes pages of templates. A template that asks for what it is not given is a fault."""
+    jinja2 = needed("jinja2")
+    made = jinja2.Environment(loader=jinja2.FileSystemLoader(TEMPLATES), autoescape=True, trim_blocks=True,
+                              lstrip_blocks=True, keep_trailing_newline=True, undefined=jinja2.StrictUndefined)
+    made.globals.update(part=lambda name: as_is(part(name)), data=as_data)
+    return made
 
 
-def framed(name: str, title: str, style: str, given: Dict[str, str]) -> str:
-    """A whole page of this title and style, whose body is a file with what is given."""
-    title = html.escape(title)
-    body = filled(name, {"title": title, **given})
-    return filled("frame.html", {"title": title, "style": style, "body": body})
+def as_is(text: str) -> Any:
+    """A text that is put into a page as it stands: a style, a script or data, which no stranger has written."""
+    return needed("markupsafe").Markup(text)
+
+
+def as_data(value: Any) -> Any:
+    """A value as JSON in a script element, which no text in it can end: `<` is written as its number."""
+    return as_is(json.dumps(value, separators=(",", ":")).replace("<", "\\u003c"))
+
+
+def filled(name: str, **given: Any) -> str:
+    """The page of a template and what it is given."""
+    page: str = environment().get_template(name).render(**given)
+    return page

@@ -103,7 +103,7 @@ class Pages:
         return self._web.Response(text=text, content_type=kind, headers=headers(policy))
 
     async def page(self, _: Any) -> Any:
-        return self._said(filled("watch.html", {"title": self._title}))
+        return self._said(filled("watch.html", title=self._title))
 
     async def script(self, _: Any) -> Any:
         return self._said(part("watch.js"), SCRIPT)

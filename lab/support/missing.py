@@ -11,6 +11,7 @@ PACKAGES = {
     "greenlet": "python3-greenlet", "hypothesis": "python3-hypothesis", "tqdm": "python3-tqdm",
     "networkx": "python3-networkx", "numpy": "python3-numpy", "scipy": "python3-scipy",
     "matplotlib": "python3-matplotlib", "distributed": "python3-distributed", "aiohttp": "python3-aiohttp",
+    "jinja2": "python3-jinja2", "markupsafe": "python3-markupsafe",
 }
 DEBIANS_PYTHON = "/usr/bin/python3"
 
@@ -35,6 +36,13 @@ def needed(name: str) -> ModuleType:
         return importlib.import_module(name)
     except ModuleNotFoundError:
         raise Missing([package]) from None
+
+
+def check(*modules: str) -> None:
+    """Refuses to begin what would end without these modules."""
+    missing = missing_of(modules)
+    if missing:
+        raise Missing(missing)
 
 
 def missing_of(modules: Iterable[str]) -> Iterable[str]:

@@ -1,9 +1,8 @@
 """The report of a sweep: its summary, its plots and its page."""
-import html
 import io
 from typing import Any, Dict, Iterable, List, NamedTuple, Optional, Sequence, Tuple
 
-from lab.pages.parts import framed, part
+from lab.pages.parts import as_is, filled
 from lab.support.missing import needed
 from lab.sweep.grid import BOUNDS, Grid
 from lab.sweep.statistic import Spread, spread_of
@@ -27,6 +26,13 @@ class Kept(NamedTuple):
     row: Row
     link: str
 
+    def about(self) -> str:
+        """What it was and what it came to."""
+        row = self.row
+        said = f"{row['network']}, {row['team']}, {row['scheduler']} {row['seed']}, black hole {row['hole']}"
+        came = f"{row['outcome']}, {row['moves']} moves, {row['lost']} lost"
+        return "; ".join([f"{said}: {came}", *row[FAULTS]])
+
 
 class Group(NamedTuple):
     """The runs of one team on one network under one scheduler."""
@@ -49,6 +55,10 @@ class Group(NamedTuple):
                 f"{self.moves.mean:.1f}", f"{self.moves.confidence:.1f}", f"{self.moves.low:g}",
                 f"{self.moves.median:g}", f"{self.moves.high:g}", self.worst["moves"], self.worst["run"],
                 str(self.lost), bound]
+
+    def named_cells(self) -> List[Tuple[str, str]]:
+        """The cells, each with the name of its column."""
+        return list(zip(HEAD, self.cells()))
 
 
 def is_solved(row: Row) -> bool:
@@ -171,38 +181,8 @@ def label_axes(axes: Any, spec: Grid, spots: Dict[str, float]) -> None:
 
 
 def page(spec: Grid, groups: Sequence[Group], kept: Sequence[Kept], engine: str) -> str:
-    """The report as one HTML file."""
+    """The report as one HTML file. Runs that were kept are linked."""
     runs, solved = (sum(getattr(group, name) for group in groups) for name in ("runs", "solved"))
-    links = {run.row["run"]: run.link for run in kept}
     about = f"{runs} runs, played and judged by {engine}: solved {solved}, failed {runs - solved}."
-    return framed("report.html", spec.title, part("report.css"), {
-        "about": html.escape(about),
-        "plot": plot(spec, groups),
-        "table": table(groups, links),
-        "kept": "".join(map(kept_line, kept)),
-    })
-
-
-def table(groups: Sequence[Group], links: Dict[str, str]) -> str:
-    """The summary as a table. Runs that were kept are linked."""
-    head = "".join(f"<th>{html.escape(name)}</th>" for name in HEAD)
-    return f"<thead><tr>{head}</tr></thead><tbody>{''.join(table_row(group, links) for group in groups)}</tbody>"
-
-
-def table_row(group: Group, links: Dict[str, str]) -> str:
-    cells = [html.escape(cell) for cell in group.cells()]
-    link = links.get(group.worst["run"])
-    if link:
-        run = HEAD.index("its run")
-        cells[run] = f'<a href="{html.escape(link)}">{cells[run]}</a>'
-    kind = "" if group.solved == group.runs else ' class="failed"'
-    return f"<tr{kind}>{''.join(f'<td>{cell}</td>' for cell in cells)}</tr>"
-
-
-def kept_line(kept: Kept) -> str:
-    """A line of the list of runs that were kept."""
-    row = kept.row
-    said = f"{row['network']}, {row['team']}, {row['scheduler']} {row['seed']}, black hole {row['hole']}"
-    came = f"{row['outcome']}, {row['moves']} moves, {row['lost']} lost"
-    fault = "".join(f"; {it}" for it in row[FAULTS])
-    return f'<li><a href="{html.escape(kept.link)}">run {row["run"]}</a>: {html.escape(f"{said}: {came}{fault}")}</li>'
+    return filled("report.html", title=spec.title, about=about, plot=as_is(plot(spec, groups)), head=HEAD,
+                  groups=groups, links={run.row["run"]: run.link for run in kept}, kept=kept)

@@ -10,7 +10,6 @@ from unittest import mock
 from lab.course import course, league, users
 from lab.course.cells import Walls
 from lab.course.course import Course, course_of
-from lab.course.league import Failure
 from lab.play import programs
 from lab.play.schedulers import ANSWER, Choice, in_runs
 from lab.search.cutting import Cut, Runs, in_words, runs_of, tidy
@@ -180,16 +179,12 @@ class Leagues(Folder):
                 self.assertEqual(league.kind_of(row(0, "a", 1, outcome, *faults)), kind)
                 self.assertIn(kind, league.KINDS)
 
-    def test_the_league_has_a_column_for_each_network_and_the_kinds_of_failures(self) -> None:
+    def test_the_league_has_a_column_for_each_network(self) -> None:
         rows = [row(0, "a", 9), row(1, "a", 9, "wrong"), row(2, "b", 9), row(3, "b", 1)]
         standings = league.standings_of(rows, ["a", "b"])
         self.assertEqual(league.table(standings), [
             ["place", "team", "matches", "solved", "moves", "lost", "ring:4", "ring:5"],
             ["1", "b", "2", "2", "10", "2", "1", "1"], ["2", "a", "2", "1", "9", "1", "1", "0"]])
-        page = league.pages(self.course("", TEAM + TEAM.replace('"a"', '"b"')).grid, rows, {
-            1: Failure(1, 5, False, "", False)}, "it")["league.html"]
-        self.assertIn('<span class="kind wrong">1 wrong</span>', page)
-        self.assertIn("an agent accused a link that leads to no black hole", page)
 
     def test_a_row_has_a_field_for_each_fault(self) -> None:
         """So no program's last words can make it two faults."""
@@ -198,19 +193,6 @@ class Leagues(Folder):
         rows = [tables.checked([*["0"] * 17, *faults]), tables.checked([*["1"] * 17, ""])]
         path.write_text("".join(map(tables.line_of, [tables.COLUMNS, *rows])))
         self.assertEqual([found["faults"] for found in tables.rows_in(path)], [faults, []])
-        page = league.pages(self.course().grid, [row(0, "a", 9, "silent", *faults)], {
-            0: Failure(0, 5, False, "", False)}, "it")["team-a.html"]
-        self.assertEqual(page.count("<li>agent"), 2)
-
-    def test_pages_escape_what_programs_say(self) -> None:
-        rows = [row(0, "a", 9, "silent", "agent 0: <script>"), row(1, "a", 4)]
-        pages = league.pages(self.course().grid, rows, {0: Failure(0, 5, False, "not made smaller: <b>", True)}, "it")
-        self.assertEqual(set(pages), {"league.html", "team-a.html"})
-        page = pages["team-a.html"]
-        self.assertIn("agent 0: &lt;script&gt;", page)
-        self.assertIn("not made smaller: &lt;b&gt;", page)
-        self.assertNotIn("{{", page)
-        self.assertIn('href="team-a.html"', pages["league.html"])
 
 
 class Small(unittest.TestCase):

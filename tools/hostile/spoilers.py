@@ -4,23 +4,27 @@
     tools/hostile/spoilers.py PROGRAM
 
 Each case serves a contest of two teams on a ring in a temporary folder. A line for each says how it went, and the last
-line reads `N passed, M failed`. It takes half a minute.
+line reads `N passed, M failed`. It takes a minute.
 """
 import contextlib
+import fcntl
 import json
 import os
 import pathlib
+import pty
 import resource
+import select
 import signal
 import socket
 import subprocess
 import sys
 import tempfile
+import termios
 import threading
 import time
 from typing import Callable, Dict, Iterator, List, Optional, Sequence, Tuple
 
-from session_lines import HERE, LOOK, NO_FULL, NO_LATE
+from session_lines import HERE, LOOK, NO_FULL, NO_LATE, OVER
 
 HOST = "127.0.0.1"
 # seconds within which a server answers or ends
@@ -54,19 +58,41 @@ class Server:
     """A server of the tournament in a folder."""
 
     def __init__(self, program: str, folder: pathlib.Path, *options: str, turns: int = 400, sessions: int = 100,
-                 log: Optional[int] = None, before: Callable[[], None] = lambda: None) -> None:
+                 log: Optional[int] = None, before: Callable[[], None] = lambda: None, pause: int = 5,
+                 says: int = subprocess.DEVNULL) -> None:
         self.port = free_port()
         words = [program, "serve", "cup.toml", "--port", self.port, "--sessions", sessions, "--turns", turns,
-                 "--pause", 5, "--grace", 300, "--replay", "match", *options]
+                 "--pause", pause, "--grace", 300, "--replay", "match", *options]
         self.begun = time.monotonic()
-        self.child = subprocess.Popen([*map(str, words)], cwd=folder, stdout=subprocess.PIPE, preexec_fn=before,
-                                      stderr=subprocess.PIPE if log is None else log)
+        self.child = subprocess.Popen([*map(str, words)], cwd=folder, stdin=says, stdout=subprocess.PIPE,
+                                      preexec_fn=before, stderr=subprocess.PIPE if log is None else log)
         self.first = self.child.stdout.readline()
 
     def connect(self, said: bytes = b"") -> socket.socket:
         client = socket.create_connection((HOST, self.port), PATIENCE)
         client.sendall(said)
         return client
+
+    def hears(self, said: bytes) -> None:
+        """The operator says something on standard input, and says no end of it."""
+        self.child.stdin.write(said)
+        self.child.stdin.flush()
+
+    def tells(self, wanted: str) -> str:
+        """What it tells until a line has this text."""
+        told, until = "", time.monotonic() + PATIENCE
+        while wanted not in told and time.monotonic() < until:
+            if select.select([self.child.stderr], [], [], 0.1)[0]:
+                told += os.read(self.child.stderr.fileno(), 65_536).decode()
+        if wanted not in told:
+            raise Wrong(f"{wanted!r} is not told, but {told!r}")
+        return told
+
+    def goes_on(self, what: str) -> None:
+        """An agent is still answered, and the server has not ended."""
+        with self.connect(enter("blue-1")) as client:
+            wants(f"an agent after {what}", answer(client, len(HERE)), HERE)
+        wants(f"the server after {what}", self.child.poll(), None)
 
     def ended(self) -> Tuple[int, str, str]:
         """Its status, what it printed and what it told."""
@@ -133,7 +159,7 @@ def strangers(program: str, folder: pathlib.Path) -> None:
 
 @case("wrong keys use up no session")
 def wrong_keys(program: str, folder: pathlib.Path) -> None:
-    with serving(program, folder) as server:
+    with serving(program, folder, turns=4000) as server:
         for number in range(150):
             with server.connect(enter(f"nobody-{number}")) as client:
                 wants("a wrong key", answer(client, 100), b'{"no":"key"}\n')
@@ -280,6 +306,169 @@ def two_servers(program: str, folder: pathlib.Path) -> None:
         wants("the files", after, before)
 
 
+# The operator.
+
+# turns that take longer than any case
+LONG = 1_000_000
+
+
+def closed_in(folder: pathlib.Path) -> List[str]:
+    return sorted(path.name for path in folder.glob("match*.jsonl"))
+
+
+@case("the operator closes all matches: the replays are written, the table is printed, and the server ends")
+def operator_closes(program: str, folder: pathlib.Path) -> None:
+    with serving(program, folder, turns=LONG, says=subprocess.PIPE) as server, \
+            server.connect(enter("red-0")) as client:
+        wants("an agent", answer(client, len(HERE)), HERE)
+        server.hears(b"clo")
+        time.sleep(0.3)
+        server.hears(b"se\n")
+        status, printed, told = server.ended()
+    wants("the status", status, 0)
+    wants("the teams of the table", sorted(line.split()[1] for line in printed.splitlines()[2:]), sorted(TEAMS))
+    wants("the replays", closed_in(folder), ["match0.jsonl", "match1.jsonl"])
+    if "serve: the operator closes all matches\n" not in told:
+        raise Wrong(f"told was {told!r}")
+
+
+def closes_one(program: str, folder: pathlib.Path, game: int) -> None:
+    closed, other = TEAMS[game], TEAMS[1 - game]
+    with serving(program, folder, "--log", turns=LONG, says=subprocess.PIPE) as server, \
+            server.connect(enter(f"{closed}-0")) as ends, server.connect(enter(f"{other}-0")) as stays:
+        for client in (ends, stays):
+            wants("an agent", answer(client, len(HERE)), HERE)
+        server.hears(b"close %d\n" % game)
+        server.tells(f"serve: match {game} ({closed}) closed: ")
+        for client, heard in ((ends, OVER), (stays, HERE)):
+            client.sendall(LOOK)
+            wants("an agent after the close", answer(client, len(heard)), heard)
+        server.hears(b"close %d\n" % (1 - game))
+        status, printed, told = server.ended()
+    wants("the status and the lines of the table", (status, len(printed.splitlines())), (0, 4))
+    if f"serve: match {1 - game} ({other}) closed: " not in told:
+        raise Wrong(f"told was {told!r}")
+
+
+@case("the operator closes one match, and the other goes on")
+def operator_closes_one(program: str, folder: pathlib.Path) -> None:
+    for game in (0, 1):
+        closes_one(program, folder, game)
+
+
+@case("the operator closes matches that still wait for their agents or pause")
+def operator_closes_early(program: str, folder: pathlib.Path) -> None:
+    for options, pause in ((["--gather", "1000000"], 5), ([], 1_000_000)):
+        with serving(program, folder, *options, turns=LONG, pause=pause, says=subprocess.PIPE) as server:
+            server.hears(b"close\n")
+            status, printed, _ = server.ended()
+        wants(f"the status with {options}", (status, len(printed.splitlines())), (0, 4))
+
+
+@case("the operator is told how the contest stands: who is missing, the turns, the events, the teams ranked")
+def operator_asks(program: str, folder: pathlib.Path) -> None:
+    with serving(program, folder, turns=LONG, says=subprocess.PIPE) as server, \
+            server.connect(enter("blue-1") + b'{"do":"accuse","port":1}\n') as client:
+        answer(client, 1000)
+        with server.connect(enter("red-0")) as stays:
+            wants("an agent", answer(stays, len(HERE)), HERE)
+            server.hears(b"status\n")
+            told = server.tells("  2 ")
+            server.hears(b"close 1\nstatus\n")
+            later = server.tells("  2 ")
+    for line in (" serve: sessions 1, agents to come 2, open matches 2\n", " serve: match 0 (red) is open: turns ",
+                 f" of {LONG} events 1\n", " serve: match 0 (red) misses agents 1\n",
+                 " serve: match 1 (blue) misses agents 0\n", " serve: if all matches were closed now:\n",
+                 "  1 red              silent          0    0\n", "  2 blue             wrong           0    0\n"):
+        if line not in told:
+            raise Wrong(f"{line!r} is not told, but {told!r}")
+    for line in (", open matches 1\n", " serve: match 1 (blue) is closed: turns "):
+        if line not in later:
+            raise Wrong(f"{line!r} is not told, but {later!r}")
+
+
+@case("the end of standard input, and a line that it cuts off, close nothing")
+def input_ends(program: str, folder: pathlib.Path) -> None:
+    with serving(program, folder, turns=LONG, says=subprocess.PIPE) as server:
+        server.hears(b"close")
+        server.child.stdin.close()
+        time.sleep(1)
+        server.goes_on("the end of standard input")
+
+
+@case("a line that asks for nothing is told, with what there is to ask for")
+def asks_for_nothing(program: str, folder: pathlib.Path) -> None:
+    with serving(program, folder, turns=LONG, says=subprocess.PIPE) as server:
+        server.hears(b"stop\n\nclose 2\nclose 01\nclose -1\nclose \n" + b"close" * 50 + b"\nClose\n\xff\n")
+        server.tells("serve: 8 lines of standard input are none of close, close M with M below 2, and status\n")
+        server.goes_on("them")
+
+
+@case("a flood on standard input holds nothing up, and drops no line of the log")
+def input_floods(program: str, folder: pathlib.Path) -> None:
+    with serving(program, folder, "--log", turns=600, says=subprocess.PIPE) as server:
+        os.set_blocking(server.child.stdin.fileno(), False)
+        until = time.monotonic() + 1
+        while time.monotonic() < until:
+            with contextlib.suppress(BlockingIOError):
+                os.write(server.child.stdin.fileno(), b"status\nx\n" * 1000)
+        server.goes_on("the flood")
+        status, printed, told = server.ended()
+    wants("the status", (status, len(printed.splitlines())), (0, 4))
+    if "dropped" in told:
+        raise Wrong("lines of the log were dropped")
+
+
+@case("a client is not the operator, where standard input is closed")
+def closed_input(program: str, folder: pathlib.Path) -> None:
+    with serving(program, folder, turns=LONG, before=lambda: os.close(0)) as server:
+        with server.connect(b"close\n" * 10), server.connect(enter("red-0") + b"close\n" * 10):
+            time.sleep(1)
+        server.goes_on("lines of clients")
+
+
+@contextlib.contextmanager
+def in_terminal(program: str, folder: pathlib.Path, is_behind: bool) -> Iterator[Tuple[Server, int]]:
+    """A server whose standard input is a terminal, in the background of a session or in front; and who types there."""
+    typing, terminal = pty.openpty()
+
+    def joins() -> None:
+        os.setsid()
+        fcntl.ioctl(0, termios.TIOCSCTTY, 0)
+        if is_behind:
+            # the leader of the session stays in front, and a child in a group of its own goes on as the server
+            child = os.fork()
+            if child:
+                os.closerange(3, 256)
+                os._exit(os.waitstatus_to_exitcode(os.waitpid(child, 0)[1]) & 0xff)
+            os.setpgid(0, 0)
+
+    try:
+        with serving(program, folder, turns=2000, says=terminal, before=joins) as server:
+            yield server, typing
+    finally:
+        os.close(typing)
+        os.close(terminal)
+
+
+@case("a server in the background of a terminal is not stopped by what is typed there")
+def behind(program: str, folder: pathlib.Path) -> None:
+    with in_terminal(program, folder, True) as (server, typing):
+        os.write(typing, b"close\n")
+        time.sleep(1)
+        server.goes_on("what was typed for others")
+        wants("the status", server.ended()[0], 0)
+
+
+@case("a server in front of a terminal hears what is typed there")
+def in_front(program: str, folder: pathlib.Path) -> None:
+    with in_terminal(program, folder, False) as (server, typing):
+        os.write(typing, b"close\n")
+        wants("the status", server.ended()[0], 0)
+        if time.monotonic() - server.begun > 5:
+            raise Wrong("it was not closed at once")
+
+
 # What a machine lacks.
 
 def is_root() -> bool:
@@ -365,7 +554,7 @@ def course(program: str, folder: pathlib.Path) -> None:
         finally:
             child.kill()
     wants("the replays", sorted(path.name for path in folder.glob("cup*l")), ["cup.toml", "cup0.jsonl", "cup1.jsonl"])
-    if "serve: session 0 plays match 0 agent 0" not in told:
+    if "serve: session 0 plays match 0 (red) agent 0" not in told:
         raise Wrong(f"told was {told!r}")
 
 

@@ -32,7 +32,7 @@ Version: {version}
 Architecture: amd64
 Maintainer: The arena project <arena@localhost>
 Installed-Size: {size}
-Depends: libc6 (>= {glibc}), python3 (>= 3.11), python3-greenlet, python3-tqdm
+Depends: libc6 (>= {glibc}), python3 (>= 3.11), python3-greenlet, python3-jinja2, python3-tqdm
 Recommends: python3-hypothesis, python3-networkx, python3-numpy, python3-scipy, python3-matplotlib
 Suggests: python3-distributed, python3-aiohttp, bubblewrap, python3-seccomp, python3-pandas, jupyter-notebook
 Section: science

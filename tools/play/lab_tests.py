@@ -19,6 +19,7 @@ TOP = pathlib.Path(__file__).resolve().parents[2]
 DEBIANS_PYTHON = "/usr/bin/python3"
 PACKAGES = ["python3-greenlet", "python3-hypothesis", "python3-tqdm", "python3-networkx",
             "python3-numpy", "python3-scipy", "python3-matplotlib", "python3-distributed", "python3-aiohttp",
+            "python3-jinja2",
             # what keeps programs of a course apart
             "bubblewrap", "python3-seccomp",
             # what looks at the lab's types

@@ -1,5 +1,7 @@
 """Cases of many and of long replays: more than one digit in their numbers, more words than a shell's line has, and more
-bytes than a program reads at once."""
+bytes than a program reads at once. And cases of texts that would control a terminal."""
+import json
+
 from program_cases import MATCH, SEED, TABLE_HEAD, TRIANGLE, case, writes
 from program_rows import Stage, Wrong, expect
 
@@ -58,3 +60,45 @@ def long_replays(stage: Stage) -> None:
     expect(stage.run(["explain", "m0.jsonl", "0"]),
            b"".join(b"%d %b" % (place, line) for place, line in enumerate(lines[1:-2])))
     expect(stage.run(["twin", "m0.jsonl", "1"]), text.replace(b'"holes":[2]', b'"holes":[1]'))
+
+
+# Characters that control a terminal or turn the direction of a text, first and last of each kind, and those beside them
+# that do not, as far as a text may have them.
+CONTROLS = [(0x00, 0x1f), (0x7f, 0x9f), (0x61c, 0x61c), (0x200e, 0x200f), (0x202a, 0x202e), (0x2066, 0x2069)]
+
+
+def controls(character: str) -> bool:
+    return any(first <= ord(character) <= last for first, last in CONTROLS)
+
+
+@case("a causal past has no character that controls a terminal, and is the same JSON as the replay")
+def explained_controls(stage: Stage) -> None:
+    cup = SEED + MATCH.format(network="tri.toml", key="k").replace("quota = 10", "quota = 1000")
+    codes = [code for first, last in CONTROLS for code in range(first - 1, last + 2) if code >= 0]
+    texts = ["", *(f"{chr(code)}b" for code in codes)]
+    said = [f"0 {ENTER}"]
+    for expect_, put in zip(texts, texts[1:]):
+        said.append("0 " + json.dumps({"do": "write", "expect": expect_, "put": put}))
+    rehearsed(stage, cup, "\n".join([*said, f"0 {LOOK}", "close 0"]) + "\n")
+    lines = (stage.folder / "m0.jsonl").read_text().split("\n")[1:-3]
+    printed = stage.run(["explain", "m0.jsonl", "0"]).printed.decode()
+    shown = printed.split("\n")[:-1]
+    if any(controls(character) for line in shown for character in line):
+        raise Wrong(f"{printed!r} has a character that controls a terminal")
+    parts = [line.split(" ", 1) for line in shown]
+    if [int(place) for place, _ in parts] != list(range(len(lines))) or len(lines) != len(texts) + 1:
+        raise Wrong(f"the places of {len(parts)} lines of {len(lines)} are {[place for place, _ in parts]}")
+    if [json.loads(line) for _, line in parts] != [json.loads(line) for line in lines]:
+        raise Wrong("the lines are not the JSON of the replay")
+    if not any(controls(character) for line in lines for character in line):
+        raise Wrong("the replay has no such character, so this shows nothing")
+    for (_, line), own in zip(parts, lines):
+        if not any(controls(character) for character in own) and line != own:
+            raise Wrong(f"{line!r} is not {own!r}, which controls no terminal")
+
+
+@case("words that are refused control no terminal")
+def refused_controls(stage: Stage) -> None:
+    run = stage.run(["judge", "a", "b\u009b\u202e\x1b[31m"])
+    if rb"'b\u009b\u202e\u001b[31m' found" not in run.told or run.status != 2:
+        raise Wrong(f"{run}")

@@ -4,7 +4,7 @@
 set -eu
 cd "$(dirname "$0")/../.."
 packages="chromium chromium-driver python3-selenium python3-networkx python3-numpy python3-scipy python3-greenlet
-fonts-dejavu-core"
+python3-jinja2 fonts-dejavu-core"
 # shellcheck disable=SC2086
 if ! dpkg -s $packages > /dev/null 2>&1; then
     apt-get update -q

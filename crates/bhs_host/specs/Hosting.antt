@@ -1,5 +1,5 @@
 -- The contest that comes of the matches of a tournament, and the table that comes of matches that have ended.
-use Rattle.std.specs.Prelude.{ℕ, ◌≡◌, ◌+◌, ◌-◌, ◌^◌, min, List, [], ◌∷◌, string_bytes}
+use Rattle.std.specs.Prelude.{ℕ, ◌≡◌, ◌+◌, ◌-◌, ◌^◌, min, List, [], ◌∷◌, map, string_bytes}
 use Rattle.rand_chacha.specs.ChaCha.{ChaCha}
 use Rattle.bhs_match.specs.Matches.{Play}
 use Rattle.bhs_time.specs.declared.kinds.ScheduleKind.{ScheduleKind}
@@ -7,6 +7,7 @@ use Rattle.bhs_lineup.specs.declared.lineups.Ready.{Ready}
 use Rattle.bhs_lock.specs.Cells.{Given}
 use Rattle.bhs_deal.specs.Dealer.{dealer_at}
 use Rattle.bhs_referee.specs.Verdicts.{verdict_of}
+use Rattle.bhs_referee.specs.declared.verdicts.Verdict.{Verdict}
 use Rattle.bhs_standings.specs.declared.rows.Row.{Row}
 use Rattle.bhs_standings.specs.Ranks.{IsRanking}
 use Rattle.bhs_standings.specs.Tables.{table_of}
@@ -52,5 +53,14 @@ pub record IsStandings (teams : List (List ℕ)) (plays : List Play) (text : Lis
   pub rows : List Row
   pub places : List ℕ
   pub rows_are : AreRowsOf teams plays rows
+  pub ranked : IsRanking rows places
+  pub said : text ≡ table_of rows places
+
+-- the text is the table of these teams by these verdicts
+pub record IsTableBy (teams : List (List ℕ)) (verdicts : List Verdict) (text : List ℕ) : Type 0 where
+  pub rows : List Row
+  pub places : List ℕ
+  pub teams_are : map (λ row. string_bytes row.team) rows ≡ teams
+  pub verdicts_are : map (λ row. row.verdict) rows ≡ verdicts
   pub ranked : IsRanking rows places
   pub said : text ≡ table_of rows places

@@ -1,5 +1,5 @@
 -- How a match's turns are spread.
-use Rattle.std.specs.Prelude.{ℕ, nat_lt, if◌then◌else◌}
+use Rattle.std.specs.Prelude.{ℕ, ◌≡◌, ◌⊎◌, nat_lt, if◌then◌else◌}
 use Rattle.bhs_server.specs.declared.pacing.Step.{Step}
 use Rattle.bhs_server.specs.declared.pacing.Step.TheVariants.{Turn, Close}
 
@@ -11,3 +11,8 @@ pub record Beat : Type 0 where
 -- what comes after a turn, if a match has this number of turns: a turn, or the close
 abbrev pub step_after : (turns turn : ℕ) → Step
 step_after turns turn = if nat_lt turn turns then Turn else Close
+
+-- What may come after a turn: what comes after it by this number of turns; or the close, if the match is called off.
+-- Contracts do not say of which matches that is so, since it is told under a lock.
+abbrev pub MayStep : (turns turn : ℕ) → Step → Type 0
+MayStep turns turn step = (step ≡ step_after turns turn) ⊎ (step ≡ Close)

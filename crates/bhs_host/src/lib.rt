@@ -4,8 +4,10 @@
 mod hosting;
 mod judging;
 mod pacing;
+mod progress;
 mod tabling;
 
 pub use hosting::{Hosted, contest_of};
 pub use pacing::Steady;
-pub use tabling::standings;
+pub use progress::Progress;
+pub use tabling::{standings, table_by};

@@ -1,23 +1,25 @@
 //! The pace of the turns.
 
 ghost use Rattle.std.specs.Prelude.{◌≡◌};
-ghost use Rattle.bhs_host.specs.Pacing.{step_after};
+ghost use Rattle.bhs_host.specs.Pacing.{MayStep, step_after};
 
+use crate::progress::Progress;
 use bhs_server::{Pace, Step};
 use std::marker::Model;
-use std::thread;
+use std::sync::Wait;
 use std::time::{Clock, Duration};
 
-/// Takes this many turns in each match, and pauses before each.
+/// Takes this many turns in each match, and pauses before each. A match that is called off takes no more.
 #[derive(Drop)]
-pub struct Steady<'a, C> {
-    clock: &'a C,
+pub struct Steady<'a, R> {
+    rt: &'a R,
+    progress: &'a Progress,
     turns: u32,
     pause: u32,
 }
 
 // Contracts see it as how many turns it takes, and how many milliseconds it pauses before each.
-impl<'a, C> Model for Steady<'a, C> {
+impl<'a, R> Model for Steady<'a, R> {
     ghost use Rattle.bhs_host.specs.Pacing.{Beat};
 
     ghost Value = { Beat };
@@ -25,28 +27,35 @@ impl<'a, C> Model for Steady<'a, C> {
     ghost view = { λ steady. record { turns = steady.turns; pause = steady.pause } };
 }
 
-impl<'a, C> Steady<'a, C> {
-    /// Takes this number of turns in each match, and pauses before each for this number of milliseconds.
-    pub fn new(clock: &'a C, turns: u32, pause: u32) -> Steady<'a, C>
+impl<'a, R> Steady<'a, R> {
+    /// Takes this number of turns in each match, and pauses before each for this number of milliseconds. It notes how
+    /// far the matches are, and closes those that are called off.
+    pub fn new(rt: &'a R, progress: &'a Progress, turns: u32, pause: u32) -> Steady<'a, R>
         ensures { result ≡ record { turns = turns; pause = pause } }
     {
         Steady {
-            clock,
+            rt,
+            progress,
             turns,
             pause,
         }
     }
 }
 
-impl<C: Clock> Pace for Steady<'_, C> {
-    ghost says = { λ steady game turn step. step ≡ step_after steady.turns turn };
+impl<R: Wait + Clock> Pace for Steady<'_, R> {
+    ghost says = { λ steady game turn step. MayStep steady.turns turn step };
 
-    fn next(&self, _game: u32, turn: u32) -> Step {
+    fn next(&self, game: u32, turn: u32) -> Step {
         let step = step_after(self.turns, turn);
-        if step == Step::Turn {
-            thread::sleep(self.clock, Duration::from_millis(u64::from(self.pause)));
+        let pause = Duration::from_millis(u64::from(self.pause));
+        if step == Step::Turn && !self.progress.pause(self.rt, game, turn, pause) {
+            return Step::Close;
         }
         step
+    }
+
+    fn gathers(&self, game: u32) -> bool {
+        self.progress.is_on(self.rt, game)
     }
 }
 

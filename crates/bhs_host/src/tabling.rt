@@ -1,7 +1,7 @@
 //! The table of a contest.
 
 ghost use Rattle.std.specs.Prelude.{◌≡◌, IfOk, length, map, string_bytes};
-ghost use Rattle.bhs_host.specs.Hosting.{IsStandings};
+ghost use Rattle.bhs_host.specs.Hosting.{IsStandings, IsTableBy};
 
 use crate::judging::verdicts_of;
 use bhs_match::Sealed;
@@ -24,6 +24,15 @@ pub fn standings<R: Threads + Sync>(
 {
     let verdicts = verdicts_of(rt, alloc, sealed)?;
     let rows = rows_of(alloc, teams, &verdicts)?;
+    table(alloc, &rows)
+}
+
+/// The table of teams by these verdicts on their matches.
+pub fn table_by(alloc: Global, teams: &[Text], verdicts: &[Verdict]) -> Result<String, Memory>
+    requires { length teams.now ≡ length verdicts.now }
+    ensures { IfOk result (λ text. IsTableBy teams.now verdicts.now (string_bytes text)) }
+{
+    let rows = rows_of(alloc, teams, verdicts)?;
     table(alloc, &rows)
 }
 

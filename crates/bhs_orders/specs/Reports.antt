@@ -12,6 +12,7 @@ use Rattle.bhs_standings.specs.declared.rows.Row.{Row}
 use Rattle.bhs_replay.specs.EventLine.{event_line}
 use Rattle.bhs_replay.specs.Replay.{replay_of}
 use Rattle.bhs_replay.specs.Stages.{Comes, Ends}
+use Rattle.bhs_terminal.specs.Visible.{visible}
 use Rattle.bhs_view.specs.Places.{places_of}
 use Rattle.bhs_view.specs.Twins.{IsTwin, twin_fault}
 use Rattle.bhs_view.specs.declared.twins.TwinFault.{TwinFault}
@@ -62,11 +63,12 @@ pub record IsTable (entries : List Entry) (text : List ℕ) : Type 0 where
 
 -- ---- the causal past of an agent
 
--- the line of a place: its number and its line of the replay; nothing past the end of the log
+-- the line of a place: its number and its line of the replay, with the characters that control a terminal spelled;
+-- nothing past the end of the log
 abbrev pub line_of : (log : List Kept) → (place : ℕ) → Option Kept → List ℕ
 line_of log place None = []
 line_of log place (Some one) =
-    decimal place ++ (codes " " ++ (event_line one.event (read_if log one.mark) ++ codes "\n"))
+    decimal place ++ (codes " " ++ (visible (event_line one.event (read_if log one.mark)) ++ codes "\n"))
 
 abbrev pub line_at : Play → (place : ℕ) → List ℕ
 line_at play place = line_of play.log place (slice_get play.log place)

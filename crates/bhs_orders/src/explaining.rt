@@ -13,14 +13,15 @@ use bhs_match::Sealed;
 use bhs_net::Memory;
 use bhs_replay::event_line;
 use bhs_stream::{Output, send};
+use bhs_terminal::visible;
 use bhs_view::cut_of;
 use std::alloc::Global;
 use std::io::Write;
 use std::rt::Files;
 
 /// Reads a replay, and prints the causal past of an agent of its match: a line for each place, with its number and its
-/// line of the replay. A number without an agent has an empty past. A fault goes to `errors` and ends it. The answer
-/// is the exit status.
+/// line of the replay, in which characters that control a terminal are spelled as `visible` says. A number without an
+/// agent has an empty past. A fault goes to `errors` and ends it. The answer is the exit status.
 pub fn print_past<F: Files, W: Output, E: Write>(
     alloc: Global,
     files: &F,
@@ -74,6 +75,7 @@ fn line_at(alloc: Global, sealed: &Sealed, place: u32) -> Result<String, Memory>
         return Ok(String::new(alloc));
     }
     let line = event_line(alloc, sealed, place)?;
+    let line = visible(alloc, line.as_str())?;
     let line = line.as_str();
     format!(in alloc; "{place} {line}\n")
 }

@@ -1,4 +1,6 @@
+pub mod Asking
 pub mod Contests
+pub mod Hearing
 pub mod Program
 pub mod Recording
 pub mod Telling

@@ -1,5 +1,5 @@
 -- The lines that tell the operator of a contest what happens.
-use Rattle.std.specs.Prelude.{ℕ, List, ◌++◌, codes, decimal}
+use Rattle.std.specs.Prelude.{ℕ, ◌/◌, ◌%◌, List, [], ◌∷◌, ◌++◌, codes, decimal}
 use Rattle.bhs_session.specs.declared.endings.Ended.{Ended}
 use Rattle.bhs_session.specs.declared.endings.Ended.TheVariants as endings
 use Rattle.bhs_wire.specs.declared.denials.Denial.{Denial}
@@ -24,16 +24,16 @@ ended_words endings.Memory = codes "memory ran out"
 ended_words endings.Turns = codes "it read too often"
 
 -- a session was let in as an agent of a match
-abbrev pub plays_line : (session game agent : ℕ) → List ℕ
-plays_line session game agent =
-    codes "serve: session " ++ (decimal session ++ (codes " plays match " ++ (decimal game ++ (codes " agent "
-    ++ (decimal agent ++ codes "\n")))))
+abbrev pub plays_line : (session game : ℕ) (team : List ℕ) (agent : ℕ) → List ℕ
+plays_line session game team agent =
+    codes "serve: session " ++ (decimal session ++ (codes " plays match " ++ (decimal game ++ (codes " (" ++ (team
+    ++ (codes ") agent " ++ (decimal agent ++ codes "\n")))))))
 
 -- a session has ended that played this agent of this match
-abbrev pub played_line : (session game agent : ℕ) → Ended → List ℕ
-played_line session game agent ended =
-    codes "serve: session " ++ (decimal session ++ (codes " played match " ++ (decimal game ++ (codes " agent "
-    ++ (decimal agent ++ (codes ": " ++ (ended_words ended ++ codes "\n")))))))
+abbrev pub played_line : (session game : ℕ) (team : List ℕ) (agent : ℕ) → Ended → List ℕ
+played_line session game team agent ended =
+    codes "serve: session " ++ (decimal session ++ (codes " played match " ++ (decimal game ++ (codes " (" ++ (team
+    ++ (codes ") agent " ++ (decimal agent ++ (codes ": " ++ (ended_words ended ++ codes "\n")))))))))
 
 -- why a first line was denied, in words
 abbrev pub denied_words : Denial → List ℕ
@@ -80,22 +80,71 @@ part_goes_on_line game events =
     ++ codes " events\n")))
 
 -- a match was closed after this number of turns: how many events it has, and the verdict
-abbrev pub judged_line : (game turns events : ℕ) → Verdict → List ℕ
-judged_line game turns events verdict =
-    codes "serve: match " ++ (decimal game ++ (codes " closed: turns " ++ (decimal turns ++ (codes " events "
-    ++ (decimal events ++ (codes ", " ++ verdict_line verdict))))))
+abbrev pub judged_line : (game : ℕ) (team : List ℕ) (turns events : ℕ) → Verdict → List ℕ
+judged_line game team turns events verdict =
+    codes "serve: match " ++ (decimal game ++ (codes " (" ++ (team ++ (codes ") closed: turns " ++ (decimal turns
+    ++ (codes " events " ++ (decimal events ++ (codes ", " ++ verdict_line verdict))))))))
 
 -- the same where there was no memory to judge it
-abbrev pub unjudged_line : (game turns : ℕ) → List ℕ
-unjudged_line game turns =
-    codes "serve: match " ++ (decimal game ++ (codes " closed: turns " ++ (decimal turns
-    ++ codes " and no memory to judge it\n")))
+abbrev pub unjudged_line : (game : ℕ) (team : List ℕ) (turns : ℕ) → List ℕ
+unjudged_line game team turns =
+    codes "serve: match " ++ (decimal game ++ (codes " (" ++ (team ++ (codes ") closed: turns " ++ (decimal turns
+    ++ codes " and no memory to judge it\n")))))
 
--- how many sessions go on
-abbrev pub sessions_line : (sessions : ℕ) → List ℕ
-sessions_line sessions = codes "serve: " ++ (decimal sessions ++ codes " sessions go on\n")
+-- how many sessions go on, how many agents have not entered yet, and how many matches are open
+abbrev pub sessions_line : (sessions missing open_matches : ℕ) → List ℕ
+sessions_line sessions missing open_matches =
+    codes "serve: sessions " ++ (decimal sessions ++ (codes ", agents to come " ++ (decimal missing
+    ++ (codes ", open matches " ++ (decimal open_matches ++ codes "\n")))))
 
--- how many events the part of a match has
-abbrev pub part_line : (game events : ℕ) → List ℕ
-part_line game events =
-    codes "serve: match " ++ (decimal game ++ (codes " has " ++ (decimal events ++ codes " events\n")))
+-- how many turns a match has taken that goes on, out of how many, and how many events its part has
+abbrev pub open_line : (game : ℕ) (team : List ℕ) (turns most events : ℕ) → List ℕ
+open_line game team turns most events =
+    codes "serve: match " ++ (decimal game ++ (codes " (" ++ (team ++ (codes ") is open: turns " ++ (decimal turns
+    ++ (codes " of " ++ (decimal most ++ (codes " events " ++ (decimal events ++ codes "\n")))))))))
+
+-- after how many turns a match was closed, and how many events its part has
+abbrev pub closed_line : (game : ℕ) (team : List ℕ) (turns events : ℕ) → List ℕ
+closed_line game team turns events =
+    codes "serve: match " ++ (decimal game ++ (codes " (" ++ (team ++ (codes ") is closed: turns " ++ (decimal turns
+    ++ (codes " events " ++ (decimal events ++ codes "\n")))))))
+
+-- numbers, each with a space before it
+abbrev pub number_after_space : ℕ → List ℕ
+number_after_space one = codes " " ++ decimal one
+
+abbrev pub numbers : List ℕ → List ℕ
+numbers [] = []
+numbers (one ∷ others) = number_after_space one ++ numbers others
+
+-- which agents of a match have not entered
+abbrev pub missing_line : (game : ℕ) (team agents : List ℕ) → List ℕ
+missing_line game team agents =
+    codes "serve: match " ++ (decimal game ++ (codes " (" ++ (team ++ (codes ") misses agents" ++ (numbers agents
+    ++ codes "\n")))))
+
+-- how the teams would be ranked if all matches were closed now
+abbrev pub standings_lines : (table : List ℕ) → List ℕ
+standings_lines table = codes "serve: if all matches were closed now:\n" ++ table
+
+-- the operator has matches closed
+abbrev pub all_closing_line : List ℕ
+all_closing_line = codes "serve: the operator closes all matches\n"
+
+abbrev pub closing_line : (game : ℕ) → List ℕ
+closing_line game = codes "serve: the operator closes match " ++ (decimal game ++ codes "\n")
+
+-- lines of the operator asked for nothing
+abbrev pub unknown_line : (lines matches : ℕ) → List ℕ
+unknown_line lines matches =
+    codes "serve: " ++ (decimal lines ++ (codes " lines of standard input are none of close, close M with M below "
+    ++ (decimal matches ++ codes ", and status\n")))
+
+-- a line with the time at which it is told, this many seconds after the contest began: hours, minutes and seconds
+abbrev pub two_digits : ℕ → List ℕ
+two_digits number = decimal (number / 10) ++ decimal (number % 10)
+
+abbrev pub timed_line : (seconds : ℕ) (line : List ℕ) → List ℕ
+timed_line seconds line =
+    decimal (seconds / 3600) ++ (codes ":" ++ (two_digits (seconds / 60 % 60) ++ (codes ":"
+    ++ (two_digits (seconds % 60) ++ (codes " " ++ line)))))

@@ -7,15 +7,19 @@ ghost use Rattle.bhs_server.specs.Settling.{HaveFared};
 ghost use Rattle.bhs_host.specs.Hosting.{dealers_of, givens_of};
 ghost use Rattle.bhs_program.specs.Contests.{Hosts, IsUnbegun};
 
+use crate::console::Console;
 use crate::finishing::{Finished, finish};
 use crate::log::Log;
 use crate::machines::Machine;
 use crate::manners::Manner;
+use crate::operator::Operator;
 use crate::parts::parts_of;
-use crate::recording::Recorder;
+use crate::recording::{Recorder, Scene};
+use crate::standing::Standings;
 use bhs_host::{Hosted, Steady, contest_of};
 use bhs_lineup::Lineup;
 use bhs_lock::Open;
+use bhs_model::Text;
 use bhs_orders::{Fault, report};
 use bhs_server::{Contest, Lack, Limits, Settled, run_server};
 use bhs_stream::Output;
@@ -25,7 +29,7 @@ use std::net::TcpListener;
 use std::sync::{Arc, Wait};
 use std::thread;
 use std::thread::Threads;
-use std::time::Duration;
+use std::time::{Clock, Duration};
 
 /// Serves a contest to the agents that connect to a listener, until all its matches and sessions have ended; no session
 /// lasts longer than the grace period after the last match was closed. Then the replay of each match that settled is
@@ -68,27 +72,37 @@ fn served<R: Machine>(
     let Ok(Hosted { teams, contest }) = contest_of(alloc, lineup) else {
         return Err(Fault::Memory);
     };
-    match settled(alloc, rt, listener, contest, manner) {
+    match settled(alloc, rt, listener, contest, manner, &teams) {
         Ok(settled) => Ok(Finished { teams, settled }),
         Err(Lack::Memory) => Err(Fault::Memory),
         Err(Lack::Thread) => Err(Fault::Threads),
     }
 }
 
-// What came of the matches of the contest, which is told in a log.
+// What came of the matches of the contest, which is told in a log, and which an operator may close.
 fn settled<R: Machine>(
     alloc: Global,
     rt: &R,
     listener: &TcpListener,
     contest: Contest,
     manner: &Manner<'_>,
+    teams: &[Text],
 ) -> Result<Vec<Settled>, Lack>
     ensures { IfOk result (λ settled. HaveFared contest.cells.items contest.dealers.items settled.items) }
 {
     let log = started_log(alloc, rt)?;
+    let operator = heard_operator(alloc, rt, manner.hears, &log, contest.cells.len())?;
+    let scene = Scene {
+        is_telling: manner.log,
+        turns: manner.turns,
+        teams,
+        log: &log,
+        operator: &operator,
+    };
+    let standings = Standings::new(alloc, &contest.cells)?;
     let parts = parts_of(alloc, manner.prefix, contest.cells.len())?;
-    let recorder = Recorder::new(rt, alloc, manner.log, &log, parts);
-    let pace = Steady::new(rt, manner.turns, manner.pause);
+    let recorder = Recorder::new(rt, alloc, scene, standings, parts);
+    let pace = Steady::new(rt, operator.progress(), manner.turns, manner.pause);
     let limits = Limits {
         sessions: manner.sessions,
         grace: Duration::from_millis(u64::from(manner.grace)),
@@ -103,17 +117,41 @@ fn settled<R: Machine>(
 }
 
 // A log, with a thread that writes it. The program does not wait for that thread.
-fn started_log<R: Threads + Wait + Eprint + Copy + Send + 'static>(
+fn started_log<R: Threads + Wait + Clock + Eprint + Copy + Send + 'static>(
     alloc: Global,
     rt: &R,
 ) -> Result<Arc<Log, Global>, Lack> {
-    let Ok(log) = Arc::new(alloc, Log::new(alloc)?) else {
+    let Ok(log) = Arc::new(alloc, Log::new(rt, alloc)?) else {
         return Err(Lack::Memory);
     };
     let written = Arc::try_clone(&log)?;
     let own = *rt;
     match thread::spawn(rt, move || written.write_out(&own)) {
         Ok(_runs) => Ok(log),
+        Err(_) => Err(Lack::Thread),
+    }
+}
+
+// The operator of this number of matches, with a thread that hears standard input if there is one. The program does not
+// wait for that thread.
+fn heard_operator<R: Threads + Wait + Clock + Console + Copy + Send + 'static>(
+    alloc: Global,
+    rt: &R,
+    hears: bool,
+    log: &Arc<Log, Global>,
+    matches: usize,
+) -> Result<Arc<Operator, Global>, Lack> {
+    let Ok(operator) = Arc::new(alloc, Operator::new(alloc, matches)?) else {
+        return Err(Lack::Memory);
+    };
+    if !hears {
+        return Ok(operator);
+    }
+    let heard = Arc::try_clone(&operator)?;
+    let told = Arc::try_clone(log)?;
+    let own = *rt;
+    match thread::spawn(rt, move || heard.listen(&own, alloc, &told)) {
+        Ok(_runs) => Ok(operator),
         Err(_) => Err(Lack::Thread),
     }
 }

@@ -2,6 +2,7 @@
 
 use bhs_lock::Cell;
 use bhs_match::Match;
+use bhs_model::Event;
 use bhs_net::Memory;
 use bhs_referee::{Verdict, judge};
 use std::alloc::Global;
@@ -21,6 +22,27 @@ pub(crate) fn judged<R: Wait>(
     alloc: Global,
     cell: &Cell,
 ) -> Result<Option<(usize, Verdict)>, Memory> {
+    let copy = copied(rt, alloc, cell)?;
+    let events = copy.log().len();
+    Ok(copy.sealed().ok().map(|sealed| (events, judge(&sealed))))
+}
+
+/// The verdict on a match if it were closed now, on a copy as well.
+pub(crate) fn judged_now<R: Wait>(
+    rt: &R,
+    alloc: Global,
+    cell: &Cell,
+) -> Result<Verdict, Memory> {
+    let mut copy = copied(rt, alloc, cell)?;
+    copy.apply(Event::Close);
+    match copy.sealed() {
+        Ok(sealed) => Ok(judge(&sealed)),
+        Err(_) => Err(Memory),
+    }
+}
+
+// A copy of the match of a cell.
+fn copied<R: Wait>(rt: &R, alloc: Global, cell: &Cell) -> Result<Match, Memory> {
     let mut copy = blank(alloc, cell)?;
     for _ in 0..TIMES {
         let found = cell.copies(rt, alloc, copy.log().len(), FEW)?;
@@ -31,8 +53,7 @@ pub(crate) fn judged<R: Wait>(
             copy.apply(one.event);
         }
     }
-    let events = copy.log().len();
-    Ok(copy.sealed().ok().map(|sealed| (events, judge(&sealed))))
+    Ok(copy)
 }
 
 // The match of a cell before its first event.

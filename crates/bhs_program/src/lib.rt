@@ -2,6 +2,8 @@
 //! another command.
 #![tactic(auto)]
 
+mod asking;
+mod console;
 mod finishing;
 mod hosting;
 mod judged;
@@ -9,13 +11,16 @@ mod keeping;
 mod log;
 mod machines;
 mod manners;
+mod operator;
 mod orders;
 mod parts;
 mod recording;
 mod serving;
+mod standing;
 mod telling;
 mod words;
 
+pub use console::{Console, Heard};
 pub use hosting::host;
 pub use keeping::Keep;
 pub use log::Log;

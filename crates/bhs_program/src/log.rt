@@ -1,6 +1,6 @@
 //! Lines for the operator. A thread of its own writes them to standard error, so that nothing waits for who reads them.
 
-use crate::telling::unread_line;
+use crate::telling::{timed_line, unread_line};
 use bhs_net::Memory;
 use std::alloc::Global;
 use std::collections::VecDeque;
@@ -42,15 +42,18 @@ impl Waiting {
 #[derive(Drop)]
 pub struct Log {
     alloc: Global,
+    /// When the contest began; None if the clock could not be read.
+    began: Option<Duration>,
     waiting: Mutex<Waiting>,
     changed: Condvar,
 }
 
 impl Log {
-    /// No lines.
-    pub(crate) fn new(alloc: Global) -> Result<Log, Memory> {
+    /// No lines. The contest begins now.
+    pub(crate) fn new<C: Clock>(clock: &C, alloc: Global) -> Result<Log, Memory> {
         Ok(Log {
             alloc,
+            began: clock.monotonic().ok(),
             waiting: Mutex::new(Waiting {
                 lines: VecDeque::with_capacity(alloc, MOST)?,
                 dropped: 0,
@@ -61,8 +64,9 @@ impl Log {
         })
     }
 
-    /// Has a text written. If too many wait, or there was no memory to make it, it is dropped.
-    pub(crate) fn tell<R: Wait>(&self, rt: &R, made: Result<String, Memory>) {
+    /// Has a text written, with the time before it. If too many wait, or there was no memory to make it, it is dropped.
+    pub(crate) fn tell<R: Wait + Clock>(&self, rt: &R, made: Result<String, Memory>) {
+        let made = self.timed(rt, made);
         let mut waiting = self.waiting.lock(rt);
         if !waiting.keeps(made) {
             waiting.dropped = waiting.dropped.saturating_add(1);
@@ -70,8 +74,26 @@ impl Log {
         self.changed.notify_all();
     }
 
+    // A text with the time before it.
+    fn timed<C: Clock>(
+        &self,
+        clock: &C,
+        made: Result<String, Memory>,
+    ) -> Result<String, Memory> {
+        let text = made?;
+        timed_line(self.alloc, self.seconds(clock), text.as_str())
+    }
+
+    // How many seconds ago the contest began.
+    fn seconds<C: Clock>(&self, clock: &C) -> u64 {
+        match (self.began, clock.monotonic()) {
+            (Some(began), Ok(now)) => now.saturating_sub(began).as_secs(),
+            _ => 0,
+        }
+    }
+
     /// Writes the lines until the log is over.
-    pub(crate) fn write_out<R: Wait + Eprint>(&self, rt: &R) {
+    pub(crate) fn write_out<R: Wait + Clock + Eprint>(&self, rt: &R) {
         for _ in rt.forever() {
             let Some(text) = self.next(rt) else {
                 return;
@@ -83,7 +105,7 @@ impl Log {
     }
 
     // The next text to be written: a line, or how many were dropped. None once the log is over.
-    fn next<R: Wait>(&self, rt: &R) -> Option<String> {
+    fn next<R: Wait + Clock>(&self, rt: &R) -> Option<String> {
         let mut waiting = self.waiting.lock(rt);
         waiting.is_writing = false;
         self.changed.notify_all();
@@ -102,7 +124,7 @@ impl Log {
         let dropped = waiting.dropped;
         waiting.dropped = 0;
         // Without memory for this line the log goes on without it.
-        match unread_line(self.alloc, dropped) {
+        match self.timed(rt, unread_line(self.alloc, dropped)) {
             Ok(text) => Some(text),
             Err(_) => Some(String::new(self.alloc)),
         }

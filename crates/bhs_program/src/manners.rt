@@ -19,6 +19,8 @@ pub struct Manner<'a> {
     pub(crate) gather: u32,
     pub(crate) early: bool,
     pub(crate) log: bool,
+    /// Whether an operator may ask for something on standard input.
+    pub(crate) hears: bool,
 }
 
 /// How the tournament of a file is served. Without a prefix it is served as suits a course: the replays are named by
@@ -57,6 +59,7 @@ pub fn manner_of<'a>(tournament: &'a str, hosting: &'a Hosting) -> Manner<'a>
         gather,
         early: hosting.early || is_course,
         log: hosting.log || is_course,
+        hears: true,
     }
 }
 

@@ -1,7 +1,8 @@
 //! Carrying out the order of the command line.
 
-ghost use Rattle.std.specs.Prelude.{map};
+ghost use Rattle.std.specs.Prelude.{◌≡◌, ◌⊎◌, map};
 ghost use Rattle.bhs_stream.specs.Streams.{known_takes};
+ghost use Rattle.bhs_orders.specs.declared.statuses.TheConstants.{NO_MEMORY, REFUSED_WORDS};
 ghost use Rattle.bhs_program.specs.Program.{IsStatus, Obeys, Runs};
 
 use crate::machines::Machine;
@@ -12,6 +13,7 @@ use bhs_orders::{
     print_verdict, rehearse_interactively_named, rehearse_named, report, show_text,
 };
 use bhs_stream::{Input, Output, send};
+use bhs_terminal::visible;
 use std::alloc::Global;
 use std::convert::AsStr;
 use std::io::Write;
@@ -38,12 +40,20 @@ pub fn run<
     match order_of(alloc, words) {
         Ok(Parsed::Ordered(order)) => obey(alloc, rt, order, reader, writer, errors),
         Ok(Parsed::Shown { text }) => show_text(text.as_str(), writer, errors),
-        Ok(Parsed::Refused { text }) => {
-            let _ = send(errors, text.as_bytes());
-            REFUSED_WORDS
-        }
+        Ok(Parsed::Refused { text }) => tell_refusal(alloc, text.as_str(), errors),
         Err(_) => report("arena", Fault::Memory, errors),
     }
+}
+
+// Tells why the words are refused. They may be names of files that a stranger chose.
+fn tell_refusal<E: Write>(alloc: Global, text: &str, errors: &mut E) -> u8
+    ensures { result ≡ REFUSED_WORDS ⊎ result ≡ NO_MEMORY }
+{
+    let Ok(text) = visible(alloc, text) else {
+        return report("arena", Fault::Memory, errors);
+    };
+    let _ = send(errors, text.as_bytes());
+    REFUSED_WORDS
 }
 
 fn obey<

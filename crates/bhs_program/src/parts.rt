@@ -15,6 +15,7 @@ use std::alloc::Global;
 use std::fs::File;
 use std::io::Write;
 use std::sync::Wait;
+use std::time::Clock;
 
 /// How far the part of a match is. Its file stays open, so that it is written on while descriptors are used up.
 #[derive(Drop)]
@@ -63,7 +64,7 @@ impl Part {
 
     /// Writes a few events that its match has newly kept. If that fails it is told, once, and tried again at the next
     /// look. Answers whether the match may have more.
-    pub(crate) fn write_on<R: Keep + Wait>(
+    pub(crate) fn write_on<R: Keep + Wait + Clock>(
         &mut self,
         rt: &R,
         alloc: Global,
@@ -84,7 +85,7 @@ impl Part {
     }
 
     /// Sees that what was written is on the disk.
-    pub(crate) fn sync<R: Wait>(&mut self, rt: &R, alloc: Global, log: &Log) {
+    pub(crate) fn sync<R: Wait + Clock>(&mut self, rt: &R, alloc: Global, log: &Log) {
         if self.synced == self.events {
             return;
         }
@@ -99,7 +100,7 @@ impl Part {
     }
 
     // Appends a few events that its match has newly kept, and answers how many.
-    fn appended<R: Keep + Wait>(
+    fn appended<R: Keep + Wait + Clock>(
         &mut self,
         rt: &R,
         alloc: Global,
@@ -146,7 +147,7 @@ impl Part {
     }
 
     // It could not be written on, which is told once.
-    fn fails<R: Wait>(&mut self, rt: &R, alloc: Global, log: &Log) {
+    fn fails<R: Wait + Clock>(&mut self, rt: &R, alloc: Global, log: &Log) {
         if !self.has_failed {
             log.tell(rt, part_waits_line(alloc, self.game, self.events));
         }
@@ -154,7 +155,7 @@ impl Part {
     }
 
     // It was written on.
-    fn goes_on<R: Wait>(&mut self, rt: &R, alloc: Global, log: &Log) {
+    fn goes_on<R: Wait + Clock>(&mut self, rt: &R, alloc: Global, log: &Log) {
         if self.has_failed {
             log.tell(rt, part_goes_on_line(alloc, self.game, self.events));
         }

@@ -1,20 +1,25 @@
 //! What is kept and told of a contest while it goes on: the parts of its replays in files, and lines for the operator.
 
-use crate::judged::{TIMES, judged};
+use crate::judged::{TIMES, judged, judged_now};
 use crate::keeping::Keep;
 use crate::log::Log;
+use crate::operator::Operator;
 use crate::parts::Part;
+use crate::standing::{Standing, Standings};
 use crate::telling::{
-    judged_line, outsiders_line, part_line, played_line, plays_line, sessions_line, unjudged_line,
-    unplayed_line,
+    closed_line, judged_line, missing_line, open_line, outsiders_line, played_line, plays_line,
+    sessions_line, standings_lines, unjudged_line, unknown_line, unplayed_line,
 };
+use bhs_host::table_by;
 use bhs_lock::Cell;
+use bhs_model::Text;
 use bhs_net::Memory;
 use bhs_server::{Outside, Watch};
 use bhs_session::Ended;
 use std::alloc::Global;
 use std::net::SocketAddr;
 use std::sync::{Mutex, Wait};
+use std::time::Clock;
 
 // How many looks lie between two reports of how far the matches are. There are two looks a second.
 const LOOKS: u32 = 120;
@@ -25,14 +30,26 @@ const OUTSIDERS: u32 = 64;
 // How many looks lie between two reports of the clients that were counted.
 const COUNTED: u32 = 20;
 
+/// What is known of a contest while it goes on, and to whom it is told.
+#[derive(Clone, Copy, Drop)]
+pub(crate) struct Scene<'a> {
+    /// Whether it is told what happens. What cannot be written, and what the operator asks for, is told anyway.
+    pub(crate) is_telling: bool,
+    /// How many turns a match takes at most.
+    pub(crate) turns: u32,
+    /// The teams, by the numbers of their matches.
+    pub(crate) teams: &'a [Text],
+    pub(crate) log: &'a Log,
+    pub(crate) operator: &'a Operator,
+}
+
 /// Keeps the parts of the replays, and tells the operator what happens.
 #[derive(Drop)]
 pub(crate) struct Recorder<'a, R> {
     rt: &'a R,
     alloc: Global,
-    /// Whether it is told what happens. What cannot be written is told anyway.
-    is_telling: bool,
-    log: &'a Log,
+    scene: Scene<'a>,
+    standings: Standings,
     /// The parts, by the numbers of their matches. Only the thread that looks at the matches takes this lock, so nobody
     /// waits for the disk.
     parts: Mutex<Vec<Part>>,
@@ -52,19 +69,19 @@ struct Going {
 }
 
 impl<'a, R> Recorder<'a, R> {
-    /// Of matches with these parts. Nothing goes on yet.
+    /// Of matches with these parts, which stand so. Nothing goes on yet.
     pub(crate) fn new(
         rt: &'a R,
         alloc: Global,
-        is_telling: bool,
-        log: &'a Log,
+        scene: Scene<'a>,
+        standings: Standings,
         parts: Vec<Part>,
     ) -> Recorder<'a, R> {
         Recorder {
             rt,
             alloc,
-            is_telling,
-            log,
+            scene,
+            standings,
             parts: Mutex::new(parts),
             going: Mutex::new(Going {
                 sessions: 0,
@@ -74,13 +91,21 @@ impl<'a, R> Recorder<'a, R> {
             }),
         }
     }
+
+    // The team of the match of this number.
+    fn team(&self, game: usize) -> &str {
+        match self.scene.teams.get(game) {
+            Some(team) => team.as_str(),
+            None => "",
+        }
+    }
 }
 
-impl<R: Keep + Wait> Recorder<'_, R> {
+impl<R: Keep + Wait + Clock> Recorder<'_, R> {
     // Tells a line, if the operator wants to be told.
     fn tell(&self, made: Result<String, Memory>) {
-        if self.is_telling {
-            self.log.tell(self.rt, made);
+        if self.scene.is_telling {
+            self.scene.log.tell(self.rt, made);
         }
     }
 
@@ -92,7 +117,7 @@ impl<R: Keep + Wait> Recorder<'_, R> {
         for _ in 0..TIMES {
             let mut is_done = true;
             for (part, cell) in parts.iter_mut().zip(cells) {
-                let has_more = part.write_on(self.rt, self.alloc, cell, self.log);
+                let has_more = part.write_on(self.rt, self.alloc, cell, self.scene.log);
                 is_done = is_done && !has_more;
             }
             if is_done {
@@ -100,17 +125,75 @@ impl<R: Keep + Wait> Recorder<'_, R> {
             }
         }
         for part in parts.iter_mut() {
-            part.sync(self.rt, self.alloc, self.log);
+            part.sync(self.rt, self.alloc, self.scene.log);
         }
     }
 
-    // Tells how far the matches are.
-    fn tell_parts(&self, sessions: u32) {
-        self.tell(sessions_line(self.alloc, sessions));
-        let parts = self.parts.lock(self.rt);
-        for (game, part) in parts.iter().enumerate() {
-            self.tell(part_line(self.alloc, game, part.events()));
+    // Tells how far the matches are, and who has not entered.
+    fn tell_stand(&self, sessions: u32) {
+        let log = self.scene.log;
+        let Ok(standings) = self.standings.copied(self.rt) else {
+            log.tell(self.rt, Err(Memory));
+            return;
+        };
+        let mut missing: usize = 0;
+        let mut open: usize = 0;
+        for standing in standings.iter() {
+            missing = missing.saturating_add(standing.missing.len());
+            if standing.closed.is_none() {
+                open = open.saturating_add(1);
+            }
         }
+        log.tell(self.rt, sessions_line(self.alloc, sessions, missing, open));
+        let parts = self.parts.lock(self.rt);
+        for (game, (part, standing)) in parts.iter().zip(standings.iter()).enumerate() {
+            self.tell_match(game, part.events(), standing);
+        }
+    }
+
+    // Tells how far a match is whose part has this number of events, and who has not entered.
+    fn tell_match(&self, game: usize, events: usize, standing: &Standing) {
+        let log = self.scene.log;
+        let team = self.team(game);
+        log.tell(
+            self.rt,
+            match standing.closed {
+                Some(turns) => closed_line(self.alloc, game, team, turns, events),
+                None => {
+                    let turns = self.scene.operator.progress().turns(self.rt, game);
+                    open_line(self.alloc, game, team, turns, self.scene.turns, events)
+                }
+            },
+        );
+        if !standing.missing.is_empty() {
+            log.tell(self.rt, missing_line(self.alloc, game, team, &standing.missing));
+        }
+    }
+
+    // Tells what the operator asked for.
+    fn answer(&self, cells: &[Cell], sessions: u32) {
+        let asks = self.scene.operator.take_asks(self.rt);
+        if asks.unknown > 0 {
+            let line = unknown_line(self.alloc, asks.unknown, cells.len());
+            self.scene.log.tell(self.rt, line);
+        }
+        if asks.status {
+            self.tell_stand(sessions);
+            self.scene.log.tell(self.rt, self.standings_now(cells));
+        }
+    }
+
+    // How the teams would be ranked if all matches were closed now.
+    fn standings_now(&self, cells: &[Cell]) -> Result<String, Memory> {
+        let mut verdicts = Vec::with_capacity(self.alloc, cells.len())?;
+        for cell in cells {
+            verdicts.push(judged_now(self.rt, self.alloc, cell)?)?;
+        }
+        if verdicts.len() != self.scene.teams.len() {
+            return Err(Memory);
+        }
+        let table = table_by(self.alloc, self.scene.teams, &verdicts)?;
+        standings_lines(self.alloc, table.as_str())
     }
 
     // Counts a look: what went on before it.
@@ -129,7 +212,7 @@ impl<R: Keep + Wait> Recorder<'_, R> {
     }
 }
 
-impl<R: Keep + Wait> Watch for Recorder<'_, R> {
+impl<R: Keep + Wait + Clock> Watch for Recorder<'_, R> {
     fn came(&self, session: u32, peer: SocketAddr) {
         let mut going = self.going.lock(self.rt);
         going.came = going.came.saturating_add(1);
@@ -141,13 +224,16 @@ impl<R: Keep + Wait> Watch for Recorder<'_, R> {
     fn let_in(&self, session: u32, game: u32, agent: u16) {
         let mut going = self.going.lock(self.rt);
         going.sessions = going.sessions.saturating_add(1);
-        self.tell(plays_line(self.alloc, session, game, agent));
+        self.standings.entered(self.rt, game, agent);
+        let team = self.team(game as usize);
+        self.tell(plays_line(self.alloc, session, game, team, agent));
     }
 
     fn ended(&self, session: u32, ended: Ended, game: u32, agent: u16) {
         let mut going = self.going.lock(self.rt);
         going.sessions = going.sessions.saturating_sub(1);
-        self.tell(played_line(self.alloc, session, game, agent, ended));
+        let team = self.team(game as usize);
+        self.tell(played_line(self.alloc, session, game, team, agent, ended));
     }
 
     fn left_outside(&self, session: u32, why: Outside) {
@@ -159,13 +245,15 @@ impl<R: Keep + Wait> Watch for Recorder<'_, R> {
     }
 
     fn closed(&self, game: u32, turns: u32, cell: &Cell) {
-        if self.is_telling {
+        self.standings.closed(self.rt, game, turns);
+        if self.scene.is_telling {
+            let team = self.team(game as usize);
             let judged = judged(self.rt, self.alloc, cell);
             self.tell(match judged {
                 Ok(Some((events, verdict))) => {
-                    judged_line(self.alloc, game, turns, events, verdict)
+                    judged_line(self.alloc, game, team, turns, events, verdict)
                 }
-                _ => unjudged_line(self.alloc, game, turns),
+                _ => unjudged_line(self.alloc, game, team, turns),
             });
         }
     }
@@ -176,8 +264,9 @@ impl<R: Keep + Wait> Watch for Recorder<'_, R> {
         if counted.looks % COUNTED == 0 && counted.outside > OUTSIDERS {
             self.tell(outsiders_line(self.alloc, counted.outside.saturating_sub(OUTSIDERS)));
         }
-        if counted.looks >= LOOKS {
-            self.tell_parts(counted.sessions);
+        if counted.looks >= LOOKS && self.scene.is_telling {
+            self.tell_stand(counted.sessions);
         }
+        self.answer(cells, counted.sessions);
     }
 }

@@ -22,9 +22,9 @@ use std::io::{ErrorKind, Write};
 use std::net::{IpAddr, Net, SocketAddr, TcpListener, TcpStream};
 use std::rt::Files;
 
-// How many threads a contest has beside those of its matches and sessions: those that end it, look at it, and write its
-// log, and one for a client.
-const OTHERS: usize = 4;
+// How many threads a contest has beside those of its matches and sessions: those that end it, look at it, write its log
+// and hear its operator, and one for a client.
+const OTHERS: usize = 5;
 
 /// Reads a tournament and its networks, listens on a port of this machine, locks the prefix of the replays, begins
 /// their parts, says that it listens, and hosts the contest. The answer is the exit status. A port that is in use, a
@@ -37,11 +37,13 @@ pub(crate) fn serve_named<
 >(alloc: Global, rt: &R, name: &str, hosting: &Hosting, writer: &mut W, errors: &mut E) -> u8
     ensures { Serves (known_takes R.File.contents) W.takes W.flushes hosting.now.port writer.old writer.new result }
 {
+    let hears = rt.has_input();
     let lineup = match lineup_of(alloc, rt, name, errors) {
         Ok(lineup) => lineup,
         Err(status) => return status,
     };
-    let manner = manner_of(name, hosting);
+    let mut manner = manner_of(name, hosting);
+    manner.hears = hears;
     if manner.log {
         warn(manner.sessions, &lineup.ready, errors);
     }

@@ -1,10 +1,12 @@
 //! The lines that tell the operator of a contest what happens.
 
-ghost use Rattle.std.specs.Prelude.{◌≡◌, IfOk, string_bytes};
+ghost use Rattle.std.specs.Prelude.{◌≡◌, ◌/◌, ◌%◌, IfOk, string_bytes};
 ghost use Rattle.bhs_program.specs.Telling.{ended_words, plays_line, played_line, unplayed_line};
-ghost use Rattle.bhs_program.specs.Telling.{judged_line, unjudged_line, sessions_line, part_line};
+ghost use Rattle.bhs_program.specs.Telling.{judged_line, unjudged_line, sessions_line};
 ghost use Rattle.bhs_program.specs.Telling.{denied_words, outside_words, unserved_words, outsiders_line, unread_line};
 ghost use Rattle.bhs_program.specs.Telling.{part_waits_line, part_goes_on_line};
+ghost use Rattle.bhs_program.specs.Telling.{open_line, closed_line, missing_line, numbers, number_after_space};
+ghost use Rattle.bhs_program.specs.Telling.{standings_lines, all_closing_line, closing_line, unknown_line, timed_line};
 
 use bhs_net::Memory;
 use bhs_orders::verdict_line;
@@ -19,11 +21,12 @@ pub(crate) fn plays_line(
     alloc: Global,
     session: u32,
     game: u32,
+    team: &str,
     agent: u16,
 ) -> Result<String, Memory>
-    ensures { IfOk result (λ text. string_bytes text ≡ plays_line session game agent) }
+    ensures { IfOk result (λ text. string_bytes text ≡ plays_line session game team.now agent) }
 {
-    format!(in alloc; "serve: session {session} plays match {game} agent {agent}\n")
+    format!(in alloc; "serve: session {session} plays match {game} ({team}) agent {agent}\n")
 }
 
 /// A session has ended that played this agent of this match.
@@ -31,13 +34,14 @@ pub(crate) fn played_line(
     alloc: Global,
     session: u32,
     game: u32,
+    team: &str,
     agent: u16,
     ended: Ended,
 ) -> Result<String, Memory>
-    ensures { IfOk result (λ text. string_bytes text ≡ played_line session game agent ended) }
+    ensures { IfOk result (λ text. string_bytes text ≡ played_line session game team.now agent ended) }
 {
     let how = ended_words(ended);
-    format!(in alloc; "serve: session {session} played match {game} agent {agent}: {how}\n")
+    format!(in alloc; "serve: session {session} played match {game} ({team}) agent {agent}: {how}\n")
 }
 
 /// A client is gone whose agent has not entered.
@@ -130,34 +134,145 @@ fn ended_words(ended: Ended) -> &'static str
 pub(crate) fn judged_line(
     alloc: Global,
     game: u32,
+    team: &str,
     turns: u32,
     events: usize,
     verdict: Verdict,
 ) -> Result<String, Memory>
-    ensures { IfOk result (λ text. string_bytes text ≡ judged_line game turns events verdict) }
+    ensures { IfOk result (λ text. string_bytes text ≡ judged_line game team.now turns events verdict) }
 {
     let verdict = verdict_line(alloc, verdict)?;
     let verdict = verdict.as_str();
-    format!(in alloc; "serve: match {game} closed: turns {turns} events {events}, {verdict}")
+    format!(in alloc; "serve: match {game} ({team}) closed: turns {turns} events {events}, {verdict}")
 }
 
 /// A match was closed after this number of turns, and there was no memory to judge it.
-pub(crate) fn unjudged_line(alloc: Global, game: u32, turns: u32) -> Result<String, Memory>
-    ensures { IfOk result (λ text. string_bytes text ≡ unjudged_line game turns) }
+pub(crate) fn unjudged_line(
+    alloc: Global,
+    game: u32,
+    team: &str,
+    turns: u32,
+) -> Result<String, Memory>
+    ensures { IfOk result (λ text. string_bytes text ≡ unjudged_line game team.now turns) }
 {
-    format!(in alloc; "serve: match {game} closed: turns {turns} and no memory to judge it\n")
+    format!(in alloc; "serve: match {game} ({team}) closed: turns {turns} and no memory to judge it\n")
 }
 
-/// How many sessions go on.
-pub(crate) fn sessions_line(alloc: Global, sessions: u32) -> Result<String, Memory>
-    ensures { IfOk result (λ text. string_bytes text ≡ sessions_line sessions) }
+/// How many sessions go on, how many agents have not entered yet, and how many matches are open.
+pub(crate) fn sessions_line(
+    alloc: Global,
+    sessions: u32,
+    missing: usize,
+    open: usize,
+) -> Result<String, Memory>
+    ensures { IfOk result (λ text. string_bytes text ≡ sessions_line sessions missing open) }
 {
-    format!(in alloc; "serve: {sessions} sessions go on\n")
+    format!(in alloc; "serve: sessions {sessions}, agents to come {missing}, open matches {open}\n")
 }
 
-/// How many events the part of a match has.
-pub(crate) fn part_line(alloc: Global, game: usize, events: usize) -> Result<String, Memory>
-    ensures { IfOk result (λ text. string_bytes text ≡ part_line game events) }
+/// How far a match is that goes on: how many turns it has taken out of how many, and how many events its part has.
+pub(crate) fn open_line(
+    alloc: Global,
+    game: usize,
+    team: &str,
+    turns: u32,
+    most: u32,
+    events: usize,
+) -> Result<String, Memory>
+    ensures { IfOk result (λ text. string_bytes text ≡ open_line game team.now turns most events) }
 {
-    format!(in alloc; "serve: match {game} has {events} events\n")
+    format!(in alloc; "serve: match {game} ({team}) is open: turns {turns} of {most} events {events}\n")
+}
+
+/// A match was closed after this number of turns, and its part has this number of events.
+pub(crate) fn closed_line(
+    alloc: Global,
+    game: usize,
+    team: &str,
+    turns: u32,
+    events: usize,
+) -> Result<String, Memory>
+    ensures { IfOk result (λ text. string_bytes text ≡ closed_line game team.now turns events) }
+{
+    format!(in alloc; "serve: match {game} ({team}) is closed: turns {turns} events {events}\n")
+}
+
+/// Which agents of a match have not entered.
+pub(crate) fn missing_line(
+    alloc: Global,
+    game: usize,
+    team: &str,
+    agents: &[u16],
+) -> Result<String, Memory>
+    ensures { IfOk result (λ text. string_bytes text ≡ missing_line game team.now agents.now) }
+{
+    let agents = numbers(alloc, agents)?;
+    let agents = agents.as_str();
+    format!(in alloc; "serve: match {game} ({team}) misses agents{agents}\n")
+}
+
+// Numbers, each with a space before it.
+fn numbers(alloc: Global, all: &[u16]) -> Result<String, Memory>
+    ensures { IfOk result (λ text. string_bytes text ≡ numbers all.now) }
+{
+    let mut text = String::new(alloc);
+    for one in all {
+        let number = number(alloc, *one)?;
+        text.push_str(number.as_str())?;
+    }
+    Ok(text)
+}
+
+fn number(alloc: Global, one: u16) -> Result<String, Memory>
+    ensures { IfOk result (λ text. string_bytes text ≡ number_after_space one) }
+{
+    format!(in alloc; " {one}")
+}
+
+/// How the matches would be ranked if all that are open were closed now.
+pub(crate) fn standings_lines(alloc: Global, table: &str) -> Result<String, Memory>
+    ensures { IfOk result (λ text. string_bytes text ≡ standings_lines table.now) }
+{
+    format!(in alloc; "serve: if all matches were closed now:\n{table}")
+}
+
+/// The operator has all matches closed.
+pub(crate) fn all_closing_line(alloc: Global) -> Result<String, Memory>
+    ensures { IfOk result (λ text. string_bytes text ≡ all_closing_line) }
+{
+    format!(in alloc; "serve: the operator closes all matches\n")
+}
+
+/// The operator has a match closed.
+pub(crate) fn closing_line(alloc: Global, game: u32) -> Result<String, Memory>
+    ensures { IfOk result (λ text. string_bytes text ≡ closing_line game) }
+{
+    format!(in alloc; "serve: the operator closes match {game}\n")
+}
+
+/// Lines of the operator asked for nothing, and what there is to ask for.
+pub(crate) fn unknown_line(alloc: Global, lines: u32, matches: usize) -> Result<String, Memory>
+    ensures { IfOk result (λ text. string_bytes text ≡ unknown_line lines matches) }
+{
+    format!(
+        in alloc;
+        "serve: {lines} lines of standard input are none of close, close M with M below {matches}, and status\n"
+    )
+}
+
+/// A line with the time at which it is told, this many seconds after the contest began.
+pub(crate) fn timed_line(alloc: Global, seconds: u64, line: &str) -> Result<String, Memory>
+    ensures { IfOk result (λ text. string_bytes text ≡ timed_line seconds line.now) }
+{
+    let hours = seconds / 3600;
+    let (ten_minutes, minutes) = two_digits(seconds / 60 % 60);
+    let (ten_seconds, seconds) = two_digits(seconds % 60);
+    format!(in alloc; "{hours}:{ten_minutes}{minutes}:{ten_seconds}{seconds} {line}")
+}
+
+// The two digits of a number below 100.
+fn two_digits(number: u64) -> (u64, u64)
+    ensures { (result.0 ≡ number / 10) × (result.1 ≡ number % 10) }
+{
+    (number / 10, number % 10)
 }

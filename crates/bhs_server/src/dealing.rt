@@ -13,10 +13,17 @@ use std::time::{Clock, Duration};
 // How many milliseconds pass between two looks at whether all agents have entered.
 const EVERY: u32 = 5;
 
-/// Waits until all agents of a match have entered, or `most` milliseconds have passed.
-pub(crate) fn gather<R: Wait + Clock>(rt: &R, cell: &Cell, most: u32) {
+/// Waits until all agents of a match have entered, the pace says that it waits no more, or `most` milliseconds have
+/// passed.
+pub(crate) fn gather<R: Wait + Clock, P: Pace>(
+    rt: &R,
+    pace: &P,
+    game: u32,
+    cell: &Cell,
+    most: u32,
+) {
     for _ in 0..most / EVERY {
-        if cell.is_gathered(rt) {
+        if !pace.gathers(game) || cell.is_gathered(rt) {
             return;
         }
         thread::sleep(rt, Duration::from_millis(u64::from(EVERY)));

@@ -20,4 +20,7 @@ pub trait Pace {
     /// What the dealer of match `game` does after this number of turns.
     fn next(&self, game: u32, turn: u32) -> Step
         ensures { says self.now game turn result };
+
+    /// Whether match `game` still waits for its agents to enter, before its turns begin.
+    fn gathers(&self, game: u32) -> bool;
 }

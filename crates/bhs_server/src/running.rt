@@ -76,7 +76,7 @@ pub(crate) fn all_sessions<
                 && scope
                     .spawn(move || {
                         if ending.may_begin(rt) {
-                            gather(rt, cell, longest);
+                            gather(rt, pace, game, cell, longest);
                             let turns = deal(rt, pace, early, game, cell, &mut dealer);
                             watch.closed(game, turns, cell);
                             ending.match_closed(rt);

@@ -1,0 +1,41 @@
+//! What the operator of a contest asks for on standard input.
+
+ghost use Rattle.std.specs.Prelude.{◌≡◌};
+ghost use Rattle.bhs_program.specs.Asking.{asked_in, closes};
+
+use bhs_script::number_of;
+
+/// What the operator asks for.
+#[derive(Clone, Copy, Debug, PartialEq, Eq)]
+pub(crate) enum Asked {
+    /// That all matches be closed.
+    CloseAll,
+    /// That the match of this number be closed.
+    Close(u32),
+    /// To be told how the contest stands.
+    Status,
+}
+
+/// What a line of the operator asks for in a contest of this number of matches, if it asks for something.
+pub(crate) fn asked_in(matches: usize, line: &[u8]) -> Option<Asked>
+    ensures { result ≡ asked_in matches line.now }
+{
+    if line == b"close".as_slice() {
+        Some(Asked::CloseAll)
+    } else if line == b"status".as_slice() {
+        Some(Asked::Status)
+    } else {
+        closes(matches, line)
+    }
+}
+
+fn closes(matches: usize, line: &[u8]) -> Option<Asked>
+    ensures { result ≡ closes matches line.now }
+{
+    let number = number_of(line.strip_prefix(b"close ".as_slice())?)?;
+    if (number as usize) < matches {
+        Some(Asked::Close(number))
+    } else {
+        None
+    }
+}

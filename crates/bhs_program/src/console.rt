@@ -1,0 +1,84 @@
+//! Standard input, on which an operator may ask for something while a contest goes on.
+
+ghost use Rattle.std.specs.Prelude.{[]};
+ghost use Rattle.bhs_program.specs.Hearing.{IsHeardIn};
+
+use libc::net::{POLLIN, POLLNVAL, poll};
+use libc::types::pollfd;
+use libc::{STDIN_FILENO, getpgrp, isatty, tcgetpgrp};
+use std::io::{ErrorKind, Read};
+use std::thread;
+use std::time::Duration;
+
+/// What came of standard input.
+#[derive(Clone, Copy, Debug, PartialEq, Eq)]
+pub enum Heard {
+    /// Nothing yet.
+    Nothing,
+    /// This many bytes.
+    Bytes(usize),
+    /// It has ended.
+    End,
+}
+
+/// The standard input of a machine. A thread that outlives its caller can have a copy.
+pub trait Console {
+    /// Whether there is a standard input. To be asked before anything is opened that stays open, since that may get the
+    /// number of a standard input that was closed.
+    fn has_input(&self) -> bool;
+
+    /// Waits for standard input for at most this many milliseconds, and takes what came into `room`.
+    fn hear(&self, room: &mut [u8], longest: u16) -> Heard
+        ensures { IsHeardIn room.new result };
+}
+
+impl Console for HostRuntime {
+    fn has_input(&self) -> bool {
+        let mut asked = [asked_of_input()];
+        poll(&mut asked, 0) >= 0 && asked[0].revents & POLLNVAL == 0
+    }
+
+    fn hear(&self, room: &mut [u8], longest: u16) -> Heard {
+        let mut asked = [asked_of_input()];
+        if poll(&mut asked, i32::from(longest)) <= 0 {
+            return Heard::Nothing;
+        }
+        if is_for_others() {
+            thread::sleep(self, Duration::from_millis(u64::from(longest)));
+            return Heard::Nothing;
+        }
+        match self.stdin().read(room) {
+            Ok(0) => Heard::End,
+            Ok(count) => Heard::Bytes(count),
+            Err(error) => after(error.kind()),
+        }
+    }
+}
+
+// What came of standard input where a read failed.
+fn after(kind: ErrorKind) -> Heard
+    ensures { IsHeardIn [] result }
+{
+    match kind {
+        ErrorKind::WouldBlock | ErrorKind::Interrupted => Heard::Nothing,
+        _ => Heard::End,
+    }
+}
+
+fn asked_of_input() -> pollfd {
+    pollfd {
+        fd: STDIN_FILENO,
+        events: POLLIN,
+        revents: 0,
+    }
+}
+
+// Whether standard input is a terminal that other programs of the operator read. Who reads there in the background is
+// stopped by the system.
+fn is_for_others() -> bool {
+    if isatty(STDIN_FILENO) != 1 {
+        return false;
+    }
+    let reader = tcgetpgrp(STDIN_FILENO);
+    reader != -1 && reader != getpgrp()
+}

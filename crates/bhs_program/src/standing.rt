@@ -1,0 +1,66 @@
+//! Who plays in the matches of a contest, and how these stand.
+
+use bhs_lock::Cell;
+use bhs_net::Memory;
+use std::alloc::Global;
+use std::sync::{Mutex, Wait};
+
+/// What is known of a match beside its events.
+#[derive(Clone, Drop)]
+pub(crate) struct Standing {
+    /// The agents that have not entered, in order.
+    pub(crate) missing: Vec<u16>,
+    /// After how many turns it was closed; None while it is open.
+    pub(crate) closed: Option<u32>,
+}
+
+/// What is known of the matches of a contest, by their numbers.
+#[derive(Drop)]
+pub(crate) struct Standings {
+    all: Mutex<Vec<Standing>>,
+}
+
+impl Standings {
+    /// Of matches that are open, none of whose agents has entered.
+    pub(crate) fn new(alloc: Global, cells: &[Cell]) -> Result<Standings, Memory> {
+        let mut all = Vec::with_capacity(alloc, cells.len())?;
+        for cell in cells {
+            all.push(Standing {
+                missing: agents_of(alloc, cell)?,
+                closed: None,
+            })?;
+        }
+        Ok(Standings {
+            all: Mutex::new(all),
+        })
+    }
+
+    /// An agent of a match has entered.
+    pub(crate) fn entered<R: Wait>(&self, rt: &R, game: u32, agent: u16) {
+        if let Some(standing) = self.all.lock(rt).get_mut(game as usize) {
+            standing.missing.retain(|missing| *missing != agent);
+        }
+    }
+
+    /// A match was closed after this number of turns.
+    pub(crate) fn closed<R: Wait>(&self, rt: &R, game: u32, turns: u32) {
+        if let Some(standing) = self.all.lock(rt).get_mut(game as usize) {
+            standing.closed = Some(turns);
+        }
+    }
+
+    /// A copy of what is known now.
+    pub(crate) fn copied<R: Wait>(&self, rt: &R) -> Result<Vec<Standing>, Memory> {
+        self.all.lock(rt).clone()
+    }
+}
+
+// The agents of a match.
+fn agents_of(alloc: Global, cell: &Cell) -> Result<Vec<u16>, Memory> {
+    let agents = cell.setup().agents;
+    let mut all = Vec::with_capacity(alloc, usize::from(agents))?;
+    for agent in 0..agents {
+        all.push(agent)?;
+    }
+    Ok(all)
+}

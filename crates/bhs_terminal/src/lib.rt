@@ -1,0 +1,83 @@
+//! Texts of strangers as a terminal is to show them.
+#![tactic(auto)]
+
+ghost use Rattle.std.specs.Prelude.{◌≡◌, ◌<◌, ◌/◌, ◌%◌, ◌^◌, [], ◌∷◌, ◌++◌, IfOk, IsTrue, OnOk, string_bytes};
+ghost use Rattle.bhs_terminal.specs.Visible.{controls, escaped, hex_digit, visible, visible_character};
+ghost use Rattle.bhs_terminal.specs.Visible.{WorkedExamples};
+
+use std::alloc::{AllocError, Global};
+
+/// Whether a character controls a terminal, or turns the direction in which a text is shown: the control characters C0,
+/// Delete and C1, and Unicode's controls of direction.
+pub fn controls(character: char) -> bool
+    ensures same { result ≡ controls character }
+    ensures small { IsTrue result → character < 2 ^ 16 }
+{
+    matches!(
+        character,
+        '\0'..='\u{1f}'
+            | '\u{7f}'..='\u{9f}'
+            | '\u{61c}'
+            | '\u{200e}'..='\u{200f}'
+            | '\u{202a}'..='\u{202e}'
+            | '\u{2066}'..='\u{2069}'
+    )
+}
+
+/// Lines in which each character that controls a terminal is spelled as JSON may spell it in a string: `\u` and four
+/// hexadecimal digits. So JSON stays the same JSON. All other characters stay as they are, and so do line feeds.
+pub fn visible(alloc: Global, text: &str) -> Result<String, AllocError>
+    ensures { IfOk result (λ shown. string_bytes shown ≡ visible text.now) }
+{
+    let mut shown = String::new(alloc);
+    for character in text.chars() {
+        push(&mut shown, character)?;
+    }
+    Ok(shown)
+}
+
+fn push(shown: &mut String, character: char) -> Result<(), AllocError>
+    ensures { OnOk result (string_bytes shown.new ≡ string_bytes shown.old ++ visible_character character) }
+{
+    if controls(character) && character != '\n' {
+        push_escaped(shown, character)
+    } else {
+        shown.push(character)
+    }
+}
+
+fn push_escaped(shown: &mut String, character: char) -> Result<(), AllocError>
+    requires { character < 2 ^ 16 }
+    ensures { OnOk result (string_bytes shown.new ≡ string_bytes shown.old ++ escaped character) }
+{
+    let code = u32::from(character);
+    shown.push_str("\\u")?;
+    push_digit(shown, code / 4096)?;
+    push_digit(shown, code / 256 % 16)?;
+    push_digit(shown, code / 16 % 16)?;
+    push_digit(shown, code % 16)
+}
+
+fn push_digit(shown: &mut String, number: u32) -> Result<(), AllocError>
+    requires { number < 16 }
+    ensures { OnOk result (string_bytes shown.new ≡ string_bytes shown.old ++ hex_digit number ∷ []) }
+{
+    shown.push(char::from(hex_digit(number)))
+}
+
+fn hex_digit(number: u32) -> u8
+    requires { number < 16 }
+    ensures digit { result ≡ hex_digit number }
+    ensures ascii { result < 128 }
+{
+    if number < 10 {
+        b'0' + number as u8
+    } else {
+        b'a' + (number - 10) as u8
+    }
+}
+
+/// Worked examples of the definitions.
+pub fn worked_examples()
+    ensures { WorkedExamples }
+{}
