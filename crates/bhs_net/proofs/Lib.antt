@@ -12,4 +12,5 @@ pub mod Marks
 pub mod Made
 pub mod Counts
 pub mod Numberings
+pub mod TreeLemmas
 pub mod Fillings

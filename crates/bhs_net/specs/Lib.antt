@@ -6,4 +6,5 @@ pub mod Listing
 pub mod Filling
 pub mod Search
 pub mod Numbering
+pub mod Trees
 pub mod Laws

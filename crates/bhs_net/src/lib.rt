@@ -9,6 +9,7 @@ mod listing;
 mod network;
 mod numbering;
 mod search;
+mod trees;
 
 pub use faults::{MAX_NODES, MIN_NODES, NetFault};
 pub use laws::{no_network_with_fault, one_network};

@@ -26,14 +26,17 @@ pub struct Order {
     places: [u16; NODES],
 }
 
-// A depth-first search from node 0. By place: the nodes that were found; by node: its place, the node from which it
-// was found, and the first place to which a link leads from it or from one that was found behind it.
+/// A depth-first search from node 0. By place: the nodes that were found. By node: its place, the node from which it was
+/// found, the first place to which a link leads from it or from one that was found behind it, and the neighbour over
+/// which the way to that place begins.
 #[derive(Drop)]
-struct Search {
-    found: [u16; NODES],
+pub struct Search {
+    pub found: [u16; NODES],
     last: u16,
-    parents: [u16; NODES],
-    lows: [u16; NODES],
+    pub places: [u16; NODES],
+    pub parents: [u16; NODES],
+    pub lows: [u16; NODES],
+    pub escapes: [u16; NODES],
 }
 
 // A node's place in a table by node.
@@ -54,17 +57,39 @@ fn head(rows: &[Vec<End>], node: u16, port: usize) -> Option<u16> {
     }
 }
 
-// Searches depth first. Once all nodes are found, a node that is known to lead back to the first one is left at once,
-// since its other links say no more. Neither counter wraps: a node has fewer ports than there are nodes, and fewer nodes
-// are found behind the first.
-fn depth_first(rows: &[Vec<End>]) -> Search {
+impl Search {
+    // Notes that a node was found from another.
+    fn find(&mut self, node: u16, from: u16) {
+        self.last = self.last.wrapping_add(1);
+        self.found[at(self.last)] = node;
+        self.places[at(node)] = self.last;
+        self.parents[at(node)] = from;
+        self.lows[at(node)] = self.last;
+    }
+
+    // Notes that a way to this place begins at a node over this neighbour, if no lower place is known.
+    fn lower(&mut self, here: usize, place: u16, neighbour: u16)
+        requires { here < NODES }
+    {
+        if place < self.lows[here] {
+            self.lows[here] = place;
+            self.escapes[here] = neighbour;
+        }
+    }
+}
+
+/// Searches depth first. Once all nodes are found, a node that is known to lead back to the first one is left at once,
+/// since its other links say no more. Neither counter wraps: a node has fewer ports than there are nodes, and fewer nodes
+/// are found behind the first.
+pub fn depth_first(rows: &[Vec<End>]) -> Search {
     let mut search = Search {
         found: [0; NODES],
         last: 0,
+        places: [0; NODES],
         parents: [0; NODES],
         lows: [0; NODES],
+        escapes: [0; NODES],
     };
-    let mut places = [0; NODES];
     let mut ports = [0; NODES];
     let mut node = 0;
     for _ in 0..STEPS {
@@ -78,23 +103,20 @@ fn depth_first(rows: &[Vec<End>]) -> Search {
         if let Some(other) = next {
             ports[here] = ports[here].wrapping_add(1);
             let to = at(other);
-            if other == 0 || places[to] != 0 {
-                search.lows[here] = search.lows[here].min(places[to]);
+            if other == 0 || search.places[to] != 0 {
+                let place = search.places[to];
+                search.lower(here, place, other);
             } else {
-                search.last = search.last.wrapping_add(1);
-                search.found[at(search.last)] = other;
-                search.parents[to] = node;
-                search.lows[to] = search.last;
-                places[to] = search.last;
+                search.find(other, node);
                 node = other;
             }
         } else if node == 0 {
             break;
         } else {
+            let child = node;
             let low = search.lows[here];
             node = search.parents[here];
-            let up = at(node);
-            search.lows[up] = search.lows[up].min(low);
+            search.lower(at(node), low, child);
         }
     }
     search
@@ -102,8 +124,7 @@ fn depth_first(rows: &[Vec<End>]) -> Search {
 
 /// An order of the nodes, which is one as above if there is one; that is not proved. Each node is put beside the one
 /// from which it was found, before or behind it.
-pub fn order_of(rows: &[Vec<End>]) -> Order {
-    let search = depth_first(rows);
+pub fn order_of(search: &Search) -> Order {
     let second = search.found[1];
     let mut before = [0; NODES];
     let mut behind = [0; NODES];

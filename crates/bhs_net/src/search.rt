@@ -1,15 +1,16 @@
 //! Whether rows are connected, and still so when any one node is removed. An order of the nodes shows that, in time in
-//! the number of ports. Where there is none, searches say why: each takes time in the number of ports, and with n nodes
-//! there are up to n + 1 of them.
+//! the number of ports. Where there is none, searches say why. A depth-first search shows of most nodes that they cut
+//! nothing; the others are removed in turn, up to the first that cuts the network.
 
-ghost use Rattle.std.specs.Prelude.{◌≡◌, ◌≢◌, ◌<◌, ◌⊎◌, length, IfOk, IfErr, OnOk, MatchBool};
-ghost use Rattle.bhs_net.specs.Network.{network_of, IsPortLabelled, IsNetwork, IsConnected};
+ghost use Rattle.std.specs.Prelude.{◌≡◌, ◌≢◌, ◌<◌, ◌⊎◌, true, length, IfOk, IfErr, OnOk, MatchBool};
+ghost use Rattle.bhs_net.specs.Network.{network_of, IsPortLabelled, IsNetwork, IsConnected, AreJoinedWithout};
 ghost use Rattle.bhs_net.specs.Search.{MarksReached, ReachesAll, MissesSome, IsApartIn, IsCutIn};
 ghost use Rattle.bhs_net.specs.Listing.{TellsLeast};
+ghost use Rattle.bhs_net.specs.Trees.{IsTree};
 
 use crate::faults::NetFault;
 use crate::listing::End;
-use crate::numbering::order_of;
+use crate::numbering::{Search, depth_first, order_of};
 use std::alloc::{AllocError, Global};
 
 // Marks the nodes to which paths lead from `start` that keep off the node `removed`.
@@ -69,6 +70,37 @@ fn reaches_all(
     Ok(true)
 }
 
+// Whether paths that keep off a node join all others.
+fn joins_others(alloc: Global, rows: &[Vec<End>], node: usize) -> Result<bool, AllocError>
+    requires labelled { IsPortLabelled (network_of rows.now) }
+    requires node { node < length rows.now }
+    ensures { IfOk result
+        (λ all. MatchBool all (AreJoinedWithout (network_of rows.now) node) (IsCutIn (network_of rows.now) node)) }
+{
+    let start = if node == 0 { 1 } else { 0 };
+    reaches_all(alloc, rows, start, node)
+}
+
+// Whether all nodes but one stay joined without it, as the tree of a search shows, or a search without that node.
+fn stay_joined(
+    alloc: Global,
+    rows: &[Vec<End>],
+    search: &Search,
+    is_tree: bool,
+    node: usize,
+) -> Result<bool, AllocError>
+    requires labelled { IsPortLabelled (network_of rows.now) }
+    requires node { node < length rows.now }
+    requires tree { is_tree ≡ true → IsTree (network_of rows.now) search.now }
+    ensures { IfOk result
+        (λ all. MatchBool all (AreJoinedWithout (network_of rows.now) node) (IsCutIn (network_of rows.now) node)) }
+{
+    if is_tree && search.all_lead_past(rows.len(), node) {
+        return Ok(true);
+    }
+    joins_others(alloc, rows, node)
+}
+
 /// Looks for an order that shows a network; and where it finds none, for two nodes that no path joins, and then for the
 /// least node without which no path joins some two others.
 pub fn check_paths(alloc: Global, rows: &[Vec<End>]) -> Result<(), NetFault>
@@ -79,7 +111,8 @@ pub fn check_paths(alloc: Global, rows: &[Vec<End>]) -> Result<(), NetFault>
         ⊎ (IsConnected (network_of rows.now)
         × TellsLeast NetFault.CutNode (IsCutIn (network_of rows.now)) fault))) }
 {
-    if order_of(rows).shows_network(rows) {
+    let search = depth_first(rows);
+    if order_of(&search).shows_network(rows) {
         return Ok(());
     }
     let nodes = rows.len();
@@ -88,9 +121,9 @@ pub fn check_paths(alloc: Global, rows: &[Vec<End>]) -> Result<(), NetFault>
     if !reaches_all(alloc, rows, 0, nodes)? {
         return Err(NetFault::Apart);
     }
+    let is_tree = search.is_tree(rows);
     for node in 0..nodes {
-        let start = if node == 0 { 1 } else { 0 };
-        if !reaches_all(alloc, rows, start, node)? {
+        if !stay_joined(alloc, rows, &search, is_tree, node)? {
             return Err(NetFault::CutNode { node: node as u16 });
         }
     }

@@ -1,12 +1,11 @@
-use Rattle.std.proofs.Common.{◌≢◌, ◌<◌, ◌≤◌, inl, inr, ⊎_elim, arith, refl, sym, subst, Vec, Global}
+use Rattle.std.proofs.Common.{◌≤◌, inl, inr, ⊎_elim, arith, refl, sym, subst, Vec, Global}
 use Rattle.std.proofs.lemmas.List.{length-map}
 use Rattle.bhs_net.specs.Links.{End}
 use Rattle.bhs_net.specs.Network.{nodes_of, AreJoinedWithout}
 use Rattle.bhs_net.specs.Network.{network_of}
 use Rattle.bhs_net.proofs.Places.{below_or_at}
-use Rattle.bhs_net.proofs.Walks.{joined_without, connected, apart, is_cut, not_cut}
+use Rattle.bhs_net.proofs.Walks.{connected, apart, not_cut}
 use Rattle.bhs_net.proofs.search.check_paths.Goals as goal
-use Rattle.bhs_net.proofs.search.check_paths.Goals.{then-node-eq0, else-node-eq0}
 
 pub returns-then-not-branch-clause-err : goal.returns-then-not-branch-clause-err
 returns-then-not-branch-clause-err c =
@@ -21,31 +20,14 @@ returns-then-not-branch-2-clause-err c =
     let all = length-map c.args.rows.now (λ (r : Vec End Global). r.items) in
     let few : 3 ≤ nodes_of net = c.requires.few in
     let reached = rw c.if-not-branch.false at c.in_ok-reaches_all.ensures in
-    let missed = rw c.if-not-branch-2.true at c.in_ok-reaches_all-2.ensures in
-    let start = c.if-node-eq0.start in
-    let node = c.loop-node.node in
-    let at : node < nodes_of net = let t = c.loop-node-test.true in omega arith in
-    let begins : (start < nodes_of net) × (start ≢ node) = elim c.if-node-eq0.branch [
-      | then-node-eq0 w ↦ (
-        let s = w.start-is in omega arith,
-        λ e. let s = w.start-is in
-            let z = w.if-node-eq0.true in omega arith,
-      )
-      | else-node-eq0 w ↦ (
-        let s = w.start-is in omega arith,
-        λ e. let s = w.start-is in
-            let z = w.if-node-eq0.false in omega arith,
-      )
-    ] in
     inr (inr (
       connected net c.requires 0 _ (omega arith) reached,
       (
-        node,
+        c.loop-node.node,
         refl,
         (
-          is_cut net c.requires start node at begins.0 begins.1 missed,
-          λ early lt. not_cut net early
-              (c.loop-node.invariant early lt),
+          rw c.if-not-branch-2.true at c.in_ok-stay_joined.ensures,
+          λ early lt. not_cut net early (c.loop-node.invariant early lt),
         ),
       ),
     ))
@@ -53,11 +35,10 @@ returns-then-not-branch-2-clause-err c =
 pub loop-node-preserved : goal.loop-node-preserved
 loop-node-preserved c =
     let net = network_of c.args.rows.now in
-    let reached = rw c.if-not-branch-2.false at c.in_ok-reaches_all-2.ensures in
+    let here = rw c.if-not-branch-2.false at c.in_ok-stay_joined.ensures in
     λ cut h. ⊎_elim
     (λ below. c.loop-node.invariant cut below)
-    (λ at. subst (λ d. AreJoinedWithout net d) (sym at)
-    (joined_without net c.requires c.if-node-eq0.start c.loop-node.node reached))
+    (λ at. subst (λ d. AreJoinedWithout net d) (sym at) here)
     (below_or_at cut c.loop-node.node h)
 
 pub returns-clause-ok : goal.returns-clause-ok
