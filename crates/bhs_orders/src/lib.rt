@@ -40,8 +40,7 @@ pub use rehearsing::rehearse;
 pub use replays::{first_status, write_sealed};
 pub use showing::{show_made, show_text};
 pub use statuses::{
-    DONE, FAILED_STREAM, FAILING, NO_MEMORY, NO_THREADS, REFUSED_MATCH, REFUSED_TEXT,
-    REFUSED_WORDS,
+    DONE, FAILED_STREAM, FAILING, NO_MEMORY, NO_THREADS, REFUSED_MATCH, REFUSED_TEXT, REFUSED_WORDS,
 };
 pub use tabling::print_table;
 pub use twinning::print_twin;
