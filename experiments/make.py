@@ -237,7 +237,7 @@ EXPLORED_HEAD = ("network", "agents", "states", "schedules that fail", "most mov
 
 def explored_row(search: Search, asked: Asked) -> Cells:
     """What was found of a small network."""
-    said = said_by([*search.words(), "--keep", str(asked.out / "explored")], asked)
+    said = said_by([*search.words(), "--search", "model", "--keep", str(asked.out / "explored")], asked)
     states = re.search(r"^(\d+) states in .*: no schedule fails", said, re.M)
     most = re.search(r"^most moves: .* moves (\d+) lost (\d+)$", said, re.M)
     if not states or not most:

@@ -2,16 +2,24 @@
 
     python3 -m lab explore --network ring:6 --agent "examples/agents/ring.py {nodes}"
 
-Two matches go on alike once each agent has met the same and each whiteboard says the same, so explore visits such a
-state once. A step that neither reads nor writes a whiteboard meets nobody, and explore takes it at once. If you name
-neither a black hole nor a dark link, each node but the home base is the black hole in turn. The command says how many
-states there are and the most moves of all schedules. It stops at the first schedule that fails. It writes that one, or
-else the one with the most moves, to a folder. The exit status is 1 if a schedule fails.
+If you name neither a black hole nor a dark link, each node but the home base is the black hole in turn. The command
+says how many states there are and the most moves of all schedules. It stops at the first schedule that fails, and
+writes that one to a folder. The exit status is 1 if a schedule fails.
 
-It explores the Python model, and nothing is proved of that; the program plays what is kept. Agents must run inside the
-lab (--agent) and be functions of what they are told; what they draw by `random` is, as it begins with the agent's
-number. A sleeper wakes once after each change of the whiteboard in front of it, and --naps times more: a team that
-waits by counting, as for a timeout, fails once another agent is slower than it counts.
+The program tries the schedules (`arena explore`), and the lab answers what the agents do. What is found is a theorem
+about programs that are functions of what they hold, as they answered here. Of an agent inside the lab (--agent) that is
+what its frames, objects and modules hold; what has no name is told, and the agent's history stands for it. A program of
+its own (--command) is told apart by its history, or by a member "memory" of its lines, by which it declares what it
+holds; that must be all on which it goes on. --check N plays N drawn schedules, and compares what the agents do with
+what they had answered.
+
+An agent that raises or breaks a rule, and one that sleeps where nobody is judged, are no failures of the program's; the
+Python model's search finds them. It also takes over if an agent may use more commands than its quota, and --search
+model asks for it. Nothing is proved of it. It plays agents inside the lab, takes a step that meets nobody at once, and
+writes the schedule with the most moves if none fails.
+
+A sleeper wakes once after each change of the whiteboard in front of it, and --naps times more: a team that waits by
+counting, as for a timeout, fails once another agent is slower than it counts.
 """
 import argparse
 import pathlib
@@ -20,9 +28,9 @@ from array import array
 from typing import Any, Dict, Iterator, List, NamedTuple, Optional, Set, Tuple
 
 from lab import finds, teams
-from lab.agent_files import NoAgent
-from lab.counts import at_least_one
-from lab.engines import PROGRAM, add_engine, program_at, program_of
+from lab.agent_files import NoAgent, script_of
+from lab.counts import at_least_one, not_negative
+from lab.engines import MODEL, PROGRAM, add_engine, program_at, program_of
 from lab.fixtures import Fixture
 from lab.model import AWAY, Match, Verdict, outcome_of
 from lab.pasts import NoFunction, Past, Pasts, State
@@ -205,6 +213,11 @@ def add_words(parser: argparse.ArgumentParser) -> None:
                         f"match to visit ({MOST_STATES}); a million take about half a gigabyte")
     parser.add_argument("--keep", metavar="FOLDER", type=pathlib.Path, default=FOLDER, help="write the schedule that "
                         f"is told there ({FOLDER})")
+    parser.add_argument("--search", choices=(PROGRAM, MODEL), help="who tries the schedules: the program, or the "
+                        "Python model, of which nothing is proved (the engine)")
+    parser.add_argument("--check", metavar="N", type=not_negative, default=0, help="after the program's search, play "
+                        "this many drawn schedules of each match by the agents, and compare what they do with what "
+                        "they answered (0)")
     add_engine(parser)
 
 
@@ -212,8 +225,16 @@ def run(words: argparse.Namespace) -> int:
     agents = teams.team_of(words)
     if words.engine == PROGRAM:
         program_at(words.program)
+    if (words.search or words.engine) == PROGRAM:
+        from lab import trying
+        return trying.run(words, agents)
+    return searched(words, agents)
+
+
+def searched(words: argparse.Namespace, agents: List[teams.AgentWords]) -> int:
+    """Tries the schedules of all matches by the Python model."""
     if any(agent.kind != teams.INSIDE for agent in agents):
-        raise NoAgent("explore plays agents inside the lab: name them by --agent")
+        raise NoAgent("the Python model's search plays agents inside the lab: name them by --agent")
     all_found: List[Explored] = []
     with bar(None, "state") as shown:
         for fixture in fixtures_for(words):

@@ -62,8 +62,7 @@ def asked(command: str, name: str, words: Sequence[str], folder: str, program: s
     from lab.__main__ import main  # which imports this module
     agent = f"{FOLDER / name}.py {PLANS[name].words}"
     given = [command, *words, "--agent", agent, "--keep", f"{folder}/{command}", "--program", program]
-    if command == "hunt":
-        given += ["--database", f"{folder}/database"]
+    given += ["--database", f"{folder}/database"] if command == "hunt" else ["--search", "model"]
     started, said = time.monotonic(), io.StringIO()
     with contextlib.redirect_stdout(said):
         status = main(given)

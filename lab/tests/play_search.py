@@ -20,6 +20,7 @@ from lab.teams import INSIDE, AgentWords, Together
 from lab.tests.playing import MAP, RING, fixture, program
 
 WORST = {3: 4, 4: 9, 5: 14, 6: 23}
+BY_MODEL = ("--search", "model")
 # agents that are no functions of what they are told, or have other faults
 ODD = '''
 import random
@@ -101,7 +102,8 @@ class Exploring(Searches):
     def test_the_most_moves_on_rings(self) -> None:
         for nodes, moves in WORST.items():
             with self.subTest(nodes=nodes):
-                status = self.command("explore", "--network", f"ring:{nodes}", "--agent", RING.words, *self.kept())
+                status = self.command("explore", *BY_MODEL, "--network", f"ring:{nodes}", "--agent", RING.words,
+                                      *self.kept())
                 self.assertEqual(status, 0, self.said)
                 self.assertIn("no schedule fails, of the Python model", self.said)
                 self.assertIn(f"the program's verdict: solved moves {moves} lost 1", self.said)
@@ -129,12 +131,12 @@ class Exploring(Searches):
 
     def test_an_agent_that_is_no_function_is_told(self) -> None:
         agent = f"{self.folder}/odd.py:drawn 4"
-        status = self.command("explore", "--network", "ring:4", "--agent", agent, *self.kept())
+        status = self.command("explore", *BY_MODEL, "--network", "ring:4", "--agent", agent, *self.kept())
         self.assertEqual(status, 2)
         self.assertIn("explore needs agents that are functions of what they are told", self.said)
 
     def test_it_stops_at_the_most_states(self) -> None:
-        words = ["explore", "--network", "ring:6", "--states", "5000", "--agent", RING.words]
+        words = ["explore", *BY_MODEL, "--network", "ring:6", "--states", "5000", "--agent", RING.words]
         self.assertEqual(self.command(*words, *self.kept()), 130)
         self.assertIn("stopped before all were visited", self.said)
 
@@ -142,7 +144,7 @@ class Exploring(Searches):
         """Also where agents sleep."""
         words = ["--network", "ring:3", "--hole", "1", "--agents", "3", "--agent", MAP.words]
         worst = self.explored(*words).worst.verdict
-        self.command("explore", *words, *self.kept())
+        self.command("explore", *BY_MODEL, *words, *self.kept())
         self.assertIn(f"the program's verdict: {finds.verdict_text(worst)}", self.said)
 
 

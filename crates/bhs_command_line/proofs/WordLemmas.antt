@@ -15,15 +15,17 @@ use Rattle.bhs_command_line.specs.CommandLine.{AsksHelp, AsksVersion, AskAfter, 
 use Rattle.bhs_command_line.specs.CommandLine.{is_dashed}
 use Rattle.bhs_command_line.specs.CommandLine.{number_in, entries_in, order_by}
 use Rattle.bhs_command_line.specs.declared.orders.Order.{Order}
-use Rattle.bhs_command_line.specs.declared.orders.Order.TheVariants.{Check, Explain, Judge, Recover, Rehearse, Serve}
-use Rattle.bhs_command_line.specs.declared.orders.Order.TheVariants.{RehearseInteractively, Table, Twin}
+use Rattle.bhs_command_line.specs.declared.orders.Order.TheVariants.{Check, Explain, Explore, Judge, Recover, Rehearse}
+use Rattle.bhs_command_line.specs.declared.orders.Order.TheVariants.{RehearseInteractively, Serve, Table, Twin}
 use Rattle.bhs_command_line.specs.declared.orders.Entry.{Entry}
+use Rattle.bhs_command_line.specs.declared.orders.Exploration.{Exploration}
 use Rattle.bhs_command_line.specs.declared.orders.Hosting.{Hosting}
 use Rattle.bhs_command_line.proofs.NumberLemmas.{hosting_plain}
 use Rattle.bhs_command_line.proofs.ReadLemmas.{Enters, leaf_of, line, line_fault, order_read, passed, passed_whole}
 use Rattle.bhs_command_line.proofs.ReadLemmas.{read_plain, reads_more, reads_none}
 use Rattle.bhs_command_line.proofs.ServeLemmas.{serve_found}
-use Rattle.bhs_command_line.specs.CommandLine.{check, explain, judge, recover, rehearse, table, twin}
+use Rattle.bhs_command_line.specs.CommandLine.{check, explain, explore, judge, recover, rehearse, table, twin}
+use Rattle.bhs_command_line.specs.CommandLine.{plain_exploration_in}
 
 -- ---- lists of kinds
 
@@ -64,7 +66,9 @@ help_fault words (inr (inr (inr (inr (inr (inr (inl asks))))))) =
     asked_after (codes "twin" ∷ []) words asks (refl, refl)
 help_fault words (inr (inr (inr (inr (inr (inr (inr (inl asks)))))))) =
     asked_after (codes "recover" ∷ []) words asks (refl, refl)
-help_fault words (inr (inr (inr (inr (inr (inr (inr (inr asks)))))))) =
+help_fault words (inr (inr (inr (inr (inr (inr (inr (inr (inl asks))))))))) =
+    asked_after (codes "explore" ∷ []) words asks (refl, refl)
+help_fault words (inr (inr (inr (inr (inr (inr (inr (inr (inr asks))))))))) =
     asked_after (codes "serve" ∷ []) words asks (refl, refl)
 
 pub version_fault : (words : List Text) → AsksVersion words → faults words ≡ DisplayVersion ∷ []
@@ -258,6 +262,24 @@ twin_found replay word e f =
     (reads_more (read_plain (leaf_of twin) _ 1 idle replay e refl)
     (reads_more (read_plain (leaf_of twin) _ 2 idle word f refl) (reads_none (leaf_of twin) _))) refl refl
 
+explore_enters : Enters (codes "explore") (leaf_of explore)
+unfolding clap_on_literals
+explore_enters = record {
+  takes = λ rest none. ap₂ line_fault (passed_whole (codes "explore") rest) (passed (codes "explore") rest)
+      ∙ ap (λ (kinds : Kinds). or_else kinds []) none;
+  finds = λ rest. ap (λ (w : Walk). entered line w.stopped) (passed (codes "explore") rest);
+}
+
+explore_found : (tournament word : Text) → is_dashed tournament ≡ false → is_dashed word ≡ false
+    → (faults (codes "explore" ∷ tournament ∷ word ∷ []) ≡ [])
+    × (option_and_then order_by (command_in (codes "explore" ∷ tournament ∷ word ∷ []))
+    ≡ option_map (Explore tournament) (plain_exploration_in word))
+unfolding clap_on_literals
+explore_found tournament word e f =
+    order_read explore_enters (tournament ∷ word ∷ []) _ _
+    (reads_more (read_plain (leaf_of explore) _ 1 idle tournament e refl)
+    (reads_more (read_plain (leaf_of explore) _ 2 idle word f refl) (reads_none (leaf_of explore) _))) refl refl
+
 here : (words given : List Text) (order : Order) → words ≡ given → Gives given order → Gives words order
 here words given order is gives = subst (λ (ws : List Text). Gives ws order) (sym is) gives
 
@@ -286,6 +308,9 @@ says_gives words (Explain replay agent) (word, plain, also, says, is) =
 says_gives words (Twin replay node) (word, plain, also, says, is) =
     let found = twin_found replay word plain also in
     here words _ _ is (found.0, found.1 ∙ ap (λ (o : Option ℕ). option_map (Twin replay) o) says)
+says_gives words (Explore tournament exploration) (word, plain, also, says, is) =
+    let found = explore_found tournament word plain also in
+    here words _ _ is (found.0, found.1 ∙ ap (λ (o : Option Exploration). option_map (Explore tournament) o) says)
 says_gives words (Serve tournament hosting) (port, sessions, turns, pause, plain, also, says, is) =
     let found = serve_found tournament port sessions turns pause hosting.prefix plain also
     (hosting_plain port sessions turns pause hosting.prefix hosting says) in

@@ -18,8 +18,9 @@ use Rattle.clap.specs.declared.error.kind.ErrorKind.TheVariants.{DisplayHelp, Di
 use Rattle.bhs_text.specs.Teams.{is_team}
 use Rattle.bhs_command_line.specs.declared.orders.Order.{Order}
 use Rattle.bhs_command_line.specs.declared.orders.Order.TheVariants.{Rehearse, Check, Judge, Table, Explain, Twin}
-use Rattle.bhs_command_line.specs.declared.orders.Order.TheVariants.{Recover, Serve, RehearseInteractively}
+use Rattle.bhs_command_line.specs.declared.orders.Order.TheVariants.{Explore, Recover, Serve, RehearseInteractively}
 use Rattle.bhs_command_line.specs.declared.orders.Entry.{Entry}
+use Rattle.bhs_command_line.specs.declared.orders.Exploration.{Exploration}
 use Rattle.bhs_command_line.specs.declared.orders.Hosting.{Hosting}
 use Rattle.bhs_command_line.specs.declared.Parsed.{Parsed}
 use Rattle.bhs_command_line.specs.declared.Parsed.TheVariants.{Ordered, Shown, Refused}
@@ -90,6 +91,18 @@ twin = command (codes "twin") (must_have (codes "replay") ∷ must_have (codes "
 abbrev pub recover : Shape
 recover = command (codes "recover") (must_have (codes "part") ∷ [])
 
+-- how many states are visited, and how often agents may nap, where no word says it
+abbrev pub default_states : Text
+default_states = codes "10000000"
+
+abbrev pub default_naps : Text
+default_naps = codes "2"
+
+abbrev pub explore : Shape
+explore = command (codes "explore") (must_have (codes "tournament") ∷ must_have (codes "match")
+    ∷ behind (codes "states") (has_default (codes "states") default_states)
+    ∷ behind (codes "naps") (has_default (codes "naps") default_naps) ∷ [])
+
 -- on which port the server listens, where no word says it
 abbrev pub default_port : Text
 default_port = codes "4000"
@@ -134,8 +147,8 @@ serve = command (codes "serve") (must_have (codes "tournament")
 abbrev pub arena : App
 arena =
     with_subcommand (with_subcommand (with_subcommand (with_subcommand (with_subcommand (with_subcommand
-    (with_subcommand (with_subcommand (program (codes "arena")) rehearse) check) judge) table) explain) twin) recover)
-    serve
+    (with_subcommand (with_subcommand (with_subcommand (program (codes "arena")) rehearse) check) judge) table) explain)
+    twin) recover) explore) serve
 
 -- ---- what clap makes of the words that stand after the program's name
 
@@ -175,6 +188,20 @@ abbrev pub entries_in : List Text → Option (List Entry)
 entries_in [] = Some []
 entries_in (word ∷ words) =
     option_and_then (λ entry. option_map (λ entries. entry ∷ entries) (entries_in words)) (entry_in word)
+
+-- an exploration by these numbers, if all are there
+abbrev pub exploration_of : (game states naps : Option ℕ) → Option Exploration
+exploration_of (Some game) (Some states) (Some naps) = Some (record { game = game; states = states; naps = naps })
+exploration_of _ _ _ = None
+
+-- the exploration that the words of `explore` say
+abbrev pub exploration_in : (game states naps : Text) → Option Exploration
+exploration_in game states naps =
+    exploration_of (number_in game) (number_within 1 4294967295 states) (number_in naps)
+
+-- the same where the optional words are not given
+abbrev pub plain_exploration_in : (game : Text) → Option Exploration
+plain_exploration_in game = exploration_in game default_states default_naps
 
 -- a hosting by these numbers, if all are there
 abbrev pub hosting_of : (port sessions turns pause grace gather : Option ℕ) → (is_early is_told : Bool)
@@ -224,6 +251,11 @@ number_by least most id rows = number_within least most (text_in id rows)
 abbrev pub is_given : (id : Text) → List Row → Bool
 is_given id rows = bytes_eq (text_in id rows) (codes "true")
 
+-- the exploration that the words of `explore` say
+abbrev pub exploration_by : List Row → Option Exploration
+exploration_by rows =
+    exploration_in (text_in (codes "match") rows) (text_in (codes "states") rows) (text_in (codes "naps") rows)
+
 -- the hosting that the words of `serve` say
 abbrev pub hosting_by : List Row → Option Hosting
 hosting_by rows = hosting_in (text_in (codes "port") rows) (text_in (codes "sessions") rows)
@@ -250,9 +282,11 @@ order_by (name, rows) =
     else (if bytes_eq name (codes "twin")
     then option_map (Twin (text_in (codes "replay") rows)) (number_in (text_in (codes "node") rows))
     else (if bytes_eq name (codes "recover") then Some (Recover (text_in (codes "part") rows))
+    else (if bytes_eq name (codes "explore")
+    then option_map (Explore (text_in (codes "tournament") rows)) (exploration_by rows)
     else (if bytes_eq name (codes "serve")
     then option_map (Serve (text_in (codes "tournament") rows)) (hosting_by rows)
-    else None)))))))
+    else None))))))))
 
 -- the order that the words give, and None if they give none
 abbrev pub order_in : List Text → Option Order
@@ -298,6 +332,9 @@ Says words (Twin replay node) =
     (word : Text) × IsName replay × IsName word × (number_in word ≡ Some node)
     × (words ≡ codes "twin" ∷ replay ∷ word ∷ [])
 Says words (Recover part) = IsName part × (words ≡ codes "recover" ∷ part ∷ [])
+Says words (Explore tournament exploration) =
+    (word : Text) × IsName tournament × IsName word × (plain_exploration_in word ≡ Some exploration)
+    × (words ≡ codes "explore" ∷ tournament ∷ word ∷ [])
 Says words (Serve tournament hosting) =
     (port : Text) × (sessions : Text) × (turns : Text) × (pause : Text)
     × IsName tournament × IsName hosting.prefix
@@ -344,7 +381,8 @@ AsksHelp words = AskAfter [] words
     ⊎ (AskAfter (codes "explain" ∷ []) words
     ⊎ (AskAfter (codes "twin" ∷ []) words
     ⊎ (AskAfter (codes "recover" ∷ []) words
-    ⊎ AskAfter (codes "serve" ∷ []) words)))))))
+    ⊎ (AskAfter (codes "explore" ∷ []) words
+    ⊎ AskAfter (codes "serve" ∷ []) words))))))))
 
 -- the words that ask for the version and do nothing else
 abbrev pub AsksVersion : List Text → Type 0

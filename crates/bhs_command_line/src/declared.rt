@@ -28,6 +28,7 @@ pub(crate) fn command_line<'a>(alloc: Global) -> Result<Command<'a>, AllocError>
     let line = with_command(line, explain_command(alloc));
     let line = with_command(line, twin_command(alloc));
     let line = with_command(line, recover_command(alloc));
+    let line = with_command(line, explore_command(alloc));
     with_command(line, serve_command(alloc))
 }
 
@@ -169,6 +170,28 @@ fn recover_command<'a>(alloc: Global) -> Result<Command<'a>, AllocError>
         "PART",
         "The part's file, as a path from the working directory",
     ))
+}
+
+fn explore_command<'a>(alloc: Global) -> Result<Command<'a>, AllocError>
+    ensures { IfOk result (λ command. IsTold command specs.explore) }
+{
+    let command = command(
+        alloc,
+        "explore",
+        help::EXPLORE,
+        help::EXPLORE_AT_LENGTH,
+        help::EXPLORE_EXAMPLE,
+    );
+    let command = command.arg(must_have(alloc, "tournament", "TOURNAMENT", TOURNAMENT_FILE));
+    let command = with(
+        command,
+        must_have(alloc, "match", "MATCH", "The match's number, from 0"),
+    );
+    let command = with(
+        command,
+        default_option(alloc, "states", "N", help::STATES, "10000000"),
+    );
+    with(command, default_option(alloc, "naps", "N", help::NAPS, "2"))
 }
 
 fn serve_command<'a>(alloc: Global) -> Result<Command<'a>, AllocError>

@@ -1,12 +1,14 @@
 //! The order in what clap made of the words.
 
 ghost use Rattle.std.specs.Prelude.{◌≡◌, ◌<◌, ◌^◌, IfOk, option_and_then, codes};
-ghost use Rattle.bhs_command_line.specs.CommandLine.{order_by, hosting_by, number_by, entries_in};
+ghost use Rattle.bhs_command_line.specs.CommandLine.{order_by, exploration_by, hosting_by, number_by, entries_in};
 ghost use Rattle.bhs_command_line.specs.CommandLine.{is_given, rehearsal_of, text_in, texts_in};
 ghost use Rattle.clap.specs.Words.{first_of, found_of, rows_of, subcommand_rows_of};
 
-use crate::numbers::{AGENT, GATHER, GRACE, NODE, Number, PAUSE, PORT, SESSIONS, TURNS};
-use crate::orders::{Entries, Hosting, Order};
+use crate::numbers::{
+    AGENT, GAME, GATHER, GRACE, NAPS, NODE, Number, PAUSE, PORT, SESSIONS, STATES, TURNS,
+};
+use crate::orders::{Entries, Exploration, Hosting, Order};
 use crate::words::{entries_in, number_within, text};
 use bhs_text::Text;
 use clap::ArgMatches;
@@ -66,6 +68,13 @@ fn order_named(
         "recover" => Ok(Some(Order::Recover {
             part: text_given(alloc, words, "part")?,
         })),
+        "explore" => match exploration_given(words) {
+            Some(exploration) => Ok(Some(Order::Explore {
+                tournament: text_given(alloc, words, "tournament")?,
+                exploration,
+            })),
+            None => Ok(None),
+        },
         "serve" => match hosting_given(alloc, words)? {
             Some(hosting) => Ok(Some(Order::Serve {
                 tournament: text_given(alloc, words, "tournament")?,
@@ -93,6 +102,22 @@ fn is_given(words: &ArgMatches<'_>, id: &str) -> bool
     ensures { result ≡ is_given id.now (rows_of (found_of words.now)) }
 {
     words.get_str(id).unwrap_or("") == "true"
+}
+
+// The exploration that the words of `explore` say.
+fn exploration_given(words: &ArgMatches<'_>) -> Option<Exploration>
+    ensures { result ≡ exploration_by (rows_of (found_of words.now)) }
+{
+    let Some(game) = short_given(words, &GAME) else {
+        return None;
+    };
+    let Some(states) = number_given(words, &STATES) else {
+        return None;
+    };
+    let Some(naps) = short_given(words, &NAPS) else {
+        return None;
+    };
+    Some(Exploration { game, states, naps })
 }
 
 // The hosting that the words of `serve` say.

@@ -298,6 +298,77 @@ Exit status:
   5  Memory ran out
   6  Reading or writing failed";
 
+pub(crate) const EXPLORE: &str = "Tries every schedule of a match whose agents a host plays";
+
+pub(crate) const EXPLORE_AT_LENGTH: &str = "\
+Tries every schedule of match MATCH of the tournament, and says whether each one
+solves it. The agents are played by a host at the other end of standard input and
+output, as `python3 -m lab explore` is one. An agent must be deterministic: what
+it does next is a function of what its program holds. The host gives each thing
+that a program may hold a number, its memory, counted from 0 in the order in
+which they are met. The program asks, a line for each question, and waits for the
+answer before it goes on:
+
+  {\"begin\":A}             What does agent A hold at the start?
+  {\"ask\":M,\"hears\":REPLY} What does an agent hold that held M, and then heard
+                          this reply? REPLY is what a server sends
+  {\"ask\":M,\"wakes\":true}  The same of one that slept and wakes
+
+Each question is asked once. The answer is a line, N being the memory:
+
+  N says                  and on the next line what the client sends then, as
+                          {\"do\":\"look\"}; the key of an enter is not looked at
+  N sleeps                The agent waits until the whiteboard in front of it
+                          changes; it may also wake --naps times more
+  N stops                 It sends nothing more, but it may still arrive
+
+Programs of agents that hold the same may share a memory. Each memory must always
+have the same step.";
+
+pub(crate) const EXPLORE_EXAMPLE: &str = "\
+At the end comes a line of what was found, and one of how much was visited:
+
+  {\"found\":\"solves\",\"moves\":M,\"lost\":L,\"commands\":[C,..]}
+      Under every schedule the match is solved, in at most M moves, with at most
+      L agents lost, and agent A uses at most the A-th of these commands
+  {\"found\":\"fails\",\"outcome\":O,\"moves\":M,\"lost\":L,\"schedule\":[A,..]}
+      If the agents have their turns in this order, nothing more can happen, and
+      the match is not solved
+  {\"found\":\"endless\",\"schedule\":[A,..],\"round\":[A,..]}
+      After the schedule, this round may go on for ever
+  {\"found\":\"exceeds\",\"agent\":A,\"commands\":C}
+      An agent may use more commands than its quota, so nothing is said
+  {\"states\":S,\"memories\":M,\"stances\":T,\"boards\":B}
+
+This is proved of all agents that do as was answered. The program cannot know
+whether the agents of the host do.
+
+Example: on the triangle of `arena check --help` an agent that stops at once:
+
+  printf '%s\\n' '0 stops' '0 stops' | arena explore cup.toml 0
+
+prints
+
+  {\"begin\":0}
+  {\"begin\":1}
+  {\"found\":\"fails\",\"outcome\":\"silent\",\"moves\":0,\"lost\":0,\"schedule\":[]}
+  {\"states\":1,\"memories\":1,\"stances\":1,\"boards\":1}
+
+Exit status:
+
+  0  Every schedule solves the match
+  1  A schedule fails, or may go on for ever
+  2  The command line was refused
+  3  A file or an answer was refused, or nothing can be said
+  5  Memory ran out
+  6  Reading or writing failed";
+
+pub(crate) const STATES: &str =
+    "Visits at most this many states; a million take about 50 megabytes";
+
+pub(crate) const NAPS: &str =
+    "How often a sleeping agent may wake again though nothing has changed in front of it";
+
 pub(crate) const SERVE: &str = "Serves a tournament to agents that connect over TCP";
 
 pub(crate) const SERVE_AT_LENGTH: &str = "\

@@ -27,6 +27,27 @@ pub(crate) const NODE: Number = Number {
     most: 65_535,
 };
 
+pub(crate) const GAME: Number = Number {
+    id: "match",
+    name: "<MATCH>",
+    least: 0,
+    most: 65_535,
+};
+
+pub(crate) const STATES: Number = Number {
+    id: "states",
+    name: "--states <N>",
+    least: 1,
+    most: 4_294_967_295,
+};
+
+pub(crate) const NAPS: Number = Number {
+    id: "naps",
+    name: "--naps <N>",
+    least: 0,
+    most: 65_535,
+};
+
 pub(crate) const PORT: Number = Number {
     id: "port",
     name: "--port <PORT>",

@@ -45,6 +45,11 @@ pub enum Order {
     Recover {
         part: Text,
     },
+    /// Tries every schedule of a match of the tournament of this file, whose agents a host plays.
+    Explore {
+        tournament: Text,
+        exploration: Exploration,
+    },
     /// Serves the tournament of this file to agents that connect.
     Serve {
         tournament: Text,
@@ -78,6 +83,17 @@ pub struct Hosting {
     pub address: Text,
     /// With what the names of the replays begin.
     pub prefix: Text,
+}
+
+/// Which schedules are tried.
+#[derive(Clone, Copy, Debug, PartialEq, Eq)]
+pub struct Exploration {
+    /// The match, by its number in the tournament.
+    pub game: u16,
+    /// How many states are visited at most, 1 or more.
+    pub states: u32,
+    /// How often an agent that sleeps may wake again though nothing has changed in front of it.
+    pub naps: u16,
 }
 
 /// A team of a table, with the name of the replay of its match.

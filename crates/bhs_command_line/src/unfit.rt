@@ -1,7 +1,9 @@
 //! What is told of a word that is no number, or no entry of a table.
 
 use crate::given::number_given;
-use crate::numbers::{AGENT, GATHER, GRACE, NODE, Number, PAUSE, PORT, SESSIONS, TURNS};
+use crate::numbers::{
+    AGENT, GAME, GATHER, GRACE, NAPS, NODE, Number, PAUSE, PORT, SESSIONS, STATES, TURNS,
+};
 use crate::words::entry_in;
 use clap::ArgMatches;
 use std::alloc::{AllocError, Global};
@@ -12,6 +14,7 @@ pub(crate) fn unfit_text(alloc: Global, matches: &ArgMatches<'_>) -> Result<Stri
         Some(("table", words)) => unfit_entry(alloc, words),
         Some(("explain", words)) => unfit_number(alloc, words, &[AGENT]),
         Some(("twin", words)) => unfit_number(alloc, words, &[NODE]),
+        Some(("explore", words)) => unfit_number(alloc, words, &[GAME, STATES, NAPS]),
         Some(("serve", words)) => {
             unfit_number(alloc, words, &[PORT, SESSIONS, TURNS, PAUSE, GRACE, GATHER])
         }

@@ -23,7 +23,8 @@ use Rattle.bhs_orders.specs.Interactive.{with_end}
 use Rattle.bhs_rehearsal.specs.Rehearsing.{Rehearsing}
 use Rattle.bhs_orders.specs.declared.faults.Fault.{Fault}
 use Rattle.bhs_orders.specs.declared.faults.Fault.TheVariants.{Read, Text, Line, File, Replay, Twin, Write, Memory}
-use Rattle.bhs_orders.specs.declared.faults.Fault.TheVariants.{Turns, Listen, Busy, Threads, Unsettled}
+use Rattle.bhs_orders.specs.declared.faults.Fault.TheVariants.{Turns, Listen, Busy, Threads, Unsettled, NoMatch}
+use Rattle.bhs_orders.specs.declared.faults.Fault.TheVariants.{Exploring}
 use Rattle.bhs_orders.specs.declared.interactive.Player.{Player}
 
 -- ---- one line
@@ -103,6 +104,8 @@ module _ {O : Type 0} (takes : O → List ℕ → Taken → O → Type 0) (flush
   refused_at progress output output' Listen refused bad = absurd bad
   refused_at progress output output' Busy refused bad = absurd bad
   refused_at progress output output' Threads refused bad = absurd bad
+  refused_at progress output output' (NoMatch game) refused bad = absurd bad
+  refused_at progress output output' (Exploring why) refused bad = absurd bad
   refused_at progress output output' (Unsettled game) refused bad = absurd bad
   refused_at progress output output' Memory refused bad = absurd bad
 
@@ -305,6 +308,8 @@ module _ {I O : Type 0} (gives : I → Chunk → I → Type 0) (takes : O → Li
     stops_within Listen within = breaks_at Listen within
     stops_within Busy within = breaks_at Busy within
     stops_within Threads within = breaks_at Threads within
+    stops_within (NoMatch game) within = breaks_at (NoMatch game) within
+    stops_within (Exploring why) within = breaks_at (Exploring why) within
     stops_within (Unsettled game) within = breaks_at (Unsettled game) within
     stops_within Read within = absurd within.breaks
     stops_within Turns within = absurd within.breaks

@@ -6,4 +6,6 @@ pub mod ReportLemmas
 pub mod FreshLemmas
 pub mod FilingLemmas
 pub mod InteractiveLemmas
+pub mod LinkLemmas
+pub mod ListLemmas
 pub mod AnsweredLemmas

@@ -17,7 +17,8 @@ use Rattle.bhs_view.specs.declared.twins.TwinFault.{TwinFault}
 use Rattle.bhs_view.specs.declared.twins.TwinFault.TheVariants as twins
 use Rattle.bhs_orders.specs.declared.faults.Fault.{Fault}
 use Rattle.bhs_orders.specs.declared.faults.Fault.TheVariants.{Read, Text, Turns, Line, File, Replay, Twin, Write}
-use Rattle.bhs_orders.specs.declared.faults.Fault.TheVariants.{Memory, Listen, Busy, Threads, Unsettled}
+use Rattle.bhs_orders.specs.declared.faults.Fault.TheVariants.{Memory, Listen, Busy, Threads, Unsettled, NoMatch}
+use Rattle.bhs_orders.specs.declared.faults.Fault.TheVariants.{Exploring}
 use Rattle.bhs_orders.specs.declared.statuses.TheConstants.{DONE, NO_MEMORY}
 use Rattle.bhs_orders.specs.Fault.{of_twin, of_writing, status}
 use Rattle.bhs_orders.specs.Playing.{StopsPlaying}
@@ -62,6 +63,8 @@ not_done (Twin fault) e = omega arith
 not_done Listen e = omega arith
 not_done Busy e = omega arith
 not_done Threads e = omega arith
+not_done (NoMatch game) e = omega arith
+not_done (Exploring why) e = omega arith
 not_done (Unsettled game) e = omega arith
 not_done Write e = omega arith
 not_done Memory e = omega arith

@@ -14,9 +14,12 @@ use Rattle.bhs_replay.specs.declared.faults.WritingFault.{WritingFault}
 use Rattle.bhs_replay.specs.declared.faults.WritingFault.TheVariants as writing
 use Rattle.bhs_view.specs.declared.twins.TwinFault.{TwinFault}
 use Rattle.bhs_view.specs.declared.twins.TwinFault.TheVariants as twins
+use Rattle.bhs_explore.specs.declared.faults.ExploreFault.{ExploreFault}
+use Rattle.bhs_explore.specs.declared.faults.ExploreFault.TheVariants as exploring
 use Rattle.bhs_orders.specs.declared.faults.Fault.{Fault}
 use Rattle.bhs_orders.specs.declared.faults.Fault.TheVariants.{Read, Text, Turns, Line, File, Replay, Twin, Write}
-use Rattle.bhs_orders.specs.declared.faults.Fault.TheVariants.{Memory, Listen, Busy, Threads, Unsettled}
+use Rattle.bhs_orders.specs.declared.faults.Fault.TheVariants.{Memory, NoMatch, Exploring, Listen, Busy, Threads}
+use Rattle.bhs_orders.specs.declared.faults.Fault.TheVariants.{Unsettled}
 use Rattle.bhs_orders.specs.declared.statuses.TheConstants as statuses
 
 -- an error of opening or reading
@@ -58,6 +61,11 @@ abbrev pub of_twin : TwinFault → Fault
 of_twin twins.Memory = Memory
 of_twin fault = Twin fault
 
+-- why not every schedule was tried
+abbrev pub of_exploring : ExploreFault → Fault
+of_exploring exploring.Memory = Memory
+of_exploring fault = Exploring fault
+
 -- the exit status of a text that is no replay: it is not spelled as one, or its events are those of no match
 abbrev pub replay_status : ReplayFault → ℕ
 replay_status (replays.Event line) = statuses.REFUSED_MATCH
@@ -73,6 +81,8 @@ status (Line line) = statuses.REFUSED_TEXT
 status (File fault) = statuses.REFUSED_TEXT
 status (Replay fault) = replay_status fault
 status (Twin fault) = statuses.REFUSED_MATCH
+status (NoMatch game) = statuses.REFUSED_TEXT
+status (Exploring fault) = statuses.REFUSED_TEXT
 status Listen = statuses.FAILED_STREAM
 status Busy = statuses.FAILED_STREAM
 status Threads = statuses.NO_THREADS

@@ -1,4 +1,5 @@
 pub mod BuiltIn
+pub mod Discoveries
 pub mod Fault
 pub mod Summary
 pub mod Playing

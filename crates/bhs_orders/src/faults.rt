@@ -3,11 +3,12 @@
 ghost use Rattle.std.specs.Prelude.{◌≡◌};
 ghost use Rattle.bhs_orders.specs.declared.faults.Fault.TheVariants as faults;
 ghost use Rattle.std.specs.IoError.{error_kind};
-ghost use Rattle.bhs_orders.specs.Fault.{of_file, of_kind, of_read, of_replay, of_script, of_twin, of_writing};
-ghost use Rattle.bhs_orders.specs.Fault.{replay_status, status};
+ghost use Rattle.bhs_orders.specs.Fault.{of_exploring, of_file, of_kind, of_read, of_replay, of_script, of_twin};
+ghost use Rattle.bhs_orders.specs.Fault.{of_writing, replay_status, status};
 
 use crate::names::Shown;
 use crate::statuses::{FAILED_STREAM, NO_MEMORY, NO_THREADS, REFUSED_MATCH, REFUSED_TEXT};
+use bhs_explore::ExploreFault;
 use bhs_files::FileFault;
 use bhs_net::Memory;
 use bhs_replay::{ReplayFault, WritingFault};
@@ -42,6 +43,12 @@ pub enum Fault {
     /// The match has no such twin.
     #[error("{0}")]
     Twin(TwinFault),
+    /// The tournament has no match of this number.
+    #[error("no match {game}")]
+    NoMatch { game: u16 },
+    /// Not every schedule of a match was tried.
+    #[error("{0}")]
+    Exploring(ExploreFault),
     /// No client can connect: the port is in use, or the program may not have it.
     #[error("listen")]
     Listen,
@@ -69,6 +76,7 @@ impl Fault {
     {
         match self {
             Fault::Text | Fault::Line { .. } | Fault::File(_) => REFUSED_TEXT,
+            Fault::NoMatch { .. } | Fault::Exploring(_) => REFUSED_TEXT,
             Fault::Replay(fault) => replay_status(fault),
             Fault::Twin(_) | Fault::Unsettled { .. } => REFUSED_MATCH,
             Fault::Memory => NO_MEMORY,
@@ -192,6 +200,17 @@ impl From<TwinFault> for Fault {
         match twin {
             TwinFault::Memory => Fault::Memory,
             _ => Fault::Twin(twin),
+        }
+    }
+}
+
+impl From<ExploreFault> for Fault {
+    ghost from_gives = { λ explore fault. fault ≡ of_exploring explore };
+
+    fn from(explore: ExploreFault) -> Fault {
+        match explore {
+            ExploreFault::Memory => Fault::Memory,
+            _ => Fault::Exploring(explore),
         }
     }
 }

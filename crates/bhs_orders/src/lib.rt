@@ -4,12 +4,16 @@
 
 mod built_in_tournament;
 mod checking;
+mod discoveries;
 mod explaining;
+mod exploring;
 mod faults;
+mod hosts;
 mod interactive;
 mod judging;
 mod laws;
 mod line_by_line;
+mod links;
 mod names;
 mod parts;
 mod playing;
@@ -26,6 +30,7 @@ mod whole_rehearsals;
 pub use built_in_tournament::built_in;
 pub use checking::{check, lineup_of};
 pub use explaining::print_past;
+pub use exploring::explore_named;
 pub use faults::{Fault, report};
 pub use interactive::{MAX_READS, rehearse_interactively};
 pub use judging::{print_verdict, verdict_line};
@@ -35,7 +40,7 @@ pub use rehearsing::rehearse;
 pub use replays::{first_status, write_sealed};
 pub use showing::{show_made, show_text};
 pub use statuses::{
-    DONE, FAILED_STREAM, NO_MEMORY, NO_THREADS, REFUSED_MATCH, REFUSED_TEXT, REFUSED_WORDS,
+    DONE, FAILED_STREAM, FAILING, NO_MEMORY, NO_THREADS, REFUSED_MATCH, REFUSED_TEXT, REFUSED_WORDS,
 };
 pub use tabling::print_table;
 pub use twinning::print_twin;

@@ -3,6 +3,9 @@
 /// The exit status if all was done.
 pub const DONE: u8 = 0;
 
+/// The exit status if a schedule fails, or may go on for ever.
+pub const FAILING: u8 = 1;
+
 /// The exit status if the command line was refused.
 pub const REFUSED_WORDS: u8 = 2;
 

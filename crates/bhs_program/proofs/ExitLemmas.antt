@@ -1,5 +1,5 @@
 -- The exit statuses of what the program does.
-use Rattle.std.proofs.Common.{inl, inr, ℕ, List, Option, None, Some, Bool, true, false, Result}
+use Rattle.std.proofs.Common.{◌≡◌, inl, inr, ℕ, List, Option, None, Some, Bool, true, false, Result}
 use Rattle.std.specs.Prelude.{◌==◌, if◌then◌else◌}
 use Rattle.bhs_lock.specs.declared.settling.Settlement.{Settlement}
 use Rattle.bhs_server.specs.declared.settling.Refused.{Refused}
@@ -9,7 +9,12 @@ use Rattle.bhs_stream.specs.Streams.{Chunk, Taken}
 use Rattle.bhs_rehearsal.specs.Stages.{Stage}
 use Rattle.bhs_command_line.specs.declared.orders.Order.{Order}
 use Rattle.bhs_command_line.specs.declared.orders.Order.TheVariants as order
-use Rattle.bhs_orders.specs.declared.faults.Fault.TheVariants.{Write, Memory, Twin}
+use Rattle.bhs_command_line.specs.declared.orders.Exploration.{Exploration}
+use Rattle.bhs_explore.specs.declared.found.Found.{Found}
+use Rattle.bhs_explore.specs.declared.found.Found.TheVariants as found
+use Rattle.bhs_orders.specs.declared.faults.Fault.TheVariants.{Write, Memory, Twin, Text}
+use Rattle.bhs_orders.specs.Discoveries.{Explores, ExploresMatch, found_status, exploration_done, exploration_ends}
+use Rattle.bhs_orders.specs.Discoveries.{explores_nothing, explores_on}
 use Rattle.bhs_orders.specs.Rehearsal.{Rehearses, done, unfiled, ends}
 use Rattle.bhs_orders.specs.RehearsedTournaments.{RehearsesNamed, rehearses_on, refuses_file}
 use Rattle.bhs_orders.specs.InteractiveTournaments.{InteractsNamed, InteractsWhole, tournament_refused}
@@ -48,6 +53,13 @@ module _ {O : Type 0} (takes : O → List ℕ → Taken → O → Type 0) (flush
   of_many : (IsReport : List ℕ → Type 0) → Reports (PrintsByLine takes flushes) IsReport output output' code
       → IsStatus code
   of_many IsReport report = of_report _ _ of_lines report
+
+-- the exit status of what was found
+of_found : (found : Found) (code : ℕ) → code ≡ found_status found → IsStatus code
+of_found (found.Solves moves lost commands) code is = inl is
+of_found (found.Fails verdict schedule) code is = inr (inl (inr is))
+of_found (found.Endless schedule round) code is = inr (inl (inr is))
+of_found (found.Exceeds agent commands) code is = inr (inr (Text, is))
 
 -- the exit status of a contest
 of_either : (is_done : Bool) (one two : ℕ) → IsStatus one → IsStatus two
@@ -102,6 +114,16 @@ module _ {P I O : Type 0} (files : P → List ℕ → Taken → P → Type 0) (g
   of_named_interaction prefix (interaction_on lineup assembled rehearsal) = of_interaction _ _ rehearsal
   of_named_interaction prefix (tournament_refused fault is rests) = inr (inr (fault, is))
 
+  of_match : (ready : Ready) (exploration : Exploration) → ExploresMatch takes flushes ready exploration output' code
+      → IsStatus code
+  of_match ready exploration (exploration_done printed) = of_found printed.explored.found code printed.told
+  of_match ready exploration (exploration_ends fault is) = inr (inr (fault, is))
+
+  of_exploration : (exploration : Exploration) → Explores takes flushes exploration input input' output output' code
+      → IsStatus code
+  of_exploration exploration (explores_on lineup assembled ready at explored) = of_match ready exploration explored
+  of_exploration exploration (explores_nothing fault is rests) = inr (inr (fault, is))
+
   of_served : (port : ℕ) → Serves files takes flushes port output output' code → IsStatus code
   of_served port (serves_on lineup assembled heard shows hosts) =
       of_host files takes flushes _ _ _ heard output' code hosts
@@ -122,6 +144,7 @@ module _ {P I O : Type 0} (files : P → List ℕ → Taken → P → Type 0) (g
     | inr none ↦ inr (inr (Twin none.fault, none.coded))
   ]
   of_deed (order.Recover name) recovered = of_many takes flushes output output' code _ recovered.1
+  of_deed (order.Explore name exploration) explored = of_exploration exploration explored
   of_deed (order.Serve name hosting) served = of_served hosting.port served.1
 
   of_order : (order : Order) → Obeys files gives takes flushes order input input' output output' code → IsStatus code
@@ -132,5 +155,5 @@ module _ {P I O : Type 0} (files : P → List ℕ → Taken → P → Type 0) (g
       code → IsStatus code
   status_of_run words (obeys order is obeyed) = of_order order obeyed
   status_of_run words (helps text asked unread print) = of_print takes flushes output output' code text print
-  status_of_run words (refuses_words refused is rests) = inr (inl is)
+  status_of_run words (refuses_words refused is rests) = inr (inl (inl is))
   status_of_run words (lacks_room is rests) = inr (inr (Memory, is))

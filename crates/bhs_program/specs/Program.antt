@@ -5,6 +5,7 @@ use Rattle.bhs_stream.specs.Streams.{Chunk, Taken}
 use Rattle.bhs_command_line.specs.CommandLine.{AreRefused, faults, is_asked, order_in}
 use Rattle.bhs_command_line.specs.declared.orders.Order.{Order}
 use Rattle.bhs_command_line.specs.declared.orders.Order.TheVariants as order
+use Rattle.bhs_orders.specs.Discoveries.{Explores}
 use Rattle.bhs_orders.specs.Fault.{IsOfFault}
 use Rattle.bhs_orders.specs.RehearsedTournaments.{RehearsesEither, Rests}
 use Rattle.bhs_orders.specs.InteractiveTournaments.{InteractsEither}
@@ -12,12 +13,12 @@ use Rattle.bhs_orders.specs.Parts.{IsRecovered}
 use Rattle.bhs_orders.specs.Reports.{IsJudgement, IsTable, IsPast, IsTwinReplay, HasNoTwin}
 use Rattle.bhs_orders.specs.Showing.{Prints, PrintsByLine, Reports}
 use Rattle.bhs_orders.specs.Summary.{IsSummary}
-use Rattle.bhs_orders.specs.declared.statuses.TheConstants.{DONE, NO_MEMORY, REFUSED_WORDS}
+use Rattle.bhs_orders.specs.declared.statuses.TheConstants.{DONE, FAILING, NO_MEMORY, REFUSED_WORDS}
 use Rattle.bhs_program.specs.Contests.{Serves}
 
--- an exit status of the program: all was done, the words are refused, or a fault came
+-- an exit status of the program: all was done, the words are refused, a schedule fails, or a fault came
 abbrev pub IsStatus : ℕ → Type 0
-IsStatus code = (code ≡ DONE) ⊎ ((code ≡ REFUSED_WORDS) ⊎ IsOfFault code)
+IsStatus code = (code ≡ DONE) ⊎ (((code ≡ REFUSED_WORDS) ⊎ (code ≡ FAILING)) ⊎ IsOfFault code)
 
 -- the calls of the files that are written, of the input and of the output
 module _ {P I O : Type 0} (files : P → List ℕ → Taken → P → Type 0) (gives : I → Chunk → I → Type 0)
@@ -45,6 +46,8 @@ module _ {P I O : Type 0} (files : P → List ℕ → Taken → P → Type 0) (g
       (input' ≡ input) × (TellsByLine (IsTwinReplay node) output output' code ⊎ HasNoTwin node output output' code)
   Does (order.Recover part) input input' output output' code =
       (input' ≡ input) × TellsByLine IsRecovered output output' code
+  Does (order.Explore name exploration) input input' output output' code =
+      Explores takes flushes exploration input input' output output' code
   Does (order.Serve name hosting) input input' output output' code =
       (input' ≡ input) × Serves files takes flushes hosting.port output output' code
 

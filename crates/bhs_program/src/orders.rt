@@ -8,8 +8,8 @@ use crate::machines::Machine;
 use crate::serving::serve_named;
 use bhs_command_line::{Order, Parsed, order_of};
 use bhs_orders::{
-    Fault, REFUSED_WORDS, check, print_past, print_recovered, print_table, print_twin,
-    print_verdict, rehearse_interactively_named, rehearse_named, report, show_text,
+    Fault, REFUSED_WORDS, check, explore_named, print_past, print_recovered, print_table,
+    print_twin, print_verdict, rehearse_interactively_named, rehearse_named, report, show_text,
 };
 use bhs_stream::{Input, Output, send};
 use std::alloc::Global;
@@ -72,6 +72,10 @@ fn obey<
             print_twin(alloc, rt, replay.as_str(), node, writer, errors)
         }
         Order::Recover { part } => { print_recovered(alloc, rt, part.as_str(), writer, errors) }
+        Order::Explore {
+            tournament,
+            exploration,
+        } => explore_named(alloc, rt, tournament, exploration, reader, writer, errors),
         Order::Serve {
             tournament,
             hosting,

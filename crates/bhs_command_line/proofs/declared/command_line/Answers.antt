@@ -9,4 +9,5 @@ returns c =
     let explain = c.with_command-line-5.ensures _ _ table c.explain_command.ensures in
     let twin = c.with_command-line-6.ensures _ _ explain c.twin_command.ensures in
     let recover = c.with_command-line-7.ensures _ _ twin c.recover_command.ensures in
-    c.with_command.ensures _ _ recover c.serve_command.ensures
+    let explore = c.with_command-line-8.ensures _ _ recover c.explore_command.ensures in
+    c.with_command.ensures _ _ explore c.serve_command.ensures

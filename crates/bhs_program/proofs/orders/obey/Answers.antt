@@ -32,5 +32,8 @@ returns-in-Twin g c = rw c.in-Twin.is (does (refl, c.print_twin.ensures))
 pub returns-in-Recover : goal.returns-in-Recover
 returns-in-Recover g c = rw c.in-Recover.is (does (refl, c.print_recovered.ensures))
 
+pub returns-in-Explore : goal.returns-in-Explore
+returns-in-Explore g c = rw c.in-Explore.is (does c.explore_named.ensures)
+
 pub returns-in-Serve : goal.returns-in-Serve
 returns-in-Serve g c = rw c.in-Serve.is (does (refl, c.serve_named.ensures))

@@ -1,0 +1,113 @@
+#!/usr/bin/env python3
+"""Measures how fast the program tries every schedule of a match, apart from the host that plays the agents.
+
+    ./arena --help            # builds the program, if it is not built yet
+    /usr/bin/python3 bench/explore.py [--states N] NETWORK=AGENT ..
+
+Each network is named as for the lab, such as ring:16, and AGENT names an agent of examples/agents, such as ring. Two
+agents play, and each node but the home base is the black hole in turn. First the lab answers the program's questions,
+and the answers are kept. Then the program reads them from a file, so what it takes is its own. A line has the network,
+the most moves, the states of all matches, the seconds of the whole and of the program alone, states a second, and the
+most memory that the program took. The program is ./arena, or what ARENA names.
+"""
+import argparse
+import os
+import pathlib
+import resource
+import subprocess
+import sys
+import tempfile
+import time
+from typing import List, NamedTuple, Tuple
+from unittest import mock
+
+TOP = pathlib.Path(__file__).resolve().parents[1]
+sys.path.insert(0, str(TOP))
+
+from lab import asking, explore, teams  # noqa: E402
+from lab.__main__ import parser  # noqa: E402
+from lab.fixtures import Fixture, write_tournament  # noqa: E402
+from lab.machines import Machines  # noqa: E402
+
+PROGRAM = os.environ.get("ARENA", str(TOP / "arena"))
+
+
+class Taken(NamedTuple):
+    """What one match took."""
+
+    states: int
+    moves: int
+    whole: float
+    program: float
+
+
+class Answers:
+    """The answers of a host, as the program is sent them."""
+
+    def __init__(self) -> None:
+        self.lines: List[bytes] = []
+
+    def noted(self, answer: bytes) -> bytes:
+        self.lines.append(answer)
+        return answer
+
+
+def alone(fixture: Fixture, answers: Answers, states: int) -> float:
+    """The seconds of a processor that the program takes which reads its answers from a file."""
+    with tempfile.TemporaryDirectory(prefix="bench-") as name:
+        folder = pathlib.Path(name)
+        write_tournament(fixture, folder)
+        (folder / "answers").write_bytes(b"".join(answers.lines))
+        before = resource.getrusage(resource.RUSAGE_CHILDREN)
+        with (folder / "answers").open("rb") as lines:
+            words = [PROGRAM, "explore", "tournament.toml", "0", "--states", str(states), "--naps", str(fixture.naps)]
+            subprocess.run(words, cwd=name, stdin=lines, stdout=subprocess.DEVNULL, check=True)
+        after = resource.getrusage(resource.RUSAGE_CHILDREN)
+    return after.ru_utime - before.ru_utime + after.ru_stime - before.ru_stime
+
+
+def tried(fixture: Fixture, machines: Machines, states: int) -> Taken:
+    """What one match takes, all schedules of which solve it."""
+    answers, started, plain = Answers(), time.monotonic(), asking.Run.answer
+    with mock.patch.object(asking.Run, "answer", lambda run, question: answers.noted(plain(run, question))):
+        answered = asking.asked(PROGRAM, fixture, machines, states, lambda count: None)
+    whole = time.monotonic() - started
+    found = answered.found
+    if found is None or found["found"] != asking.SOLVES:
+        raise SystemExit(f"{PROGRAM} does not say that every schedule solves it: {found}")
+    return Taken(answered.counts["states"], found["moves"], whole, alone(fixture, answers, states))
+
+
+def measured(network: str, agent: str, states: int) -> Tuple[List[Taken], float]:
+    """What the matches of a network take, and the most memory that a program took so far, in megabytes."""
+    words = ["explore", "--network", network, "--agent", f"{TOP}/examples/agents/{agent}.py {{nodes}}"
+             if agent == "ring" else f"{TOP}/examples/agents/{agent}.py"]
+    given = parser().parse_args(words)
+    fixtures = explore.fixtures_for(given)
+    machines, found = Machines(fixtures[0], teams.team_of(given), given.limit), []
+    machines.start()
+    try:
+        for fixture in fixtures:
+            found.append(tried(fixture, machines, states))
+    finally:
+        machines.stop()
+    return found, resource.getrusage(resource.RUSAGE_CHILDREN).ru_maxrss / 1024
+
+
+def main() -> None:
+    given = argparse.ArgumentParser(description=(__doc__ or "").partition("\n")[0])
+    given.add_argument("--states", type=int, default=1_000_000_000, help="the most states of a match (1000000000)")
+    given.add_argument("matches", nargs="+", metavar="NETWORK=AGENT")
+    words = given.parse_args()
+    print("| network | agent | most moves | states | whole, s | program, s | states a second | memory, MB |")
+    print("|---|---|---|---|---|---|---|---|")
+    for match in words.matches:
+        network, _, agent = match.partition("=")
+        found, memory = measured(network, agent, words.states)
+        states, program = sum(it.states for it in found), sum(it.program for it in found)
+        print(f"| {network} | {agent} | {max(it.moves for it in found)} | {states:,} | {sum(it.whole for it in found):.1f} "
+              f"| {program:.1f} | {states / program:,.0f} | {memory:.0f} |", flush=True)
+
+
+if __name__ == "__main__":
+    main()

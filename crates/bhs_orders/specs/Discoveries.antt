@@ -1,0 +1,121 @@
+-- What is printed of the schedules that were tried.
+use Rattle.std.specs.Prelude.{◌≡◌, ℕ, ◌<◌, Bool, true, List, [], ◌∷◌, ◌++◌, codes, decimal, Some, slice_get}
+use Rattle.bhs_net.specs.Network.{nodes_of, degree_of}
+use Rattle.bhs_stream.specs.Streams.{Taken}
+use Rattle.bhs_deal.specs.Links.{held_in}
+use Rattle.bhs_referee.specs.declared.verdicts.Verdict.{Verdict}
+use Rattle.bhs_standings.specs.Tables.{outcome_text}
+use Rattle.bhs_lineup.specs.declared.lineups.Lineup.{Lineup}
+use Rattle.bhs_lineup.specs.declared.lineups.Ready.{Ready}
+use Rattle.bhs_command_line.specs.declared.orders.Exploration.{Exploration}
+use Rattle.bhs_explore.specs.declared.found.Found.{Found}
+use Rattle.bhs_explore.specs.declared.found.Found.TheVariants.{Solves, Fails, Endless, Exceeds}
+use Rattle.bhs_explore.specs.declared.explorers.Explored.{Explored}
+use Rattle.bhs_explore.specs.Answers.{Knowledge, is_held}
+use Rattle.bhs_explore.specs.Telling.{IsTrueOf}
+use Rattle.bhs_orders.specs.Fault.{status}
+use Rattle.bhs_orders.specs.RehearsedTournaments.{Rests}
+use Rattle.bhs_orders.specs.Showing.{Shows}
+use Rattle.bhs_orders.specs.Summary.{IsAssembled}
+use Rattle.bhs_orders.specs.declared.faults.Fault.{Fault}
+use Rattle.bhs_orders.specs.declared.statuses.TheConstants.{DONE, FAILING, REFUSED_TEXT}
+
+-- ---- the text
+
+-- numbers, the first behind this text and the others each behind a comma
+abbrev pub items_text : (before : List ℕ) → List ℕ → List ℕ
+items_text before [] = []
+items_text before (number ∷ numbers) = (before ++ decimal number) ++ items_text (codes ",") numbers
+
+-- a list of numbers, as JSON spells it
+abbrev pub list_text : List ℕ → List ℕ
+list_text numbers = (codes "[" ++ items_text (codes "") numbers) ++ codes "]"
+
+-- the line of a schedule that fails
+abbrev pub fails_line : Verdict → (schedule : List ℕ) → List ℕ
+fails_line verdict schedule =
+    codes "{\"found\":\"fails\",\"outcome\":\"" ++ (outcome_text verdict.outcome
+    ++ (codes "\",\"moves\":" ++ (decimal verdict.moves
+    ++ (codes ",\"lost\":" ++ (decimal verdict.lost
+    ++ (codes ",\"schedule\":" ++ (list_text schedule ++ codes "}\n")))))))
+
+-- the line of what was found
+abbrev pub found_line : Found → List ℕ
+found_line (Solves moves lost commands) =
+    codes "{\"found\":\"solves\",\"moves\":" ++ (decimal moves
+    ++ (codes ",\"lost\":" ++ (decimal lost
+    ++ (codes ",\"commands\":" ++ (list_text commands.items ++ codes "}\n")))))
+found_line (Fails verdict schedule) = fails_line verdict schedule.items
+found_line (Endless schedule round) =
+    codes "{\"found\":\"endless\",\"schedule\":" ++ (list_text schedule.items
+    ++ (codes ",\"round\":" ++ (list_text round.items ++ codes "}\n")))
+found_line (Exceeds agent commands) =
+    codes "{\"found\":\"exceeds\",\"agent\":" ++ (decimal agent
+    ++ (codes ",\"commands\":" ++ (decimal commands ++ codes "}\n")))
+
+-- the line of how much was visited
+abbrev pub counts_line : Explored → List ℕ
+counts_line explored =
+    codes "{\"states\":" ++ (decimal explored.states
+    ++ (codes ",\"memories\":" ++ (decimal explored.memories
+    ++ (codes ",\"stances\":" ++ (decimal explored.stances
+    ++ (codes ",\"boards\":" ++ (decimal explored.boards ++ codes "}\n")))))))
+
+abbrev pub discovery : Explored → List ℕ
+discovery explored = found_line explored.found ++ counts_line explored
+
+-- the exit status of what was found
+abbrev pub found_status : Found → ℕ
+found_status (Solves moves lost commands) = DONE
+found_status (Fails verdict schedule) = FAILING
+found_status (Endless schedule round) = FAILING
+found_status (Exceeds agent commands) = REFUSED_TEXT
+
+-- ---- what it is true of
+
+-- these links are those of the network that are held
+abbrev pub AreLinks : Ready → List (ℕ × ℕ) → Type 0
+AreLinks ready links = (node port : ℕ) → node < nodes_of ready.game.net → port < degree_of ready.game.net node
+    → is_held links node port ≡ held_in ready.held node port
+
+-- what was answered of the agents of this match, where its held links are held and agents may nap so often
+pub record IsOf (ready : Ready) (exploration : Exploration) (known : Knowledge) : Type 0 where
+  pub net : known.net ≡ ready.game.net
+  pub setup : known.setup ≡ ready.game.setup
+  pub held : AreLinks ready known.held
+  pub naps : known.naps ≡ exploration.naps
+
+-- what was found is true of all machines that answer as was noted in an exploration of this match
+pub record IsFound (ready : Ready) (exploration : Exploration) (explored : Explored) : Type 0 where
+  pub known : Knowledge
+  pub of : IsOf ready exploration known
+  pub is_true : IsTrueOf known explored.found
+
+-- ---- the order
+
+-- the calls of the output
+module _ {O : Type 0} (takes : O → List ℕ → Taken → O → Type 0) (flushes : O → Bool → O → Type 0) where
+  -- what was found is printed last and passed on, and told by the exit status
+  pub record PrintsDiscovery (ready : Ready) (exploration : Exploration) (output' : O) (code : ℕ) : Type 0 where
+    pub explored : Explored
+    pub is_found : IsFound ready exploration explored
+    pub told : code ≡ found_status explored.found
+    pub there : O
+    pub printed : Shows takes flushes (discovery explored) true there output'
+
+  -- what the exit status says of an exploration of a match
+  pub data ExploresMatch (ready : Ready) (exploration : Exploration) (output' : O) (code : ℕ) : Type 0 where
+    -- all was asked, and what was found is printed
+    exploration_done : PrintsDiscovery ready exploration output' code → ExploresMatch ready exploration output' code
+    -- a fault ended it
+    exploration_ends : (fault : Fault) → code ≡ status fault → ExploresMatch ready exploration output' code
+
+  -- an exploration of a match of the tournament that is named
+  pub data Explores {I : Type 0} (exploration : Exploration) (input input' : I) (output output' : O) (code : ℕ) :
+      Type 0 where
+    explores_on : (lineup : Lineup) → IsAssembled lineup → (ready : Ready)
+        → slice_get lineup.ready.items exploration.game ≡ Some ready
+        → ExploresMatch ready exploration output' code → Explores exploration input input' output output' code
+    -- the file of the tournament is refused, or cannot be read, or it has no such match
+    explores_nothing : (fault : Fault) → code ≡ status fault → Rests input input' output output'
+        → Explores exploration input input' output output' code

@@ -1,0 +1,113 @@
+//! What is printed of the schedules that were tried.
+
+ghost use Rattle.std.specs.Prelude.{◌≡◌, IfOk, string_bytes};
+ghost use Rattle.bhs_orders.specs.Discoveries.{discovery, fails_line, found_line, found_status, list_text};
+
+use crate::statuses::{DONE, FAILING, REFUSED_TEXT};
+use bhs_explore::{Explored, Found};
+use bhs_net::Memory;
+use bhs_referee::Verdict;
+use bhs_standings::outcome_text;
+use std::alloc::Global;
+
+/// A line of what was found, and one of how much was visited.
+pub(crate) fn discovery(alloc: Global, explored: &Explored) -> Result<String, Memory>
+    ensures { IfOk result (λ text. string_bytes text ≡ discovery explored.now) }
+{
+    let mut text = found_line(alloc, &explored.found)?;
+    let (states, memories) = (explored.states, explored.memories);
+    let (stances, boards) = (explored.stances, explored.boards);
+    let counts = format!(in alloc;
+        "{{\"states\":{states},\"memories\":{memories},\"stances\":{stances},\"boards\":{boards}}}\n"
+    )?;
+    text.push_str(counts.as_str())?;
+    Ok(text)
+}
+
+/// The exit status of what was found.
+pub(crate) fn status_of(found: &Found) -> u8
+    ensures { result ≡ found_status found.now }
+{
+    match found {
+        Found::Solves { .. } => DONE,
+        Found::Fails { .. } | Found::Endless { .. } => FAILING,
+        Found::Exceeds { .. } => REFUSED_TEXT,
+    }
+}
+
+// The line of what was found.
+fn found_line(alloc: Global, found: &Found) -> Result<String, Memory>
+    ensures { IfOk result (λ text. string_bytes text ≡ found_line found.now) }
+{
+    match found {
+        Found::Solves {
+            moves,
+            lost,
+            commands,
+        } => {
+            let commands = numbers(alloc, commands)?;
+            let commands = commands.as_str();
+            format!(in alloc;
+                "{{\"found\":\"solves\",\"moves\":{moves},\"lost\":{lost},\"commands\":{commands}}}\n"
+            )
+        }
+        Found::Fails { verdict, schedule } => fails_line(alloc, *verdict, schedule),
+        Found::Endless { schedule, round } => {
+            let schedule = agents(alloc, schedule)?;
+            let round = agents(alloc, round)?;
+            let (schedule, round) = (schedule.as_str(), round.as_str());
+            format!(in alloc;
+                "{{\"found\":\"endless\",\"schedule\":{schedule},\"round\":{round}}}\n"
+            )
+        }
+        Found::Exceeds { agent, commands } => {
+            format!(in alloc;
+                "{{\"found\":\"exceeds\",\"agent\":{agent},\"commands\":{commands}}}\n"
+            )
+        }
+    }
+}
+
+// The line of a schedule that fails.
+fn fails_line(alloc: Global, verdict: Verdict, schedule: &[u16]) -> Result<String, Memory>
+    ensures { IfOk result (λ text. string_bytes text ≡ fails_line verdict schedule.now) }
+{
+    let outcome = outcome_text(alloc, verdict.outcome)?;
+    let outcome = outcome.as_str();
+    let (moves, lost) = (verdict.moves, verdict.lost);
+    let schedule = agents(alloc, schedule)?;
+    let schedule = schedule.as_str();
+    format!(in alloc;
+        "{{\"found\":\"fails\",\"outcome\":\"{outcome}\",\"moves\":{moves},\"lost\":{lost},\"schedule\":{schedule}}}\n"
+    )
+}
+
+// Agents as a list of JSON.
+fn agents(alloc: Global, agents: &[u16]) -> Result<String, Memory>
+    ensures { IfOk result (λ text. string_bytes text ≡ list_text agents.now) }
+{
+    let mut text = String::from_str(alloc, "[")?;
+    let mut before = "";
+    for agent in agents {
+        let one = format!(in alloc; "{before}{agent}")?;
+        text.push_str(one.as_str())?;
+        before = ",";
+    }
+    text.push_str("]")?;
+    Ok(text)
+}
+
+// Numbers as a list of JSON.
+fn numbers(alloc: Global, numbers: &[u32]) -> Result<String, Memory>
+    ensures { IfOk result (λ text. string_bytes text ≡ list_text numbers.now) }
+{
+    let mut text = String::from_str(alloc, "[")?;
+    let mut before = "";
+    for number in numbers {
+        let one = format!(in alloc; "{before}{number}")?;
+        text.push_str(one.as_str())?;
+        before = ",";
+    }
+    text.push_str("]")?;
+    Ok(text)
+}

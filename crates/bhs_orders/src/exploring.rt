@@ -1,0 +1,114 @@
+//! Every schedule of a match, tried, where a host plays the agents.
+
+ghost use Rattle.std.specs.Prelude.{IfOk};
+ghost use Rattle.bhs_orders.specs.Discoveries.{Explores, ExploresMatch, IsFound, PrintsDiscovery};
+
+use crate::checking::lineup_of;
+use crate::discoveries::{discovery, status_of};
+use crate::faults::{Fault, report};
+use crate::hosts::Host;
+use crate::links::held_links;
+use bhs_command_line::Exploration;
+use bhs_explore::{ExploreFault, Explored, Explorer};
+use bhs_lineup::Ready;
+use bhs_model::Text;
+use bhs_stream::{Input, Output, finish, send};
+use bhs_world::World;
+use std::alloc::Global;
+use std::io::Write;
+use std::rt::Files;
+
+/// Reads a tournament as `check` does, and tries every schedule of one of its matches. The host that plays the agents
+/// is asked by lines of the writer, and answers by lines of the reader. Then what was found is printed. A fault goes to
+/// `errors` and ends it. The answer is the exit status.
+pub fn explore_named<F: Files, R: Input, W: Output, E: Write>(
+    alloc: Global,
+    files: &F,
+    tournament: Text,
+    exploration: Exploration,
+    reader: &mut R,
+    writer: &mut W,
+    errors: &mut E,
+) -> u8
+    ensures { Explores W.takes W.flushes exploration reader.old reader.new writer.old writer.new result }
+{
+    let lineup = match lineup_of(alloc, files, tournament.as_str(), errors) {
+        Ok(lineup) => lineup,
+        Err(status) => return status,
+    };
+    let game = exploration.game;
+    match lineup.ready.get(usize::from(game)) {
+        Some(ready) => explore_match(alloc, ready, exploration, reader, writer, errors),
+        None => report(tournament.as_str(), Fault::NoMatch { game }, errors),
+    }
+}
+
+// Tries every schedule of a match, prints what was found, and reports the fault that ended it.
+fn explore_match<R: Input, W: Output, E: Write>(
+    alloc: Global,
+    ready: &Ready,
+    exploration: Exploration,
+    reader: &mut R,
+    writer: &mut W,
+    errors: &mut E,
+) -> u8
+    ensures { ExploresMatch W.takes W.flushes ready.now exploration writer.new result }
+{
+    match explore_and_print(alloc, ready, exploration, reader, writer) {
+        Ok(status) => status,
+        Err(Fault::Write) => report("output", Fault::Write, errors),
+        Err(fault) => report("host", fault, errors),
+    }
+}
+
+// Tries every schedule of a match, and prints what was found. The answer is the exit status.
+fn explore_and_print<R: Input, W: Output>(
+    alloc: Global,
+    ready: &Ready,
+    exploration: Exploration,
+    reader: &mut R,
+    writer: &mut W,
+) -> Result<u8, Fault>
+    ensures { IfOk result (PrintsDiscovery W.takes W.flushes ready.now exploration writer.new) }
+{
+    let explored = explored(alloc, ready, exploration, reader, writer)?;
+    let text = discovery(alloc, &explored)?;
+    send(writer, text.as_bytes())?;
+    finish(writer)?;
+    Ok(status_of(&explored.found))
+}
+
+// Tries every schedule of a match whose agents a host plays.
+fn explored<R: Input, W: Output>(
+    alloc: Global,
+    ready: &Ready,
+    exploration: Exploration,
+    reader: &mut R,
+    writer: &mut W,
+) -> Result<Explored, Fault>
+    ensures { IfOk result (IsFound ready.now exploration) }
+{
+    let held = held_links(alloc, ready)?;
+    let net = ready.game.net().try_clone(alloc)?;
+    // The match was set up so, so only memory may be lacking.
+    let Ok(world) = World::new(alloc, net, ready.game.setup().try_clone()?) else {
+        return Err(Fault::Memory);
+    };
+    let mut host = Host::new(alloc, reader, writer);
+    let mut explorer = match Explorer::new(alloc, world, held, exploration.naps, &mut host) {
+        Ok(explorer) => explorer,
+        Err(fault) => return Err(fault_of(fault, &host)),
+    };
+    match explorer.explore(&mut host, exploration.states) {
+        Ok(explored) => Ok(explored),
+        Err(fault) => Err(fault_of(fault, &host)),
+    }
+}
+
+// Why an exploration ended: the host's own fault, if it answers no more.
+fn fault_of<R: Input, W: Output>(fault: ExploreFault, host: &Host<'_, R, W>) -> Fault {
+    match fault {
+        ExploreFault::Team => host.fault(),
+        _ => Fault::from(fault),
+    }
+}

@@ -1,0 +1,190 @@
+//! A team that a host plays at the other end of an input and an output. Each question to it is a line, and so is each
+//! answer.
+
+use crate::faults::Fault;
+use crate::interactive::MAX_READS;
+use bhs_explore::{Mind, News, Step, Team, TeamFault};
+use bhs_model::{Command, MAX_TEXT};
+use bhs_net::Memory;
+use bhs_stream::{BUFFER, Input, Output, finish, send};
+use bhs_wire::{First, LentReply, LineKind, LineReader, kind_of, push_line, split_line};
+use std::alloc::Global;
+
+/// Who says what agents hold, and what they do next.
+#[derive(Drop)]
+pub(crate) struct Host<'h, R, W> {
+    alloc: Global,
+    reader: &'h mut R,
+    writer: &'h mut W,
+    commands: LineReader,
+    // What was read and not taken yet.
+    held: Vec<u8>,
+    // How many lines were taken.
+    taken: usize,
+    // Why the host answers nothing more.
+    fault: Option<Fault>,
+}
+
+// What an agent does next, as a word of an answer.
+#[derive(Clone, Copy)]
+enum Does {
+    Says,
+    Sleeps,
+    Stops,
+}
+
+impl<'h, R: Input, W: Output> Host<'h, R, W> {
+    pub(crate) fn new(alloc: Global, reader: &'h mut R, writer: &'h mut W) -> Host<'h, R, W> {
+        Host {
+            alloc,
+            reader,
+            writer,
+            commands: LineReader::new(alloc),
+            held: Vec::new(alloc),
+            taken: 0,
+            fault: None,
+        }
+    }
+
+    /// Why the host answers nothing more. A host that has no fault of its own has broken a rule of teams with its last
+    /// line.
+    pub(crate) fn fault(&self) -> Fault {
+        match self.fault {
+            Some(fault) => fault,
+            None => Fault::Line { line: self.taken },
+        }
+    }
+
+    // Asks a question, and takes the answer.
+    fn asked(&mut self, question: Result<Vec<u8>, Memory>) -> Result<Mind, TeamFault> {
+        let answer = match question {
+            Ok(question) => self.answer(&question),
+            Err(memory) => Err(Fault::from(memory)),
+        };
+        match answer {
+            Ok(mind) => Ok(mind),
+            Err(fault) => {
+                self.fault = Some(fault);
+                Err(TeamFault)
+            }
+        }
+    }
+
+    fn answer(&mut self, question: &[u8]) -> Result<Mind, Fault> {
+        send(self.writer, question)?;
+        finish(self.writer)?;
+        let line = self.line()?;
+        let Some((memory, does)) = answer_in(&line) else {
+            return Err(self.refused());
+        };
+        let step = match does {
+            Does::Says => Step::Says(self.command()?),
+            Does::Sleeps => Step::Sleeps,
+            Does::Stops => Step::Stops,
+        };
+        Ok(Mind { memory, step })
+    }
+
+    // The command that a client sends by the next line, as a server takes it.
+    fn command(&mut self) -> Result<Command, Fault> {
+        let line = self.line()?;
+        match kind_of(&line) {
+            LineKind::Over => Ok(Command::Bad),
+            LineKind::Blank => Err(self.refused()),
+            LineKind::Whole => match self.commands.command_of(&line)? {
+                First::Enter { .. } => Ok(Command::Enter),
+                First::Tell(command) => Ok(command),
+            },
+        }
+    }
+
+    // The last line was refused.
+    fn refused(&self) -> Fault {
+        Fault::Line { line: self.taken }
+    }
+
+    // The next line, without its line feed.
+    fn line(&mut self) -> Result<Vec<u8>, Fault> {
+        self.taken = self.taken.saturating_add(1);
+        for _ in 0..MAX_READS {
+            if let Some(line) = self.held_line()? {
+                return Ok(line);
+            }
+            if self.held.len() > MAX_TEXT || !self.read_more()? {
+                return Err(self.refused());
+            }
+        }
+        Err(Fault::Turns)
+    }
+
+    // Takes the first line of what was read, if it has ended.
+    fn held_line(&mut self) -> Result<Option<Vec<u8>>, Memory> {
+        let Some((line, more)) = split_line(&self.held) else {
+            return Ok(None);
+        };
+        let line = Vec::from_slice(self.alloc, line)?;
+        let more = Vec::from_slice(self.alloc, more)?;
+        self.held = more;
+        Ok(Some(line))
+    }
+
+    // Reads once. Says whether anything came.
+    fn read_more(&mut self) -> Result<bool, Fault> {
+        let mut buffer = [0u8; BUFFER];
+        let Ok(count) = self.reader.read_some(&mut buffer) else {
+            return Err(Fault::Read);
+        };
+        self.held.extend_from_slice(&buffer[..count])?;
+        Ok(count > 0)
+    }
+}
+
+impl<'h, R: Input, W: Output> Team for Host<'h, R, W> {
+    fn begin(&mut self, agent: u16) -> Result<Mind, TeamFault> {
+        let question = begin_line(self.alloc, agent);
+        self.asked(question)
+    }
+
+    fn next(&mut self, before: u32, news: News<'_>) -> Result<Mind, TeamFault> {
+        let question = ask_line(self.alloc, before, news);
+        self.asked(question)
+    }
+}
+
+// The question what an agent holds at the start.
+fn begin_line(alloc: Global, agent: u16) -> Result<Vec<u8>, Memory> {
+    let line = format!(in alloc; "{{\"begin\":{agent}}}\n")?;
+    Ok(Vec::from_slice(alloc, line.as_bytes())?)
+}
+
+// The question what is held by an agent that held this before, and to which this has happened.
+fn ask_line(alloc: Global, before: u32, news: News<'_>) -> Result<Vec<u8>, Memory> {
+    let line = format!(in alloc; "{{\"ask\":{before},")?;
+    let mut text = Vec::from_slice(alloc, line.as_bytes())?;
+    match news {
+        News::Woke => text.extend_from_slice(b"\"wakes\":true")?,
+        News::Heard { mark, shown } => {
+            text.extend_from_slice(b"\"hears\":")?;
+            push_line(alloc, &mut text, LentReply::of_mark(mark, shown))?;
+        }
+    }
+    text.extend_from_slice(b"}\n")?;
+    Ok(text)
+}
+
+// The memory and the word of an answer.
+fn answer_in(line: &[u8]) -> Option<(u32, Does)> {
+    let text = str::from_utf8(line).ok()?;
+    let mut words = text.split(' ');
+    let memory = words.next()?.parse::<u32>().ok()?;
+    let does = match words.next()? {
+        "says" => Does::Says,
+        "sleeps" => Does::Sleeps,
+        "stops" => Does::Stops,
+        _ => return None,
+    };
+    match words.next() {
+        Some(_) => None,
+        None => Some((memory, does)),
+    }
+}

@@ -1,0 +1,70 @@
+"""Drawn schedules of a match, played by the agents' programs and followed in what they answered before: the check that
+a memory names all that a program holds."""
+import random
+from typing import List
+
+from lab.fixtures import Fixture
+from lab.machines import WAKES, Machines, Step
+from lab.pasts import NoFunction
+from lab.play import Player, Run
+from lab.players import DONE, SLEEPS, WAITS
+from lab.rehearsal import Rehearsal
+from lab.teams import AgentWords, Together
+
+
+class Followed:
+    """An agent's program that plays, and what it holds by what was answered."""
+
+    def __init__(self, machines: Machines, player: Player) -> None:
+        self._machines, self.player = machines, player
+        self.memory = machines.begin(player.number)
+        self.hear = player.hear
+        setattr(player, "hear", self._hear)
+
+    def _hear(self, line: str) -> None:
+        self.hear(line)
+        self.go_on(line)
+
+    def go_on(self, news: str) -> None:
+        """Goes on in what was answered. A memory that nobody asked for is asked for now."""
+        self.memory = self._machines.next(self.memory, news)
+
+    def compare(self, step_number: int) -> None:
+        """Compares what the program does next with what was answered."""
+        player, step = self.player, self._machines.steps[self.memory]
+        if player.state == SLEEPS:
+            does = Step("sleeps")
+        elif player.state == WAITS and player.line is not None:
+            does = Step("says", player.line)
+        else:
+            # it has ended or travels, and says nothing more or leaves
+            return
+        if does != step:
+            raise NoFunction(f"after {step_number} choices of a drawn schedule agent {player.number} {does.does} "
+                             f"{does.line!r}, and it answered {step.does} {step.line!r}: what names its memory leaves "
+                             "something out, or it is no function of what it holds")
+
+
+def follow(fixture: Fixture, agents: List[AgentWords], machines: Machines, seed: int, seconds: float) -> int:
+    """Plays a drawn schedule, and compares each step; gives how many there were."""
+    chance, team = random.Random(seed), Together(agents, fixture, seconds)
+    run = Run(Rehearsal(fixture), team, fixture)
+    team.start()
+    try:
+        followed = [Followed(machines, player) for player in team.players]
+        steps = 0
+        while True:
+            choices = run.may_happen()
+            if not choices:
+                return steps
+            choice = chance.choice(choices)
+            one = followed[choice.agent]
+            is_waking = one.player.state == SLEEPS
+            run.happen(choice)
+            if is_waking:
+                one.go_on(WAKES)
+            steps += 1
+            if one.player.state != DONE:
+                one.compare(steps)
+    finally:
+        team.stop()

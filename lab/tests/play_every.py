@@ -1,0 +1,310 @@
+"""What `explore` finds by the program: what is known of the sample agents, their wrong versions, and agents that sleep,
+poll, raise or are spent; and it agrees with the Python model's search of machines that are drawn."""
+import contextlib
+import io
+import json
+import random
+import subprocess
+from typing import Any, Dict, List, Tuple
+from unittest import main as run_tests
+from unittest import mock
+
+from lab import explore, mutation, teams
+from lab.__main__ import main, parser
+from lab.asking import Answered, asked
+from lab.fixtures import Fixture
+from lab.machines import Machines
+from lab.pasts import NoFunction
+from lab.following import follow
+from lab.tests.playing import AGENTS, KNOWN_MAP, MAP, RING, InFolder, program
+
+THEOREM = "every schedule solves (a theorem about programs that are functions of what they hold, as they answered here)"
+# how many drawn machines are compared
+DRAWN = 60
+ODD = '''
+import hashlib
+from client import Spent
+
+
+def raises(agent, key):
+    agent.enter(key)
+    raise KeyError("west")
+
+
+def refused(agent, key):
+    agent.enter(key)
+    while True:
+        try:
+            agent.depart(9)
+        except Spent:
+            pass
+        except Exception:
+            pass
+
+
+def polls(agent, key):
+    agent.enter(key)
+    while True:
+        agent.look()
+
+
+def counts(agent, key):
+    agent.enter(key)
+    looks = 0
+    while True:
+        looks += 1
+        agent.look()
+
+
+def sleeps(agent, key, sleep):
+    agent.enter(key)
+    while True:
+        sleep(1)
+        agent.look()
+
+
+def knows(agent, key):
+    agent.enter(key)
+    agent.depart(0)
+    agent.accuse(0)
+
+
+def knows_and_raises(agent, key):
+    knows(agent, key)
+    raise KeyError("east")
+
+
+def knows_and_sleeps(agent, key, sleep):
+    knows(agent, key)
+    sleep(1)
+    sleep(1)
+    sleep(1)
+    sleep(1)
+
+
+def enters_as_another(agent, key):
+    agent.enter("k1" if key == "k0" else "k0")
+
+
+def looks_first(agent, key):
+    agent.look()
+
+
+def hides(agent, key):
+    # what it will do lies on the interpreter's stack alone: how often it still writes
+    here = agent.enter(key)
+    for _ in [0] * (1 if here.board else 2):
+        here = None
+        agent.write("", "a")
+    agent.leave()
+
+
+def sorts(agent, key):
+    # it waits inside `sorted`, and what that holds has no name
+    agent.enter(key)
+    sorted([1, 0], key=lambda it: agent.look() and it)
+    agent.leave()
+
+
+def drawn(*words):
+    return int.from_bytes(hashlib.blake2b(repr(words).encode(), digest_size=4).digest(), "big")
+
+
+def machine(agent, key, seed, size, sleep):
+    # what it does next is a function of a small number and of what it saw last
+    state, saw = 0, tuple(agent.enter(key))
+    while True:
+        what = drawn(seed, state, saw) % 16
+        state = drawn(seed, state, saw, "next") % size
+        try:
+            if what < 5:
+                saw = tuple(agent.depart(what % 2))
+            elif what < 8:
+                saw = tuple(agent.write(saw[-1] if what < 7 else "", str(what)))
+            elif what < 10:
+                saw = tuple(agent.look())
+            elif what < 12:
+                sleep(1)
+            elif what < 15:
+                return agent.accuse(what % 2)
+            else:
+                return agent.leave()
+        except Spent:
+            return agent.leave()
+'''
+# an agent of its own: it enters, departs by port 0 and accuses port 0, and declares where it is
+OWN = '''
+import json, socket, sys
+line = socket.create_connection(("127.0.0.1", int(sys.argv[1]))).makefile("rw", newline="\\n")
+for place, command in enumerate([{"do": "enter", "key": sys.argv[2]}, {"do": "look"}, {"do": "depart", "port": 0},
+                                 {"do": "accuse", "port": 0}]):
+    line.write(json.dumps({**command, **({"memory": place} if sys.argv[3] == "declares" else {})}) + "\\n")
+    line.flush()
+    if line.readline() == '{"ok":"gone"}\\n':
+        line.readline()
+'''
+
+
+class Exploring(InFolder):
+    def setUp(self) -> None:
+        super().setUp()
+        (self.folder / "odd.py").write_text(ODD, encoding="utf-8")
+        (self.folder / "own.py").write_text(OWN, encoding="utf-8")
+
+    def odd(self, name: str) -> List[str]:
+        return ["--agent", f"{self.folder}/odd.py:{name}"]
+
+    def command(self, *words: object) -> int:
+        said = io.StringIO()
+        with contextlib.redirect_stdout(said), contextlib.redirect_stderr(said):
+            status = main(["explore", *map(str, words), "--program", program(), "--keep", str(self.folder / "find")])
+        self.said = said.getvalue()
+        return status
+
+    def words(self, *words: str) -> Tuple[Any, List[Fixture], List[teams.AgentWords]]:
+        given = parser().parse_args(["explore", *words])
+        return given, explore.fixtures_for(given), teams.team_of(given)
+
+    def test_the_most_moves_on_rings(self) -> None:
+        for nodes, moves in {3: 4, 4: 9, 5: 14, 6: 23}.items():
+            with self.subTest(nodes=nodes):
+                status = self.command("--network", f"ring:{nodes}", "--agent", RING.words, "--check", 2)
+                self.assertEqual(status, 0, self.said)
+                self.assertIn(THEOREM, self.said)
+                self.assertIn(f"most moves {moves}, most agents lost 1", self.said)
+                self.assertNotIn("history stands", self.said)
+
+    def test_other_sample_agents(self) -> None:
+        for words in (["--network", "hypercube:2", "--hole", "3", "--agent", KNOWN_MAP.words],
+                      ["--network", "ring:3", "--hole", "2", "--agents", "2", "--naps", "0", "--agent", MAP.words]):
+            with self.subTest(words=words):
+                self.assertEqual(self.command(*words), 0, self.said)
+                self.assertIn(THEOREM, self.said)
+                self.assertNotIn("history stands", self.said)
+
+    def test_wrong_versions_are_found_out(self) -> None:
+        for name, network in (("forgets_to_mark", "ring:4"), ("reads_once", "ring:4")):
+            with self.subTest(name):
+                agent = f"{mutation.FOLDER / name}.py {{nodes}}"
+                self.assertEqual(self.command("--network", network, "--agent", agent), 1)
+                self.assertIn("a schedule fails\nit comes to: ", self.said)
+                verdict = self.said.partition("it comes to: ")[2].partition("\n")[0].rpartition(", ")[2]
+                self.assertIn(f"the program's verdict: {verdict}", self.said)
+                self.assertEqual(main(["replay", str(self.folder / "find"), "--program", program()]), 0)
+
+    def test_what_goes_on_for_ever(self) -> None:
+        for name in ("polls", "refused"):
+            with self.subTest(name):
+                self.assertEqual(self.command("--network", "ring:3", "--hole", 1, *self.odd(name)), 1)
+                self.assertIn("a schedule goes on for ever", self.said)
+
+    def test_a_sleeper_that_waits_for_nothing(self) -> None:
+        self.assertEqual(self.command("--network", "ring:3", "--hole", 1, *self.odd("sleeps")), 1)
+        self.assertIn("sleeps, and nothing changes any more", self.said)
+
+    def test_what_the_program_does_not_count_as_a_failure_the_model_finds(self) -> None:
+        solves = ["--network", "ring:3", "--hole", 2]
+        for name, told in (("knows", ""), ("knows_and_raises", "raises KeyError: 'east'"),
+                           ("knows_and_sleeps", "sleeps once it has ended")):
+            with self.subTest(name):
+                status = self.command(*solves, "--agents", 1, *self.odd(name))
+                self.assertEqual(status, 1 if told else 0, self.said)
+                self.assertIn(f"{told}: the Python model's search takes over" if told else THEOREM, self.said)
+
+    def test_agents_that_do_not_enter(self) -> None:
+        for name in ("enters_as_another", "looks_first"):
+            with self.subTest(name):
+                self.assertEqual(self.command("--network", "ring:3", "--hole", 1, *self.odd(name)), 1)
+                self.assertIn("silent moves 0 lost 0", self.said)
+
+    def test_a_quota_that_does_not_suffice(self) -> None:
+        status = self.command("--network", "ring:3", "--hole", 1, "--quota", 5, *self.odd("counts"))
+        self.assertEqual(status, 1, self.said)
+        self.assertIn("agent 0 may use 6 commands: the Python model's search takes over", self.said)
+
+    def test_too_many_states(self) -> None:
+        self.assertEqual(self.command("--network", "ring:5", "--states", 20, "--agent", RING.words), 130)
+        self.assertIn("more states than were to be visited", self.said)
+        self.assertIn("stopped before all were visited", self.said)
+
+    def test_ctrl_c_ends_it_with_what_was_found(self) -> None:
+        with mock.patch("lab.asking.Run.answer", side_effect=KeyboardInterrupt):
+            self.assertEqual(self.command("--network", "ring:3", "--agent", RING.words), 130)
+        self.assertIn("stopped before all were visited; no schedule failed until then", self.said)
+
+    def test_what_has_no_name_is_told_by_name(self) -> None:
+        self.command("--network", "ring:3", "--hole", 1, *self.odd("sorts"))
+        self.assertRegex(self.said, r"\d+ times history stands for what a program holds: the stack of ")
+
+    def test_programs_of_their_own(self) -> None:
+        for how in ("declares", "says nothing"):
+            with self.subTest(how):
+                team = f"python3 {self.folder}/own.py {{port}} {{key}} '{how}'"
+                match = ["--network", "ring:3", "--hole", 2, "--agents", 1]
+                status = self.command(*match, "--command", team, "--check", 1)
+                self.assertEqual(status, 0, self.said)
+                self.assertIn(THEOREM, self.said)
+        built = self.folder / "ring"
+        subprocess.run(["cc", "-O2", "-o", built, AGENTS / "ring.c"], check=True)
+        status = self.command("--network", "ring:3", "--command", f"{built} {{port}} {{key}} {{nodes}}")
+        self.assertEqual(status, 0, self.said)
+        self.assertIn("most moves 4, most agents lost 1", self.said)
+
+    def test_a_held_link(self) -> None:
+        match = ["--network", "ring:3", "--hole", "2", "--agents", "1"]
+        given, (fixture,), agents = self.words(*match, *self.odd("knows"))
+        answered = self.answered(fixture._replace(held=[(0, 0)]), agents)
+        self.assertEqual(answered.found, {"found": "fails", "outcome": "silent", "moves": 1, "lost": 0,
+                                          "schedule": [0, 0]})
+
+    def test_a_name_that_leaves_something_out_is_found_by_drawn_schedules(self) -> None:
+        given, (fixture,), agents = self.words("--network", "ring:3", "--hole", "1", *self.odd("hides"))
+        for leaves_out in (False, True):
+            with self.subTest(leaves_out=leaves_out), contextlib.ExitStack() as stack:
+                if leaves_out:
+                    line_alone = mock.patch("lab.machines.memory_of", lambda thread, *_: thread.gr_frame.f_lineno)
+                    stack.enter_context(line_alone)
+                machines = Machines(fixture, agents, 5)
+                machines.start()
+                stack.callback(machines.stop)
+                stack.enter_context(self.assertRaises(NoFunction) if leaves_out else contextlib.nullcontext())
+                for seed in range(20):
+                    follow(fixture, agents, machines, seed, 5)
+
+    def answered(self, fixture: Fixture, agents: List[teams.AgentWords]) -> Answered:
+        machines = Machines(fixture, agents, 5)
+        machines.start()
+        try:
+            return asked(program(), fixture, machines, 1_000_000, lambda count: None)
+        finally:
+            machines.stop()
+
+    def test_drawn_machines_come_to_what_the_model_comes_to(self) -> None:
+        kinds: Dict[str, int] = {}
+        for seed in range(DRAWN):
+            kind = self.compared(seed)
+            kinds[kind] = kinds.get(kind, 0) + 1
+        self.assertLessEqual({"fails"}, set(kinds), kinds)
+
+    def compared(self, seed: int) -> str:
+        """Compares both searches of a drawn match; gives what the program found."""
+        chance = random.Random(seed)
+        machines = [f"machine {chance.randrange(10 ** 6)} {chance.randrange(1, 4)}" for _ in range(2)]
+        if chance.random() < .5:
+            machines[1] = machines[0]
+        network = chance.choice(["ring:3", "ring:4"])
+        match = ["--network", network, "--hole", str(chance.randrange(1, int(network[-1])))]
+        match += ["--quota", str(chance.randrange(3, 9)), "--naps", str(chance.randrange(3))]
+        given, (fixture,), agents = self.words(*match, *(word for it in machines for word in self.odd(it)))
+        found = self.answered(fixture, agents).found
+        beside = explore.explored(fixture, agents, given, mock.Mock()).explorer.worst
+        assert beside is not None and found is not None
+        if found["found"] == "fails":
+            self.assertTrue(beside.has_failed, (seed, found, beside))
+        elif found["found"] == "solves":
+            self.assertEqual((beside.verdict.outcome, beside.verdict.moves), ("solved", found["moves"]), (seed, beside))
+        return found["found"]
+
+
+if __name__ == "__main__":
+    run_tests()
