@@ -7,13 +7,13 @@
 Each network is named as for the lab, such as ring:16, and AGENT names an agent of examples/agents, such as ring. Two
 agents play, and each node but the home base is the black hole in turn. First the lab answers the program's questions,
 and the answers are kept. Then the program reads them from a file, so what it takes is its own. A line has the network,
-the most moves, the states of all matches, the seconds of the whole and of the program alone, states a second, and the
-most memory that the program took. The program is ./arena, or what ARENA names.
+the most moves, the states of all matches, the seconds of the whole and of the program alone, states a second of the
+latter, and the most memory of one match. The program is ./arena, or what ARENA names.
 """
 import argparse
 import os
 import pathlib
-import resource
+import re
 import subprocess
 import sys
 import tempfile
@@ -30,6 +30,9 @@ from lab.fixtures import Fixture, write_tournament  # noqa: E402
 from lab.machines import Machines  # noqa: E402
 
 PROGRAM = os.environ.get("ARENA", str(TOP / "arena"))
+AGENTS = TOP / "examples" / "agents"
+# seconds between two looks at the memory of the program
+PAUSE = 0.002
 
 
 class Taken(NamedTuple):
@@ -39,6 +42,7 @@ class Taken(NamedTuple):
     moves: int
     whole: float
     program: float
+    memory: float
 
 
 class Answers:
@@ -52,18 +56,33 @@ class Answers:
         return answer
 
 
-def alone(fixture: Fixture, answers: Answers, states: int) -> float:
-    """The seconds of a processor that the program takes which reads its answers from a file."""
+def alone(fixture: Fixture, answers: Answers, states: int) -> Tuple[float, float]:
+    """The seconds of a processor that the program takes which reads its answers from a file, and its megabytes."""
     with tempfile.TemporaryDirectory(prefix="bench-") as name:
         folder = pathlib.Path(name)
         write_tournament(fixture, folder)
         (folder / "answers").write_bytes(b"".join(answers.lines))
-        before = resource.getrusage(resource.RUSAGE_CHILDREN)
         with (folder / "answers").open("rb") as lines:
             words = [PROGRAM, "explore", "tournament.toml", "0", "--states", str(states), "--naps", str(fixture.naps)]
-            subprocess.run(words, cwd=name, stdin=lines, stdout=subprocess.DEVNULL, check=True)
-        after = resource.getrusage(resource.RUSAGE_CHILDREN)
-    return after.ru_utime - before.ru_utime + after.ru_stime - before.ru_stime
+            return watched(subprocess.Popen(words, cwd=name, stdin=lines, stdout=subprocess.DEVNULL))
+
+
+def watched(child: "subprocess.Popen[bytes]") -> Tuple[float, float]:
+    """The seconds of a processor that a program takes to its end, and the most megabytes that it was seen to take."""
+    peak = 0.0
+    while True:
+        ended, status, used = os.wait4(child.pid, os.WNOHANG)
+        if ended:
+            child.returncode = os.waitstatus_to_exitcode(status)
+            return used.ru_utime + used.ru_stime, peak
+        peak = max(peak, peak_of(child.pid))
+        time.sleep(PAUSE)
+
+
+def peak_of(process: int) -> float:
+    """The most megabytes that a process has taken so far."""
+    found = re.search(r"VmHWM:\s+(\d+) kB", pathlib.Path(f"/proc/{process}/status").read_text())
+    return int(found[1]) / 1024 if found else 0.0
 
 
 def tried(fixture: Fixture, machines: Machines, states: int) -> Taken:
@@ -75,14 +94,13 @@ def tried(fixture: Fixture, machines: Machines, states: int) -> Taken:
     found = answered.found
     if found is None or found["found"] != asking.SOLVES:
         raise SystemExit(f"{PROGRAM} does not say that every schedule solves it: {found}")
-    return Taken(answered.counts["states"], found["moves"], whole, alone(fixture, answers, states))
+    return Taken(answered.counts["states"], found["moves"], whole, *alone(fixture, answers, states))
 
 
-def measured(network: str, agent: str, states: int) -> Tuple[List[Taken], float]:
-    """What the matches of a network take, and the most memory that a program took so far, in megabytes."""
-    words = ["explore", "--network", network, "--agent", f"{TOP}/examples/agents/{agent}.py {{nodes}}"
-             if agent == "ring" else f"{TOP}/examples/agents/{agent}.py"]
-    given = parser().parse_args(words)
+def measured(network: str, agent: str, states: int) -> List[Taken]:
+    """What the matches of a network take."""
+    nodes = " {nodes}" if agent.startswith("ring") else ""
+    given = parser().parse_args(["explore", "--network", network, "--agent", f"{AGENTS / agent}.py{nodes}"])
     fixtures = explore.fixtures_for(given)
     machines, found = Machines(fixtures[0], teams.team_of(given), given.limit), []
     machines.start()
@@ -91,7 +109,7 @@ def measured(network: str, agent: str, states: int) -> Tuple[List[Taken], float]
             found.append(tried(fixture, machines, states))
     finally:
         machines.stop()
-    return found, resource.getrusage(resource.RUSAGE_CHILDREN).ru_maxrss / 1024
+    return found
 
 
 def main() -> None:
@@ -103,10 +121,10 @@ def main() -> None:
     print("|---|---|---|---|---|---|---|---|")
     for match in words.matches:
         network, _, agent = match.partition("=")
-        found, memory = measured(network, agent, words.states)
+        found = measured(network, agent, words.states)
         states, program = sum(it.states for it in found), sum(it.program for it in found)
         print(f"| {network} | {agent} | {max(it.moves for it in found)} | {states:,} | {sum(it.whole for it in found):.1f} "
-              f"| {program:.1f} | {states / program:,.0f} | {memory:.0f} |", flush=True)
+              f"| {program:.1f} | {states / program:,.0f} | {max(it.memory for it in found):.0f} |", flush=True)
 
 
 if __name__ == "__main__":
