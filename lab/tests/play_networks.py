@@ -110,7 +110,7 @@ class Written(unittest.TestCase):
                             ([*team, "complete:70", "--agents", "degree"], "1 to 64 agents, and not 70"),
                             ([*team, "ring:6", "--home", "6"], "it has no node 6"),
                             ([*team, "ring:6", "--quota", "65536"], "1 to 65535 commands"),
-                            ([*team, "ring:6", "--board", "4097"], "0 to 4096 bytes"),
+                            ([*team, "ring:6", "--board", "65536"], "0 to 65535 bytes"),
                             ([*team, "ring:6", "--team", "red"], "two teams have the same name")):
             with self.subTest(" ".join(words)):
                 status, _, errors = lab(*words)
