@@ -90,4 +90,8 @@ impl<C: Clock> Pace for Patience<'_, C> {
         thread::sleep(self.clock, Duration::from_millis(1));
         Step::Turn
     }
+
+    fn gathers(&self, _game: u32) -> bool {
+        true
+    }
 }
