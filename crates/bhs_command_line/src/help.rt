@@ -424,6 +424,11 @@ sessions of all agents have ended, or SESSIONS of them if there are fewer, but
 no longer than the grace period of --grace. Then it accepts no more connections
 and cuts off those that are left.
 
+The operator may write to the server's standard input while a contest goes on:
+`close` closes all matches, `close M` closes match M, and `status` tells how the
+matches stand. A match that is closed so is judged like any other. The end of
+standard input changes nothing.
+
 While a contest goes on, what happens in match M is written to the file
 PREFIXM.jsonl.part, about once a second; `arena recover` reads it, if the server
 is killed. At the end the replay is written to PREFIXM.jsonl, and the part is
