@@ -12,3 +12,4 @@ pub mod Verdicts
 pub mod Schedules
 pub mod Told
 pub mod Whole
+pub mod NotesLemmas

@@ -4,6 +4,8 @@ pub mod Everywhere
 pub mod Machines
 pub mod Spending
 pub mod Answers
+pub mod Talks
+pub mod Notes
 pub mod Certificates
 pub mod Walks
 pub mod Knowing

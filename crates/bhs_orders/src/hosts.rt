@@ -3,7 +3,7 @@
 
 use crate::faults::Fault;
 use crate::interactive::MAX_READS;
-use bhs_explore::{Mind, News, Step, Team, TeamFault};
+use bhs_explore::{Latest, Mind, Step, Team, TeamFault};
 use bhs_model::{Command, MAX_TEXT};
 use bhs_net::Memory;
 use bhs_stream::{BUFFER, Input, Output, finish, send};
@@ -140,13 +140,16 @@ impl<'h, R: Input, W: Output> Host<'h, R, W> {
 }
 
 impl<'h, R: Input, W: Output> Team for Host<'h, R, W> {
+    // Contracts do not see what a host is asked and answers.
+    ghost answers = { λ old exchange new. Unit {0} };
+
     fn begin(&mut self, agent: u16) -> Result<Mind, TeamFault> {
         let question = begin_line(self.alloc, agent);
         self.asked(question)
     }
 
-    fn next(&mut self, before: u32, news: News<'_>) -> Result<Mind, TeamFault> {
-        let question = ask_line(self.alloc, before, news);
+    fn next(&mut self, before: u32, latest: Latest, shown: &str) -> Result<Mind, TeamFault> {
+        let question = ask_line(self.alloc, before, latest, shown);
         self.asked(question)
     }
 }
@@ -158,12 +161,12 @@ fn begin_line(alloc: Global, agent: u16) -> Result<Vec<u8>, Memory> {
 }
 
 // The question what is held by an agent that held this before, and to which this has happened.
-fn ask_line(alloc: Global, before: u32, news: News<'_>) -> Result<Vec<u8>, Memory> {
+fn ask_line(alloc: Global, before: u32, latest: Latest, shown: &str) -> Result<Vec<u8>, Memory> {
     let line = format!(in alloc; "{{\"ask\":{before},")?;
     let mut text = Vec::from_slice(alloc, line.as_bytes())?;
-    match news {
-        News::Woke => text.extend_from_slice(b"\"wakes\":true")?,
-        News::Heard { mark, shown } => {
+    match latest {
+        Latest::Woke => text.extend_from_slice(b"\"wakes\":true")?,
+        Latest::Heard(mark) => {
             text.extend_from_slice(b"\"hears\":")?;
             push_line(alloc, &mut text, LentReply::of_mark(mark, shown))?;
         }
