@@ -82,7 +82,13 @@ fn a_word_picks_modulo_the_length(rt: HostRuntime) {
 #[test]
 fn delays_have_streams_of_their_own(rt: HostRuntime) {
     let zeros = Dealer::new([0; 32], 0);
-    assert_eq!(rt; (zeros.delay_word(0, 0), zeros.delay_word(1, 0)), (0x67bd2fb6, 0x78dcb1f2));
+    assert_eq!(rt;
+        (zeros.delay_word(0, 0), zeros.delay_word(1, 0)),
+        (0x67bd2fb6, 0x78dcb1f2)
+    );
     let sevens = Dealer::new([7; 32], 3);
-    assert_eq!(rt; (sevens.delay_word(0, 15), sevens.delay_word(63, 16)), (0xc5c434c7, 0xfc52fa79));
+    assert_eq!(rt;
+        (sevens.delay_word(0, 15), sevens.delay_word(63, 16)),
+        (0xc5c434c7, 0xfc52fa79)
+    );
 }

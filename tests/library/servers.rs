@@ -13,7 +13,7 @@ use clients::{
     STRANGE, TAKEN, UNKNOWN,
 };
 use contests::{Patience, contest};
-use gates::Turnstile;
+use gates::{Counted, Turnstile};
 use logs::{all_sealed, lengths, log_of, played_by};
 use std::alloc::Global;
 use std::net::{Ipv4Addr, Net, SocketAddr, TcpListener, TcpStream};
@@ -134,7 +134,10 @@ fn sessions_are_served_beside_each_other(rt: HostRuntime) -> Result<(), Fail> {
         |client| two_visits(client, &pace),
     )?;
     assert!(rt; heard.is_ok());
-    assert_eq!(rt; lengths(alloc, &all_sealed(alloc, served.settled)?)?.as_slice(), [5].as_slice());
+    assert_eq!(rt;
+        lengths(alloc, &all_sealed(alloc, served.settled)?)?.as_slice(),
+        [5].as_slice()
+    );
     assert!(rt; !pace.gave_up() && !gate.gave_up());
     Ok(())
 }
@@ -174,7 +177,8 @@ fn each_ending<R: Net<Listener = TcpListener, Stream = TcpStream> + Clock>(
 #[test]
 fn sessions_end_by_each_cause(rt: HostRuntime) -> Result<(), Fail> {
     let alloc = rt.alloc();
-    let pace = Patience::new(&rt, 1, 2);
+    // the clients come far enough twice, and 14 commands are answered, two of them the leaves of failed sessions
+    let pace = Patience::new(&rt, 12, 16);
     let contest = contest(alloc, 1, 6)?;
     let (served, heard) = served_beside(
         &rt,
@@ -182,7 +186,7 @@ fn sessions_end_by_each_cause(rt: HostRuntime) -> Result<(), Fail> {
         contest,
         10,
         &pace,
-        &Open,
+        &Counted::new(&pace),
         |client| each_ending(client, &pace, alloc),
     )?;
     let expected = format!(in alloc;
@@ -386,9 +390,16 @@ fn an_accept_that_fails_is_no_session(rt: HostRuntime) -> Result<(), Fail> {
     listener.set_nonblocking(true)?;
     let pace = Patience::new(&rt, 0, 0);
     let ready = contest(alloc, 2, 1)?;
-    let Served { settled, ended } = begun(
-        run_server(&rt, alloc, &listener, ready, limits(2), &pace, &Open, &Blind),
-    )?;
+    let Served { settled, ended } = begun(run_server(
+        &rt,
+        alloc,
+        &listener,
+        ready,
+        limits(2),
+        &pace,
+        &Open,
+        &Blind,
+    ))?;
     let sealed = all_sealed(alloc, settled)?;
     assert!(rt; ended.is_empty());
     assert_eq!(rt; lengths(alloc, &sealed)?.as_slice(), [1, 1].as_slice());
@@ -426,7 +437,16 @@ fn a_session_that_begins_after_the_grace_period_is_cut_off(rt: HostRuntime) -> R
     let client = Client::new(&rt, alloc, listener.local_addr()?);
     let (served, heard) = thread::join(
         &rt,
-        || run_server(&rt, alloc, &listener, ready, limits(1), &pace, &Open, &Late { clock: &rt }),
+        || run_server(
+            &rt,
+            alloc,
+            &listener,
+            ready,
+            limits(1),
+            &pace,
+            &Open,
+            &Late { clock: &rt },
+        ),
         || -> io::Result<String> { io::read_to_string(alloc, &client.says("")?) },
     );
     assert_eq!(rt; heard?.as_str(), "");

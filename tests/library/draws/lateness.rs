@@ -59,7 +59,12 @@ fn a_delivery_before_its_delay_is_not_in_time(rt: HostRuntime) -> Result<(), Fai
     let sealed = walk(&rt, alloc, 0)?;
     let mut dealer = Dealer::new([0; 32], 0);
     for _ in 0..3 {
-        for (departed, arrived, late) in [(0, 0, Some(2)), (0, 4, None), (4, 4, Some(2)), (4, 5, None)] {
+        for (departed, arrived, late) in [
+            (0, 0, Some(2)),
+            (0, 4, None),
+            (4, 4, Some(2)),
+            (4, 5, None),
+        ] {
             let turns = [0, departed, arrived, 9];
             let found = first_late(alloc, &sealed, &turns, Delays::new(1, 1), &dealer)?;
             assert_eq!(rt; found, late);

@@ -98,7 +98,10 @@ fn an_agent_is_delivered_by_its_number(rt: HostRuntime) -> Result<(), Fail> {
     assert_eq!(rt; deliver(&mut game, &held, 1), Drawn::Delivered { agent: 1 });
     assert_eq!(rt; deliver(&mut game, &held, 1), Drawn::Nobody);
     assert_eq!(rt; deliver(&mut game, &held, 2), Drawn::Nobody);
-    assert_eq!(rt; (game.log().len(), game.pool().len(), game.news(1)), (5, 1, [4].as_slice()));
+    assert_eq!(rt;
+        (game.log().len(), game.pool().len(), game.news(1)),
+        (5, 1, [4].as_slice())
+    );
     Ok(())
 }
 
@@ -119,7 +122,10 @@ fn an_oblivious_turn_waits_for_the_delay(rt: HostRuntime) -> Result<(), Fail> {
             turn,
             departed: &[0, 0],
         };
-        assert_eq!(rt; draw_oblivious(&mut game, &held, &mut dealer, &waits), Drawn::Nobody);
+        assert_eq!(rt;
+            draw_oblivious(&mut game, &held, &mut dealer, &waits),
+            Drawn::Nobody
+        );
     }
     let mut later = Dealer::new([0; 32], 0);
     let waits = Waits {
@@ -127,7 +133,13 @@ fn an_oblivious_turn_waits_for_the_delay(rt: HostRuntime) -> Result<(), Fail> {
         turn: 7,
         departed: &[0, 0],
     };
-    assert_eq!(rt; draw_oblivious(&mut game, &held, &mut later, &waits), Drawn::Nobody);
-    assert_eq!(rt; draw_oblivious(&mut game, &held, &mut later, &waits), Drawn::Delivered { agent: 1 });
+    assert_eq!(rt;
+        draw_oblivious(&mut game, &held, &mut later, &waits),
+        Drawn::Nobody
+    );
+    assert_eq!(rt;
+        draw_oblivious(&mut game, &held, &mut later, &waits),
+        Drawn::Delivered { agent: 1 }
+    );
     Ok(())
 }

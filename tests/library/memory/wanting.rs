@@ -52,7 +52,11 @@ const CALLS: [(Call, u16, &str); 10] = [
         "{\"board\":\"\",\"from\":0,\"ok\":\"here\",\"ports\":2}\n{\"board\":\"\",\"from\":0,\"ok\":\"here\",\"ports\":2}
 {\"board\":\"\",\"from\":0,\"ok\":\"here\",\"ports\":2}\n",
     ),
-    (Call::Feed(0, ":\"depart\",\"port\":0}\n"), 0, "{\"ok\":\"gone\"}\n"),
+    (
+        Call::Feed(0, ":\"depart\",\"port\":0}\n"),
+        0,
+        "{\"ok\":\"gone\"}\n",
+    ),
     (
         Call::Deliver(0),
         0,

@@ -1,3 +1,4 @@
+use super::contests::Patience;
 use bhs_lock::Gate;
 use std::sync::atomic::{AtomicBool, Ordering};
 use std::thread;
@@ -45,5 +46,27 @@ impl<C: Clock> Gate for Turnstile<'_, C> {
         if agent == 1 {
             self.is_answered.store(true, Ordering::SeqCst);
         }
+    }
+}
+
+/// Counts each command that was answered, also the leaves of sessions that fail, as a client that has come far enough.
+#[derive(Drop)]
+pub(super) struct Counted<'a, 'b, C> {
+    pace: &'a Patience<'b, C>,
+}
+
+impl<'a, 'b, C: Clock> Counted<'a, 'b, C> {
+    pub(super) fn new(pace: &'a Patience<'b, C>) -> Counted<'a, 'b, C> {
+        Counted { pace }
+    }
+}
+
+impl<C: Clock> Gate for Counted<'_, '_, C> {
+    fn asked(&self, _game: u32, _agent: u16) {}
+
+    fn locked(&self, _game: u32, _agent: u16) {}
+
+    fn answered(&self, _game: u32, _agent: u16) {
+        self.pace.reach();
     }
 }
