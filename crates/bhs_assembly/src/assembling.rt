@@ -156,7 +156,8 @@ fn started(
     excess: Option<SetupFault>,
 ) -> Result<Match, FileFault>
     ensures { GivesUnlessMemory (λ game. game) result
-        (unless (option_map (faults.Setup number) (with_excess excess (first_fault net setup))) (Ok (begins net setup))) }
+        (unless (option_map (faults.Setup number) (with_excess excess (first_fault net setup)))
+        (Ok (begins net setup))) }
 {
     match Match::new(alloc, net, setup) {
         Ok(game) => match excess {

@@ -26,9 +26,9 @@ pub struct Order {
     places: [u16; NODES],
 }
 
-/// A depth-first search from node 0. By place: the nodes that were found. By node: its place, the node from which it was
-/// found, the first place to which a link leads from it or from one that was found behind it, and the neighbour over
-/// which the way to that place begins.
+/// A depth-first search from node 0. By place: the nodes that were found. By node: its place, the node from which it
+/// was found, the first place to which a link leads from it or from one that was found behind it, and the neighbour
+/// over which the way to that place begins.
 #[derive(Drop)]
 pub struct Search {
     pub found: [u16; NODES],
@@ -79,8 +79,8 @@ impl Search {
 }
 
 /// Searches depth first. Once all nodes are found, a node that is known to lead back to the first one is left at once,
-/// since its other links say no more. Neither counter wraps: a node has fewer ports than there are nodes, and fewer nodes
-/// are found behind the first.
+/// since its other links say no more. Neither counter wraps: a node has fewer ports than there are nodes, and fewer
+/// nodes are found behind the first.
 pub fn depth_first(rows: &[Vec<End>]) -> Search {
     let mut search = Search {
         found: [0; NODES],

@@ -1,6 +1,6 @@
 //! Whether rows are connected, and still so when any one node is removed. An order of the nodes shows that, in time in
-//! the number of ports. Where there is none, searches say why. A depth-first search shows of most nodes that they cut
-//! nothing; the others are removed in turn, up to the first that cuts the network.
+//! the number of ports. If no order is found, searches say why. A depth-first search shows that most nodes cut nothing;
+//! the others are removed in turn, up to the first that cuts the network.
 
 ghost use Rattle.std.specs.Prelude.{◌≡◌, ◌≢◌, ◌<◌, ◌⊎◌, true, length, IfOk, IfErr, OnOk, MatchBool};
 ghost use Rattle.bhs_net.specs.Network.{network_of, IsPortLabelled, IsNetwork, IsConnected, AreJoinedWithout};

@@ -1,7 +1,7 @@
-//! What a depth-first search shows of the nodes of a network: that most of them cut nothing. A node cuts nothing if a way
-//! leads past it from each node that was found from it, as J. Hopcroft and R. Tarjan found ("Algorithm 447: efficient
-//! algorithms for graph manipulation", Communications of the ACM 16, 1973). Nothing is proved of how the search found its
-//! tables: they are checked.
+//! A depth-first search shows that most nodes of a network cut nothing. A node cuts nothing if a way leads past it from
+//! each node that was found from it (J. Hopcroft and R. Tarjan, "Algorithm 447: efficient algorithms for graph
+//! manipulation", Communications of the ACM 16, 1973). Nothing is proved of how the search found its tables: they are
+//! checked.
 
 ghost use Rattle.std.specs.Prelude.{◌≡◌, ◌<◌, ◌⊎◌, true};
 ghost use Rattle.bhs_net.specs.Network.{network_of, IsPortLabelled};
