@@ -355,12 +355,19 @@ def cut_sessions(heard: Sequence[bytes]) -> int:
 
 
 def check_replay(contest: Contest, lab: Lab, told: str) -> Optional[bytes]:
-    """The table of the replay that a server left, which has all that was answered to a client that was let in; None if
-    there is no replay."""
+    """The table of the replay that a server left, which has all that was answered, and nothing if its client was told
+    that there is no memory for it; None if there is no replay."""
     replay = contest.replays.get("kept0.jsonl", b"")
     table = judged(lab, replay, "table", "red=left.jsonl")
-    answers = b"" if contest.heard[0] == NO_MEMORY_LINE else contest.heard[0].replace(OVER, b"")
-    if table is not None and not answers_of(replay).startswith(answers[:answers.rfind(b"\n") + 1]):
+    if table is None:
+        return None
+    kept, heard = answers_of(replay), contest.heard[0]
+    if heard == NO_MEMORY_LINE:
+        if kept:
+            raise Otherwise(f"client 0 plays and is told that there is no memory: {told}")
+        return table
+    answers = heard.replace(OVER, b"")
+    if not kept.startswith(answers[:answers.rfind(b"\n") + 1]):
         raise Otherwise(f"client 0 heard what its replay has not: {told}")
     return table
 

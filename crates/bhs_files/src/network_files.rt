@@ -93,9 +93,9 @@ fn listing_in(alloc: Global, text: &str) -> Result<(u16, Vec<Link>), FileFault>
     listing_within(version, listing(alloc, &table)?)
 }
 
-/// Reads a network file of version 1 or 2. The first fault is told: the text is no TOML document, then its version, then
-/// `nodes` and `links`, whatever the order in the file, and then the first fault of the network that is listed. Other
-/// keys are ignored.
+/// Reads a network file of version 1 or 2. The first fault is told: the text is no TOML document, then its version,
+/// then `nodes` and `links`, whatever the order in the file, and then the first fault of the network that is listed.
+/// Other keys are ignored.
 pub fn read_network(alloc: Global, text: &str) -> Result<Net, FileFault>
     ensures made { IfOk result (IsNetworkOf (listing_in text.now)) }
     ensures refused { IfErr result (RefusesFile (listing_in text.now)) }
