@@ -400,7 +400,7 @@ def input_ends(program: str, folder: pathlib.Path) -> None:
 def asks_for_nothing(program: str, folder: pathlib.Path) -> None:
     with serving(program, folder, turns=LONG, says=subprocess.PIPE) as server:
         server.hears(b"stop\n\nclose 2\nclose 01\nclose -1\nclose \n" + b"close" * 50 + b"\nClose\n\xff\n")
-        server.tells("serve: 8 lines of standard input are none of close, close M with M below 2, and status\n")
+        server.tells("serve: ignored 8 lines of standard input: expected close, close M with M below 2, or status\n")
         server.goes_on("them")
 
 

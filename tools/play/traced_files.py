@@ -1,11 +1,12 @@
 """Cases that look at the calls by which a server writes its files: no contract speaks of the names of files."""
 import contextlib
+import itertools
 import pathlib
 import re
 import socket
 import subprocess
 import sys
-from typing import Dict, Iterator, List, Tuple
+from typing import Dict, Iterator, List, NamedTuple, Tuple
 
 sys.path.insert(0, str(pathlib.Path(__file__).resolve().parents[2] / "examples"))
 
@@ -27,7 +28,14 @@ NAMED = re.compile(r'"([^"]*)"|\d+<([^>]*)>')
 STEPS = {"write": "write", "writev": "write", "pwrite64": "write", "fsync": "sync", "fdatasync": "sync",
          "rename": "rename", "renameat": "rename", "renameat2": "rename", "unlink": "remove", "unlinkat": "remove"}
 
+# what a call is for, and the names of its files, as they are from the folder of the server
 Step = Tuple[str, ...]
+
+
+class Call(NamedTuple):
+    """A call that succeeded, and the number that it gave: of a write, how many bytes it took."""
+    step: Step
+    given: int
 
 
 def whole_calls(trace: str) -> Iterator[str]:
@@ -43,10 +51,8 @@ def whole_calls(trace: str) -> Iterator[str]:
             yield line
 
 
-def steps_in(trace: str, folder: str) -> List[Step]:
-    """The calls in a trace that succeeded, each with the names of its files, as they are from this folder. Of writes
-    in a row to one file there is one."""
-    steps: List[Step] = []
+def calls_in(trace: str, folder: str) -> Iterator[Call]:
+    """The calls in a trace of a server in this folder."""
     for line in whole_calls(trace):
         found = CALL.match(line)
         if not found or int(found[3]) < 0:
@@ -54,13 +60,15 @@ def steps_in(trace: str, folder: str) -> List[Step]:
         names = [quoted or of_number for quoted, of_number in NAMED.findall(found[2])]
         kind = STEPS[found[1]]
         files = names if kind in ("rename", "remove") else names[:1]
-        step = (kind, *(name.replace(f"{folder}/", "").replace(folder, ".") for name in files))
-        if steps[-1:] != [step]:
-            steps.append(step)
-    return steps
+        yield Call((kind, *(name.replace(f"{folder}/", "").replace(folder, ".") for name in files)), int(found[3]))
 
 
-def traced(stage: Stage, cup: str, turns: int, *says: bytes, prefix: str = "match") -> List[Step]:
+def steps_of(calls: List[Call]) -> List[Step]:
+    """What the calls are for. Of calls in a row that are for the same there is one."""
+    return [step for step, _ in itertools.groupby(call.step for call in calls)]
+
+
+def traced(stage: Stage, cup: str, turns: int, *says: bytes, prefix: str = "match") -> List[Call]:
     """The calls of a server of this tournament, to which clients say this at the same time."""
     install(["strace"])
     writes(stage, cup=cup, tri=TRIANGLE)
@@ -79,7 +87,7 @@ def traced(stage: Stage, cup: str, turns: int, *says: bytes, prefix: str = "matc
         _, told = child.communicate(timeout=PATIENCE)
     if child.returncode != DONE:
         raise Wrong(f"the server ended with {child.returncode}: {told!r}")
-    return steps_in((stage.folder / "trace").read_text(), str(stage.folder))
+    return list(calls_in((stage.folder / "trace").read_text(), str(stage.folder)))
 
 
 RED, BLUE = (MATCH.format(network="tri.toml", key=key) for key in "rb")
@@ -87,7 +95,7 @@ RED, BLUE = (MATCH.format(network="tri.toml", key=key) for key in "rb")
 
 @case("a replay gets its name once its text is on the disk, and its part goes after that")
 def put_in_place(stage: Stage) -> None:
-    steps = traced(stage, SEED + RED, 1)
+    steps = steps_of(traced(stage, SEED + RED, 1))
     wanted = [("write", "match0.jsonl.new"), ("sync", "match0.jsonl.new"),
               ("rename", "match0.jsonl.new", "match0.jsonl"), ("sync", "."), ("remove", "match0.jsonl.part")]
     if [step for step in steps if step in wanted or "match0.jsonl" in step] != wanted:
@@ -96,26 +104,32 @@ def put_in_place(stage: Stage) -> None:
 
 @case("what is written to the part of each match is on the disk before more is written")
 def parts_are_synced(stage: Stage) -> None:
-    steps = traced(stage, SEED + RED + BLUE, 60, enter("ba") + LEAVE)
+    steps = steps_of(traced(stage, SEED + RED + BLUE, 60, enter("ba") + LEAVE))
     for match, least in ((0, 2), (1, 4)):
         part = [kind for kind, *names in steps if names == [f"match{match}.jsonl.part"] and kind != "remove"]
         if len(part) < least or part != ["write", "sync"] * (len(part) // 2):
             raise Wrong(f"the calls on the part of match {match} were {part}")
 
 
+# how many events of a match are written before another match has its turn, and the line of a Look in a part
+EVENTS_A_TURN = 64
+LOOK_LINE = b'{"agent":0,"do":"look","reply":{"board":"","from":null,"ok":"here","ports":2}}\n'
+
+
 @case("matches that have much to write take turns: none waits until another has written all")
 def parts_take_turns(stage: Stage) -> None:
     cup = (SEED + RED + BLUE).replace("quota = 10", "quota = 1000")
-    steps = traced(stage, cup, 100, *(enter(key) + LOOK * 900 + LEAVE for key in ("ra", "ba")))
-    writes_of = [f"match{match}.jsonl.part" for match in (0, 1, 0)]
-    wanted = [("write", name) for name in writes_of]
-    if not any(steps[place:place + 3] == wanted for place in range(len(steps))):
-        raise Wrong(f"no two matches took turns: {steps}")
+    calls = traced(stage, cup, 100, *(enter(key) + LOOK * 998 + LEAVE for key in ("ra", "ba")))
+    parts = [call for call in calls if call.step[1].endswith(".part")]
+    turns = [call.step if call.given >= EVENTS_A_TURN * len(LOOK_LINE) else () for call in parts]
+    wanted = [("write", f"match{match}.jsonl.part") for match in (0, 1, 0, 1)]
+    if not any(turns[place:place + len(wanted)] == wanted for place in range(len(turns))):
+        raise Wrong(f"no two matches took turns: {parts}")
 
 
 @case("the folder that replays stand in is on the disk")
 def folder_is_synced(stage: Stage) -> None:
     (stage.folder / "out").mkdir()
-    steps = traced(stage, SEED + RED, 1, prefix="out/match")
+    steps = steps_of(traced(stage, SEED + RED, 1, prefix="out/match"))
     if ("sync", "out") not in steps or ("sync", ".") in steps:
         raise Wrong(f"the calls were {steps}")

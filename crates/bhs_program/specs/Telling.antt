@@ -137,8 +137,9 @@ closing_line game = codes "serve: the operator closes match " ++ (decimal game +
 -- lines of the operator asked for nothing
 abbrev pub unknown_line : (lines matches : ℕ) → List ℕ
 unknown_line lines matches =
-    codes "serve: " ++ (decimal lines ++ (codes " lines of standard input are none of close, close M with M below "
-    ++ (decimal matches ++ codes ", and status\n")))
+    codes "serve: ignored " ++ (decimal lines
+    ++ (codes " lines of standard input: expected close, close M with M below " ++ (decimal matches
+    ++ codes ", or status\n")))
 
 -- the two digits of a number below 100, and what stands behind them
 abbrev pub two_digits : (number : ℕ) (behind : List ℕ) → List ℕ

@@ -265,7 +265,7 @@ pub(crate) fn unknown_line(alloc: Global, lines: u32, matches: usize) -> Result<
     ensures { IfOk result (λ text. string_bytes text ≡ unknown_line lines matches) }
 {
     format!(in alloc;
-        "serve: {lines} lines of standard input are none of close, close M with M below {matches}, and status\n"
+        "serve: ignored {lines} lines of standard input: expected close, close M with M below {matches}, or status\n"
     )
 }
 
