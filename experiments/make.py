@@ -2,23 +2,27 @@
 
     python3 -m experiments.make [TABLE ..] [--write]
 
-Without a table it makes all of them, which takes hours on the proved program and less on the Python model (`--engine
-model`). Rows, reports and pages go to the folder of --out; interrupted, sweeps go on there. With --write the
-tables are put into docs/EXPERIMENTS.md, each with its command, its engine, its time and the commit.
+Without a table it makes all of them, which takes an hour or more. Rows, reports and pages go to the folder of --out;
+interrupted, sweeps go on there. With --write the tables are put into docs/EXPERIMENTS.md, each with its command, its
+engine, its time, the day, the machine and the commit.
 
 Tables:
     rings        moves of two agents on rings under fair and under weighted schedules, and the most that was hunted
     thirds       the most moves of the search by halves and of the search by thirds, beside 3 n log3 n
-    explored     the most moves of all schedules on small networks
+    large-rings  moves of two agents on rings of up to 1,024 nodes
+    explored     the most moves of all schedules
     no-map       one agent more than the greatest degree, without a map
-    silent       the runs without a map that ended by the arena's limit of commands
+    large-no-map the same on networks of up to 256 nodes
     known-map    two agents that have the map
+    large-known-map  the same on networks of up to 1,024 nodes
     too-few      one agent too few: a schedule after which the team fails
-    losses       the most agents that were lost in each table
+    losses       the most agents that were lost in each sweep
 """
 import argparse
 import contextlib
+import datetime
 import io
+import os
 import pathlib
 import re
 import subprocess
@@ -30,9 +34,9 @@ from typing import Callable, Dict, List, Mapping, NamedTuple, Sequence, Tuple
 
 from experiments.division import Table, bound, of_ring, of_ring3, ring3
 from experiments.turns import played
-from lab.sweep import grid, report, sweeping, tables
+from lab.sweep import grid, report, tables
 from lab.__main__ import main as lab
-from lab.commands.words import add_engine, program_of
+from lab.commands.words import add_engine, add_workers, program_of
 from lab.rules.engines import name_of
 from lab.support.built import TOP
 
@@ -56,10 +60,11 @@ class Made(NamedTuple):
 
 
 class Asked(NamedTuple):
-    """Where files go, and the words that choose the engine."""
+    """Where files go, the words that choose the engine, and how many processes play a sweep."""
 
     out: pathlib.Path
     engine: List[str]
+    workers: int = 1
 
 
 def said_by(words: Sequence[str], asked: Asked) -> str:
@@ -81,15 +86,17 @@ def shown(words: Sequence[str]) -> str:
 def groups_of_sweep(name: str, asked: Asked) -> Tuple[List[report.Group], List[str]]:
     """The groups of a sweep, which is played now, and its command."""
     words = ["sweep", f"experiments/{name}.toml", "--out", str(asked.out / name)]
-    said_by(words, asked)
+    said_by([*words, "--workers", str(asked.workers)], asked)
     spec = grid.read(EXPERIMENTS / f"{name}.toml")
     return report.groups_of(tables.rows_in(asked.out / name / tables.RUNS), spec), [shown([*words[:3], f"out/{name}"])]
 
 
-def sweep_table(name: str, asked: Asked) -> Made:
-    """A sweep: a row for each network, and of each scheduler the mean and the most moves."""
-    groups, commands = groups_of_sweep(name, asked)
-    return Made(rows_of(groups), commands)
+def of_sweep(name: str) -> Callable[[Asked], Made]:
+    """Makes the table of a sweep: a row for each network, and of each scheduler the mean and the most moves."""
+    def make(asked: Asked) -> Made:
+        groups, commands = groups_of_sweep(name, asked)
+        return Made(rows_of(groups), commands)
+    return make
 
 
 def rows_of(groups: Sequence[report.Group], hunted: Mapping[str, int] = {}) -> List[Cells]:
@@ -167,8 +174,7 @@ def rings(asked: Asked) -> Made:
     return Made(rows_of(groups, hunted), [*commands, shown(all_hunts[0].words())], is_searched=True)
 
 
-# rings on which the searches by halves and by thirds are compared; agents use more commands than the arena gives on
-# those with more than 64 nodes, so there the count stands alone
+# rings on which the searches by halves and by thirds are compared
 SIZES = (8, 16, 27, 32, 64, 81, 128, 243)
 THIRDS_HEAD = ("network", "halves: drawn", "hunted", "counted", "thirds: drawn", "hunted", "counted", "attained",
                "3 n log3 n", "thirds / it", "thirds / halves")
@@ -195,61 +201,32 @@ def thirds_row(nodes: int, drawn: Mapping[Tuple[str, str], str], hunted: Mapping
             f"{counted.moves() / bound(nodes):.2f}", f"{counted.moves() / halves:.2f}"]
 
 
-NO_LIMIT = 65_535
-
-
-def silent(asked: Asked) -> Made:
-    """The runs without a map that ended silent, and how many of them are solved without the limit of commands."""
-    _, commands = groups_of_sweep("no_map", asked)
-    spec = grid.read(EXPERIMENTS / "no_map.toml")
-    cases = list(spec.cases())
-    rows: List[Cells] = [("network", "agents", "runs", "silent", "which", "left of each team", "solved without limit")]
-    for name in spec.names:
-        own = [row for row in tables.rows_in(asked.out / "no_map" / tables.RUNS) if row["network"] == name]
-        ended = [row for row in own if not report.is_solved(row)]
-        if ended:
-            solved = sum(is_solved_without_limit(spec, cases[int(row["run"])]) for row in ended)
-            left = sorted({int(row["agents"]) - int(row["lost"]) for row in ended})
-            rows.append((name, own[0]["agents"], str(len(own)), str(len(ended)), which(ended),
-                         ", ".join(map(str, left)), str(solved)))
-    return Made(rows, commands)
-
-
-def which(rows: Sequence[report.Row]) -> str:
-    """The schedulers of runs, each with the seeds."""
-    seeds: Dict[str, List[str]] = {}
-    for row in rows:
-        seeds.setdefault(row["scheduler"], []).append(row["seed"])
-    return "; ".join(f"{scheduler} {', '.join(numbers)}" for scheduler, numbers in seeds.items())
-
-
-def is_solved_without_limit(spec: grid.Grid, case: grid.Case) -> bool:
-    """Whether a run is solved if agents have more commands than the arena gives; the Python model plays it."""
-    row = sweeping.row_of(sweeping.Work("", None), spec._replace(quota=NO_LIMIT), case)
-    return report.is_solved(dict(zip(tables.COLUMNS, row)))
-
-
+RINGS_EXPLORED = (3, 4, 5, 6, 7, 8, 9, 16, 24, 27, 32, 48, 64)
+NETWORKS_EXPLORED = ("ring:8", "ring:16", "hypercube:3", "hypercube:4", "hypercube:5", "torus:3x3", "torus:4x4",
+                     "torus:5x5", "torus:6x6", "random:16:deg3:seed1", "random:32:deg3:seed1")
+# more commands and more states than a match of these has
+WIDE = ("--quota", "65535", "--states", "1000000000")
 EXPLORED = [
-    *(Search("explore", f"ring:{nodes}", RING, 2) for nodes in range(3, 10)),
-    *(Search("explore", f"ring:{nodes}", KNOWN_MAP, 2) for nodes in range(3, 8)),
-    Search("explore", "hypercube:3", KNOWN_MAP, 2),
+    *(Search("explore", f"ring:{nodes}", RING, 2, WIDE) for nodes in RINGS_EXPLORED),
+    *(Search("explore", f"ring:{nodes}", RING3, 2, ("--board", "48", *WIDE)) for nodes in (8, 16, 27, 32)),
+    *(Search("explore", network, KNOWN_MAP, 2, WIDE) for network in NETWORKS_EXPLORED),
 ]
-EXPLORED_HEAD = ("network", "agents", "states", "schedules that fail", "most moves", "most lost")
+EXPLORED_HEAD = ("network", "agents", "states", "most moves", "most lost", "seconds")
 
 
 def explored_row(search: Search, asked: Asked) -> Cells:
-    """What was found of a small network."""
-    said = said_by([*search.words(), "--search", "model", "--keep", str(asked.out / "explored")], asked)
-    states = re.search(r"^(\d+) states in .*: no schedule fails", said, re.M)
-    most = re.search(r"^most moves: .* moves (\d+) lost (\d+)$", said, re.M)
+    """What was found of all schedules on a network."""
+    said = said_by([*search.words(), "--keep", str(asked.out / "explored")], asked)
+    states = re.search(r"^(\d+) states in (\S+) s: every schedule solves ", said, re.M)
+    most = re.search(r"^most moves (\d+), most agents lost (\d+)$", said, re.M)
     if not states or not most:
         sys.exit(f"{shown(search.words())}: {said}")
-    return [search.network, search.team(), states[1], "none", most[1], most[2]]
+    return [search.network, search.team(), states[1], most[1], most[2], states[2]]
 
 
 def explored(asked: Asked) -> Made:
     rows = [explored_row(search, asked) for search in EXPLORED]
-    return Made([EXPLORED_HEAD, *rows], [shown(EXPLORED[0].words())], is_searched=True)
+    return Made([EXPLORED_HEAD, *rows], [shown(EXPLORED[0].words())])
 
 
 TOO_FEW = [
@@ -280,7 +257,7 @@ def losses(asked: Asked) -> Made:
     """The most agents that were lost in each sweep, by how many there were."""
     rows: List[Cells] = [("sweep", "agents of a team", "runs", "most lost", "fewest that were left")]
     commands = []
-    for name in ("rings", "no_map", "known_map"):
+    for name in ("rings", "large_rings", "no_map", "large_no_map", "known_map", "large_known_map"):
         groups, told = groups_of_sweep(name, asked)
         commands += told
         for agents in sorted({group.agents for group in groups}):
@@ -291,9 +268,10 @@ def losses(asked: Asked) -> Made:
 
 
 TABLES: Dict[str, Callable[[Asked], Made]] = {
-    "rings": rings, "thirds": thirds, "explored": explored,
-    "no-map": lambda asked: sweep_table("no_map", asked), "silent": silent,
-    "known-map": lambda asked: sweep_table("known_map", asked), "too-few": too_few, "losses": losses,
+    "rings": rings, "thirds": thirds, "large-rings": of_sweep("large_rings"), "explored": explored,
+    "no-map": of_sweep("no_map"), "large-no-map": of_sweep("large_no_map"),
+    "known-map": of_sweep("known_map"), "large-known-map": of_sweep("large_known_map"),
+    "too-few": too_few, "losses": losses,
 }
 
 
@@ -307,6 +285,12 @@ def commit() -> str:
     return ran.stdout.strip() or "unknown"
 
 
+def machine() -> str:
+    """How many processors this machine has, and which."""
+    found = re.search(r"^model name\s*: (.*)$", pathlib.Path("/proc/cpuinfo").read_text(encoding="utf-8"), re.M)
+    return f"{os.cpu_count()} processors{f' ({found[1].strip()})' if found else ''}"
+
+
 def player_of(words: argparse.Namespace) -> str:
     """Who plays, in words."""
     return name_of(program_of(words))
@@ -316,7 +300,8 @@ def text_of(made: Made, seconds: float, player: str) -> str:
     """A table as the document has it."""
     commands = "".join(f"\n    {command}" for command in made.commands)
     search = "The Python model searched. " if made.is_searched else ""
-    said = f"{search}Engine: {player}. {seconds:.0f} s. Commit {commit()}."
+    taken = f"{seconds:.0f} s" if seconds < 120 else f"{seconds / 60:.0f} min"
+    said = f"{search}Engine: {player}. {taken} on {datetime.date.today()}, {machine()}. Commit {commit()}."
     return f"{markdown(made.rows)}\n\n{said}\n{commands}\n"
 
 
@@ -337,6 +322,7 @@ def main() -> int:
     parser.add_argument("--write", action="store_true", help="put the tables into docs/EXPERIMENTS.md")
     parser.add_argument("--out", metavar="FOLDER", type=pathlib.Path, default=pathlib.Path("out/experiments"),
                         help="where rows and reports go (out/experiments)")
+    add_workers(parser)
     add_engine(parser)
     words = parser.parse_args()
     for name in words.tables:
@@ -345,7 +331,7 @@ def main() -> int:
     engine = ["--engine", words.engine, *(["--program", words.program] if words.program else [])]
     for name in words.tables or TABLES:
         started = time.monotonic()
-        made = TABLES[name](Asked(words.out, engine))
+        made = TABLES[name](Asked(words.out, engine, words.workers))
         text = text_of(made, time.monotonic() - started, player_of(words))
         print(f"{name}\n\n{text}", flush=True)
         if words.write:

@@ -10,6 +10,7 @@ from experiments.division import Table, bound, of_ring, of_ring3
 from lab.rules.engines import TOP
 from lab.sweep import grid, report, sweeping, tables
 from lab.sweep.sweeping import Work
+from lab.tests.playing import program
 
 DOCUMENT = make.DOCUMENT
 SMALL = {"rings": ("rings", ["ring:4", "ring:6"]), "no-map": ("no_map", ["hypercube:3"]),
@@ -62,29 +63,19 @@ class Experiments(unittest.TestCase):
                     self.assertEqual(rows_by_network("rings")[hunt.network][HUNTED],
                                      str(make.hunted_most(hunt, self.asked)))
 
-    def test_a_run_that_ends_silent_is_solved_with_more_commands(self) -> None:
-        spec = grid.read(make.EXPERIMENTS / "no_map.toml")
-        network, agents, runs, silent, which, left, solved = table("silent")[0]
-        self.assertEqual((left, solved), ("1", silent))
-        scheduler, seed = which.partition(";")[0].replace(",", "").split()[:2]
-        case = next(case for case in spec.cases() if (case.network, case.scheduler, case.seed) == (
-            network, scheduler, int(seed)))
-        row = dict(zip(tables.COLUMNS, sweeping.row_of(Work("", None), spec, case)))
-        self.assertEqual((row["outcome"], int(row["agents"]) - int(row["lost"])), ("silent", 1))
-        self.assertTrue(make.is_solved_without_limit(spec, case))
-
     def test_small_networks_that_were_explored(self) -> None:
         found = {tuple(row[:2]): row for row in table("explored")}
         self.assertEqual(len(found), len(make.EXPLORED))
         for exploration in make.EXPLORED:
             if exploration.network in SMALL_EXPLORED:
-                row = list(make.explored_row(exploration, self.asked))
+                asked = self.asked._replace(engine=["--program", program()])
+                row = list(make.explored_row(exploration, asked))
                 with self.subTest(row[0], agents=row[1]):
-                    self.assertEqual(found[tuple(row[:2])], row)
+                    self.assertEqual(found[tuple(row[:2])][:-1], row[:-1])
 
     def test_the_count_agrees_with_what_was_explored_hunted_and_drawn(self) -> None:
-        explored = {int(row[0].partition(":")[2]): int(row[4]) for row in table("explored") if "`ring.py`" in row[1]}
-        self.assertEqual(explored, {nodes: of_ring(nodes) for nodes in range(3, 10)})
+        explored = {int(row[0].partition(":")[2]): int(row[3]) for row in table("explored") if "`ring.py`" in row[1]}
+        self.assertEqual(explored, {nodes: of_ring(nodes) for nodes in make.RINGS_EXPLORED})
         for row in table("rings"):
             nodes = int(row[0].partition(":")[2])
             with self.subTest(nodes=nodes):
@@ -113,10 +104,11 @@ class Experiments(unittest.TestCase):
                 self.assertIn(row, table("too-few"))
 
     def test_no_team_of_a_table_is_lost_whole(self) -> None:
-        for name in ("rings", "no-map", "known-map"):
+        for name in ("rings", "large-rings", "no-map", "large-no-map", "known-map", "large-known-map"):
             for row in table(name):
                 with self.subTest(name, network=row[0]):
                     self.assertLess(int(row[-3]), int(row[1]))
+                    self.assertEqual(row[2], row[3], "each run is solved")
 
     def test_a_table_is_put_into_the_document(self) -> None:
         text = "a\n<!-- table one -->\nold\n<!-- end of one -->\nb\n"
