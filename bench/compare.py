@@ -1,7 +1,7 @@
 #!/usr/bin/env python3
 """Compares two builds of the program in one run.
 
-    python3 bench/compare.py [--keep] PROGRAM OTHER
+    python3 -m bench.compare [--keep] PROGRAM OTHER
 
 Makes tournaments, networks and scripts by a seeded generator, and runs both programs on each of them in turn, 21
 times. Prints for each input the median time of both, the least time that a processor took for them, which other work
@@ -17,8 +17,8 @@ import sys
 import tempfile
 from typing import Callable, Iterable, Iterator, List, Sequence, Tuple
 
-import rehearse
-from inputs import MAX_SCRIPT, Run, key, network, printed_by, run, torus, tournament
+from bench import rehearse
+from bench.inputs import MAX_SCRIPT, Run, key, network, printed_by, run, torus, tournament
 
 ROUNDS = 21
 BOARD = 1000

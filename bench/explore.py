@@ -2,7 +2,7 @@
 """Measures how fast the program tries every schedule of a match, apart from the host that plays the agents.
 
     ./arena --help            # builds the program, if it is not built yet
-    /usr/bin/python3 bench/explore.py [--states N] NETWORK=AGENT ..
+    /usr/bin/python3 -m bench.explore [--states N] NETWORK=AGENT ..
 
 Each network is named as for the lab, such as ring:16, and AGENT names an agent of examples/agents, such as ring. Two
 agents play, and each node but the home base is the black hole in turn. First the lab answers the program's questions,
@@ -15,20 +15,19 @@ import os
 import pathlib
 import re
 import subprocess
-import sys
 import tempfile
 import time
 from typing import List, NamedTuple, Tuple
 from unittest import mock
 
-TOP = pathlib.Path(__file__).resolve().parents[1]
-sys.path.insert(0, str(TOP))
+from lab.__main__ import parser
+from lab.commands.words import game_of
+from lab.rules.fixtures import Fixture, write_tournament
+from lab.search import asking
+from lab.search.machines import Machines
 
-from lab.__main__ import parser  # noqa: E402
-from lab.commands.words import game_of  # noqa: E402
-from lab.rules.fixtures import Fixture, write_tournament  # noqa: E402
-from lab.search import asking  # noqa: E402
-from lab.search.machines import Machines  # noqa: E402
+TOP = pathlib.Path(__file__).resolve().parents[1]
+
 
 PROGRAM = os.environ.get("ARENA", str(TOP / "arena"))
 AGENTS = TOP / "examples" / "agents"
@@ -125,8 +124,9 @@ def main() -> None:
         network, _, agent = match.partition("=")
         found = measured(network, agent, words.states)
         states, program = sum(it.states for it in found), sum(it.program for it in found)
-        print(f"| {network} | {agent} | {max(it.moves for it in found)} | {states:,} | {sum(it.whole for it in found):.1f} "
-              f"| {program:.1f} | {states / program:,.0f} | {max(it.memory for it in found):.0f} |", flush=True)
+        moves, whole = max(it.moves for it in found), sum(it.whole for it in found)
+        print(f"| {network} | {agent} | {moves} | {states:,} | {whole:.1f} | {program:.1f} | {states / program:,.0f} | "
+              f"{max(it.memory for it in found):.0f} |", flush=True)
 
 
 if __name__ == "__main__":

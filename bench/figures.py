@@ -1,7 +1,7 @@
 #!/usr/bin/env python3
 """Runs the benchmarks and writes their figures to bench/FIGURES.md.
 
-    python3 bench/figures.py [--only NAME ..] [--program PATH] [--other PATH] [--benchmark PATH] [--out FILE]
+    python3 -m bench.figures [--only NAME ..] [--program PATH] [--other PATH] [--benchmark PATH] [--out FILE]
 
 Each benchmark has a section of the page: what was measured, beside what, and the commit, day, build and machine. A run
 replaces the sections of the benchmarks that it ran and leaves the others as they are. The table at the head of the page
@@ -34,10 +34,10 @@ import tempfile
 import time
 from typing import Callable, Dict, Iterable, List, NamedTuple, Optional, Sequence, Tuple
 
-TOP = pathlib.Path(__file__).resolve().parent.parent
-sys.path.insert(0, str(TOP))
+from lab.support import built
 
-from lab.support import built  # noqa: E402
+TOP = pathlib.Path(__file__).resolve().parent.parent
+
 
 PAGE = TOP / "bench" / "FIGURES.md"
 BENCHMARK = TOP / "crates" / "bhs_bench" / "out" / "bhs_bench"
@@ -178,8 +178,8 @@ def lab_text(printed: str) -> str:
     return table(("engine", "agents", "steps a second"), rows) + f"\n`explore` visited {states} states a second.\n"
 
 
-def of_python(path: str, *words: str) -> List[str]:
-    return [sys.executable, str(TOP / path), *words]
+def of_python(module: str, *words: str) -> List[str]:
+    return [sys.executable, "-m", module, *words]
 
 
 def without_benchmark(setting: Setting) -> str:
@@ -191,19 +191,19 @@ def without_other(setting: Setting) -> str:
 
 
 BENCHMARKS: Dict[str, Benchmark] = {
-    "gate": Benchmark("The gate", lambda at: of_python("tools/prove/gate_times"), gate_text, build="the proofs"),
+    "gate": Benchmark("The gate", lambda at: [sys.executable, "tools/prove/gate_times"], gate_text, build="the proofs"),
     "steps": Benchmark("Steps", lambda at: [str(at.benchmark), "step", "2000000", "time"], steps_text,
                        without_benchmark, "the proved program"),
     "submit": Benchmark("Commands under locks", lambda at: [str(at.benchmark), "submit", "20", "time"], submit_text,
                         without_benchmark, "the proved program"),
     "stages": Benchmark("Stages of a line", lambda at: [str(at.benchmark), "stages", "200000", "time"], stages_text,
                         without_benchmark, "the proved program"),
-    "rehearse": Benchmark("Rehearsals", lambda at: of_python("bench/rehearse.py", str(at.program)), rehearse_text),
+    "rehearse": Benchmark("Rehearsals", lambda at: of_python("bench.rehearse", str(at.program)), rehearse_text),
     "compare": Benchmark("Speed beside another build",
-                         lambda at: of_python("bench/compare.py", str(at.program), str(at.other)), compare_text,
+                         lambda at: of_python("bench.compare", str(at.program), str(at.other)), compare_text,
                          without_other),
-    "replays": Benchmark("Replays", lambda at: of_python("bench/replays.py", str(at.program)), replays_text),
-    "serve": Benchmark("The server's speed", lambda at: of_python("bench/serve.py"), serve_text),
+    "replays": Benchmark("Replays", lambda at: of_python("bench.replays", str(at.program)), replays_text),
+    "serve": Benchmark("The server's speed", lambda at: of_python("bench.serve"), serve_text),
     "lab": Benchmark("The lab", lambda at: [DEBIANS_PYTHON, "-m", "lab", "speed", "--program", str(at.program)],
                      lab_text),
 }

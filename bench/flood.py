@@ -2,17 +2,18 @@
 """Floods a contest with clients that have no key, and measures how long honest agents wait for their answers.
 
     ./arena --help            # builds the program, if it is not built yet
-    python3 bench/flood.py [--teams N] [--nodes N] [--rate R] [--turns K] [--pause MS]
+    python3 -m bench.flood [--teams N] [--nodes N] [--rate R] [--turns K] [--pause MS]
 
-Teams of two agents each (`examples/agents/ring.py`) search a ring, 50 teams if nothing else is said. Meanwhile R clients
-a second connect, 500 if nothing else is said: of three one says nothing, one half a line, and one a wrong key, and each
-stays until the server closes it or four seconds have passed. How long an agent waits is measured for each of its
-commands, up to the first line of the answer, and once for its enter, from before it connects. Then the same is played
-without the flood. A line for each says how many teams solved their networks, and how long the slowest enter, the
-slowest command, and 99 of 100 commands took. The program is ./arena, or what ARENA names.
+Teams of two agents each (`examples/agents/ring.py`) search a ring, 50 teams by default. Meanwhile R clients a second
+connect, 500 by default: of three one says nothing, one half a line, and one a wrong key, and each stays until the
+server closes it or four seconds have passed. How long an agent waits is measured for each of its commands, up to the
+first line of the answer, and once for its enter, from before it connects. Then the same is played without the flood. A
+line for each says how many teams solved their networks, and how long the slowest enter, the slowest command, and 99 of
+100 commands took. The program is ./arena, or what ARENA names.
 """
 import argparse
 import concurrent.futures
+import importlib
 import multiprocessing
 import pathlib
 import selectors
@@ -23,13 +24,12 @@ import threading
 import time
 from typing import Any, Dict, List, NamedTuple, Tuple
 
-from inputs import ring
-from servers import MAX_SESSIONS, TOP, Failed, free_port, prepare, started, words
+from bench.inputs import ring
+from bench.servers import MAX_SESSIONS, Failed, free_port, prepare, started, words
+from lab.play.agent_files import client_module
 
-sys.path.insert(0, str(TOP / "examples" / "agents"))
-
-from client import Agent, Refused  # noqa: E402
-from ring import search  # noqa: E402
+client = client_module()
+search = importlib.import_module("ring").search
 
 HOST = "127.0.0.1"
 QUOTA, BOARD = 1000, 64
@@ -58,7 +58,7 @@ class Waits(NamedTuple):
         self.others.extend(more.others)
 
 
-class Timed(Agent):
+class Timed(client.Agent):
     """An agent that notes how long its commands take."""
 
     def __init__(self, lines: Any) -> None:
@@ -87,7 +87,7 @@ def played(port: int, key: str, nodes: int) -> Waits:
     connected = time.monotonic() - begun
     try:
         search(agent, key, nodes)
-    except Refused:
+    except client.Refused:
         pass
     finally:
         agent.close()
@@ -184,7 +184,8 @@ def told(rules: Rules, rate: float) -> str:
     solved = sum(row.split()[2] == "solved" for row in table.splitlines()[1:])
     others = sorted(waits.others)
     return (f"{had:.0f} strangers a second: {solved} of {rules.teams} teams solved their networks; the slowest enter "
-            f"took {1000 * max(waits.enters):.0f} ms, the slowest of {len(others)} commands {1000 * others[-1]:.0f} ms, "
+            f"took {1000 * max(waits.enters):.0f} ms, the slowest of {len(others)} commands "
+            f"{1000 * others[-1]:.0f} ms, "
             f"99 of 100 at most {1000 * others[len(others) * 99 // 100]:.1f} ms")
 
 

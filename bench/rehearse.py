@@ -2,7 +2,7 @@
 """Times the built program on long rehearsals.
 
     ./arena --help            # builds the program, if it is not built yet
-    python3 bench/rehearse.py [PROGRAM]
+    python3 -m bench.rehearse [PROGRAM]
 
 Makes a tournament of 64 matches of 16 agents each on a torus of 25 nodes, and two scripts of commands and draws by a
 seeded generator: one as long as a script may be, and one of a tenth of that. Plays both, five times each, and prints
@@ -15,7 +15,7 @@ import sys
 import tempfile
 from typing import Tuple
 
-from inputs import MAX_SCRIPT, key, median_run, torus, tournament
+from bench.inputs import MAX_SCRIPT, key, median_run, torus, tournament
 
 TOP = pathlib.Path(__file__).resolve().parent.parent
 PROGRAM = TOP / "crates" / "bhs_main" / "out" / "bhs_main"

@@ -2,7 +2,7 @@
 """Times the built program on the largest replays, alone or beside another build.
 
     ./arena --help            # builds the program, if it is not built yet
-    python3 bench/replays.py [PROGRAM [OTHER]] [--rounds N]
+    python3 -m bench.replays [PROGRAM [OTHER]] [--rounds N]
 
 Writes replays of matches that have ended:
 
@@ -32,13 +32,12 @@ import sys
 import tempfile
 from typing import Any, Callable, Dict, Iterator, List, NamedTuple, Optional, Sequence, TextIO, Tuple
 
-from compare import compared
-from inputs import MAX_AGENTS, MAX_BOARD, MAX_QUOTA, Run, median_run, run, torus_links
+from bench.compare import compared
+from bench.inputs import MAX_AGENTS, MAX_BOARD, MAX_QUOTA, Run, median_run, run, torus_links
+from lab.rules.model import spelled
 
 TOP = pathlib.Path(__file__).resolve().parent.parent
-sys.path.insert(0, str(TOP))
 
-from lab.rules.model import spelled  # noqa: E402
 
 PROGRAM = TOP / "crates" / "bhs_main" / "out" / "bhs_main"
 SIDE = 16

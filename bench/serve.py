@@ -2,7 +2,7 @@
 """Times `arena serve` beside echo servers in C.
 
     ./arena --help            # builds the program, if it is not built yet
-    python3 bench/serve.py [--rounds N] [--active A,B,..] [--part N] [--open N]
+    python3 -m bench.serve [--rounds N] [--active A,B,..] [--part N] [--open N]
 
 Compiles bench/serve/load.c, which plays the clients, and bench/serve/echo.c, which answers their lines by lines like
 those of the arena, with a thread for each connection. Each load is looks, moves or writes, by 1, 16 and 256 sessions
@@ -36,8 +36,8 @@ import sys
 import tempfile
 from typing import Dict, Iterator, List, NamedTuple, Optional
 
-from inputs import key, peak_so_far, torus, tournament
-from servers import MAX_SESSIONS, TOP, Failed, free_port, prepare, started, words
+from bench.inputs import key, peak_so_far, torus, tournament
+from bench.servers import MAX_SESSIONS, TOP, Failed, free_port, prepare, started, words
 
 SOURCES = TOP / "bench" / "serve"
 MATCHES = 64

@@ -8,10 +8,10 @@ import sys
 import threading
 from typing import Iterator, List, Sequence
 
-TOP = pathlib.Path(__file__).resolve().parent.parent
-sys.path.insert(0, str(TOP / "examples"))
+from examples.contest import arena, free_port
 
-from contest import arena, free_port  # noqa: E402
+TOP = pathlib.Path(__file__).resolve().parent.parent
+
 
 MAX_SESSIONS = 1024
 START = 20

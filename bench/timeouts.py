@@ -2,7 +2,7 @@
 """Measures what teams gain that take an agent for lost after a timeout, beside teams that decide nothing by time.
 
     ./arena --help            # builds the program, if it is not built yet
-    python3 bench/timeouts.py [--contests N] [--nodes N] [--turns K] [--pause MS] [--schedule NAME]
+    python3 -m bench.timeouts [--contests N] [--nodes N] [--turns K] [--pause MS] [--schedule NAME]
 
 Each contest has a match of the honest search `examples/agents/ring.py` and one match for each timeout of 1, 8, 64 and
 512 turns, all on a ring and with the black hole opposite the home base. In a timed team one agent steps to the next
@@ -13,6 +13,7 @@ times as many. Up to twelve contests are played in one, since a tournament has a
 """
 import argparse
 import collections
+import importlib
 import pathlib
 import sys
 import tempfile
@@ -20,13 +21,12 @@ import threading
 import time
 from typing import Callable, Counter, Dict, List, NamedTuple
 
-from inputs import ring
-from servers import MAX_SESSIONS, TOP, Failed, free_port, prepare, started, words
+from bench.inputs import ring
+from bench.servers import MAX_SESSIONS, Failed, free_port, prepare, started, words
+from lab.play.agent_files import client_module
 
-sys.path.insert(0, str(TOP / "examples" / "agents"))
-
-from client import Agent, Refused  # noqa: E402
-from ring import search  # noqa: E402
+client = client_module()
+search = importlib.import_module("ring").search
 
 TIMEOUTS = (1, 8, 64, 512)
 AT_ONCE = 12
@@ -59,7 +59,7 @@ def tournament(rules: Rules, network: pathlib.Path, names: List[str]) -> str:
     return f'version = 3\nseed = "{"07" * 32}"\n{SCHEDULES[rules.schedule]}{rows}'
 
 
-def step_out(agent: Agent, nodes: int) -> None:
+def step_out(agent: client.Agent, nodes: int) -> None:
     """Steps to the next node, comes back, says so and follows, node after node."""
     for _ in range(nodes - 2):
         agent.depart(AHEAD)
@@ -68,7 +68,7 @@ def step_out(agent: Agent, nodes: int) -> None:
         agent.depart(AHEAD)
 
 
-def watch(agent: Agent, nodes: int, seconds: float, every: float) -> None:
+def watch(agent: client.Agent, nodes: int, seconds: float, every: float) -> None:
     """Follows while the other comes back in time; else visits the nodes that are left, and accuses from behind."""
     safe = 0
     while is_back(agent, seconds, every):
@@ -79,7 +79,7 @@ def watch(agent: Agent, nodes: int, seconds: float, every: float) -> None:
     agent.accuse(BACK)
 
 
-def is_back(agent: Agent, seconds: float, every: float) -> bool:
+def is_back(agent: client.Agent, seconds: float, every: float) -> bool:
     until = time.monotonic() + seconds
     while time.monotonic() < until:
         time.sleep(every)
@@ -93,7 +93,7 @@ def plays(port: int, rules: Rules, name: str, number: int) -> Callable[[], None]
     key, pause = f"{name}-{'ab'[number]}", rules.pause / 1000
 
     def play() -> None:
-        agent = Agent.connect("127.0.0.1", port)
+        agent = client.Agent.connect("127.0.0.1", port)
         try:
             if name.startswith("honest"):
                 search(agent, key, rules.nodes)
@@ -104,7 +104,7 @@ def plays(port: int, rules: Rules, name: str, number: int) -> Callable[[], None]
             else:
                 timeout = int(name.split("-")[1])
                 watch(agent, rules.nodes, timeout * pause, max(1, timeout // 8) * pause / 2)
-        except Refused:
+        except client.Refused:
             pass
         finally:
             agent.close()

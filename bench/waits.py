@@ -3,7 +3,7 @@
 home, was destroyed, or is on a held link.
 
     ./arena --help            # builds the program, if it is not built yet
-    python3 bench/waits.py [--moves N] [--pause MS]
+    python3 -m bench.waits [--moves N] [--pause MS]
 
 Two agents are served on a ring of eight nodes. The first stands, or departs for the black hole or over a held link;
 then the second goes to a node and back, N moves in all, and each move is timed. Turns are times divided by the pause.
@@ -20,8 +20,8 @@ import tempfile
 import time
 from typing import List, NamedTuple, TextIO
 
-from inputs import ring
-from servers import Failed, free_port, started, words
+from bench.inputs import ring
+from bench.servers import Failed, free_port, started, words
 
 NODES = 8
 TURNS = 1_000_000

@@ -1,8 +1,8 @@
 """The published count of what a reader must believe is that of the definitions as they stand."""
 import unittest
 
-import believed
 from tests import TOP
+from tools.prove import believed
 
 TRUST = TOP / "docs" / "TRUST.md"
 

@@ -7,13 +7,13 @@ import tempfile
 import tomllib
 import unittest
 
-import compare
-import contest
-import inputs
-import rehearse
+from bench import compare
+from bench import inputs
+from bench import rehearse
+from examples import contest
+from lab.play.server import table
 from lab.rules import chacha8
 from lab.rules.model import Verdict
-from lab.play.server import table
 
 
 class Inputs(unittest.TestCase):

@@ -7,8 +7,8 @@ import tempfile
 import unittest
 from typing import Iterator
 
-import inputs
-import replays
+from bench import inputs
+from bench import replays
 from lab.rules.model import judge, played
 
 

@@ -7,8 +7,8 @@ import tempfile
 import unittest
 from unittest import mock
 
-import bent_replays
 from lab.rules.model import played
+from tools.hostile import bent_replays
 
 REPLAY = b'{"nodes":3}\n{"agent":0,"do":"look","reply":{"no":"away"}}\n{"do":"close","reply":null}\n{"end":2}\n'
 PROGRAM = """#!/bin/sh

@@ -7,11 +7,11 @@ import tempfile
 import unittest
 import unittest.mock
 
-import bar
-import prover
-from forecast import LAST_PART, SECONDS, TRUST, Forecast, seconds_of, text_of
 from tests import TOP
 from tests.test_gate import module
+from tools.prove import bar
+from tools.prove import prover
+from tools.prove.forecast import LAST_PART, SECONDS, TRUST, Forecast, seconds_of, text_of
 
 LIBRARIES = {"low": [], "left": ["low"], "right": ["low", "json"], "bhs_main": ["left", "right"]}
 RATTLE = f"""#!{sys.executable}

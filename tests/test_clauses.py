@@ -1,14 +1,13 @@
 """The functions that have no clause are those that docs/PROOFS.md lists."""
 import pathlib
 import re
-import sys
 import unittest
 from typing import Dict, Set
 
-TOP = pathlib.Path(__file__).resolve().parents[1]
-sys.path.insert(0, str(TOP / "tools" / "prove"))
+from tools.prove.clauses import contract_of, crates_given, functions_in, without_clause
 
-from clauses import contract_of, crates_given, functions_in, without_clause  # noqa: E402
+TOP = pathlib.Path(__file__).resolve().parents[1]
+
 
 HEADING = "## Functions without a clause"
 

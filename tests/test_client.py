@@ -9,8 +9,8 @@ import time
 import unittest
 from typing import List
 
-import client
-from client import Agent, Here, Swap
+from examples.agents import client
+from examples.agents.client import Agent, Here, Swap
 from tests import TOP
 
 TOURNAMENT = """version = 2

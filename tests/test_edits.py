@@ -8,8 +8,8 @@ import tempfile
 import unittest
 import unittest.mock
 
-import edits
-import prover
+from tools.prove import edits
+from tools.prove import prover
 
 CODE = '''use std::fmt;
 

@@ -1,9 +1,9 @@
 """The kills that are drawn, and what is counted in a replay."""
 import unittest
 
-import killed_servers
-from killed_servers import LONG, LONG_TURNS, SHORT, SHORT_TURNS, kills, told_events
 from tests import TOP
+from tools.hostile import killed_servers
+from tools.hostile.killed_servers import LONG, LONG_TURNS, SHORT, SHORT_TURNS, kills, told_events
 
 
 class Kills(unittest.TestCase):

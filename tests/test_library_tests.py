@@ -8,8 +8,8 @@ import sys
 import tempfile
 import unittest
 
-import library_tests
 from tests import TOP
+from tools.play import library_tests
 
 LINES = "print('test a ... ok'); print('test result: ok. {passed} passed; {failed} failed; 0 ignored'); exit({status})"
 

@@ -2,7 +2,7 @@
 import collections
 import unittest
 
-from network_faults import drawn, fault_of
+from tools.play.network_faults import drawn, fault_of
 
 TRIANGLE = [[0, 0, 1, 0], [1, 1, 2, 0], [2, 1, 0, 1]]
 BOW_TIE = TRIANGLE + [[0, 2, 3, 0], [3, 1, 4, 0], [4, 1, 0, 3]]

@@ -3,9 +3,9 @@ import random
 import unittest
 from typing import List, Sequence, Set
 
-import program_contests
-from program_contests import ADAPTIVE, OBLIVIOUS, SIDES, Rule, Side, made_by, words_of
 from lab.rules.model import PRESENT, Match, Place, Setup
+from tools.play import program_contests
+from tools.play.program_contests import ADAPTIVE, OBLIVIOUS, SIDES, Rule, Side, made_by, words_of
 
 COMMANDS = {"0": {"do": "depart", "port": 0}, "1": {"do": "depart", "port": 1}, "a": {"do": "accuse", "port": 0},
             "l": {"do": "leave"}}

@@ -8,9 +8,9 @@ import unittest
 import unittest.mock
 from typing import List
 
-import program_cases
-import program_tests
-from program_rows import Step, fault_of, play, rows_of
+from tools.play import program_cases
+from tools.play import program_tests
+from tools.play.program_rows import Step, fault_of, play, rows_of
 
 # prints its script, or tells its words and fails
 PROGRAM = f"""#!{sys.executable}

@@ -8,9 +8,9 @@ import tempfile
 import unittest
 import unittest.mock
 
-import commands
-import refusals
-from commands import COMMANDS, Lab, Run
+from tools.hostile import commands
+from tools.hostile import refusals
+from tools.hostile.commands import COMMANDS, Lab, Run
 
 # asks for memory five times, reads a line and writes it, and says which request was refused
 CALLS = """

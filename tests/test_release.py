@@ -10,12 +10,12 @@ import unittest
 import unittest.mock
 from typing import Dict, Tuple
 
-import prover
-import version
 from lab.support import built
 from tests import TOP
 from tests.test_built import write
 from tests.test_gate import module
+from tools import version
+from tools.prove import prover
 
 release = module(TOP / "tools" / "release")
 NAME = "arena-1.2.3-x86_64-linux"

@@ -10,9 +10,9 @@ import tomllib
 import unittest
 from unittest import mock
 
-import serve
-from serve import Bench, Figures, Load, load_of
-from servers import Failed, started
+from bench import serve
+from bench.serve import Bench, Figures, Load, load_of
+from bench.servers import Failed, started
 
 STAND_IN = f"{sys.executable} -m lab"
 

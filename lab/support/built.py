@@ -2,7 +2,6 @@
 sources as they are, or else one without a proof, which is compiled in a minute or two (tools/prove/unproved.py)."""
 import functools
 import hashlib
-import importlib
 import pathlib
 import subprocess
 import sys
@@ -95,13 +94,20 @@ def any_program() -> pathlib.Path:
         return program
     if is_proved():
         return PROVED
-    sys.path.insert(0, str(TOP / "tools" / "prove"))
-    try:
-        unproved = importlib.import_module("unproved")
-    except ModuleNotFoundError:
-        raise NoProgram("there is no program here, and no sources of it: name one by --program") from None
-    compiled: pathlib.Path = unproved.compiled()
-    return compiled
+    return unproved_program()
+
+
+def unproved_program() -> pathlib.Path:
+    """The program without a proof. A process of its own compiles it first if needed: the lab loads none of the tools,
+    since an agent may have modules of their names."""
+    if not (TOP / "tools" / "prove" / "unproved.py").exists():
+        raise NoProgram("there is no program here, and no sources of it: name one by --program")
+    # it shows on standard error how far it is, and what is missing
+    ran = subprocess.run([sys.executable, "-m", "tools.prove.unproved"], cwd=TOP, stdin=subprocess.DEVNULL,
+                         stdout=subprocess.PIPE, text=True)
+    if ran.returncode != 0:
+        raise NoProgram("there is no program: it was not compiled")
+    return pathlib.Path(ran.stdout.strip())
 
 
 @functools.lru_cache(maxsize=None)

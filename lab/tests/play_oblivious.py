@@ -4,28 +4,23 @@ agent, a delay, or a turn of departure that is another one delivers in another o
 import contextlib
 import pathlib
 import subprocess
-import sys
 import threading
 import time
 import unittest
 from types import ModuleType
 from typing import List
 
+from examples.agents import client
+from examples.contest import free_port
 from lab.play.matches import play
 from lab.play.schedulers import Oblivious, Scheduler, fair
 from lab.play.teams import INSIDE, AgentWords, Together
 from lab.rules.delays import Delays
-from lab.rules.engines import TOP
 from lab.rules.fixtures import Fixture, fixture_of, tournament_text
 from lab.rules.model import Setup
 from lab.rules.networks import ring, text_of
 from lab.rules.rehearsal import Rehearsal
 from lab.tests.playing import InFolder, program
-
-sys.path[:0] = [str(TOP / "examples"), str(TOP / "examples" / "agents")]
-
-import client  # noqa: E402
-from contest import free_port  # noqa: E402
 
 SEED = 7
 DELAYS = Delays(3, 6)

@@ -10,14 +10,11 @@ import time
 import unittest
 from typing import Any, Callable, Dict, List
 
+from examples.contest import free_port
 from lab.rules.engines import TOP
 from lab.rules.model import Match, Setup, spelled
 from lab.rules.networks import ring, text_of
 from lab.tests.playing import InFolder
-
-sys.path.insert(0, str(TOP / "examples"))
-
-from contest import free_port  # noqa: E402
 
 MATCH = """
 [[match]]

@@ -1,7 +1,7 @@
 #!/usr/bin/env python3
 """Compares what two builds of the program say of replays that are bent by chance.
 
-    tools/hostile/bent_replays.py PROGRAM OTHER [--replays N] [--seed SEED] [--workers W] [--keep FOLDER]
+    python3 -m tools.hostile.bent_replays PROGRAM OTHER [--replays N] [--seed SEED] [--workers W] [--keep FOLDER]
 
 Makes N replays, 10,000 where no number is given: those of examples/ and of matches that the lab's model plays by
 chance, each bent in one to three places. Bytes are changed, deleted or doubled; numbers get a zero in front or are too
@@ -25,11 +25,11 @@ import sys
 import tempfile
 from typing import Callable, Counter, Iterator, List, NamedTuple, Optional, Sequence, Tuple
 
-TOP = pathlib.Path(__file__).resolve().parents[2]
-sys.path[:0] = [str(TOP), str(TOP / "tools" / "play")]
+from lab.rules.model import PRESENT, Match, Object
+from tools.play.drawn_rehearsals import ready_by_chance
 
-from drawn_rehearsals import ready_by_chance  # noqa: E402
-from lab.rules.model import PRESENT, Match, Object  # noqa: E402
+TOP = pathlib.Path(__file__).resolve().parents[2]
+
 
 REPLAYS, SEED, WORKERS = 10_000, 0, 2
 COMMANDS = ("judge", "explain", "twin")

@@ -4,14 +4,13 @@ import os
 import pathlib
 import shutil
 import subprocess
-import sys
 from typing import Any, Callable, Counter, List, NamedTuple, Optional, Sequence, Set
 
-TOP = pathlib.Path(__file__).resolve().parents[2]
-sys.path[:0] = [str(TOP / "tools" / "play"), str(TOP / "examples")]
+from examples.contest import free_port
+from tools.play.program_rows import DONE, FAILED_STREAM, REFUSED_TEXT
 
-from contest import free_port  # noqa: E402
-from program_rows import DONE, FAILED_STREAM, REFUSED_TEXT  # noqa: E402
+TOP = pathlib.Path(__file__).resolve().parents[2]
+
 
 __all__ = ["COMMANDS", "Command", "DONE", "FAILED_STREAM", "Lab", "NO_MEMORY", "NO_THREADS", "PATIENCE", "REFUSED_TEXT",
            "Run", "TOP", "ended", "free_port"]

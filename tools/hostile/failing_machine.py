@@ -1,7 +1,7 @@
 #!/usr/bin/env python3
 """Runs the program on a machine that fails it: no memory, no files, no stack, full disks, closed pipes.
 
-    tools/hostile/failing_machine.py PROGRAM
+    python3 -m tools.hostile.failing_machine PROGRAM
 
 PROGRAM is the built program. Each command is run on the examples, once as it should be, and then with one thing
 missing. Each run must end within a minute, by itself, and say what it says with nothing missing, or the fault that is
@@ -22,12 +22,9 @@ import tempfile
 import threading
 from typing import Callable, Counter
 
-from commands import (COMMANDS, DONE, FAILED_STREAM, NO_MEMORY, NO_THREADS, PATIENCE, REFUSED_TEXT, TOP, Lab, Run,
-                      ended, free_port)
-
-sys.path.insert(0, str(TOP / "bench"))
-
-from inputs import MIB  # noqa: E402
+from bench.inputs import MIB
+from tools.hostile.commands import (COMMANDS, DONE, FAILED_STREAM, NO_MEMORY, NO_THREADS, PATIENCE, REFUSED_TEXT,
+                                    Lab, Run, ended, free_port)
 
 # of a server; fewer than connections that the system keeps waiting for it
 SESSIONS = 100
@@ -175,7 +172,7 @@ def servers(lab: Lab) -> None:
 
 
 def main() -> int:
-    if len(sys.argv) != 2:
+    if len(sys.argv) != 2 or sys.argv[1] in ("-h", "--help"):
         sys.exit(__doc__.strip())
     with tempfile.TemporaryDirectory() as name:
         lab = Lab(sys.argv[1], pathlib.Path(name))

@@ -9,19 +9,18 @@ import select
 import socket
 import struct
 import subprocess
-import sys
 import threading
 import time
 from typing import Callable, Dict, List, NamedTuple, Optional, Sequence
 
-TOP = pathlib.Path(__file__).resolve().parents[2]
-sys.path[:0] = [str(TOP), str(TOP / "bench")]
+from bench.inputs import MAX_AGENTS, MAX_BOARD, MIB, key
+from bench.servers import MAX_SESSIONS
+from lab.rules.model import spelled
+from tools.hostile.session_lines import (BYE, DEPART, HERE, LEAVE, LOOK, LOOKS, NO_ENTER, NO_KEY, NO_LATE, NO_LINE,
+                                         NO_TAKEN, WRITTEN)
 
-from inputs import MAX_AGENTS, MAX_BOARD, MIB, key  # noqa: E402
-from lab.rules.model import spelled  # noqa: E402
-from servers import MAX_SESSIONS  # noqa: E402
-from session_lines import (BYE, DEPART, HERE, LEAVE, LOOK, LOOKS, NO_ENTER, NO_KEY, NO_LATE, NO_LINE,  # noqa: E402
-                           NO_TAKEN, WRITTEN)
+TOP = pathlib.Path(__file__).resolve().parents[2]
+
 
 HOST = "127.0.0.1"
 POLITE, HOSTILE = 0, 1

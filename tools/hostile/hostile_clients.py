@@ -1,7 +1,7 @@
 #!/usr/bin/env python3
 """Attacks a server by clients that keep to no rule, while two others play their match.
 
-    tools/hostile/hostile_clients.py [--sessions N] [--attack each|silent|keys] [--quick]
+    python3 -m tools.hostile.hostile_clients [--sessions N] [--attack each|silent|keys] [--quick]
 
 Starts `./arena serve` on a tournament of four matches in a temporary folder, with N sessions, or 1024 by default. Two
 polite clients play the first match from the first attack to the last: on a ring of 8 nodes they walk to and fro, look
@@ -31,27 +31,20 @@ import argparse
 import contextlib
 import functools
 import pathlib
-import socket
 import sys
 import tempfile
 import threading
 import time
 from typing import Callable, Iterator, List, NamedTuple, Optional, Sequence
 
-from hostile_attacks import (ATTACKS, HOST, HOSTILE, LATER, PATIENCE, POLITE, PROMPT, STRANGER, Attack, Siege, Sizes,
-                             Wrong, hear)
-from session_lines import DEPART, GONE, HERE, OVER
-
-TOP = pathlib.Path(__file__).resolve().parents[2]
-for place in (".", "bench", "examples/agents"):
-    sys.path.insert(0, str(TOP / place))
-
-from client import Agent, Lines, Refused  # noqa: E402
-from inputs import (MAX_AGENTS, MAX_BOARD, MAX_QUOTA, MIB, key, peak_of_child, peak_so_far, ring,  # noqa: E402
-                    tournament)
-from lab.rules.model import ENDED, Match, judge, played, spelled  # noqa: E402
-from lab.play.server import table  # noqa: E402
-from servers import MAX_SESSIONS, Failed, free_port, prepare, started, words  # noqa: E402
+from bench.inputs import MAX_AGENTS, MAX_BOARD, MAX_QUOTA, MIB, key, peak_of_child, peak_so_far, ring, tournament
+from bench.servers import MAX_SESSIONS, Failed, free_port, prepare, started, words
+from examples.agents.client import Agent, Lines, Refused
+from lab.play.server import table
+from lab.rules.model import ENDED, Match, judge, played, spelled
+from tools.hostile.hostile_attacks import (ATTACKS, HOST, HOSTILE, LATER, PATIENCE, POLITE, PROMPT, STRANGER, Attack,
+                                           Siege, Sizes, Wrong, hear)
+from tools.hostile.session_lines import DEPART, GONE, HERE, OVER
 
 MATCHES = 4
 NODES = 8

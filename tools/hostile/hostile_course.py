@@ -1,7 +1,7 @@
 #!/usr/bin/env python3
 """Grades a course of four honest teams alone, and then with eight that want to win or to stop it by other ways.
 
-    /usr/bin/python3 tools/hostile/hostile_course.py [--program PATH] [--seeds N] [--workers N ..]
+    /usr/bin/python3 -m tools.hostile.hostile_course [--program PATH] [--seeds N] [--workers N ..]
 
 A hostile team makes thousands of folders in folders and hands in links to files that never end; guesses the black holes
 by how they were drawn; talks past the whiteboards; stalls; takes memory and disk; looks for results and secrets; sends
@@ -30,10 +30,10 @@ import tempfile
 import time
 from typing import Any, Dict, List, Sequence
 
-TOP = pathlib.Path(__file__).resolve().parents[2]
-sys.path.insert(0, str(TOP))
+from lab.sweep import tables
 
-from lab.sweep import tables  # noqa: E402
+TOP = pathlib.Path(__file__).resolve().parents[2]
+
 
 AGENTS, MUTANT = TOP / "examples" / "agents", TOP / "lab" / "mutants" / "reads_once.py"
 HEAD = """title = "A hostile course"

@@ -1,7 +1,7 @@
 #!/usr/bin/env python3
 """Gives `arena judge` texts that are no replays, and looks at its fault, its time and its memory.
 
-    tools/hostile/hostile_replays.py [PROGRAM] [--size BYTES]
+    python3 -m tools.hostile.hostile_replays [PROGRAM] [--size BYTES]
 
 PROGRAM is the built program, by default ./arena. Each text has BYTES bytes, by default 1 GiB, and comes through a pipe,
 so no file is written. A line for each has the fault and the status, the seconds, the peak memory, and both again for a
@@ -18,10 +18,10 @@ import threading
 import time
 from typing import BinaryIO, Iterator, List, NamedTuple, Tuple
 
-TOP = pathlib.Path(__file__).resolve().parents[2]
-sys.path.insert(0, str(TOP / "bench"))
+from bench.inputs import MIB, peak_of_child
 
-from inputs import MIB, peak_of_child  # noqa: E402
+TOP = pathlib.Path(__file__).resolve().parents[2]
+
 
 HEAD = (b'{"agents":2,"board":8,"dark":[],"holes":[2],"home":0,"links":[[0,0,1,0],[0,1,2,1],[1,1,2,0]],'
         b'"nodes":3,"quota":10,"replay":2}\n')

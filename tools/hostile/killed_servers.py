@@ -1,7 +1,7 @@
 #!/usr/bin/env python3
 """Kills servers at drawn moments, and looks for what they have left.
 
-    tools/hostile/killed_servers.py PROGRAM [--kills N] [--seed S]
+    python3 -m tools.hostile.killed_servers PROGRAM [--kills N] [--seed S]
 
 PROGRAM is the built program. Each time `serve` is started on two matches in a temporary folder; an agent of each looks
 again and again, and the server is killed by SIGKILL. Every other contest is so short that the kill may come while the
@@ -28,11 +28,11 @@ import threading
 import time
 from typing import Dict, List, NamedTuple, Optional
 
-TOP = pathlib.Path(__file__).resolve().parents[2]
-sys.path[:0] = [str(TOP / "tools" / "play"), str(TOP / "examples")]
+from examples.contest import free_port
+from tools.play.program_cases import SEED, TRIANGLE
 
-from contest import free_port  # noqa: E402
-from program_cases import SEED, TRIANGLE  # noqa: E402
+TOP = pathlib.Path(__file__).resolve().parents[2]
+
 
 MATCH = """
 [[match]]

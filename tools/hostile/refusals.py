@@ -1,7 +1,7 @@
 #!/usr/bin/env python3
 """Refuses the program one request for memory, or fails or shortens one read or one write, each in turn.
 
-    tools/hostile/refusals.py [--quick] [--workers N] PROGRAM [TESTS]
+    python3 -m tools.hostile.refusals [--quick] [--workers N] PROGRAM [TESTS]
 
 PROGRAM is the built program, linked dynamically. Each command is run on the examples with the first, the second, and
 each later request for memory refused; then with each read and each write failed, and with each shortened to one byte. A
@@ -43,9 +43,10 @@ import tempfile
 import time
 from typing import Callable, Dict, Iterable, Iterator, List, NamedTuple, Optional, Sequence, Set, Tuple
 
-from commands import COMMANDS, DONE, FAILED_STREAM, NO_MEMORY, NO_THREADS, Command, Lab, Run, ended, free_port
-from program_cases import CUP, REFUSED_WORDS, TRIANGLE
-from session_lines import HERE, OVER
+from tools.hostile.commands import (COMMANDS, DONE, FAILED_STREAM, NO_MEMORY, NO_THREADS, Command, Lab, Run, ended,
+                                    free_port)
+from tools.hostile.session_lines import HERE, OVER
+from tools.play.program_cases import CUP, REFUSED_WORDS, TRIANGLE
 
 SHIM = pathlib.Path(__file__).resolve().with_name("refusals_shim.c")
 KINDS = ["memory", "read", "write"]

@@ -1,7 +1,7 @@
 #!/usr/bin/env python3
 """Tries to spoil contests as somebody without a key would, or a machine that lacks something.
 
-    tools/hostile/spoilers.py PROGRAM
+    python3 -m tools.hostile.spoilers PROGRAM
 
 Each case serves a contest of two teams on a ring in a temporary folder. A line for each says how it went, and the last
 line reads `N passed, M failed`. It takes about a minute.
@@ -24,7 +24,7 @@ import threading
 import time
 from typing import Callable, Dict, Iterator, List, Optional, Sequence, Tuple
 
-from session_lines import HERE, LOOK, NO_FULL, NO_LATE, NO_MEMORY, OVER
+from tools.hostile.session_lines import HERE, LOOK, NO_FULL, NO_LATE, NO_MEMORY, OVER
 
 HOST = "127.0.0.1"
 # seconds within which a server answers or ends
@@ -610,7 +610,7 @@ def try_case(program: str, title: str) -> bool:
 
 
 def main(given: Sequence[str]) -> int:
-    if len(given) not in (1, 2):
+    if len(given) not in (1, 2) or given[0] in ("-h", "--help"):
         print(__doc__.strip())
         return 2
     program = str(pathlib.Path(given[0]).resolve())

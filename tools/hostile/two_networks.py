@@ -1,7 +1,7 @@
 #!/usr/bin/env python3
 """Serves a contest to agents on another network: the server in one network namespace, its agents in a second one.
 
-    sudo tools/hostile/two_networks.py PROGRAM
+    sudo python3 -m tools.hostile.two_networks PROGRAM
 
 PROGRAM is the built program. Two namespaces are joined by a virtual cable, `arena serve --address` listens on the
 address of the first, for IPv4 and then for IPv6, and the agents of the team red of examples/contest.toml connect from

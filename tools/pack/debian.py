@@ -7,7 +7,7 @@ import subprocess
 import tempfile
 from typing import Dict
 
-from pack.wheel import READABLE, RUNNABLE, File, Files
+from tools.pack.wheel import READABLE, RUNNABLE, File, Files
 
 HOME, DOCUMENTS = "usr/lib/arena/", "usr/share/doc/arena/"
 # what stands in the folder of documents, and not beside the program

@@ -1,13 +1,10 @@
 """What `bhs_bench step N` counts, worked out after docs/MODEL.md, apart from the code.
 
-Run: python3 tools/play/bench_counts.py N
+Run: python3 -m tools.play.bench_counts N
 """
-import pathlib
 import sys
 
-sys.path.insert(0, str(pathlib.Path(__file__).resolve().parents[2]))
-
-from lab.rules.chacha8 import block  # noqa: E402
+from lab.rules.chacha8 import block
 
 SIDE, AGENTS, QUOTA, EVENTS_OF_A_MATCH = 16, 16, 1000, 28_000
 

@@ -6,18 +6,17 @@ import resource
 import signal
 import socket
 import subprocess
-import sys
 import time
 from typing import Callable, Iterator, List, NamedTuple, Optional, Sequence
 
-TOP = pathlib.Path(__file__).resolve().parents[2]
-sys.path[:0] = [str(TOP / "tools" / "hostile"), str(TOP / "examples")]
+from examples.contest import free_port
+from tools.hostile.killed_servers import Wrong as Lost, kills, try_kill
+from tools.hostile.session_lines import HERE, LEAVE, LOOKS
+from tools.play.program_cases import MATCH, SEED, TABLE_HEAD, TRIANGLE, case, writes
+from tools.play.program_rows import DONE, FAILED_STREAM, PATIENCE, REFUSED_TEXT, Run, Stage, Wrong, expect
 
-from contest import free_port  # noqa: E402
-from killed_servers import Wrong as Lost, kills, try_kill  # noqa: E402
-from program_cases import MATCH, SEED, TABLE_HEAD, TRIANGLE, case, writes  # noqa: E402
-from program_rows import DONE, FAILED_STREAM, PATIENCE, REFUSED_TEXT, Run, Stage, Wrong, expect  # noqa: E402
-from session_lines import HERE, LEAVE, LOOKS  # noqa: E402
+TOP = pathlib.Path(__file__).resolve().parents[2]
+
 
 TWO_TEAMS = SEED + MATCH.format(network="tri.toml", key="r") + MATCH.format(network="tri.toml", key="b").replace(
     '"red"', '"blue"')

@@ -2,14 +2,10 @@
 matches over the model of the lab, which take bytes as they come, and scripts that are drawn from a seed. Nothing is
 proved of it."""
 import collections
-import pathlib
 import random
-import sys
 from typing import Counter, Deque, Dict, List, NamedTuple, Optional, Sequence, Tuple
 
-sys.path.insert(0, str(pathlib.Path(__file__).resolve().parents[2]))
-
-from lab.rules.model import AWAY, BAD, BYE, NOTED, OVER, Match, Object, Place, Setup, command_of, spelled  # noqa: E402
+from lab.rules.model import AWAY, BAD, BYE, NOTED, OVER, Match, Object, Place, Setup, command_of, spelled
 
 CONNECTIONS = 256
 MAX_LINE = 65_536

@@ -1,7 +1,7 @@
 #!/usr/bin/env python3
 """Tries what a newcomer does first: the program without a proof, a contest on it, and a release that is unpacked.
 
-    tools/play/first_look.py [PROGRAM]
+    python3 -m tools.play.first_look [PROGRAM]
 
 Compiles the program without a proof if its sources have changed since the last time, which takes a minute or two. A
 PROGRAM that is named must be one that does not say that it is not proved. A line tells each case that fails; the last
@@ -15,12 +15,12 @@ import tarfile
 import tempfile
 from typing import Callable, Dict, List
 
-TOP = pathlib.Path(__file__).resolve().parents[2]
-sys.path[:0] = [str(TOP / "tools" / "prove"), str(TOP / "tools"), str(TOP)]
+from lab.support.built import SAID, NoProgram
+from tools import version
+from tools.prove import unproved
 
-import unproved  # noqa: E402
-import version  # noqa: E402
-from lab.support.built import SAID, NoProgram  # noqa: E402
+TOP = pathlib.Path(__file__).resolve().parents[2]
+
 
 EXAMPLES = TOP / "examples"
 CONTEST = "examples/contest.py"
@@ -51,7 +51,7 @@ def plays_at_once() -> None:
 
 
 def says_that_it_is_not_proved() -> None:
-    found = ran([sys.executable, TOP / "tools" / "prove" / "unproved.py", "rehearse"])
+    found = ran([sys.executable, "-m", "tools.prove.unproved", "rehearse"])
     printed = (EXAMPLES / "triangle.printed").read_text()
     wants((found.returncode, found.stdout) == (0, printed) and found.stderr.endswith(f"{SAID}\n"), found)
 

@@ -2,7 +2,7 @@
 """Installs a release and plays it, as a researcher would: the wheel in a virtual environment of Python, and the Debian
 package in a bare Debian 12.
 
-    tools/play/installed.py [--unproved] [--root FOLDER] [--only wheel|debian] [--system]
+    python3 -m tools.play.installed [--unproved] [--root FOLDER] [--only wheel|debian] [--system]
 
 Makes the release twice and compares the bytes. Then it installs the wheel with `pip`, which fetches greenlet and
 others, and the Debian package with `apt-get` in a root that `debootstrap` makes in FOLDER, or in a temporary one. In
@@ -157,7 +157,7 @@ def cases_of(words: argparse.Namespace, folder: pathlib.Path) -> Dict[str, Calla
 
 
 def main() -> int:
-    parser = argparse.ArgumentParser("tools/play/installed.py", description=__doc__,
+    parser = argparse.ArgumentParser("python3 -m tools.play.installed", description=__doc__,
                                      formatter_class=argparse.RawDescriptionHelpFormatter)
     parser.add_argument("--unproved", action="store_true", help="with a program without a proof")
     parser.add_argument("--root", metavar="FOLDER", type=pathlib.Path, help="where the Debian is, or is made")

@@ -6,8 +6,8 @@ import sys
 import threading
 from typing import List, Sequence
 
-from program_cases import CASES, ENTER, HERE, LOOK, MAX_TEXT, TOP, case, drawn_script
-from program_rows import DONE, PATIENCE, REFUSED_TEXT, Stage, Wrong, difference, expect
+from tools.play.program_cases import CASES, ENTER, HERE, LOOK, MAX_TEXT, TOP, case, drawn_script
+from tools.play.program_rows import DONE, PATIENCE, REFUSED_TEXT, Stage, Wrong, difference, expect
 
 INTERACTIVE = ["rehearse", "--interactive"]
 

@@ -1,7 +1,7 @@
 #!/usr/bin/env python3
 """Runs the tests of the lab that play: on the built program, by Debian's Python with Debian's packages.
 
-    tools/play/lab_tests.py PROGRAM
+    python3 -m tools.play.lab_tests PROGRAM
 
 Installs packages that are missing by apt-get. The tests are those of lab/tests/play_*.py. The last line reads `N
 passed, M failed`, and the exit status is 1 if one failed.
@@ -11,9 +11,7 @@ import pathlib
 import subprocess
 import sys
 
-sys.path.insert(0, str(pathlib.Path(__file__).resolve().parent))
-
-from packages import install  # noqa: E402
+from tools.play.packages import install
 
 TOP = pathlib.Path(__file__).resolve().parents[2]
 DEBIANS_PYTHON = "/usr/bin/python3"

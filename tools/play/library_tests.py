@@ -1,7 +1,7 @@
 #!/usr/bin/env python3
 """Runs the tests of the libraries, the Rust files of tests/library, and passes their lines on.
 
-    tools/play/library_tests.py [--prove | --format | PROGRAM]
+    python3 -m tools.play.library_tests [--prove | --format | PROGRAM]
 
 They are compiled together with all crates that they use, into a program that stops at an index out of bounds, an
 overflow, a failed unwrap or a bad access. Neither they nor the crates are proved for it, so this takes two or three
@@ -21,9 +21,7 @@ import sys
 import tempfile
 from typing import Iterator, List, Tuple
 
-sys.path.insert(0, str(pathlib.Path(__file__).resolve().parents[1] / "prove"))
-
-from prover import CRATES, KIT, PARTS, TOP, Libraries, libraries_of, words_to_try  # noqa: E402
+from tools.prove.prover import CRATES, KIT, PARTS, TOP, Libraries, libraries_of, words_to_try
 
 TESTS = TOP / "tests" / "library"
 NAME = "library_tests"

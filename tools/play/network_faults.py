@@ -1,7 +1,7 @@
 #!/usr/bin/env python3
 """Compares what the program says of lists of links with what the rules say, worked out here in a plain way.
 
-    tools/play/network_faults.py PROGRAM [OTHER] [--lists N]
+    python3 -m tools.play.network_faults PROGRAM [OTHER] [--lists N]
 
 Makes N lists of links by a seeded generator, 10,000 by default. Half of them make a network. Of the
 others most are broken in one to three places, and some join two networks at a node or not at all. Runs `PROGRAM check`
@@ -19,10 +19,10 @@ import sys
 import tempfile
 from typing import Callable, Dict, List, Optional, Sequence, Set, Tuple
 
-TOP = pathlib.Path(__file__).resolve().parents[2]
-sys.path.insert(0, str(TOP / "bench"))
+from bench.inputs import network, tournament
 
-from inputs import network, tournament  # noqa: E402
+TOP = pathlib.Path(__file__).resolve().parents[2]
+
 
 LISTS, WORKERS = 10_000, 4
 MIN_NODES, MAX_NODES = 3, 256

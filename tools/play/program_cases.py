@@ -11,7 +11,7 @@ import sys
 import threading
 from typing import Callable, Dict, List, NamedTuple, Sequence, Tuple
 
-from program_rows import DONE, FAILED_STREAM, PATIENCE, REFUSED_TEXT, Run, Stage, Wrong, difference, expect
+from tools.play.program_rows import DONE, FAILED_STREAM, PATIENCE, REFUSED_TEXT, Run, Stage, Wrong, difference, expect
 
 TOP = pathlib.Path(__file__).resolve().parents[2]
 MAX_LINE = 65_536

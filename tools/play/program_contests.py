@@ -9,20 +9,18 @@ import contextlib
 import pathlib
 import socket
 import subprocess
-import sys
 import threading
 from typing import Callable, Iterator, List, NamedTuple, Optional, Sequence, Set, Tuple
 
-from program_cases import case
-from program_rows import PATIENCE, Run, Stage, Wrong, expect
+from examples.contest import free_port
+from lab.play.server import table
+from lab.rules.chacha8 import word
+from lab.rules.model import AWAY, OVER, Match, Object, Place, begun, judge, objects_of, spelled
+from tools.play.program_cases import case
+from tools.play.program_rows import PATIENCE, Run, Stage, Wrong, expect
 
 TOP = pathlib.Path(__file__).resolve().parents[2]
-sys.path[:0] = [str(TOP), str(TOP / "examples")]
 
-from contest import free_port  # noqa: E402
-from lab.rules.chacha8 import word  # noqa: E402
-from lab.rules.model import AWAY, OVER, Match, Object, Place, begun, judge, objects_of, spelled  # noqa: E402
-from lab.play.server import table  # noqa: E402
 
 SEED = bytes(range(32))
 TURNS, PAUSE = 400, 5

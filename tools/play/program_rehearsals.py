@@ -3,9 +3,9 @@ tools/play/drawn_rehearsals.py says, also when it answers each line as it comes.
 import functools
 from typing import Sequence
 
-from drawn_rehearsals import drawn
-from program_cases import CASES
-from program_rows import Stage, difference, expect
+from tools.play.drawn_rehearsals import drawn
+from tools.play.program_cases import CASES
+from tools.play.program_rows import Stage, difference, expect
 
 MOST_AGENTS = 64
 OF_A_CASE = 16

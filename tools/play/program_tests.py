@@ -1,7 +1,7 @@
 #!/usr/bin/env python3
 """Plays the program: the rows of text of tests/program, and cases that are made by rules.
 
-    tools/play/program_tests.py PROGRAM [FOLDER]
+    python3 -m tools.play.program_tests PROGRAM [FOLDER]
 
 PROGRAM is the built program. With a folder only the rows of its files are played: those of tests/benchmark go with the
 benchmark. program_rows.py says how rows are read and played; the other cases are in program_cases.py,
@@ -16,16 +16,14 @@ import pathlib
 import sys
 from typing import Iterator, NamedTuple, Sequence
 
-import contest_cases  # noqa: F401  adds its cases
-import interactive_cases  # noqa: F401  adds its cases
-import program_contests  # noqa: F401  adds its cases
-import program_rehearsals  # noqa: F401  adds its cases
-import replay_cases  # noqa: F401  adds its cases
-import serving_cases  # noqa: F401  adds its cases
-import traced_files  # noqa: F401  adds its case
-from program_cases import CASES, Trial
-from program_rows import fault_of, play, rows_of
+from tools.play import (contest_cases, interactive_cases, program_contests, program_rehearsals, replay_cases,
+                        serving_cases, traced_files)
+from tools.play.program_cases import CASES, Trial
+from tools.play.program_rows import fault_of, play, rows_of
 
+# each adds its cases to CASES
+FILES = (contest_cases, interactive_cases, program_contests, program_rehearsals, replay_cases, serving_cases,
+         traced_files)
 ROWS = pathlib.Path(__file__).resolve().parents[2] / "tests" / "program"
 WORKERS = 4
 
@@ -66,7 +64,7 @@ def try_all(program: str, tests: Sequence[Test]) -> int:
 
 
 def main() -> int:
-    if len(sys.argv) not in (2, 3):
+    if len(sys.argv) not in (2, 3) or sys.argv[1] in ("-h", "--help"):
         sys.exit(__doc__.strip())
     program, *folders = sys.argv[1:]
     tests = tests_of(pathlib.Path(folders[0])) if folders else (*tests_of(ROWS), *cases())

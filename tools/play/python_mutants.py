@@ -2,7 +2,7 @@
 """Tries whether the nearest tests find mistakes in the Python that publishes results: tables, verdicts, schedules,
 leagues and statistics.
 
-    tools/play/python_mutants.py [NUMBER ..]
+    python3 -m tools.play.python_mutants [NUMBER ..]
 
 Each mutant of MUTANTS is one change to one file, in a copy of the repository's Python, and the tests that stand nearest
 are run on it, by Debian's Python: they must fail. It first runs all of these tests on the copy as it is: they must pass.

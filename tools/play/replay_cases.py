@@ -2,8 +2,8 @@
 bytes than a program reads at once. And cases of texts that would control a terminal."""
 import json
 
-from program_cases import MATCH, SEED, TABLE_HEAD, TRIANGLE, case, writes
-from program_rows import Stage, Wrong, expect
+from tools.play.program_cases import MATCH, SEED, TABLE_HEAD, TRIANGLE, case, writes
+from tools.play.program_rows import Stage, Wrong, expect
 
 ENTER, LOOK = '{"do":"enter","key":"ka"}', '{"do":"look"}'
 # more than any buffer of the program takes

@@ -14,14 +14,14 @@ from typing import List
 from selenium import webdriver
 from selenium.webdriver.common.keys import Keys
 
-TOP = pathlib.Path(__file__).resolve().parents[2]
-sys.path[:0] = [str(TOP), str(TOP / "bench")]
+from bench import replays
+from lab.rules.engines import asked, program_at
+from lab.rules.model import Match, Setup
+from lab.rules.networks import hypercube
+from lab.tests.playing import MAP, RING, fixture, played, ring_fixture
 
-import replays  # noqa: E402
-from lab.rules.engines import asked, program_at  # noqa: E402
-from lab.rules.model import Match, Setup  # noqa: E402
-from lab.rules.networks import hypercube  # noqa: E402
-from lab.tests.playing import MAP, RING, fixture, played, ring_fixture  # noqa: E402
+TOP = pathlib.Path(__file__).resolve().parents[2]
+
 
 WIDE, PHONE = (1200, 1000), (390, 844)
 SECONDS_TO_OPEN = 10

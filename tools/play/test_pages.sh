@@ -10,4 +10,4 @@ if ! dpkg -s $packages > /dev/null 2>&1; then
     apt-get update -q
     DEBIAN_FRONTEND=noninteractive apt-get install -q -y --no-install-recommends $packages
 fi
-exec /usr/bin/python3 tools/play/test_pages.py "${1:-$(mktemp -d)}"
+exec /usr/bin/python3 -m tools.play.test_pages "${1:-$(mktemp -d)}"

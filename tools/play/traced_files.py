@@ -1,21 +1,17 @@
 """Cases that look at the calls by which a server writes its files: no contract speaks of the names of files."""
 import contextlib
 import itertools
-import pathlib
 import re
 import socket
 import subprocess
-import sys
 from typing import Dict, Iterator, List, NamedTuple, Tuple
 
-sys.path.insert(0, str(pathlib.Path(__file__).resolve().parents[2] / "examples"))
-
-from contest import free_port  # noqa: E402
-from packages import install  # noqa: E402
-from contest_cases import enter  # noqa: E402
-from program_cases import MATCH, SEED, TRIANGLE, case, writes  # noqa: E402
-from program_rows import DONE, PATIENCE, Stage, Wrong  # noqa: E402
-from session_lines import LEAVE, LOOK  # noqa: E402
+from examples.contest import free_port
+from tools.hostile.session_lines import LEAVE, LOOK
+from tools.play.contest_cases import enter
+from tools.play.packages import install
+from tools.play.program_cases import MATCH, SEED, TRIANGLE, case, writes
+from tools.play.program_rows import DONE, PATIENCE, Stage, Wrong
 
 CALLS = "write,writev,pwrite64,fsync,fdatasync,rename,renameat,renameat2,unlink,unlinkat"
 # `12 fsync(7</folder/name>) = 0` and `12 rename("name", "other") = 0`, 12 being the thread; a call that another thread
@@ -73,8 +69,8 @@ def traced(stage: Stage, cup: str, turns: int, *says: bytes, prefix: str = "matc
     install(["strace"])
     writes(stage, cup=cup, tri=TRIANGLE)
     port = free_port()
-    given = ["serve", "cup.toml", "--port", port, "--sessions", max(1, len(says)), "--turns", turns, "--pause", 20, "--grace", 0,
-             "--replay", prefix]
+    given = ["serve", "cup.toml", "--port", port, "--sessions", max(1, len(says)), "--turns", turns, "--pause", 20,
+             "--grace", 0, "--replay", prefix]
     words = ["strace", "-f", "-y", "-o", "trace", "-e", f"trace={CALLS}", stage.program, *map(str, given)]
     with subprocess.Popen(words, cwd=stage.folder, stdout=subprocess.PIPE, stderr=subprocess.PIPE) as child:
         child.stdout.readline()

@@ -1,6 +1,6 @@
 """Shows a contest of the sample agents in headless Chromium while it goes on, and looks at what the pages say.
 
-    /usr/bin/python3 tools/play/watch_in_browser.py PROGRAM [FOLDER]
+    /usr/bin/python3 -m tools.play.watch_in_browser PROGRAM [FOLDER]
 
 Starts the server PROGRAM and `lab watch` on examples/contest.toml, plays the sample agents, and compares the standings
 with the server's table. Opens a page of a match once all are over, plays it to its end, and finds no error in the
@@ -17,10 +17,10 @@ from typing import List
 from selenium import webdriver
 from selenium.webdriver.support.ui import WebDriverWait
 
-TOP = pathlib.Path(__file__).resolve().parents[2]
-sys.path[:0] = [str(TOP), str(TOP / "examples")]
+from examples import contest
 
-import contest  # noqa: E402
+TOP = pathlib.Path(__file__).resolve().parents[2]
+
 
 SIZES = {"wide": (1600, 1000), "tablet": (800, 1000), "phone": (400, 850)}
 SECONDS = 60

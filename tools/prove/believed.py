@@ -1,7 +1,7 @@
 #!/usr/bin/env python3
 """Counts what a reader must believe: the definitions that the headlines reach, and their lines.
 
-    tools/prove/believed.py [--names]
+    python3 -m tools.prove.believed [--names]
 
 A headline is a definition of some specs/ that the contract of a law states. The definitions that it uses, those that
 these use, and so on, are all that its statement means, beside the types of the code and the words of the prover's

@@ -1,7 +1,7 @@
 #!/usr/bin/env python3
 """Lists the functions of the crates that have no clause: any body of such a function is proved to meet its contract.
 
-    tools/prove/clauses.py [CRATE ..]
+    python3 -m tools.prove.clauses [CRATE ..]
 
 A clause is an `ensures` of the function itself, or of the method of a trait of this repository that it implements.
 `From`, `Clone` and `PartialEq` have theirs in ghost members beside the method. Not listed are the benchmark and `main`.

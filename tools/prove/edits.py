@@ -1,7 +1,7 @@
 #!/usr/bin/env python3
 """Tries edits of the code that the prover must refuse, each on a copy of its crate.
 
-    tools/prove/edits.py [--all] [CRATE..]
+    python3 -m tools.prove.edits [--all] [CRATE..]
 
 The gate tries crates/NAME/must-fail/*.edit. With --all those of crates/NAME/more-edits/ are tried too, which say the
 same of more functions: run it for each crate that you change. An edit has lines `file: PATH`, and then pairs of lines
@@ -22,9 +22,7 @@ import sys
 import tempfile
 from typing import Dict, Iterator, List, NamedTuple, Optional, Sequence, Tuple
 
-sys.path.insert(0, str(pathlib.Path(__file__).resolve().parent))
-
-from prover import CRATES, PARTS, Libraries, below, libraries_of, may_be_used, words_of, workers  # noqa: E402
+from tools.prove.prover import CRATES, PARTS, Libraries, below, libraries_of, may_be_used, words_of, workers
 
 # what a check of a crate that is proved ends with, and one that is not
 PROVED, NOT_PROVED = "logic=proved", "logic=not-proved"
@@ -250,14 +248,14 @@ def main(words: List[str]) -> int:
     names = [word for word in words if word != "--all"]
     strange = [name for name in names if name not in libraries]
     if strange:
-        print(f"tools/prove/edits.py: no crate {strange[0]} stands in crates.txt", file=sys.stderr)
+        print(f"edits: no crate {strange[0]} stands in crates.txt", file=sys.stderr)
         return 2
     folders = ["must-fail", "more-edits"] if "--all" in words else ["must-fail"]
     edits = {name: edits_of(name, folders) for name in names or libraries}
     for name in libraries:
         is_needed = any(name in below(libraries, it) for it, found in edits.items() if found)
         if is_needed and not may_be_used(libraries, name):
-            print(f"tools/prove/edits.py: {name} is not built, or older than its sources: run tools/build",
+            print(f"edits: {name} is not built, or older than its sources: run tools/build",
                   file=sys.stderr)
             return 1
     with concurrent.futures.ThreadPoolExecutor(workers()) as pool:

@@ -3,7 +3,7 @@ import pathlib
 import statistics
 from typing import Dict, Set
 
-from prover import Libraries, below
+from tools.prove.prover import Libraries, below
 
 SECONDS = pathlib.Path(__file__).resolve().parent / "proof_seconds"
 # a crate that takes longer than it should is still taken to need this part of its time
