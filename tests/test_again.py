@@ -1,0 +1,42 @@
+"""How tools/prove/again.py compares two programs."""
+import contextlib
+import io
+import pathlib
+import sys
+import tempfile
+import unittest
+
+from tools.prove import again
+
+
+class Compared(unittest.TestCase):
+    def setUp(self) -> None:
+        folder = pathlib.Path(self.enterContext(tempfile.TemporaryDirectory()))
+        self.one, self.other = folder / "one", folder / "other"
+        self.bytes = pathlib.Path(sys.executable).resolve().read_bytes()
+        self.one.write_bytes(self.bytes)
+
+    def told(self) -> str:
+        said = io.StringIO()
+        with contextlib.redirect_stdout(said):
+            status = again.told(self.one, self.other)
+        self.assertEqual(status, 0 if "the same program" in said.getvalue() else 1)
+        return said.getvalue()
+
+    def test_equal_programs(self) -> None:
+        self.other.write_bytes(self.bytes)
+        self.assertIn("the same program, SHA-256 ", self.told())
+
+    def test_the_sections_that_differ_are_named(self) -> None:
+        text = again.sections(self.one)[".text"]
+        changed = bytes([text[0] ^ 1]) + text[1:]
+        self.other.write_bytes(self.bytes.replace(text, changed, 1))
+        self.assertEqual(self.told(), "they differ in .text\n")
+
+    def test_a_difference_between_sections(self) -> None:
+        self.other.write_bytes(self.bytes + b"\0")
+        self.assertIn("no section", self.told())
+
+
+if __name__ == "__main__":
+    unittest.main()
