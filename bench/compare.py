@@ -1,4 +1,3 @@
-#!/usr/bin/env python3
 """Compares two builds of the program in one run.
 
     python3 -m bench.compare [--keep] PROGRAM OTHER

@@ -1,4 +1,3 @@
-#!/usr/bin/env python3
 """Measures how fast the program tries every schedule of a match, apart from the host that plays the agents.
 
     ./arena --help            # builds the program, if it is not built yet

@@ -1,4 +1,3 @@
-#!/usr/bin/env python3
 """Runs the benchmarks and writes their figures to bench/FIGURES.md.
 
     python3 -m bench.figures [--only NAME ..] [--program PATH] [--other PATH] [--benchmark PATH] [--out FILE]

@@ -1,4 +1,3 @@
-#!/usr/bin/env python3
 """Floods a contest with clients that have no key, and measures how long honest agents wait for their answers.
 
     ./arena --help            # builds the program, if it is not built yet

@@ -1,4 +1,3 @@
-#!/usr/bin/env python3
 """Times the built program on the largest replays, alone or beside another build.
 
     ./arena --help            # builds the program, if it is not built yet

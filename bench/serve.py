@@ -1,4 +1,3 @@
-#!/usr/bin/env python3
 """Times `arena serve` beside echo servers in C.
 
     ./arena --help            # builds the program, if it is not built yet

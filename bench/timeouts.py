@@ -1,4 +1,3 @@
-#!/usr/bin/env python3
 """Measures what teams gain that take an agent for lost after a timeout, beside teams that decide nothing by time.
 
     ./arena --help            # builds the program, if it is not built yet

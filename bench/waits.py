@@ -1,4 +1,3 @@
-#!/usr/bin/env python3
 """Measures what an agent learns by waiting: how many turns its moves take while the other agent of its match stands at
 home, was destroyed, or is on a held link.
 

@@ -1,4 +1,3 @@
-#!/usr/bin/env python3
 """Worst cases of searches on a ring that divide what is left: a dynamic program over how much that is.
 
     /usr/bin/python3 -m experiments.division table 9 16 27 32 64 81 128 243

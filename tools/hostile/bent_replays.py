@@ -1,4 +1,3 @@
-#!/usr/bin/env python3
 """Compares what two builds of the program say of replays that are bent by chance.
 
     python3 -m tools.hostile.bent_replays PROGRAM OTHER [--replays N] [--seed SEED] [--workers W] [--keep FOLDER]

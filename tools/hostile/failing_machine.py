@@ -1,4 +1,3 @@
-#!/usr/bin/env python3
 """Runs the program on a machine that fails it: no memory, no files, no stack, full disks, closed pipes.
 
     python3 -m tools.hostile.failing_machine PROGRAM

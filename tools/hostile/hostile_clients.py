@@ -1,4 +1,3 @@
-#!/usr/bin/env python3
 """Attacks a server by clients that keep to no rule, while two others play their match.
 
     python3 -m tools.hostile.hostile_clients [--sessions N] [--attack each|silent|keys] [--quick]

@@ -1,4 +1,3 @@
-#!/usr/bin/env python3
 """Grades a course of four honest teams alone, and then with eight that want to win or to stop it by other ways.
 
     /usr/bin/python3 -m tools.hostile.hostile_course [--program PATH] [--seeds N] [--workers N ..]

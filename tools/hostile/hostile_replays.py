@@ -1,4 +1,3 @@
-#!/usr/bin/env python3
 """Gives `arena judge` texts that are no replays, and looks at its fault, its time and its memory.
 
     python3 -m tools.hostile.hostile_replays [PROGRAM] [--size BYTES]

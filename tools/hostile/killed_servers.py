@@ -1,4 +1,3 @@
-#!/usr/bin/env python3
 """Kills servers at drawn moments, and looks for what they have left.
 
     python3 -m tools.hostile.killed_servers PROGRAM [--kills N] [--seed S]

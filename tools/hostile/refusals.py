@@ -1,4 +1,3 @@
-#!/usr/bin/env python3
 """Refuses the program one request for memory, or fails or shortens one read or one write, each in turn.
 
     python3 -m tools.hostile.refusals [--quick] [--workers N] PROGRAM [TESTS]

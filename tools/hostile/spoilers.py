@@ -1,4 +1,3 @@
-#!/usr/bin/env python3
 """Tries to spoil contests as somebody without a key would, or a machine that lacks something.
 
     python3 -m tools.hostile.spoilers PROGRAM

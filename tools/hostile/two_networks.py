@@ -1,4 +1,3 @@
-#!/usr/bin/env python3
 """Serves a contest to agents on another network: the server in one network namespace, its agents in a second one.
 
     sudo python3 -m tools.hostile.two_networks PROGRAM

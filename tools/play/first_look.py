@@ -1,4 +1,3 @@
-#!/usr/bin/env python3
 """Tries what a newcomer does first: the program without a proof, a contest on it, and a release that is unpacked.
 
     python3 -m tools.play.first_look [PROGRAM]

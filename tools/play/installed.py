@@ -1,4 +1,3 @@
-#!/usr/bin/env python3
 """Installs a release and plays it, as a researcher would: the wheel in a virtual environment of Python, and the Debian
 package in a bare Debian 12.
 

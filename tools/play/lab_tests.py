@@ -1,4 +1,3 @@
-#!/usr/bin/env python3
 """Runs the tests of the lab that play: on the built program, by Debian's Python with Debian's packages.
 
     python3 -m tools.play.lab_tests PROGRAM

@@ -1,4 +1,3 @@
-#!/usr/bin/env python3
 """Runs the tests of the libraries, the Rust files of tests/library, and passes their lines on.
 
     python3 -m tools.play.library_tests [--prove | --format | PROGRAM]

@@ -1,4 +1,3 @@
-#!/usr/bin/env python3
 """Compares what the program says of lists of links with what the rules say, worked out here in a plain way.
 
     python3 -m tools.play.network_faults PROGRAM [OTHER] [--lists N]

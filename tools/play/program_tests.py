@@ -1,4 +1,3 @@
-#!/usr/bin/env python3
 """Plays the program: the rows of text of tests/program, and cases that are made by rules.
 
     python3 -m tools.play.program_tests PROGRAM [FOLDER]

@@ -1,4 +1,3 @@
-#!/usr/bin/env python3
 """Tries whether the nearest tests find mistakes in the Python that publishes results: tables, verdicts, schedules,
 leagues and statistics.
 

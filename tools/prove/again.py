@@ -1,4 +1,3 @@
-#!/usr/bin/env python3
 """Proves a commit with nothing kept, and compares the program with another that was made of the same commit.
 
     sudo python3 -m tools.prove.again PROGRAM [--commit COMMIT] [--jobs N]

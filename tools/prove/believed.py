@@ -1,4 +1,3 @@
-#!/usr/bin/env python3
 """Counts what a reader must believe: the definitions that the headlines reach, and their lines.
 
     python3 -m tools.prove.believed [--names]

@@ -1,4 +1,3 @@
-#!/usr/bin/env python3
 """Lists the functions of the crates that have no clause: any body of such a function is proved to meet its contract.
 
     python3 -m tools.prove.clauses [CRATE ..]

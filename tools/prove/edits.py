@@ -1,4 +1,3 @@
-#!/usr/bin/env python3
 """Tries edits of the code that the prover must refuse, each on a copy of its crate.
 
     python3 -m tools.prove.edits [--all] [CRATE..]
