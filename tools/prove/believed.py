@@ -17,14 +17,14 @@ from typing import Dict, Iterable, Iterator, List, NamedTuple, Set, Tuple
 
 CRATES = pathlib.Path(__file__).resolve().parents[2] / "crates"
 HEADLINES = {
-    "a session of a contest: `equal_pasts_are_sent_equal_bytes` of `bhs_server`":
-        ("bhs_server", "ContestMet", "EqualPastsAreSentEqualBytes"),
-    "calls of rehearsals: `equal_pasts_are_answered_alike` of `bhs_rehearsal`":
-        ("bhs_rehearsal", "Calls", "EqualPastsAreAnsweredAlike"),
-    "scripts of rehearsals: `equal_pasts_are_sent_equal_bytes` of `bhs_rehearsal`":
-        ("bhs_rehearsal", "Headline", "EqualPastsAreSentEqualBytes"),
-    "turns of contests: `equal_waits_in_contests` of `bhs_server`":
-        ("bhs_server", "ContestTime", "EqualWaitsInContests"),
+    "a session of a contest: `contests::equal_pasts_are_sent_equal_bytes` of `bhs_theorems`":
+        ("bhs_theorems", "ContestMet", "EqualPastsAreSentEqualBytes"),
+    "calls of rehearsals: `rehearsals::equal_pasts_are_answered_alike` of `bhs_theorems`":
+        ("bhs_theorems", "Calls", "EqualPastsAreAnsweredAlike"),
+    "scripts of rehearsals: `rehearsals::equal_pasts_are_sent_equal_bytes` of `bhs_theorems`":
+        ("bhs_theorems", "ScriptHeadline", "EqualPastsAreSentEqualBytes"),
+    "turns of contests: `contests::equal_waits_in_contests` of `bhs_theorems`":
+        ("bhs_theorems", "ContestTime", "EqualWaitsInContests"),
     "replies to agents: `equal_pasts` of `bhs_model`": ("bhs_model", "Laws", "EqualPasts"),
 }
 WORD = re.compile(r"[^\W\d][\w'-]*(?:\.[^\W\d][\w'-]*)*")

@@ -69,11 +69,6 @@ legal_if play play' (Some event) tallies none housed played log =
     legal_untold play play' event played.0.mark tallies housed (same_play play' play _ is.net is.setup is.log)
     (untold event none) log
 
-pub legal_drawn : (play play' : Play) (held : Held) (state : State) (word : ℕ) (tallies : List Tally)
-    → IsHoused play tallies → IsPlayedIf play (draw held state word) play' → IsLegalLog play' → IsHoused play' tallies
-legal_drawn play play' held state word tallies housed played log =
-    legal_if play play' (draw held state word) tallies (draw_is_none held state word) housed played log
-
 pub legal_closed : (play play' : Play) (mark : Option Mark) (tallies : List Tally) → IsHoused play tallies
     → play'.log ≡ log_after (world_in play) play.log Close mark →
     (play'.net ≡ play.net) × (play'.setup ≡ play.setup) → IsLegalLog play' → IsHoused play' tallies

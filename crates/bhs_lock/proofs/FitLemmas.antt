@@ -135,13 +135,6 @@ arrived_fit quota Ended used count is fits = absurd cc
 no_more : (n : ℕ) → n + 0 ≡ n
 no_more n = omega arith
 
--- the link of an agent that arrives
-on_link : (position : Position) → is_bound position ≡ true → standing_at position ≡ Away
-on_link Before bound = cc
-on_link (At node came) bound = cc
-on_link (Bound node port) bound = refl
-on_link After bound = cc
-
 delivered_fit : (play : Play) (agent other count : ℕ) (position : Position) → (state_of play).position agent ≡ position
     → is_bound position ≡ true →
     StaysFit play.setup.quota ((state_of play).past other)

@@ -3,7 +3,7 @@ mod StrayLemmas
 mod LeastLemmas
 mod NewLemmas
 mod NewsLemmas
-mod DrawLemmas
+pub mod DrawLemmas
 pub mod RecordLemmas
 pub mod FitLemmas
 mod PassLemmas
@@ -15,7 +15,6 @@ pub mod EndLemmas
 mod WorldLemmas
 pub mod PlaceLemmas
 mod KeptLemmas
-pub mod HallTimeLemmas
 mod FoundLemmas
 pub mod PastLogLemmas
 pub mod LoopLemmas

@@ -1,7 +1,6 @@
 -- What is told of an arrival is where the agent is.
 use Rattle.std.proofs.Common.{◌≡◌, ℕ, zero, suc, Bool, true, false, not, Option, Some, None, List, [], ◌∷◌, ◌++◌, refl}
 use Rattle.std.proofs.Common.{sym, ap, ◌∙◌, subst}
-use Rattle.std.proofs.Common.{inr}
 use Rattle.std.specs.Prelude.{slice_get, option_map, option_and_then, map, length}
 use Rattle.std.proofs.lemmas.Option.{slice_get-map}
 use Rattle.std.proofs.lemmas.Bool.{and_parts}
@@ -19,12 +18,11 @@ use Rattle.bhs_model.specs.Runs.{Position, Before, At, Bound, After, State, init
 use Rattle.bhs_model.specs.Runs.{sight_at, reply}
 use Rattle.bhs_model.specs.InOrder.{replies, replies_from}
 use Rattle.bhs_world.proofs.ListLemmas.{changed_same}
-use Rattle.bhs_match.specs.Matches.{Play, world_in, state_of}
+use Rattle.bhs_match.specs.Matches.{Play, world_in}
 use Rattle.bhs_lock.specs.declared.model.Receipt.{Receipt}
 use Rattle.bhs_lock.specs.Passes.{Passed}
 use Rattle.bhs_lock.specs.declared.model.Tally.{Tally}
 use Rattle.bhs_lock.specs.Tallies.{IsLegalHistory}
-use Rattle.bhs_lock.specs.Settling.{IsOfWorld}
 use Rattle.bhs_lock.specs.Cells.{Given, GainsArrival, IsNews}
 use Rattle.bhs_lock.specs.Arrivals.{arrival_mark, arrival_of, receipt_at, is_here, IsGivenIf, IsGiven}
 
@@ -160,34 +158,3 @@ given_is_news given play tallies pass pass' said legal here is =
           legal = legal;
           next = is ∙ ap (λ (receipt : Receipt). Some receipt) same;
         })
-
--- where nothing is given and the match is closed, it is over
-pub none_is_over : (given : Given) (play : Play) (tallies : List Tally) (pass pass' : Passed)
-    → IsLegalHistory play tallies → IsOfWorld given.net given.setup play → (state_of play).closed ≡ true
-    → IsGiven play pass None pass' → IsNews given pass Over pass'
-none_is_over given play tallies pass pass' legal world closed is =
-    by_next (arrival_of play pass.agent (length pass.arrivals)) refl is
-  where
-    by_next : (next : Option Receipt) → arrival_of play pass.agent (length pass.arrivals) ≡ next
-        → IsGivenIf next pass None pass' → IsNews given pass Over pass'
-    by_next (Some receipt) is given = absurd cc
-    by_next None is none = (
-      none.1,
-      inr (record {
-        play = play;
-        tallies = tallies;
-        legal = legal;
-        same_net = world.same_net;
-        same_setup = world.same_setup;
-        is_so = record { closed = closed; all_told = is };
-      }),
-    )
-
--- a pass with an arrival more
-pub arrivals_more : (inside pass : Passed) (room new : List Receipt) (one : Receipt) → inside ≡ pass
-    → room ≡ inside.arrivals → new ≡ room ++ one ∷ [] →
-    record inside { arrivals = new } ≡ record pass { arrivals = pass.arrivals ++ one ∷ [] }
-arrivals_more inside pass room new one same is more =
-    ap (λ (new : List Receipt). let p : Passed = record inside { arrivals = new } in p)
-    (more ∙ ap (λ (room : List Receipt). room ++ one ∷ []) is)
-    ∙ ap (λ (inside : Passed). let p : Passed = record inside { arrivals = inside.arrivals ++ one ∷ [] } in p) same

@@ -96,11 +96,3 @@ spoken_told play log agent command mark is =
     let shown : List ℕ = shown_at (world_in play) (state_of play) ((state_of play).position agent) in
     spoken_read log mark shown (subst (ShowsIf shown) (sym is)
     (reply_shows (world_in play) (state_of play) agent command (all_run (world_in play) (events_of play.log))))
-
--- a command is answered
-pub is_answered : (play : Play) (agent : ℕ) (command : Command) → None ≡ reply (world_in play) (state_of play)
-    (Tell agent command) → ⊥
-is_answered play agent command is =
-    let shown : List ℕ = shown_at (world_in play) (state_of play) ((state_of play).position agent) in
-    subst (ShowsIf shown) (sym is) (reply_shows (world_in play) (state_of play) agent command
-    (all_run (world_in play) (events_of play.log)))

@@ -86,7 +86,7 @@ IsLegalLog play = (kept (world_in play) (events_of play.log) ≡ events_of play.
 abbrev pub IsHoused : Play → List Tally → Type 0
 IsHoused play tallies = IsLegalHistory play tallies × AreFit play
 
-is_some_if : (b : Bool) (n : ℕ) (place : Option ℕ) → place ≡ (if b then Some n else None) → is_some place ≡ b
+pub is_some_if : (b : Bool) (n : ℕ) (place : Option ℕ) → place ≡ (if b then Some n else None) → is_some place ≡ b
 is_some_if true n place e = ap (λ (p : Option ℕ). is_some p) e
 is_some_if false n place e = ap (λ (p : Option ℕ). is_some p) e
 

@@ -4,7 +4,6 @@ pub mod Fitting
 pub mod Passes
 pub mod Timing
 pub mod Halls
-pub mod Timely
 pub mod Recording
 pub mod Comparing
 pub mod Arrivals

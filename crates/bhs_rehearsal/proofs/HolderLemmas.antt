@@ -119,13 +119,6 @@ same_seats rows old new same held = record {
       ∙ sym (seats_only seat new)) ∙ sym (position-first (has_seat seat) new);
 }
 
--- one connection is changed, and not its seat
-pub held-changed : (rows : List (List (Option ℕ))) (connections : List Connection) (conn : ℕ) (one new : Connection)
-    → one ≡ get_or connections conn one → new.seat ≡ one.seat → AreHeld rows connections
-    → AreHeld rows (slice_set connections conn new)
-held-changed rows connections conn one new read same held =
-    same_seats rows connections _ (map-set_same seat_of connections conn new one (same ∙ ap seat_of read)) held
-
 seat-shut : (waits : Bool) (connection : Connection)
     → (if waits then shut connection else connection).seat ≡ connection.seat
 seat-shut true connection = refl

@@ -83,16 +83,6 @@ arrival_lemma old new held agent answer is =
     (destroys world state agent && not (lost world (events_of old.log) agent)) _ none)
 
 -- what a draw makes of a match, and whom it tells what
-pub none_drawn : (old new : Play) (held : List (ℕ × ℕ)) (word : ℕ) (found : DrawnOfCode)
-    → found ≡ drawing.drawn (held_in held) (matches.state_of old) word →
-    IsPlayedIf old (draw (held_in held) (matches.state_of old) word) new → event_of found ≡ None →
-    record { game = game_in new held; arrival = None } ≡ after_draw (game_in old held) (drawn (game_in old held) word)
-none_drawn old new held word found is played_if none =
-    let event : draw (held_in held) (matches.state_of old) word ≡ None =
-    draws_are_those (held_in held) (matches.state_of old) word ∙ ap event_of (sym is) ∙ none in
-    let same : new ≡ old = rw event at played_if in
-    rw (event, same) refl
-
 pub one_drawn : (old new : Play) (held : List (ℕ × ℕ)) (word agent : ℕ) (found : DrawnOfCode) (told : Option Reply)
     → found ≡ drawing.drawn (held_in held) (matches.state_of old) word →
     IsPlayedIf old (draw (held_in held) (matches.state_of old) word) new → found ≡ Delivered agent →

@@ -19,7 +19,7 @@ use Rattle.bhs_lineup.specs.KeyTable.{Seat}
 use Rattle.bhs_lineup.specs.declared.lineups.Ready.{Ready}
 use Rattle.bhs_rehearsal.specs.declared.choices.Choice.{Choice}
 use Rattle.bhs_rehearsal.specs.Choices.{chosen}
-use Rattle.bhs_rehearsal.specs.Games.{Game, drawn}
+use Rattle.bhs_rehearsal.specs.Games.{Game}
 use Rattle.bhs_rehearsal.specs.Connections.{Connection, unfed, shut, Taken, taken, after}
 use Rattle.bhs_rehearsal.specs.Stages.{Stage, Stepped, game_at, connection_at, with_game, plays, waits_in, shut_in}
 use Rattle.bhs_rehearsal.specs.Stages.{delivers, has_seat, nothing, tells_arrival}

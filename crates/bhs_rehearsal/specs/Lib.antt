@@ -1,15 +1,7 @@
-pub mod Calls
-pub mod Clients
 pub mod Connections
-pub mod Examples
 pub mod Games
 pub mod Choices
-pub mod Headline
-pub mod Laws
-pub mod MetExample
-pub mod OneMachine
 pub mod Rehearsing
-pub mod SentAsMet
 pub mod Stages
 pub mod Holders
 pub mod Takings

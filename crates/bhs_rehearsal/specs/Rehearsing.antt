@@ -1,5 +1,5 @@
 -- A rehearsal, and what its calls make of it.
-use Rattle.std.specs.Prelude.{ℕ, ◌≡◌, ◌<◌, Bool, true, false, nat_lt, Option, Some, None, List, [], ◌∷◌, ◌++◌}
+use Rattle.std.specs.Prelude.{ℕ, ◌≡◌, ◌<◌, Bool, true, false, nat_lt, Option, Some, None, List, [], ◌∷◌}
 use Rattle.std.specs.Prelude.{length, map, if◌then◌else◌, Vec, Ok, Err}
 use Rattle.std.specs.declared.alloc.Global.{Global}
 use Rattle.std.specs.declared.result.Result.{Result}
@@ -10,9 +10,8 @@ use Rattle.bhs_lineup.specs.declared.lineups.Ready.{Ready}
 use Rattle.bhs_lineup.specs.declared.lineups.Lineup.{Lineup}
 use Rattle.bhs_rehearsal.specs.Games.{Game}
 use Rattle.bhs_rehearsal.specs.Connections.{Item, Says, Ends, Connection}
-use Rattle.bhs_rehearsal.specs.Stages.{Stage, Instruction, Feeds, EndsInput, Draws, Delivers, Closes, game_at, begun}
+use Rattle.bhs_rehearsal.specs.Stages.{Stage, Instruction, Feeds, EndsInput, Draws, Delivers, Closes, begun}
 use Rattle.bhs_rehearsal.specs.Stages.{step}
-use Rattle.bhs_rehearsal.specs.Stages.{stands_after, sends}
 use Rattle.bhs_rehearsal.specs.declared.items.Item.{Item as ItemOfCode}
 use Rattle.bhs_rehearsal.specs.declared.items.Item.TheVariants as items
 use Rattle.bhs_rehearsal.specs.declared.outs.Out.{Out}
@@ -60,9 +59,6 @@ games_of lineup = map game_of lineup.ready.items
 
 abbrev pub first_stage : Lineup → (conns : ℕ) → Stage
 first_stage lineup conns = begun (games_of lineup) lineup.keys conns
-
-abbrev pub first_game : Lineup → (game : ℕ) → Game
-first_game lineup game = game_at (first_stage lineup 0) game
 
 -- ---- the value of a rehearsal
 
@@ -123,15 +119,3 @@ Follows sent old instruction (Ok outs) new = Obeys old instruction (sent outs) n
 Follows sent old instruction (Err Conn) new = Refuses old instruction Conn new
 Follows sent old instruction (Err NoGame) new = Refuses old instruction NoGame new
 Follows sent old instruction (Err Memory) new = new.has_failed ≡ true
-
--- ---- scripts grow by instructions
-
--- One more instruction leads from the stage of the script to the next, and sends what it sends there.
-pub record Grows (start : Stage) (script : List Instruction) (instruction : Instruction) : Type 0 where
-  pub stands : stands_after start (script ++ instruction ∷ []) ≡ (step (stands_after start script) instruction).stage
-  pub sends : sends start (script ++ instruction ∷ [])
-      ≡ sends start script ++ (step (stands_after start script) instruction).outs ∷ []
-
-abbrev pub ScriptsGrow : Type 0
-ScriptsGrow = (start : Stage) (script : List Instruction) (instruction : Instruction) →
-    Grows start script instruction

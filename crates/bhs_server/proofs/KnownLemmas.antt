@@ -25,7 +25,7 @@ use Rattle.bhs_session.specs.Texts.{text_of, command_of}
 use Rattle.bhs_session.specs.Machine.{behind_text}
 use Rattle.bhs_session.specs.Session.{TakesLines}
 use Rattle.bhs_session.specs.Answering.{IsLastLine, MayLack, IsUnwritten}
-use Rattle.bhs_session.proofs.AnsweredLemmas.{lacks_none}
+use Rattle.bhs_session.proofs.LackLemmas.{lacks_none}
 use Rattle.bhs_server.specs.declared.ports.Played.{Played}
 use Rattle.bhs_server.specs.Ports.{Seated, IsOfCell, IsNewsIn, IsToldBy, Calls}
 use Rattle.bhs_server.specs.Exchanges.{Exchange, Took, Refused, Came, reply_in, text_if}

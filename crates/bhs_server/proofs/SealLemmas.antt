@@ -1,5 +1,5 @@
 -- A list of matches that are settled grows at its end, and dealers settle as they do at their starts.
-use Rattle.std.proofs.Common.{ℕ, zero, suc, ◌≡◌, ◌∙◌, sym, subst, append_assoc, List, Option, Some, None, [], ◌∷◌, ◌++◌}
+use Rattle.std.proofs.Common.{ℕ, suc, ◌≡◌, ◌∙◌, sym, subst, append_assoc, List, Option, Some, None, [], ◌∷◌, ◌++◌}
 use Rattle.std.proofs.Common.{ap, refl, Result, Ok, Err, drop, length, map}
 use Rattle.std.specs.Prelude.{slice_get, option_map}
 use Rattle.rand_chacha.specs.ChaCha.{ChaCha}

@@ -3,8 +3,4 @@ pub mod Dealing
 pub mod Settling
 pub mod Exchanges
 pub mod Written
-pub mod ContestMet
-pub mod ContestTime
-pub mod Steps
-pub mod ContestExample
 pub mod Unserved

@@ -1,9 +1,9 @@
 -- What comes of the matches of a server.
-use Rattle.std.specs.Prelude.{ℕ, ◌≡◌, Vec, Option, Some, None, List, [], ◌∷◌, Result, Ok, Err, drop, length, slice_get}
+use Rattle.std.specs.Prelude.{ℕ, ◌≡◌, Vec, Option, Some, List, [], ◌∷◌, Result, Ok, Err, drop, length, slice_get}
 use Rattle.std.specs.declared.alloc.Global.{Global}
 use Rattle.rand_chacha.specs.ChaCha.{ChaCha}
 use Rattle.bhs_time.specs.declared.kinds.ScheduleKind.{ScheduleKind}
-use Rattle.bhs_time.specs.declared.kinds.ScheduleKind.TheVariants.{Adaptive, Oblivious}
+use Rattle.bhs_time.specs.declared.kinds.ScheduleKind.TheVariants.{Oblivious}
 use Rattle.bhs_time.specs.Stamps.{AreInTime}
 use Rattle.bhs_match.specs.Matches.{Play, world_in}
 use Rattle.bhs_deal.specs.Lateness.{whole_schedule, stamps_in, IsFirstLate}

@@ -7,7 +7,6 @@ mod dealing;
 mod ending;
 mod holding;
 mod lacks;
-mod laws;
 mod pacing;
 mod ports;
 mod running;
@@ -22,9 +21,6 @@ mod welcoming;
 pub use connections::SessionHooks;
 pub use dealing::deal;
 pub use lacks::Lack;
-pub use laws::{
-    equal_pasts_are_sent_equal_bytes, equal_waits_in_contests, sent_as_met, worked_session,
-};
 pub use pacing::{Pace, Step};
 pub use ports::{CellPort, Played};
 pub use running::can_start;

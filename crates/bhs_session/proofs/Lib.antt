@@ -1,7 +1,5 @@
-pub mod AnsweredLemmas
-pub mod MeetingLemmas
+pub mod LackLemmas
 pub mod Moving
-pub mod PastLemmas
 pub mod Playing
 pub mod SessionLaws
 pub mod Taking

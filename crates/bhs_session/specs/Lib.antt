@@ -1,7 +1,6 @@
 pub mod Answering
 pub mod Input
 pub mod Machine
-pub mod Met
 pub mod Moves
 pub mod Phase
 pub mod Port

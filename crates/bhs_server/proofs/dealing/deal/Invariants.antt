@@ -1,4 +1,4 @@
-use Rattle.std.proofs.Common.{ℕ, ◌≡◌, ◌<◌, ◌≤◌, ◌-◌, ◌^◌}
+use Rattle.std.proofs.Common.{ℕ, ◌≡◌, ◌<◌, ◌-◌, ◌^◌}
 use Rattle.bhs_server.specs.Dealing.{moved_by}
 use Rattle.bhs_server.specs.declared.pacing.Step.TheVariants.{Turn}
 use Rattle.bhs_server.proofs.dealing.deal.Given as goal

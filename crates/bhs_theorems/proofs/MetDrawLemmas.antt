@@ -1,0 +1,285 @@
+-- What is known of a connection, through a draw.
+use Rattle.std.proofs.Common.{◌≡◌, ◌≢◌, ◌∙◌, ℕ, ◌<◌, inl, inr, Bool, true, false, not}
+use Rattle.std.proofs.Common.{◌==◌, Option, Some, None, List, [], ◌∷◌, ◌++◌, length, refl}
+use Rattle.std.proofs.Common.{sym, ap, ap₂, subst, append-nil}
+use Rattle.std.specs.List.{position}
+use Rattle.std.proofs.lemmas.Bool.{eqb-true, eqb-false, and_parts}
+use Rattle.std.proofs.lemmas.List.{set-get_or, get_or-set_same, get_or-set_other}
+use Rattle.std.proofs.lemmas.List.Quantifiers.{position-Some}
+use Rattle.bhs_model.specs.declared.events.Event.{Event}
+use Rattle.bhs_model.specs.declared.events.Event.TheVariants.{Tell, Deliver, Close}
+use Rattle.bhs_model.specs.declared.setups.Setup.{Setup}
+use Rattle.bhs_model.specs.declared.replies.Reply.{Reply}
+use Rattle.bhs_model.specs.Replying.{rep, here}
+use Rattle.bhs_model.specs.Views.{View, Start, Arrived, Sight, Away, standing}
+use Rattle.bhs_model.specs.Worlds.{World}
+use Rattle.bhs_model.specs.Runs.{State, Position, Before, At, Bound, After, is_bound, sight_at, arrives}
+use Rattle.bhs_model.specs.Runs.{is_let_through, delivered}
+use Rattle.bhs_model.proofs.StepLemmas.{changed_same, arrival_by_past, no_arrival_no_reply, next_arrived}
+use Rattle.bhs_session.specs.Texts.{text_of}
+use Rattle.bhs_rehearsal.specs.Games.{Game, world_in, state_of, played, reply_to, is_away}
+use Rattle.bhs_rehearsal.specs.Connections.{Connection, unfed}
+use Rattle.bhs_rehearsal.specs.Stages.{Stage, game_at, connection_at, with_game, has_seat}
+use Rattle.bhs_rehearsal.specs.Stages.{Moved, moves}
+use Rattle.bhs_rehearsal.specs.Stages.{sent_to}
+use Rattle.bhs_rehearsal.specs.Stages.{tells_arrival, delivers}
+use Rattle.bhs_theorems.specs.ScriptLaws.{IsSettled}
+use Rattle.bhs_theorems.specs.Clients.{bytes_among}
+use Rattle.bhs_theorems.proofs.CuttingLemmas.{by_bool}
+use Rattle.bhs_theorems.proofs.TurnLemmas.{placed, turn_of, moves-placed}
+use Rattle.bhs_theorems.proofs.ApartLemmas.{seat-has_seat}
+use Rattle.bhs_theorems.proofs.SettlingLemmas.{nobody_plays}
+use Rattle.bhs_theorems.proofs.SlowGameLemmas.{state_of-played}
+use Rattle.bhs_theorems.specs.Met.{Arrives}
+use Rattle.bhs_theorems.specs.Clients.{Fed}
+use Rattle.bhs_theorems.proofs.EventLemmas.{Alike, alike_itself, alike-delivered, alike-no_arrival, setup-played}
+use Rattle.bhs_theorems.proofs.FitLemmas.{fits_here, away_stands}
+use Rattle.bhs_theorems.proofs.MeetingLemmas.{view_from-append, bytes_from-append, commands-append, due-append}
+use Rattle.bhs_theorems.proofs.KnownLemmas.{Going, GoesOn}
+use Rattle.bhs_theorems.proofs.KnownLemmas.{IsKnown}
+use Rattle.bhs_theorems.proofs.KnownLemmas.{IsReady, untouched_alike, FreeAreUntouched, known_alike}
+use Rattle.bhs_theorems.proofs.MetMoveLemmas.{Knows, moved}
+use Rattle.bhs_theorems.proofs.MetClientLemmas.{nothing_more}
+
+-- ---- a draw
+
+-- an arrival, of an agent on a link
+pub record Arrival (setup : Setup) (old new : View) (replied : Option Reply) : Type 0 where
+  pub sight : Sight
+  pub replied_is : replied ≡ Some (here setup.board sight)
+  pub new_is : new ≡ Arrived old sight
+
+arrival_at : (world : World) (state : State) (agent : ℕ) (position : Position) → is_let_through world position ≡ true →
+    (sight : Sight) × ((delivered world state agent position).past agent ≡ Arrived (state.past agent) sight)
+arrival_at world state agent (Bound node port) through = let far = world.net.far node port in
+    (sight_at world state far.0 (Some far.1), changed_same state.past agent _)
+arrival_at world state agent Before through = absurd (cc)
+arrival_at world state agent (At node came) through = absurd (cc)
+arrival_at world state agent After through = absurd (cc)
+
+pub arrival : (game : Game) (agent : ℕ) → arrives (world_in game) (state_of game) agent ≡ true →
+    Arrival game.setup ((state_of game).past agent) ((state_of (played game (Deliver agent))).past agent)
+    (reply_to game (Deliver agent))
+arrival game agent comes =
+    let world = world_in game in
+    let state = state_of game in
+    let at = arrival_at world state agent (state.position agent) (and_parts (not state.closed) _ comes).1 in
+    record {
+      sight = at.0;
+      replied_is = arrival_by_past world state agent comes ∙ ap (λ (view : View). rep game.setup.board view) at.1;
+      new_is = ap (λ (after : State). after.past agent)
+          (state_of-played game (Deliver agent) ∙ next_arrived world state agent comes) ∙ at.1;
+    }
+
+-- who has arrived is on no link
+arrived_at : (world : World) (state : State) (agent : ℕ) (position : Position) → is_let_through world position ≡ true →
+    is_bound ((delivered world state agent position).position agent) ≡ false
+arrived_at world state agent (Bound node port) through = ap is_bound (changed_same state.position agent _)
+arrived_at world state agent Before through = absurd (cc)
+arrived_at world state agent (At node came) through = absurd (cc)
+arrived_at world state agent After through = absurd (cc)
+
+pub arrived_here : (game : Game) (agent : ℕ) → arrives (world_in game) (state_of game) agent ≡ true
+    → is_away (played game (Deliver agent)) agent ≡ false
+arrived_here game agent comes =
+    let world = world_in game in
+    let state = state_of game in
+    ap (λ (after : State). is_bound (after.position agent))
+    (state_of-played game (Deliver agent) ∙ next_arrived world state agent comes)
+    ∙ arrived_at world state agent (state.position agent) (and_parts (not state.closed) _ comes).1
+
+-- who arrives is on a link, before the close
+pub away_arrives : (world : World) (state : State) (agent : ℕ) → arrives world state agent ≡ true
+    → (is_bound (state.position agent) ≡ true) × (state.closed ≡ false)
+away_arrives world state agent comes =
+    let parts = and_parts (not state.closed) (is_let_through world (state.position agent)) comes in
+    ((and_parts (is_bound (state.position agent)) _ parts.1).0, not_back state.closed parts.0) where
+      not_back : (one : Bool) → not one ≡ true → one ≡ false
+      not_back true is = absurd (cc)
+      not_back false is = refl
+
+going_arrives : (setup : Setup) (old new : View) (connection : Connection) (input : Fed) (sent : List ℕ) (sight : Sight)
+    → standing old ≡ Away → new ≡ Arrived old sight →
+    Going setup old connection input sent → Going setup new connection input (sent ++ text_of (here setup.board sight))
+going_arrives setup old new connection input sent sight away is going = record {
+  met = going.met ++ Arrives sight ∷ [];
+  taken = going.taken;
+  split = going.split;
+  said = commands-append going.met (Arrives sight ∷ []) ∙ append-nil _ ∙ going.said;
+  due = due-append setup.quota Start going.met (Arrives sight ∷ []) going.due
+      (ap standing (sym going.lived) ∙ away, tt);
+  lived = is ∙ ap (λ (view : View). Arrived view sight) going.lived
+      ∙ sym (view_from-append Start going.met (Arrives sight ∷ []));
+  heard = ap₂ (λ (one two : List ℕ). one ++ two) going.heard (sym (append-nil (text_of (here setup.board sight))))
+      ∙ sym (bytes_from-append setup.board Start going.met (Arrives sight ∷ []));
+  still = going.still;
+  ends = going.ends;
+  end_waits = going.end_waits;
+  last = going.last;
+  lives = λ ended. let at = ap standing is in cc;
+}
+
+module _ (stage : Stage) (game agent conn : ℕ) (input : Fed) (sent : List ℕ) (within : game < length stage.games)
+    (knows : Knows stage conn input sent) where
+  abbrev old_game : Game
+  old_game = game_at stage game
+
+  abbrev new_game : Game
+  new_game = played old_game (Deliver agent)
+
+  abbrev drawn_in : Stage
+  drawn_in = with_game stage game new_game
+
+  -- where the draw changes nothing for an agent of the match, it changes nothing for it
+  drawn_alike : (number other : ℕ) → (number ≡ game → Alike other old_game new_game)
+      → Alike other (game_at stage number) (game_at drawn_in number)
+  drawn_alike number other same =
+      by_bool (number == game) (λ (is : Bool). (number == game) ≡ is
+      → Alike other (game_at stage number) (game_at drawn_in number))
+      (λ first here.
+      let is : number ≡ game = eqb-true number game here in
+      subst (λ (place : ℕ). Alike other (game_at stage place) (game_at drawn_in place)) (sym is)
+      (subst (λ (one : Game). Alike other old_game one)
+      (sym (get_or-set_same stage.games game new_game _ within)) (same is)))
+      (λ first elsewhere.
+      subst (λ (one : Game). Alike other (game_at stage number) one)
+      (sym (get_or-set_other stage.games game number new_game _ (eqb-false number game elsewhere)))
+      (alike_itself other (game_at stage number)))
+      refl
+
+  -- it moves nobody
+  draw_rests : IsSettled drawn_in → arrives (world_in old_game) (state_of old_game) agent ≡ false
+      → Knows drawn_in conn input (sent ++ [])
+  draw_rests settled stays = nothing_more drawn_in conn input sent (record {
+    known = known_alike stage drawn_in (connection_at stage conn) input sent (connection_at stage conn).seat
+        (λ number other theirs. drawn_alike number other (λ is. alike-no_arrival old_game agent other stays))
+        knows.known;
+    free = λ number other free. untouched_alike (game_at stage number) (game_at drawn_in number) other
+        (drawn_alike number other (λ is. alike-no_arrival old_game agent other stays)) (knows.free number other free);
+    settled = settled;
+    there = knows.there;
+  })
+
+  -- it moves the agent of this connection
+  module _ (comes : arrives (world_in old_game) (state_of old_game) agent ≡ true) (holder : ℕ)
+      (there : holder < length stage.connections)
+      (mine : (connection_at stage holder).seat ≡ Some (game, agent)) where
+    abbrev a : Arrival old_game.setup ((state_of old_game).past agent) ((state_of new_game).past agent)
+        (reply_to old_game (Deliver agent))
+    a = arrival old_game agent comes
+
+    apart_seats : (number other : ℕ) → (number ≡ game → other ≢ agent)
+        → Alike other (game_at stage number) (game_at drawn_in number)
+    apart_seats number other apart = drawn_alike number other (λ is. alike-delivered old_game agent other (apart is))
+
+    drawn_free : FreeAreUntouched drawn_in
+    drawn_free number other free =
+        untouched_alike (game_at stage number) (game_at drawn_in number) other
+        (apart_seats number other (λ is same. free holder
+        (mine ∙ ap₂ (λ (one two : ℕ). Some (one, two)) (sym is) (sym same)))) (knows.free number other free)
+
+    drawn_other : conn ≢ holder → IsKnown drawn_in (connection_at stage conn) input sent (connection_at stage conn).seat
+    drawn_other apart =
+        known_alike stage drawn_in (connection_at stage conn) input sent (connection_at stage conn).seat
+        (λ number other theirs. apart_seats number other
+        (λ is same. apart (knows.settled.one_each conn holder (game, agent)
+        (theirs ∙ ap₂ (λ (one two : ℕ). Some (one, two)) is same) mine))) knows.known
+
+    drawn_own : conn ≡ holder → IsReady drawn_in (connection_at stage holder) input
+        (sent ++ text_of (here old_game.setup.board a.sight)) (connection_at stage holder).seat
+    drawn_own is =
+        let old = connection_at stage holder in
+        let found : game_at drawn_in game ≡ new_game = get_or-set_same stage.games game new_game _ within in
+        let known : IsKnown stage old input sent (Some (game, agent)) =
+        subst (λ (own : Option (ℕ × ℕ)). IsKnown stage old input sent own) mine
+        (subst (λ (one : ℕ). IsKnown stage (connection_at stage one) input sent (connection_at stage one).seat)
+        is knows.known) in
+        let bound = away_arrives (world_in old_game) (state_of old_game) agent comes in
+        subst (λ (own : Option (ℕ × ℕ)). IsReady drawn_in old input
+        (sent ++ text_of (here old_game.setup.board a.sight)) own) (sym mine)
+        (subst (λ (one : Game). agent < one.setup.agents → GoesOn one.setup ((state_of one).past agent)
+        (state_of one).closed (is_away one agent) old input
+        (sent ++ text_of (here old_game.setup.board a.sight))) (sym found)
+        (λ inside.
+        let setup_is = setup-played old_game (Deliver agent) in (
+          subst (λ (setup : Setup). Going setup ((state_of new_game).past agent) old input
+              (sent ++ text_of (here old_game.setup.board a.sight))) (sym setup_is)
+              (elim (known (subst (λ (setup : Setup). agent < setup.agents) setup_is inside)) [
+                | inl (going, open_yet) ↦ going_arrives old_game.setup ((state_of old_game).past agent)
+                    ((state_of new_game).past agent)
+                    old input sent a.sight (away_stands (world_in old_game) ((state_of old_game).past agent)
+                    ((state_of old_game).position agent) (fits_here old_game agent) bound.0) a.new_is going
+                | inr done ↦ absurd (elim done.quiet
+                    [ inl closed ↦ (let open_match = bound.1 in cc) | inr here ↦ (let away = bound.0 in cc) ])
+              ]),
+          inr (arrived_here old_game agent comes),
+        )))
+
+    draw_moves : IsSettled (moves drawn_in holder).stage →
+        Knows (moves drawn_in holder).stage conn input
+        (sent ++ bytes_among conn (sent_to holder
+        (text_of (here old_game.setup.board a.sight) ++ (moves drawn_in holder).text)))
+    draw_moves settled =
+        let old = connection_at stage holder in
+        let is_turn : moves drawn_in holder ≡ placed drawn_in holder (turn_of drawn_in holder old) =
+        ap (λ (connections : List Connection). moves (record drawn_in { connections = connections }) holder)
+        (sym (set-get_or stage.connections holder unfed))
+        ∙ moves-placed drawn_in holder old there in
+        let text = text_of (here old_game.setup.board a.sight) in
+        subst (λ (m : Moved). Knows m.stage conn input (sent ++ bytes_among conn (sent_to holder (text ++ m.text))))
+        (sym is_turn)
+        (moved drawn_in holder old there refl drawn_free (subst (λ (m : Moved). IsSettled m.stage) is_turn settled) conn
+        text input sent knows.there drawn_other drawn_own)
+
+  draw_tells : arrives (world_in old_game) (state_of old_game) agent ≡ true → (replied : Option Reply)
+      → reply_to old_game (Deliver agent) ≡ replied →
+      (holder : Option ℕ) → position (has_seat (game, agent)) stage.connections ≡ holder →
+      IsSettled (tells_arrival drawn_in replied holder).stage →
+      Knows (tells_arrival drawn_in replied holder).stage conn input
+      (sent ++ bytes_among conn (tells_arrival drawn_in replied holder).outs)
+  draw_tells comes None replied_is holder held settled =
+      absurd (let some = (arrival old_game agent comes).replied_is in cc)
+  draw_tells comes (Some reply) replied_is None held settled = absurd (
+      let untouched = knows.free game agent (nobody_plays stage.connections (game, agent) held) in
+      let here = untouched.at in
+      let away = (away_arrives (world_in old_game) (state_of old_game) agent comes).0 in
+      cc
+      )
+  draw_tells comes (Some reply) replied_is (Some holder) held settled =
+      let at_holder = position-Some (has_seat (game, agent)) stage.connections holder unfed held in
+      let same : here old_game.setup.board (arrival old_game agent comes).sight ≡ reply =
+      let some = (arrival old_game agent comes).replied_is in cc in
+      subst (λ (told : Reply). Knows (moves drawn_in holder).stage conn input
+      (sent ++ bytes_among conn (sent_to holder (text_of told ++ (moves drawn_in holder).text)))) same
+      (draw_moves comes holder at_holder.0 (seat-has_seat (game, agent) (connection_at stage holder) at_holder.1)
+      settled)
+
+  draw_known : IsSettled (delivers stage game (Some (Deliver agent))).stage →
+      Knows (delivers stage game (Some (Deliver agent))).stage conn input
+      (sent ++ bytes_among conn (delivers stage game (Some (Deliver agent))).outs)
+  draw_known settled =
+      let holder = position (has_seat (game, agent)) stage.connections in
+      by_bool (arrives (world_in old_game) (state_of old_game) agent)
+      (λ (comes : Bool). arrives (world_in old_game) (state_of old_game) agent ≡ comes →
+      Knows (delivers stage game (Some (Deliver agent))).stage conn input
+      (sent ++ bytes_among conn (delivers stage game (Some (Deliver agent))).outs))
+      (λ first comes. draw_tells comes (reply_to old_game (Deliver agent)) refl holder refl settled)
+      (λ first stays.
+      let none = no_arrival_no_reply (world_in old_game) (state_of old_game) agent stays in
+      let settled_there : IsSettled drawn_in =
+      subst (λ (replied : Option Reply). IsSettled (tells_arrival drawn_in replied holder).stage) none settled in
+      subst (λ (replied : Option Reply). Knows (tells_arrival drawn_in replied holder).stage conn input
+      (sent ++ bytes_among conn (tells_arrival drawn_in replied holder).outs)) (sym none)
+      (draw_rests settled_there stays))
+      refl
+
+pub delivers_known : (stage : Stage) (game conn : ℕ) (input : Fed) (sent : List ℕ) → game < length stage.games
+    → Knows stage conn input sent → (event : Option Event) →
+    IsSettled (delivers stage game event).stage → Knows (delivers stage game event).stage conn input
+    (sent ++ bytes_among conn (delivers stage game event).outs)
+delivers_known stage game conn input sent within knows None settled = nothing_more stage conn input sent knows
+delivers_known stage game conn input sent within knows (Some (Tell agent command)) settled =
+    nothing_more stage conn input sent knows
+delivers_known stage game conn input sent within knows (Some Close) settled = nothing_more stage conn input sent knows
+delivers_known stage game conn input sent within knows (Some (Deliver agent)) settled =
+    draw_known stage game agent conn input sent within knows settled

@@ -1,0 +1,14 @@
+pub mod Calls
+pub mod Clients
+pub mod ContestExample
+pub mod ContestMet
+pub mod ContestSteps
+pub mod ContestTime
+pub mod Met
+pub mod MetExample
+pub mod OneMachine
+pub mod ScriptExamples
+pub mod ScriptHeadline
+pub mod ScriptLaws
+pub mod SentAsMet
+pub mod Timely

@@ -1,0 +1,41 @@
+//! What a session wrote is a function of its agent's past. Each contract is a law; the functions do nothing.
+
+ghost use Rattle.bhs_theorems.specs.ContestExample.{AllIsInTurn, TheArrivalIsThis, TheHeadlineSpeaksOfIt};
+ghost use Rattle.bhs_theorems.specs.ContestExample.{TheReceiptsAreThese};
+ghost use Rattle.bhs_theorems.specs.ContestExample.{ThePastIsOfWhatWasMet, TheTextIsOfWhatWasMet};
+ghost use Rattle.bhs_theorems.specs.ContestExample.{TheHeadlineSpeaksOfTheOther, ThePastsAreEqual, TheSameWasFed};
+ghost use Rattle.bhs_theorems.specs.ContestMet.{EqualPastsAreSentEqualBytes, SentAsMet};
+ghost use Rattle.bhs_theorems.specs.ContestTime.{EqualWaitsInContests};
+
+/// A session whose pass settled with its match wrote the bytes of what its agent met in the log, and behind them at
+/// most one line; or a front of that, if a write failed or memory ran out.
+pub fn sent_as_met()
+    ensures { SentAsMet }
+{}
+
+/// Two sessions of any two contests, in matches of equal quota and whiteboards of equal size, whose agents have equal
+/// pasts in the logs that settled and that were fed equal commands, wrote equal bytes, if each ended by a Bye, an
+/// accusation, or the end of its input or turns.
+pub fn equal_pasts_are_sent_equal_bytes()
+    ensures { EqualPastsAreSentEqualBytes }
+{}
+
+/// Agents with equal timed views arrive after equally many turns, in a match of one contest as in a match of another
+/// with the same schedule, if both settled.
+pub fn equal_waits_in_contests()
+    ensures { EqualWaitsInContests }
+{}
+
+/// A session of a client, worked out by hand; and one in a match on another network, with other black holes and another
+/// number of agents, of which the headline says that it wrote the same.
+pub fn worked_session()
+    ensures text { TheTextIsOfWhatWasMet }
+    ensures receipts { TheReceiptsAreThese }
+    ensures arrival { TheArrivalIsThis }
+    ensures turns { AllIsInTurn }
+    ensures past { ThePastIsOfWhatWasMet }
+    ensures headline { TheHeadlineSpeaksOfIt }
+    ensures other { TheHeadlineSpeaksOfTheOther }
+    ensures equal_pasts { ThePastsAreEqual }
+    ensures equal_commands { TheSameWasFed }
+{}

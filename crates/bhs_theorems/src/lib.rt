@@ -1,0 +1,8 @@
+//! The theorems: what is true of every contest, rehearsal and script. Each is the contract of a function that does
+//! nothing, over the definitions that the contracts of the working functions cite.
+#![tactic(auto)]
+
+pub mod contests;
+pub mod locks;
+pub mod rehearsals;
+pub mod scripts;
