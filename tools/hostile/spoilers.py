@@ -23,6 +23,7 @@ import threading
 import time
 from typing import Callable, Dict, Iterator, List, Optional, Sequence, Tuple
 
+from lab.support.ports import free_port
 from tools.hostile.session_lines import HERE, LOOK, NO_FULL, NO_LATE, NO_MEMORY, OVER
 
 HOST = "127.0.0.1"
@@ -97,11 +98,6 @@ class Server:
         """Its status, what it printed and what it told."""
         printed, told = self.child.communicate(timeout=3 * PATIENCE)
         return self.child.returncode, (self.first + printed).decode(), (told or b"").decode(errors="replace")
-
-
-def free_port() -> int:
-    with socket.create_server((HOST, 0)) as listener:
-        return listener.getsockname()[1]
 
 
 Case = Callable[[str, pathlib.Path], None]
