@@ -9,10 +9,10 @@ S. Dobrev, P. Flocchini, G. Prencipe and N. Santoro, "Mobile search for a black 
 
 One agent explores to the right of the home base, which is by its port 0, the other to the left, and each is to explore
 half of what is left. It goes on cautiously: it writes `going` on the whiteboard, goes on to the next node, comes back,
-and writes `safe`. So the other agent can follow it over links that are safe, to its last safe node. Who has explored
-its half does so, divides what is left anew, and writes there how far it has come: `told 5`, to the fifth node of its
-side. The other reads that when it comes back; if it does not come back, the next division has a smaller half for it.
-When one node is left, that is the black hole. No agent waits for the other, and nothing is decided by time.
+and writes `safe`. So the other agent can follow it over links that are safe, to its last safe node. An agent that has
+explored its half does so, divides what is left anew, and writes there how far it has come: `told 5`, to the fifth node
+of its side. The other reads that when it comes back; if it does not come back, the next division has a smaller half for
+it. When one node is left, that is the black hole. No agent waits for the other, and nothing is decided by time.
 
 A whiteboard holds what is known of the links to its right and left, as `right safe, left told 5`; 32 bytes suffice.
 """

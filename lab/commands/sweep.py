@@ -15,7 +15,7 @@ the program plays the runs that are kept once more, and their replays must be th
 
 `made.json` has the SHA-256 of all that rows depend on: the sweep, the files of agents and schedulers with what they
 import, the lab, the program and Python. If one of them is another, the command refuses to go on in the folder. With
---verify it plays rows again and says which come out otherwise; the engine may be another than that which made them.
+--verify it plays rows again and says which come out otherwise; another engine than the first may play them.
 """
 import argparse
 import pathlib

@@ -1,7 +1,7 @@
-"""Writes the filter of system calls that programs behind walls have (lab/course/cells.py) to standard output, for bubblewrap.
+"""Writes to standard output the filter of system calls for programs behind walls (lab/course/cells.py), for bubblewrap.
 
-It refuses what programs could tell each other by through files of the system that both read, or through the kernel,
-past the network and the whiteboards; and what shows how busy the machine is. Needs Debian's python3-seccomp, which
+It refuses calls by which programs could talk past the network and the whiteboards, through the kernel or through files
+of the system that both read, and calls that show how busy the machine is. Needs Debian's python3-seccomp, which
 Debian's Python sees.
 """
 import errno
@@ -11,7 +11,7 @@ import sys
 import seccomp
 
 REFUSED = (
-    # locks, and notes of who opens and reads a file
+    # locks, and notices when a file is opened or read
     "flock", "inotify_init", "inotify_init1", "inotify_add_watch", "fanotify_init", "fanotify_mark",
     # keys, which outlive a program
     "add_key", "keyctl", "request_key",

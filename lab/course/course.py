@@ -85,7 +85,7 @@ class Course(NamedTuple):
             case for team in self.grid.teams for case in found if case.team.name == team.name)]
 
     def fixture(self, case: Case) -> Fixture:
-        """A match. Who has not the course's secret cannot guess its keys."""
+        """A match. Without the course's secret nobody can guess its keys."""
         fixture = self.grid.fixture(case)
         keys = [self._drawn("key", self.text, case.number, agent)[:20] for agent in range(fixture.setup.agents)]
         return fixture._replace(team=case.team.name, keys=keys)

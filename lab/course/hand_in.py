@@ -1,4 +1,4 @@
-"""What a team hands in: files and folders, read once and kept as an archive, of which each of its programs has a copy.
+"""What a team hands in: files and folders, read once and kept as an archive. Each of its programs has a copy.
 
 No link is followed, as what it leads to may be another's: a link is handed in as a link. What is neither file, folder
 nor link is left out. A hand-in has bounds, and one beyond them is refused by a line that says which.

@@ -95,7 +95,7 @@ class Record(NamedTuple):
         return [*self.played.faults, *(f"agent {it}: has used all of its {quota} commands" for it in self.spent())]
 
     def judged(self) -> Verdict:
-        """The verdict of who played it."""
+        """The verdict of the engine that played it."""
         if self.program is None:
             return self.verdict
         with tempfile.NamedTemporaryFile(suffix=".jsonl") as file:

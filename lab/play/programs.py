@@ -71,7 +71,7 @@ class Ground(Protocol):
 
 
 class Here:
-    """A program runs as who starts the lab, in the same folder."""
+    """A program runs as the user who starts the lab, in the same folder."""
 
     facts: Mapping[str, str] = {}
 
@@ -233,8 +233,8 @@ class Player:
                 self._note_status(until)
 
     def hear(self, line: str) -> None:
-        """Tells the program a line, and waits for its next one if it is due. Who has gone hears nothing, and what it
-        has sent before is taken all the same."""
+        """Tells the program a line, and waits for its next one if it is due. A program that has gone hears nothing, but
+        what it sent before is taken."""
         self.line = None
         self.state = TRAVELS if line == GONE else DONE if line in LAST_LINES else WAITS
         if line in DENIALS:

@@ -112,8 +112,8 @@ def unproved_program() -> pathlib.Path:
 
 @functools.lru_cache(maxsize=None)
 def warn_of(program: pathlib.Path) -> None:
-    """Says once on standard error that a program is not proved, if it is not. For who hears the program's own standard
-    error himself, which has that line."""
+    """Says once on standard error that a program is not proved, if it is not. A caller that reads the program's own
+    standard error leaves that line out, by `without_warning`."""
     if is_unproved(program):
         print(SAID, file=sys.stderr, flush=True)
 

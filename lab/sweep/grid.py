@@ -122,7 +122,7 @@ class Grid(NamedTuple):
         return {**others, **digests_of([team.words for team in self.teams])}
 
     def _holes(self, name: str, secret: str) -> List[List[Tuple[int, ...]]]:
-        """The black holes of a network: lists, out of which each seed takes its own in turn."""
+        """The black holes of a network: each seed takes the next of these lists."""
         if isinstance(self.holes, list):
             return [[holes] for holes in self.holes]
         others = [node for node in range(self.networks[name].nodes) if node != self.home]

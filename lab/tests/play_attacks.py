@@ -27,7 +27,7 @@ from lab.tests.playing import AGENTS
 
 HAS_WALLS = cells.strongest() is Walls.ALL
 IS_ROOT = os.geteuid() == 0
-# all that can keep programs apart for who runs the tests
+# all that can keep programs apart for the user who runs the tests
 ALL_WALLS = [Walls.ALL] * HAS_WALLS + [Walls.USER] * IS_ROOT + [Walls.NONE] * (not IS_ROOT)
 SECRET = "a secret of the tests"
 HEAD = 'title = "A trial"\nnetworks = ["ring:4"]\nholes = [2]\nlimit = 60\n'

@@ -405,7 +405,7 @@ def refused_contests(stage: Stage) -> None:
         expect(stage.run(serve("tri.toml", port)), b"", b"tri.toml: missing seed\n", REFUSED_TEXT)
 
 
-# what is answered to who enters before the close, and after it
+# what an agent is answered that enters before the close, and after it
 SIGHT, OVER = HERE.partition(" ")[2].encode(), b'{"ok":"over"}\n'
 
 
