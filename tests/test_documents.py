@@ -5,6 +5,7 @@ import unittest
 from typing import Iterator, Tuple
 
 from lab.rules.model import played
+from prover import below, libraries_of
 from tests import TOP
 
 ARCHITECTURE = TOP / "docs" / "ARCHITECTURE.md"
@@ -15,6 +16,8 @@ LINK = re.compile(r"\]\(([^)#\s]+)\)")
 PATH = re.compile(r"(?<![\w./])((?:bench|docs|examples|experiments|lab|tests)/[\w/.-]*\.\w+|tools/[\w/.-]*\w)")
 # what is made, not kept, and what the changelog says of the past
 MADE = ("tests/out/", "CHANGELOG.md")
+THEOREMS = "bhs_theorems"
+NAMED = re.compile(rf"`{THEOREMS}::(\w+)::(\w+)`")
 
 
 def documents() -> Iterator[pathlib.Path]:
@@ -39,6 +42,20 @@ class Traces(unittest.TestCase):
         for name, file in found:
             with self.subTest(name, file=file):
                 self.assertRegex((TOP / "crates" / file).read_text(encoding="utf-8"), rf"\bfn {name}\b")
+
+
+class Theorems(unittest.TestCase):
+    def test_theorems_that_are_named_are_laws(self) -> None:
+        named = {found for path in documents() for found in NAMED.findall(path.read_text(encoding="utf-8"))}
+        self.assertGreater(len(named), 3)
+        for module, name in sorted(named):
+            with self.subTest(module, name=name):
+                text = (TOP / "crates" / THEOREMS / "src" / f"{module}.rt").read_text(encoding="utf-8")
+                self.assertRegex(text, rf"pub fn {name}\(\)\n(    ensures .*\n)+{{}}")
+
+    def test_the_program_stands_on_them_and_no_other_crate_does(self) -> None:
+        libraries = libraries_of()
+        self.assertEqual([name for name in libraries if THEOREMS in below(libraries, name)], ["bhs_main"])
 
 
 class Links(unittest.TestCase):

@@ -1,5 +1,5 @@
 use bhs_referee::{Outcome, Verdict};
-use bhs_showcase::{Show, Showcase};
+use bhs_standings::{Show, Showcase};
 use std::test::Fail;
 use std::thread;
 

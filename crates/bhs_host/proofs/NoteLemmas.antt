@@ -6,7 +6,7 @@ use Rattle.std.proofs.lemmas.List.{take_more}
 use Rattle.std.proofs.lemmas.Option.{slice_get-get_or, slice_get-map, slice_get_read}
 use Rattle.std.proofs.Common.{length-append}
 use Rattle.bhs_referee.specs.declared.verdicts.Verdict.{Verdict}
-use Rattle.bhs_showcase.specs.Shown.{Seen, Agree}
+use Rattle.bhs_standings.specs.Shown.{Seen, Agree}
 use Rattle.bhs_host.specs.Judging.{HasSeen, HaveSeen}
 
 -- a note that has seen the verdict on a match of a list

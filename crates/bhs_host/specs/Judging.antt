@@ -1,7 +1,7 @@
 -- What threads that judge matches give back.
 use Rattle.std.specs.Prelude.{ℕ, ◌≡◌, ◌+◌, Option, Some, IfSome, List, [], ◌∷◌, slice_get}
 use Rattle.bhs_referee.specs.declared.verdicts.Verdict.{Verdict}
-use Rattle.bhs_showcase.specs.Shown.{Seen}
+use Rattle.bhs_standings.specs.Shown.{Seen}
 
 -- the note is of the place of this number, and has seen the verdict of this number
 pub record HasSeen (places : List ℕ) (verdicts : List Verdict) (game : ℕ) (note : Seen) : Type 0 where

@@ -2,14 +2,14 @@
 
 ghost use Rattle.std.specs.Prelude.{◌≡◌, ◌<◌, ◌≤◌, Some, IfOk, IfSome, length, map, slice_get, vec_len};
 ghost use Rattle.bhs_referee.specs.Verdicts.{verdict_of};
-ghost use Rattle.bhs_showcase.specs.Shown.{Agree};
+ghost use Rattle.bhs_standings.specs.Shown.{Agree};
 ghost use Rattle.bhs_host.specs.declared.judging.TheConstants.{AT_ONCE};
 ghost use Rattle.bhs_host.specs.Judging.{HasSeen, HaveSeen};
 
 use bhs_match::Sealed;
 use bhs_net::Memory;
 use bhs_referee::{Verdict, judge};
-use bhs_showcase::{Show, ShowNote, Showcase};
+use bhs_standings::{Show, ShowNote, Showcase};
 use std::alloc::{AllocError, Global};
 use std::thread;
 use std::thread::Threads;

@@ -12,7 +12,8 @@ closes_one matches game = if nat_lt game matches then Some (asked.Close game) el
 -- `close M`: that match M be closed
 abbrev pub closes : (matches : ℕ) → (line : List ℕ) → Option Asked
 closes matches line =
-    if bytes_eq (take 6 line) (codes "close ") then option_and_then (closes_one matches) (number (drop 6 line)) else None
+    if bytes_eq (take 6 line) (codes "close ") then option_and_then (closes_one matches) (number (drop 6 line))
+    else None
 
 -- what a line asks for in a contest of this number of matches; None if it asks for nothing
 abbrev pub asked_in : (matches : ℕ) → (line : List ℕ) → Option Asked

@@ -1,7 +1,7 @@
 //! What a thread has seen of a verdict.
 
 ghost use Rattle.std.specs.Prelude.{◌≡◌};
-ghost use Rattle.bhs_showcase.specs.Shown.{Agree};
+ghost use Rattle.bhs_standings.specs.Shown.{Agree};
 
 use bhs_referee::Verdict;
 use once_cell::race::Note;
@@ -15,7 +15,7 @@ pub struct ShowNote {
 }
 
 impl Model for ShowNote {
-    ghost use Rattle.bhs_showcase.specs.Shown.{Seen};
+    ghost use Rattle.bhs_standings.specs.Shown.{Seen};
 
     ghost Value = { Seen };
 

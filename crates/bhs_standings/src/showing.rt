@@ -1,7 +1,7 @@
 //! Verdicts that threads share.
 
 ghost use Rattle.std.specs.Prelude.{◌≡◌, None, Some, IfOk, IfSome, IfNone, OnErr, length, slice_get};
-ghost use Rattle.bhs_showcase.specs.Shown.{IsOf, IsShown, Shows};
+ghost use Rattle.bhs_standings.specs.Shown.{IsOf, IsShown, Shows};
 
 use crate::notes::ShowNote;
 use bhs_net::Memory;

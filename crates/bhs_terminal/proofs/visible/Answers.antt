@@ -20,7 +20,8 @@ goes_on : (shown shown' cs ys : List ℕ) (c : ℕ) → shown ++ visible_all (dr
 goes_on shown shown' cs ys c before turn more =
     let others = visible_all (drop (length ys + 1) cs) in
     let e = visible_all-drop cs (length ys) c turn in
-    rw (length_push ys c, more) (append_assoc shown (visible_character c) others ∙ (ap (λ x. shown ++ x) (sym e) ∙ before))
+    rw (length_push ys c, more)
+    (append_assoc shown (visible_character c) others ∙ (ap (λ x. shown ++ x) (sym e) ∙ before))
 
 pub loop-character-preserved : goal.loop-character-preserved
 loop-character-preserved c =
@@ -33,5 +34,6 @@ pub returns : goal.returns
 returns c =
     let end = YieldsList-end (YieldsList-from_chars c.args.text.now c.utf8.text cc) c.loop-character.yielded _
     c.loop-character.yielded_by _ _ c.in-None.is c.next.ensures.steps in
-    let none = at_drop_all visible_all (chars c.args.text.now) (length c.loop-character.yielded) (omega (arith, end.1)) in
+    let none = at_drop_all visible_all (chars c.args.text.now) (length c.loop-character.yielded)
+    (omega (arith, end.1)) in
     sym (append-nil _) ∙ (ap (λ x. string_bytes c.loop-character.shown ++ x) (sym none) ∙ c.loop-character.invariant)
