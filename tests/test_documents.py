@@ -5,8 +5,8 @@ import unittest
 from typing import Iterator, Tuple
 
 from lab.rules.model import played
-from prover import below, libraries_of
 from tests import TOP
+from tools.prove.prover import below, libraries_of
 
 ARCHITECTURE = TOP / "docs" / "ARCHITECTURE.md"
 TRACES = ("## One line of a client", "## A tournament, from its file")
