@@ -13,3 +13,4 @@ pub mod Schedules
 pub mod Told
 pub mod Whole
 pub mod NotesLemmas
+pub mod QuestionsLemmas
