@@ -8,6 +8,7 @@ pub mod Playing
 pub mod Scenes
 pub mod Leading
 pub mod Closing
+pub mod ClosedCharts
 pub mod Verdicts
 pub mod Schedules
 pub mod Told
