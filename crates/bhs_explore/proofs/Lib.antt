@@ -8,8 +8,10 @@ pub mod Playing
 pub mod Scenes
 pub mod Leading
 pub mod Closing
+pub mod ClosedCharts
 pub mod Verdicts
 pub mod Schedules
 pub mod Told
 pub mod Whole
 pub mod NotesLemmas
+pub mod QuestionsLemmas

@@ -23,7 +23,7 @@ use Rattle.bhs_referee.specs.declared.verdicts.Verdict.{Verdict}
 use Rattle.bhs_referee.specs.Findings.{Findings, nothing_found, reached_by, found_after, found_from, findings}
 use Rattle.bhs_referee.specs.Verdicts.{outcome_of}
 use Rattle.bhs_explore.specs.declared.minds.Step.{Step}
-use Rattle.bhs_explore.specs.declared.minds.Step.TheVariants.{Says, Sleeps, Stops}
+use Rattle.bhs_explore.specs.declared.minds.Step.TheVariants.{Says, Sleeps, Stops, Fails}
 use Rattle.bhs_explore.specs.Minds.{hearing}
 use Rattle.bhs_explore.specs.Schedules.{Trial, Scene, state_of, position_of, Deed, Makes, Wakes, Rests, deed_at, deed}
 use Rattle.bhs_explore.specs.Schedules.{faced, is_same_sight, shown_to, faces_same, done, turn, is_move, can_move}
@@ -93,9 +93,11 @@ own_at held naps After woken step agent = tt
 own_at held naps Before woken (Says command) agent = refl
 own_at held naps Before woken Sleeps agent = either (IsOwn agent) (nat_lt naps woken) Rests Wakes tt tt
 own_at held naps Before woken Stops agent = tt
+own_at held naps Before woken Fails agent = tt
 own_at held naps (At node came) woken (Says command) agent = refl
 own_at held naps (At node came) woken Sleeps agent = either (IsOwn agent) (nat_lt naps woken) Rests Wakes tt tt
 own_at held naps (At node came) woken Stops agent = tt
+own_at held naps (At node came) woken Fails agent = tt
 
 pub own_deed : (trial : Trial) (scene : Scene) (agent : ℕ) → IsOwn agent (deed trial scene agent)
 own_deed trial scene agent =

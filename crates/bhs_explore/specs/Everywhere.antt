@@ -1,8 +1,13 @@
 -- What is said of all schedules.
-use Rattle.std.specs.Prelude.{ℕ, ◌≡◌, ◌≤◌, ◌≢◌, List}
+use Rattle.std.specs.Prelude.{ℕ, ◌≡◌, ◌<◌, ◌≤◌, ◌≢◌, List, ◌∷◌}
+use Rattle.bhs_model.specs.declared.replies.Reply.TheVariants.{Over}
+use Rattle.bhs_model.specs.Runs.{Before, Bound}
 use Rattle.bhs_referee.specs.declared.verdicts.Verdict.{Verdict}
 use Rattle.bhs_referee.specs.declared.verdicts.Outcome.TheVariants.{Solved}
-use Rattle.bhs_explore.specs.Schedules.{Trial, under, IsAtRest, verdict}
+use Rattle.bhs_explore.specs.declared.minds.Step.{Step}
+use Rattle.bhs_explore.specs.declared.minds.Step.TheVariants as steps
+use Rattle.bhs_explore.specs.Minds.{Heard}
+use Rattle.bhs_explore.specs.Schedules.{Trial, under, position_of, IsAtRest, verdict}
 
 -- the match is solved, in at most `most_moves` moves, and at most `most_lost` agents are lost
 pub record IsSolvedWithin (most_moves most_lost : ℕ) (verdict : Verdict) : Type 0 where
@@ -19,3 +24,22 @@ EveryScheduleSolves trial moves lost = (schedule : List ℕ) → IsAtRest trial 
 pub record Fails (trial : Trial) (schedule : List ℕ) : Type 0 where
   pub rest : IsAtRest trial (under trial schedule)
   pub unsolved : (verdict trial (under trial schedule)).outcome ≢ Solved
+
+-- what an agent does next after a schedule
+abbrev pub step_after : Trial → (schedule : List ℕ) → (agent : ℕ) → Step
+step_after trial schedule agent = trial.minds agent ((under trial schedule).history agent)
+
+-- what it does once it is told that the match is over
+abbrev pub step_when_over : Trial → (schedule : List ℕ) → (agent : ℕ) → Step
+step_when_over trial schedule agent = trial.minds agent (Heard Over ∷ (under trial schedule).history agent)
+
+-- Under each schedule, at each time, no agent has failed. Once nothing more can happen, who waits on a link does not fail
+-- when it is told that the match is over, and who has not entered does not sleep.
+pub record NobodyFails (trial : Trial) : Type 0 where
+  pub runs : (schedule : List ℕ) (agent : ℕ) → agent < trial.world.agents
+      → step_after trial schedule agent ≢ steps.Fails
+  pub over : (schedule : List ℕ) (agent node port : ℕ) → agent < trial.world.agents
+      → IsAtRest trial (under trial schedule) → position_of trial (under trial schedule) agent ≡ Bound node port
+      → step_when_over trial schedule agent ≢ steps.Fails
+  pub awake : (schedule : List ℕ) (agent : ℕ) → agent < trial.world.agents → IsAtRest trial (under trial schedule)
+      → position_of trial (under trial schedule) agent ≡ Before → step_after trial schedule agent ≢ steps.Sleeps

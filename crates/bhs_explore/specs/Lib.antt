@@ -6,6 +6,7 @@ pub mod Spending
 pub mod Answers
 pub mod Talks
 pub mod Notes
+pub mod Questions
 pub mod Certificates
 pub mod Walks
 pub mod Knowing

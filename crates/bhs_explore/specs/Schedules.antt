@@ -10,7 +10,7 @@ use Rattle.bhs_model.specs.Draws.{Held}
 use Rattle.bhs_referee.specs.declared.verdicts.Verdict.{Verdict}
 use Rattle.bhs_referee.specs.Rest.{verdict_after}
 use Rattle.bhs_explore.specs.declared.minds.Step.{Step}
-use Rattle.bhs_explore.specs.declared.minds.Step.TheVariants.{Says, Sleeps, Stops}
+use Rattle.bhs_explore.specs.declared.minds.Step.TheVariants.{Says, Sleeps, Stops, Fails}
 use Rattle.bhs_explore.specs.Minds.{Woke, History, Minds, hearing}
 
 -- a match that is played, which links are held, how often an agent may wake again though nothing has changed, and how
@@ -54,6 +54,7 @@ deed_at held naps After woken step agent = Rests
 deed_at held naps position woken (Says command) agent = Makes (Tell agent command)
 deed_at held naps position woken Sleeps agent = if nat_lt naps woken then Rests else Wakes
 deed_at held naps position woken Stops agent = Rests
+deed_at held naps position woken Fails agent = Rests
 
 -- what an agent does; a number without an agent does nothing
 abbrev pub deed : Trial → Scene → (agent : ℕ) → Deed

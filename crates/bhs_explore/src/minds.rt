@@ -11,6 +11,8 @@ pub enum Step {
     Sleeps,
     /// It does nothing any more, but for arriving.
     Stops,
+    /// It has failed: it raised an exception, or it broke a rule.
+    Fails,
 }
 
 /// What has happened to an agent last: it has woken, or has heard a reply, at an arrival too.
