@@ -13,10 +13,10 @@ its own (--command) is told apart by its history, or by a member "memory" of its
 holds; that must be all on which it goes on. --check N plays N drawn schedules, and compares what the agents do with
 what they had answered.
 
-An agent that raises or breaks a rule, and one that sleeps where nobody is judged, are no failures of the program's; the
-Python model's search finds them. It also takes over if an agent may use more commands than its quota, and --search
-model asks for it. Nothing is proved of it. It plays agents inside the lab, takes a step that meets nobody at once, and
-writes the schedule with the most moves if none fails.
+A schedule also fails if an agent raises or breaks a rule under it, also once it has ended or when it is told that the
+match is over, and if it sleeps where nothing happens any more. The Python model's search takes over if an agent may use
+more commands than its quota, and --search model asks for it. Nothing is proved of it. It plays agents inside the lab,
+takes a step that meets nobody at once, and writes the schedule with the most moves if none fails.
 
 A sleeper wakes once after each change of the whiteboard in front of it, and --naps times more: a team that waits by
 counting, as for a timeout, fails once another agent is slower than it counts.

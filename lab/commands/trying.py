@@ -1,18 +1,18 @@
-"""`explore` by the program: it tries the schedules, and the lab answers what agents do (lab/search/asking.py). What
-the program cannot do, or does not count as a failure, the Python model's search does, and says so."""
+"""`explore` by the program: it tries the schedules, and the lab answers what agents do (lab/search/asking.py). Where
+the program says nothing, as an agent may use more than its quota, the Python model's search takes over, and says so."""
 import pathlib
 from typing import Any, List, NamedTuple, Optional, Sequence, Tuple
 
 from lab.play import finds
 from lab.play.matches import Run
-from lab.play.schedulers import ARRIVE, Choice
+from lab.play.schedulers import ANSWER, ARRIVE, WAKE, Choice
 from lab.play.schedules import schedule_of
 from lab.play.teams import INSIDE, AgentWords, Game, Together
 from lab.rules.engines import name_of
 from lab.rules.fixtures import Fixture
-from lab.rules.model import Object
+from lab.rules.model import AWAY, ENDED, OUTSIDE, Object
 from lab.rules.rehearsal import Rehearsal
-from lab.search.asking import ENDLESS, EXCEEDS, FAILS, SOLVES, Answered, asked
+from lab.search.asking import BREAKS, ENDLESS, EXCEEDS, FAILS, SOLVES, Answered, asked
 from lab.search.explore import Explored, explored
 from lab.search.following import follow
 from lab.search.machines import Machines
@@ -21,6 +21,10 @@ from lab.support import built
 from lab.support.progress import bar
 
 THEOREM = "every schedule solves (a theorem about programs that are functions of what they hold, as they answered here)"
+# how an agent fails under a schedule that the program tells
+FAILURES = {"program": "fails", "close": "fails when it is told that the match is over",
+            "asleep": "sleeps, and nothing changes any more"}
+FOUND = (FAILS, BREAKS, ENDLESS)
 
 
 class Tried(NamedTuple):
@@ -33,7 +37,7 @@ class Tried(NamedTuple):
     def has_failed(self) -> bool:
         if self.beside is not None:
             return self.beside.rank()[0]
-        return self.answered.found is not None and self.answered.found["found"] in (FAILS, ENDLESS)
+        return self.answered.found is not None and self.answered.found["found"] in FOUND
 
     def is_whole(self) -> bool:
         return self.beside.is_whole if self.beside is not None else self.answered.found is not None
@@ -61,7 +65,7 @@ def run(wanted: Wanted) -> int:
             for fixture in fixtures:
                 tried = Tried(fixture, asked(wanted.program, fixture, machines, wanted.states, shown.update))
                 shown.clear()
-                all_tried.append(beside(wanted, machines, tried, shown))
+                all_tried.append(beside(wanted, tried, shown))
                 print(line_of(all_tried[-1]), flush=True)
                 if not all_tried[-1].is_whole() or all_tried[-1].has_failed():
                     break
@@ -72,19 +76,12 @@ def run(wanted: Wanted) -> int:
     return told(wanted, all_tried, machines)
 
 
-def beside(wanted: Wanted, machines: Machines, tried: Tried, shown: Any) -> Tried:
-    """The match with what the Python model's search says of it, if it is needed: the program says nothing, or an agent
-    has a fault, which the program does not count as a failure."""
+def beside(wanted: Wanted, tried: Tried, shown: Any) -> Tried:
+    """The match with what the Python model's search says of it, if the program says nothing."""
     found = tried.answered.found
-    if found is None or found["found"] in (FAILS, ENDLESS):
+    if found is None or found["found"] != EXCEEDS:
         return tried
-    if found["found"] == EXCEEDS:
-        why = f"agent {found['agent']} may use {found['commands']} commands"
-    else:
-        machines.look_at_the_end()
-        if not machines.faults:
-            return tried
-        why = machines.faults[0]
+    why = f"agent {found['agent']} may use {found['commands']} commands"
     if any(agent.kind != INSIDE for agent in wanted.game.agents):
         raise NoFunction(f"{why}, and the Python model's search, which takes over then, plays agents inside the lab "
                          "alone")
@@ -105,6 +102,8 @@ def line_of(tried: Tried) -> str:
         said = why
     elif found["found"] == ENDLESS:
         said = f"{counts['states']} states, a schedule goes on for ever"
+    elif found["found"] == BREAKS:
+        said = f"{counts['states']} states, under a schedule agent {found['agent']} {FAILURES[found['failure']]}"
     else:
         said = f"{counts['states']} states, " + ("every schedule solves, most" if found["found"] == SOLVES else
                                                  "a schedule fails, its") + f" moves {found['moves']}"
@@ -161,23 +160,27 @@ def found_in(tried: Tried) -> Object:
 def shown_failure(wanted: Wanted, tried: Tried) -> int:
     """Writes the schedule that fails, once the agents have played it."""
     found, setup, game = found_in(tried), tried.fixture.setup, wanted.game
-    choices = choices_of(tried.fixture, game.agents, found["schedule"] + found.get("round", []), game.limit)
+    turns, breaks = found["schedule"] + found.get("round", []), found["agent"] if found["found"] == BREAKS else None
+    choices = choices_of(tried.fixture, game.agents, turns, breaks, game.limit)
     if found["found"] == ENDLESS:
         print(f"home {setup.home} holes {setup.holes}: after {len(found['schedule'])} choices, the last "
               f"{len(found['round'])} of the schedule may be repeated for ever")
-    else:
+    elif found["found"] == FAILS:
         print(f"it comes to: home {setup.home} holes {setup.holes}, {found['outcome']} moves {found['moves']} lost "
               f"{found['lost']}")
     schedule = schedule_of(tried.fixture, game.agents, f"explore{game.origin}", choices)
     played = finds.keep(wanted.keep, schedule, wanted.engine)
-    if found["found"] == FAILS and played.verdict() != (found["outcome"], found["moves"], found["lost"]):
-        raise NoFunction("played again it comes to another verdict: explore needs agents that are functions of what "
+    verdict = (found["outcome"], found["moves"], found["lost"]) if found["found"] == FAILS else None
+    if found["found"] == BREAKS and not played.faults or verdict and played.verdict() != verdict:
+        raise NoFunction("played again it comes to something else: explore needs agents that are functions of what "
                          "they hold")
     return 1
 
 
-def choices_of(fixture: Fixture, agents: Sequence[AgentWords], turns: List[int], seconds: float) -> List[Choice]:
-    """What the agents do that have these turns, one after the other. In the end the lost arrive where they are lost."""
+def choices_of(fixture: Fixture, agents: Sequence[AgentWords], turns: List[int], breaks: Optional[int],
+               seconds: float) -> List[Choice]:
+    """What the agents do that have these turns, one after the other. Who sleeps and sees nothing is woken at once, and
+    an agent that breaks and has not entered is denied. In the end the lost arrive where they are lost."""
     team = Together(agents, fixture, seconds)
     run = Run(Rehearsal(fixture), team, fixture)
     team.start()
@@ -187,12 +190,20 @@ def choices_of(fixture: Fixture, agents: Sequence[AgentWords], turns: List[int],
             if choice is None:
                 raise NoFunction(f"agent {agent} does nothing at choice {len(run.choices) + 1}, where it did something")
             run.happen(choice)
+            wake(run, agent)
         for choice in run.may_happen():
-            if choice.do == ARRIVE:
+            is_denied = choice.agent == breaks and run.match.agents[choice.agent].standing == OUTSIDE
+            if choice.do == ARRIVE or is_denied and choice.do == ANSWER:
                 run.happen(choice)
         return run.choices
     finally:
         team.stop()
+
+
+def wake(run: Run, agent: int) -> None:
+    """Wakes an agent that sleeps on a link, or once it has ended, as often as it may."""
+    while run.match.agents[agent].standing in (AWAY, ENDED) and Choice(WAKE, agent) in run.may_happen():
+        run.happen(Choice(WAKE, agent))
 
 
 # what the Python model's search found

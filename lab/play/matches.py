@@ -5,13 +5,16 @@ from lab.play.players import DONE, SLEEPS, TRAVELS, WAITS, faults_of
 from lab.play.schedulers import ANSWER, ARRIVE, WAKE, Choice, Ended, Impossible, Scheduler
 from lab.rules.engines import Engine
 from lab.rules.fixtures import Fixture, enters_as_another
-from lab.rules.model import AWAY, OUTSIDE, Match, Object, Verdict, command_of, judge, text_of
+from lab.rules.model import AWAY, ENDED, OUTSIDE, Match, Object, Verdict, command_of, judge, text_of
 from lab.rules.rehearsal import Said
 
 # a session that was refused so often in a row is ended by the lab: no rule of the arena ends it
 MOST_REFUSED = 1000
 REFUSED = '{"no":'
 IS_REFUSED = f"was refused {MOST_REFUSED} times in a row"
+STUCK = "sleeps, and nothing changes any more"
+# what an agent sees that is on a link or has ended: nothing, so nothing changes
+BLIND = (-1, 0)
 
 
 class Player(Protocol):
@@ -125,7 +128,7 @@ class Run:
         """Ends the match. Players that sleep are stuck; those on links are told that the match is over."""
         for player in self.team.players:
             if player.state == SLEEPS:
-                player.fault = player.fault or "sleeps, and nothing changes any more"
+                player.fault = player.fault or STUCK
         self._tell(self.engine.close())
 
     def _of(self, player: Player) -> Optional[Choice]:
@@ -150,8 +153,11 @@ class Run:
         return times if seen == self._seen(number) else 0
 
     def _seen(self, number: int) -> Tuple[int, int]:
-        """The whiteboard in front of an agent, and how often it was written."""
+        """The whiteboard in front of an agent, and how often it was written. On a link, and once it has ended, it sees
+        none."""
         agent = self.engine.match.agents[number]
+        if agent.standing in (AWAY, ENDED):
+            return BLIND
         node = self._fixture.setup.home if agent.standing == OUTSIDE else agent.node
         return node, self._writes.get(node, 0)
 

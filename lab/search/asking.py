@@ -11,7 +11,7 @@ from lab.rules.fixtures import Fixture, write_tournament
 from lab.rules.model import spelled
 from lab.search.machines import WAKES, Machines
 
-SOLVES, FAILS, ENDLESS, EXCEEDS = "solves", "fails", "endless", "exceeds"
+SOLVES, FAILS, BREAKS, ENDLESS, EXCEEDS = "solves", "fails", "breaks", "endless", "exceeds"
 TOO_MANY = "states"
 STOPPED, MORE = "stopped", "more states than were to be visited"
 Found = Dict[str, Any]

@@ -13,7 +13,7 @@ from lab.play.schedulers import ANSWER, ARRIVE, WAKE, Choice
 from lab.play.schedules import Schedule, schedule_of
 from lab.play.teams import INSIDE, LIMIT, AgentWords, Game
 from lab.rules.fixtures import Fixture
-from lab.rules.model import AWAY, Match, Verdict, outcome_of
+from lab.rules.model import AWAY, ENDED, Match, Verdict, outcome_of
 from lab.search.pasts import Past, Pasts, State
 
 MOST_STATES = 10_000_000
@@ -125,9 +125,11 @@ class Explorer:
         pasts = (*state.pasts[:agent], new, *state.pasts[agent + 1:])
         woken = list(state.woken)
         woken[agent] = 0 if past.state == TRAVELS else woken[agent] + (past.state == SLEEPS)
+        if is_blind(new) and not is_blind(past):
+            woken[agent] = 0
         if put == text:
             return State(pasts, state.boards, tuple(woken))
-        woken = [0 if other.agent.node == ahead else it for it, other in zip(woken, pasts)]
+        woken = [0 if other.agent.node == ahead and not is_blind(other) else it for it, other in zip(woken, pasts)]
         return State(pasts, (*state.boards[:ahead], put, *state.boards[ahead + 1:]), tuple(woken))
 
     def _end(self, state: State, number: int) -> bool:
@@ -145,6 +147,11 @@ class Explorer:
         if self.worst is None or end.rank() > self.worst.rank():
             self.worst = end
         return has_failed
+
+
+def is_blind(past: Past) -> bool:
+    """Whether an agent sees nothing: it is on a link, or has ended."""
+    return past.agent.standing in (AWAY, ENDED)
 
 
 class Explored(NamedTuple):

@@ -7,8 +7,9 @@ from lab.play.matches import Player, Run
 from lab.play.players import DONE, SLEEPS, WAITS
 from lab.play.teams import AgentWords, Together
 from lab.rules.fixtures import Fixture
+from lab.rules.model import AWAY, ENDED
 from lab.rules.rehearsal import Rehearsal
-from lab.search.machines import WAKES, Machines, Step
+from lab.search.machines import SLEEP, WAKES, Machines, Step
 from lab.search.pasts import NoFunction
 
 
@@ -26,14 +27,17 @@ class Followed:
         self.go_on(line)
 
     def go_on(self, news: str) -> None:
-        """Goes on in what was answered. A memory that nobody asked for is asked for now."""
+        """Goes on in what was answered. A memory that nobody asked for is asked for now. Who sees nothing was woken at
+        once."""
+        if news == WAKES and self._machines.steps[self.memory].does != SLEEP:
+            return
         self.memory = self._machines.next(self.memory, news)
 
-    def compare(self, step_number: int) -> None:
-        """Compares what the program does next with what was answered."""
+    def compare(self, step_number: int, is_blind: bool) -> None:
+        """Compares what the program does next with what was answered. Who sees nothing may still sleep."""
         player, step = self.player, self._machines.steps[self.memory]
-        if player.state == SLEEPS:
-            does = Step("sleeps")
+        if player.state == SLEEPS and not is_blind:
+            does = Step(SLEEP)
         elif player.state == WAITS and player.line is not None:
             does = Step("says", player.line)
         else:
@@ -65,6 +69,6 @@ def follow(fixture: Fixture, agents: List[AgentWords], machines: Machines, seed:
                 one.go_on(WAKES)
             steps += 1
             if one.player.state != DONE:
-                one.compare(steps)
+                one.compare(steps, run.match.agents[choice.agent].standing in (AWAY, ENDED))
     finally:
         team.stop()

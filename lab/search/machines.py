@@ -3,46 +3,51 @@ hold has a number, its memory.
 
 `Machines` answers what an agent holds at the start, and what it holds after something has happened to it. It plays a
 program up to there, and names what the program holds then. Of an agent inside the lab that is what its frames hold
-(lab/search/memories.py). A program of its own may declare it, by a member `memory` of the line that it sends. What has no name
-is named by what was named last and all that has happened since; `unnamed` counts these.
+(lab/search/memories.py). A program of its own may declare it, by a member `memory` of the line that it sends. What has
+no name is named by what was named last and all that has happened since; `unnamed` counts these.
 """
 import collections
 import hashlib
 import json
 import pathlib
-from typing import Any, Dict, List, NamedTuple, Optional, OrderedDict, Set, Tuple
+from typing import Any, Dict, List, NamedTuple, Optional, OrderedDict, Tuple
 
 from lab.play import programs
 from lab.play.agent_files import AGENTS, CLIENT
+from lab.play.matches import STUCK
 from lab.play.players import DENIALS, DONE, SLEEPS, TRAVELS, WAITS, Player, Team
 from lab.play.teams import INSIDE, AgentWords
 from lab.rules.fixtures import Fixture
-from lab.rules.model import OVER, command_of, denial, spelled, text_of
+from lab.rules.model import GONE, LAST, OVER as TOLD_OVER, command_of, denial, spelled, text_of
 from lab.search.memories import Unnamed, memory_of, own_modules
 from lab.search.pasts import NoFunction
 
 # how many programs are left where they wait, to go on from there: inside the lab, and of their own
 MOST_LEFT, MOST_PROCESSES = 4096, 200
 WAKES = "wakes"
-SLEEP, STOP, LEAVE = "sleeps", "stops", b'{"do":"leave"}'
+SLEEP, STOP, FAIL, LEAVE = "sleeps", "stops", "fails", b'{"do":"leave"}'
+# what an agent is told last, and that after which it sees nothing
+ENDS = {spelled(reply) for reply in LAST}
+OVER, BLIND = spelled(TOLD_OVER), ENDS | {spelled(GONE)}
 # how a memory was met first: from which memory, or from the start of which agent, and by what
 Way = Tuple[int, str]
 
 
 class Step(NamedTuple):
-    """What an agent does next: it says a line, sleeps or stops."""
+    """What an agent does next: it says a line, sleeps, stops or has failed."""
 
     does: str
     line: bytes = b""
 
 
 class Seated:
-    """An agent's program, and whether it has entered."""
+    """An agent's program, and whether it has entered, was denied, and has ended."""
 
     def __init__(self, player: Any) -> None:
         self.player = player
         self.has_entered = False
         self.is_denied = False
+        self.has_ended = False
 
 
 class Machines:
@@ -51,8 +56,6 @@ class Machines:
     def __init__(self, fixture: Fixture, agents: List[AgentWords], seconds: float) -> None:
         self.steps: List[Step] = []
         self.unnamed: Dict[str, int] = collections.Counter()
-        # what a program did that is a failure by itself, and the agent
-        self.faults: List[str] = []
         self.asked = 0
         self._fixture, self._agents = fixture, agents
         inside = [agent.words for agent in agents if agent.kind == INSIDE]
@@ -68,7 +71,6 @@ class Machines:
         self._after: Dict[Tuple[int, str], int] = {}
         self._left: OrderedDict[int, List[Seated]] = collections.OrderedDict()
         self._count_left = 0
-        self._is_ending: Set[int] = set()
 
     def start(self) -> None:
         self._team.start()
@@ -107,22 +109,6 @@ class Machines:
             all_news.append(way[1])
             way = self._ways[way[0]]
         return -1 - way[0], all_news[::-1]
-
-    def look_at_the_end(self) -> None:
-        """Plays programs on that hear something last, which no schedule needs: on a link they are told that the match
-        is over; one that leaves or accuses is told so. Notes what they do then that is a failure."""
-        for memory in sorted(self._is_ending):
-            step = self.steps[memory]
-            one = self._taken(memory) or self._played(memory)
-            if one.player.state == TRAVELS:
-                self._tell(one, spelled(OVER))
-            else:
-                self._tell(one, spelled({"ok": "bye" if command_of(text_of(step.line))["do"] == "leave" else "noted"}))
-                if one.player.state == SLEEPS:
-                    self.faults.append(f"agent {one.player.number} sleeps once it has ended")
-            self._note_fault(one)
-            one.player.stop()
-        self._is_ending.clear()
 
     def _begun(self, agent: int) -> Seated:
         words = self._agents[agent].words
@@ -183,6 +169,18 @@ class Machines:
             one.has_entered = True
             player.hear(news)
         self._deny(one)
+        one.has_ended = one.has_ended or news in ENDS
+        if news in BLIND and news != OVER:
+            self._wake(player)
+
+    def _wake(self, player: Any) -> None:
+        """Wakes an agent that sees nothing: what it does then depends on nothing that happens. It wakes as often as it
+        may, and is stuck if it still sleeps."""
+        for _ in range(self._fixture.naps + 1):
+            if player.state == SLEEPS:
+                player.go_on()
+        if player.state == SLEEPS:
+            player.fault = player.fault or STUCK
 
     def _deny(self, one: Seated) -> None:
         """Denies what a server denies: a first line that does not enter by the agent's key."""
@@ -200,9 +198,11 @@ class Machines:
 
     def _step(self, one: Seated) -> Step:
         player = one.player
-        if player.state == SLEEPS and not one.is_denied:
+        if player.fault is not None:
+            return Step(FAIL)
+        if player.state == SLEEPS and not one.is_denied and not one.has_ended:
             return Step(SLEEP)
-        if player.state != WAITS or one.is_denied:
+        if player.state != WAITS or one.is_denied or one.has_ended:
             return Step(STOP)
         if player.line is None:
             return Step("says", LEAVE) if one.has_entered else Step(STOP)
@@ -213,14 +213,17 @@ class Machines:
     def _name(self, one: Seated, way: Way) -> bytes:
         """A name of what a program holds and does next."""
         player, step = one.player, self._step(one)
-        if step.does == STOP and player.state != TRAVELS or player.line is None and step.line:
-            held: Any = ("ended",)
+        if step.does == FAIL:
+            held: Any = ("failed",)
+        elif step.does == STOP and (player.state != TRAVELS or one.has_ended) or player.line is None and step.line:
+            held = ("ended",)
         elif not isinstance(player, Player):
             held = declared_in(step.line)
             held = ("since", way) if held is None else ("declared", held)
         else:
             held = self._held(player) or ("since", way)
-        name = (self._agents[player.number].words, step, player.state, held)
+        state = DONE if one.has_ended or step.does == FAIL else player.state
+        name = (self._agents[player.number].words, step, state, held)
         return hashlib.blake2b(repr(name).encode("utf-8", "backslashreplace"), digest_size=24).digest()
 
     def _held(self, player: Player) -> Any:
@@ -235,25 +238,14 @@ class Machines:
     def _number(self, one: Seated, way: Way) -> int:
         """The number of what a program holds, which is left there."""
         self.asked += 1
-        self._note_fault(one)
         name = self._name(one, way)
         number = self._numbers.get(name)
         if number is None:
             number = self._numbers[name] = len(self._ways)
             self._ways.append(way)
-            step = self._step(one)
-            self.steps.append(step)
-            if one.player.state == TRAVELS or step.line and command_of(text_of(step.line))["do"] in ("leave", "accuse"):
-                self._is_ending.add(number)
+            self.steps.append(self._step(one))
         self._leave(number, one)
         return number
-
-    def _note_fault(self, one: Seated) -> None:
-        player = one.player
-        if player.fault is not None:
-            self.faults.append(f"agent {player.number} {player.fault}")
-        elif player.state == SLEEPS and not one.has_entered:
-            self.faults.append(f"agent {player.number} sleeps before it enters, and may do so for ever")
 
 
 def folder_of(words: str) -> pathlib.Path:

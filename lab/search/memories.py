@@ -8,6 +8,7 @@ of them. What cannot be named raises `Unnamed`, which says what it is; then the 
 import collections
 import ctypes
 import functools
+import hashlib
 import os
 import random
 import sys
@@ -176,9 +177,18 @@ def is_hidden(name: str) -> bool:
     return name.startswith("__") and name.endswith("__")
 
 
+# the names of code, by its identity; the code is kept, so that no other gets that
+CODES: Dict[int, Tuple[types.CodeType, Name]] = {}
+
+
 def code_name(code: types.CodeType) -> Name:
     """Names code that is loaded anew for each agent."""
-    return (code.co_filename, code.co_firstlineno, code.co_qualname, code.co_code, code.co_names)
+    found = CODES.get(id(code))
+    if found is None:
+        inside = repr((code.co_code, code.co_names)).encode("utf-8", "backslashreplace")
+        digest = hashlib.blake2b(inside, digest_size=12).hexdigest()
+        found = CODES[id(code)] = code, (code.co_filename, code.co_firstlineno, code.co_qualname, digest)
+    return found[1]
 
 
 def slots_named(kind: type) -> List[str]:

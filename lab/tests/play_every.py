@@ -12,10 +12,11 @@ from unittest import mock
 from lab.__main__ import main, parser
 from lab.commands.mutants import FOLDER
 from lab.commands.words import game_of
+from lab.play.matches import STUCK
 from lab.play.teams import AgentWords, Game
 from lab.rules.fixtures import Fixture
-from lab.search.asking import Answered, asked
-from lab.search.explore import explored
+from lab.search.asking import Answered, Found, asked
+from lab.search.explore import End, explored
 from lab.search.following import follow
 from lab.search.machines import Machines
 from lab.search.pasts import NoFunction
@@ -26,7 +27,7 @@ THEOREM = "every schedule solves (a theorem about programs that are functions of
 DRAWN = 60
 ODD = '''
 import hashlib
-from client import Spent
+from client import MatchOver, Spent
 
 
 def raises(agent, key):
@@ -83,6 +84,55 @@ def knows_and_sleeps(agent, key, sleep):
     sleep(1)
     sleep(1)
     sleep(1)
+
+
+def knows_and_naps(agent, key, sleep):
+    knows(agent, key)
+    sleep(1)
+    sleep(1)
+
+
+def crashes_at_the_end(agent, key):
+    agent.enter(key)
+    try:
+        agent.depart(1)
+    except MatchOver:
+        raise AttributeError("nothing was seen")
+
+
+def crashes_on_its_link(agent, key, sleep):
+    agent.enter(key)
+    agent._lines.send('{"do":"depart","port":1}')
+    agent._lines.receive()
+    raise AttributeError("nobody is told")
+
+
+def stays_outside(agent, key, sleep):
+    while True:
+        sleep(1)
+
+
+def ends(agent, key, seed, sleep):
+    # it comes to its end in a way that is drawn, and sleeps or raises then
+    for _ in range(drawn(seed, "outside") % 5):
+        sleep(1)
+    if drawn(seed, "enters") % 8:
+        agent.enter(key)
+        for _ in range(drawn(seed, "inside") % 4):
+            sleep(1)
+        try:
+            if drawn(seed, "goes") % 3 == 0:
+                agent.depart(1)
+            elif drawn(seed, "goes") % 3 == 1:
+                agent.leave()
+            else:
+                agent.accuse(1)
+        except MatchOver:
+            pass
+    for _ in range(drawn(seed, "after") % 5):
+        sleep(1)
+    if drawn(seed, "raises") % 4 == 0:
+        raise KeyError("west")
 
 
 def enters_as_another(agent, key):
@@ -207,20 +257,29 @@ class Exploring(InFolder):
         self.assertEqual(self.command("--network", "ring:3", "--hole", 1, *self.odd("sleeps")), 1)
         self.assertIn("sleeps, and nothing changes any more", self.said)
 
-    def test_what_the_program_does_not_count_as_a_failure_the_model_finds(self) -> None:
-        solves = ["--network", "ring:3", "--hole", 2]
-        for name, told in (("knows", ""), ("knows_and_raises", "raises KeyError: 'east'"),
-                           ("knows_and_sleeps", "sleeps once it has ended")):
-            with self.subTest(name):
-                status = self.command(*solves, "--agents", 1, *self.odd(name))
-                self.assertEqual(status, 1 if told else 0, self.said)
-                self.assertIn(f"{told}: the Python model's search takes over" if told else THEOREM, self.said)
+    def test_an_agent_fails_whatever_the_verdict(self) -> None:
+        at_the_end = "under a schedule agent 1 fails when it is told that the match is over"
+        for names, found, fault in (
+                (["knows"], "", ""), (["knows_and_naps"], "", ""),
+                (["knows_and_raises"], "under a schedule agent 0 fails", "agent 0: raises KeyError: 'east'"),
+                (["knows_and_sleeps"], "under a schedule agent 0 fails", f"agent 0: {STUCK}"),
+                (["knows", "crashes_at_the_end"], at_the_end, "agent 1: raises AttributeError: nothing was seen"),
+                (["knows", "crashes_on_its_link"], "under a schedule agent 1 fails",
+                 "agent 1: raises AttributeError: nobody is told"),
+                (["knows", "stays_outside"], f"under a schedule agent 1 {STUCK}", f"agent 1: {STUCK}")):
+            with self.subTest(names=names):
+                agents = [word for name in names for word in self.odd(name)]
+                status = self.command("--network", "ring:3", "--hole", 2, *agents)
+                self.assertEqual(status, 1 if found else 0, self.said)
+                self.assertIn(f"{found}, " if found else THEOREM, self.said)
+                self.assertIn(f"\n{fault}", self.said)
 
     def test_agents_that_do_not_enter(self) -> None:
-        for name in ("enters_as_another", "looks_first"):
+        for name, fault in (("enters_as_another", "enters with the key of another agent"),
+                            ("looks_first", "raises NotEntered: enter")):
             with self.subTest(name):
                 self.assertEqual(self.command("--network", "ring:3", "--hole", 1, *self.odd(name)), 1)
-                self.assertIn("silent moves 0 lost 0", self.said)
+                self.assertIn(f"agent 0: {fault}", self.said)
 
     def test_a_quota_that_does_not_suffice(self) -> None:
         status = self.command("--network", "ring:3", "--hole", 1, "--quota", 5, *self.odd("counts"))
@@ -267,7 +326,8 @@ class Exploring(InFolder):
         for leaves_out in (False, True):
             with self.subTest(leaves_out=leaves_out), contextlib.ExitStack() as stack:
                 if leaves_out:
-                    line_alone = mock.patch("lab.search.machines.memory_of", lambda thread, *_: thread.gr_frame.f_lineno)
+                    line_alone = mock.patch("lab.search.machines.memory_of",
+                                            lambda thread, *_: thread.gr_frame.f_lineno)
                     stack.enter_context(line_alone)
                 machines = Machines(fixture, game.agents, 5)
                 machines.start()
@@ -283,6 +343,25 @@ class Exploring(InFolder):
             return asked(program(), fixture, machines, 1_000_000, lambda count: None)
         finally:
             machines.stop()
+
+    def test_drawn_ends_are_failures_of_both(self) -> None:
+        """One agent solves the match, and the other comes to an end that is drawn."""
+        kinds: Dict[str, int] = {}
+        for seed in range(DRAWN):
+            naps = str(seed % 3)
+            game, fixture = self.game("--network", "ring:3", "--hole", "2", "--naps", naps, *self.odd("knows"),
+                                      *self.odd(f"ends {seed}"))
+            found, beside = self.both(game, fixture)
+            kinds[found["found"]] = kinds.get(found["found"], 0) + 1
+            self.assertEqual(found["found"] != "solves", beside.has_failed, (seed, found, beside))
+        self.assertLessEqual({"solves", "breaks", "fails"}, set(kinds), kinds)
+
+    def both(self, game: Game, fixture: Fixture) -> Tuple[Found, End]:
+        """What the program finds, and the worst end by the Python model."""
+        found = self.answered(fixture, game.agents).found
+        beside = explored(fixture, game.agents, mock.Mock()).explorer.worst
+        assert beside is not None and found is not None
+        return found, beside
 
     def test_drawn_machines_come_to_what_the_model_comes_to(self) -> None:
         kinds: Dict[str, int] = {}
@@ -301,12 +380,11 @@ class Exploring(InFolder):
         match = ["--network", network, "--hole", str(chance.randrange(1, int(network[-1])))]
         match += ["--quota", str(chance.randrange(3, 9)), "--naps", str(chance.randrange(3))]
         game, fixture = self.game(*match, *(word for it in machines for word in self.odd(it)))
-        found = self.answered(fixture, game.agents).found
-        beside = explored(fixture, game.agents, mock.Mock()).explorer.worst
-        assert beside is not None and found is not None
-        if found["found"] == "fails":
+        found, beside = self.both(game, fixture)
+        if found["found"] in ("fails", "breaks"):
             self.assertTrue(beside.has_failed, (seed, found, beside))
         elif found["found"] == "solves":
+            self.assertFalse(beside.has_failed, (seed, found, beside))
             self.assertEqual((beside.verdict.outcome, beside.verdict.moves), ("solved", found["moves"]), (seed, beside))
         return found["found"]
 

@@ -9,7 +9,9 @@ use Rattle.bhs_lineup.specs.declared.lineups.Lineup.{Lineup}
 use Rattle.bhs_lineup.specs.declared.lineups.Ready.{Ready}
 use Rattle.bhs_command_line.specs.declared.orders.Exploration.{Exploration}
 use Rattle.bhs_explore.specs.declared.found.Found.{Found}
-use Rattle.bhs_explore.specs.declared.found.Found.TheVariants.{Solves, Fails, Endless, Exceeds}
+use Rattle.bhs_explore.specs.declared.found.Found.TheVariants.{Solves, Fails, Breaks, Endless, Exceeds}
+use Rattle.bhs_explore.specs.declared.found.Failure.{Failure}
+use Rattle.bhs_explore.specs.declared.found.Failure.TheVariants as failures
 use Rattle.bhs_explore.specs.declared.explorers.Explored.{Explored}
 use Rattle.bhs_explore.specs.Answers.{Knowledge, is_held}
 use Rattle.bhs_explore.specs.Telling.{IsTrueOf}
@@ -39,6 +41,19 @@ fails_line verdict schedule =
     ++ (codes ",\"lost\":" ++ (decimal verdict.lost
     ++ (codes ",\"schedule\":" ++ (list_text schedule ++ codes "}\n")))))))
 
+-- the word for how an agent fails
+abbrev pub failure_text : Failure → List ℕ
+failure_text failures.Program = codes "program"
+failure_text failures.Close = codes "close"
+failure_text failures.Asleep = codes "asleep"
+
+-- the line of a schedule under which an agent fails
+abbrev pub breaks_line : (agent : ℕ) → Failure → (schedule : List ℕ) → List ℕ
+breaks_line agent failure schedule =
+    codes "{\"found\":\"breaks\",\"agent\":" ++ (decimal agent
+    ++ (codes ",\"failure\":\"" ++ (failure_text failure
+    ++ (codes "\",\"schedule\":" ++ (list_text schedule ++ codes "}\n")))))
+
 -- the line of what was found
 abbrev pub found_line : Found → List ℕ
 found_line (Solves moves lost commands) =
@@ -46,6 +61,7 @@ found_line (Solves moves lost commands) =
     ++ (codes ",\"lost\":" ++ (decimal lost
     ++ (codes ",\"commands\":" ++ (list_text commands.items ++ codes "}\n")))))
 found_line (Fails verdict schedule) = fails_line verdict schedule.items
+found_line (Breaks agent failure schedule) = breaks_line agent failure schedule.items
 found_line (Endless schedule round) =
     codes "{\"found\":\"endless\",\"schedule\":" ++ (list_text schedule.items
     ++ (codes ",\"round\":" ++ (list_text round.items ++ codes "}\n")))
@@ -68,6 +84,7 @@ discovery explored = found_line explored.found ++ counts_line explored
 abbrev pub found_status : Found → ℕ
 found_status (Solves moves lost commands) = DONE
 found_status (Fails verdict schedule) = FAILING
+found_status (Breaks agent failure schedule) = FAILING
 found_status (Endless schedule round) = FAILING
 found_status (Exceeds agent commands) = REFUSED_TEXT
 

@@ -1,10 +1,11 @@
 //! What is printed of the schedules that were tried.
 
 ghost use Rattle.std.specs.Prelude.{◌≡◌, IfOk, string_bytes};
-ghost use Rattle.bhs_orders.specs.Discoveries.{discovery, fails_line, found_line, found_status, list_text};
+ghost use Rattle.bhs_orders.specs.Discoveries.{breaks_line, discovery, failure_text, fails_line, found_line, found_status};
+ghost use Rattle.bhs_orders.specs.Discoveries.{list_text};
 
 use crate::statuses::{DONE, FAILING, REFUSED_TEXT};
-use bhs_explore::{Explored, Found};
+use bhs_explore::{Explored, Failure, Found};
 use bhs_net::Memory;
 use bhs_referee::Verdict;
 use bhs_standings::outcome_text;
@@ -30,7 +31,7 @@ pub(crate) fn status_of(found: &Found) -> u8
 {
     match found {
         Found::Solves { .. } => DONE,
-        Found::Fails { .. } | Found::Endless { .. } => FAILING,
+        Found::Fails { .. } | Found::Breaks { .. } | Found::Endless { .. } => FAILING,
         Found::Exceeds { .. } => REFUSED_TEXT,
     }
 }
@@ -52,6 +53,11 @@ fn found_line(alloc: Global, found: &Found) -> Result<String, Memory>
             )
         }
         Found::Fails { verdict, schedule } => fails_line(alloc, *verdict, schedule),
+        Found::Breaks {
+            agent,
+            failure,
+            schedule,
+        } => breaks_line(alloc, *agent, *failure, schedule),
         Found::Endless { schedule, round } => {
             let schedule = agents(alloc, schedule)?;
             let round = agents(alloc, round)?;
@@ -80,6 +86,34 @@ fn fails_line(alloc: Global, verdict: Verdict, schedule: &[u16]) -> Result<Strin
     format!(in alloc;
         "{{\"found\":\"fails\",\"outcome\":\"{outcome}\",\"moves\":{moves},\"lost\":{lost},\"schedule\":{schedule}}}\n"
     )
+}
+
+// The line of a schedule under which an agent fails.
+fn breaks_line(
+    alloc: Global,
+    agent: u16,
+    failure: Failure,
+    schedule: &[u16],
+) -> Result<String, Memory>
+    ensures { IfOk result (λ text. string_bytes text ≡ breaks_line agent failure schedule.now) }
+{
+    let failure = failure_text(failure);
+    let schedule = agents(alloc, schedule)?;
+    let schedule = schedule.as_str();
+    format!(in alloc;
+        "{{\"found\":\"breaks\",\"agent\":{agent},\"failure\":\"{failure}\",\"schedule\":{schedule}}}\n"
+    )
+}
+
+// The word for how an agent fails.
+fn failure_text(failure: Failure) -> &'static str
+    ensures { result.now ≡ failure_text failure }
+{
+    match failure {
+        Failure::Program => "program",
+        Failure::Close => "close",
+        Failure::Asleep => "asleep",
+    }
 }
 
 // Agents as a list of JSON.

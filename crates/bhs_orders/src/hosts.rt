@@ -31,6 +31,7 @@ enum Does {
     Says,
     Sleeps,
     Stops,
+    Fails,
 }
 
 impl<'h, R: Input, W: Output> Host<'h, R, W> {
@@ -81,6 +82,7 @@ impl<'h, R: Input, W: Output> Host<'h, R, W> {
             Does::Says => Step::Says(self.command()?),
             Does::Sleeps => Step::Sleeps,
             Does::Stops => Step::Stops,
+            Does::Fails => Step::Fails,
         };
         Ok(Mind { memory, step })
     }
@@ -184,6 +186,7 @@ fn answer_in(line: &[u8]) -> Option<(u32, Does)> {
         "says" => Does::Says,
         "sleeps" => Does::Sleeps,
         "stops" => Does::Stops,
+        "fails" => Does::Fails,
         _ => return None,
     };
     match words.next() {

@@ -58,6 +58,7 @@ module _ {O : Type 0} (takes : O → List ℕ → Taken → O → Type 0) (flush
 of_found : (found : Found) (code : ℕ) → code ≡ found_status found → IsStatus code
 of_found (found.Solves moves lost commands) code is = inl is
 of_found (found.Fails verdict schedule) code is = inr (inl (inr is))
+of_found (found.Breaks agent failure schedule) code is = inr (inl (inr is))
 of_found (found.Endless schedule round) code is = inr (inl (inr is))
 of_found (found.Exceeds agent commands) code is = inr (inr (Text, is))
 
