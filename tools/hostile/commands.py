@@ -40,6 +40,8 @@ COMMANDS = [
             "examples/first0.jsonl"),
     Command("explain", ["explain", "examples/first0.jsonl", "1"], "", "examples/first0.jsonl"),
     Command("twin", ["twin", "examples/guess0.jsonl", "1"], "", "examples/guess0.jsonl"),
+    Command("appeal", ["judge", "examples/appeal0.jsonl", "--turns", "examples/appeal0.turns", "--tournament",
+                       "examples/appeal.toml", "--match", "0"], "", "examples/appeal0.jsonl"),
 ]
 
 

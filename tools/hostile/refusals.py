@@ -75,7 +75,7 @@ OTHERS = [Command("help", ["--help"], "", None), Command("no command", ["rehears
 # what commands print, as files of the examples or texts
 WANTED = {"check": "first.checked", "rehearse": "first.printed", "built-in": "triangle.printed",
           "explain": "first.explained", "twin": "guess.twin"}
-WANTED_TEXTS = {"judge": b"solved moves 13 lost 1\n", "table": b"""\
+WANTED_TEXTS = {"judge": b"solved moves 13 lost 1\n", "appeal": b"solved moves 25 lost 1\n", "table": b"""\
   # team             outcome     moves lost
   1 red              solved         13    1
   2 blue             guess 1         0    0

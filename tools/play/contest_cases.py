@@ -230,17 +230,19 @@ def names(stage: Stage) -> List[str]:
 
 @case("files of an earlier contest get other names, and parts are gone at the end")
 def old_files(stage: Stage) -> None:
-    for name in ("match0.jsonl", "match1.jsonl.part"):
+    for name in ("match0.jsonl", "match0.turns", "match0.turns.old", "match1.jsonl.part"):
         (stage.folder / name).write_text(name)
     with served(stage, turns=0, grace=0) as server:
         begun = names(stage)
         server.ended()
-    if begun != ["match.lock", "match0.jsonl.old", "match0.jsonl.part", "match1.jsonl.part", "match1.jsonl.part.old"]:
+    kept = ["match0.jsonl.old", "match0.turns.old", "match0.turns.old2", "match1.jsonl.part.old"]
+    if begun != sorted([*kept, "match.lock", "match0.jsonl.part", "match1.jsonl.part"]):
         raise Wrong(f"at the beginning there are {begun}")
-    if names(stage) != ["match0.jsonl", "match0.jsonl.old", "match1.jsonl", "match1.jsonl.part.old"]:
+    if names(stage) != sorted([*kept, "match0.jsonl", "match1.jsonl"]):
         raise Wrong(f"at the end there are {names(stage)}")
-    if (stage.folder / "match0.jsonl.old").read_text() != "match0.jsonl":
-        raise Wrong("the earlier replay is another")
+    for name, was in zip(kept, ("match0.jsonl", "match0.turns.old", "match0.turns", "match1.jsonl.part")):
+        if (stage.folder / name).read_text() != was:
+            raise Wrong(f"the earlier file {name} is another")
 
 
 @case("a folder that is missing is told before the server says that it listens")

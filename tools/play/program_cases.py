@@ -358,6 +358,8 @@ EXAMPLES = [
     Example("judge examples/first0.jsonl", printed="solved moves 13 lost 1\n"),
     Example("judge examples/guess0.jsonl", printed="guess 1 moves 0 lost 0\n"),
     Example("judge examples/triangle0.jsonl", printed="silent moves 1 lost 0\n"),
+    Example("judge examples/appeal0.jsonl --turns examples/appeal0.turns --tournament examples/appeal.toml --match 0",
+            printed="solved moves 25 lost 1\n"),
     Example(f"table {TEAMS}", printed="table.printed"),
     Example("explain examples/first0.jsonl 1", printed="first.explained"),
     Example("twin examples/first0.jsonl 5", told="twin: same\n"),

@@ -82,13 +82,14 @@ def picked_blindly(match: Match, held: Set[Place], number: int) -> Optional[int]
 
 
 class Rule(NamedTuple):
-    """A schedule: how its tournament begins, and whom a word delivers."""
+    """A schedule: how its tournament begins, whom a word delivers, and whether the turns of events are written."""
     head: str
     delivered: Callable[[Match, Set[Place], int], Optional[int]]
+    has_turns: bool
 
 
-ADAPTIVE = Rule("version = 2\n", drawn)
-OBLIVIOUS = Rule('version = 3\nschedule = "oblivious"\ndelay_scales = 0\ndelay_odds = 1\n', picked_blindly)
+ADAPTIVE = Rule("version = 2\n", drawn, False)
+OBLIVIOUS = Rule('version = 3\nschedule = "oblivious"\ndelay_scales = 0\ndelay_odds = 1\n', picked_blindly, True)
 
 
 def may_be(rule: Rule, match: Match, held: Set[Place], words: Sequence[int], turns: Set[int]) -> Set[int]:
@@ -246,12 +247,42 @@ def check_table(stage: Stage, printed: bytes, matches: Sequence[Match]) -> None:
     expect(Run(0, printed, b""), table(rows).encode())
 
 
+def judged_by_turns(stage: Stage, number: int, turns: str) -> Run:
+    """The judging of the replay of a match by these turns of its events."""
+    (stage.folder / "bent.turns").write_text(turns)
+    return stage.run(["judge", f"hosted{number}.jsonl", "--turns", "bent.turns", "--tournament", "cup.toml", "--match",
+                      str(number)])
+
+
+def check_turns(stage: Stage, number: int, replay: str) -> None:
+    """A replay stands an appeal by the turns that are served beside it, and by no others."""
+    text = (stage.folder / f"hosted{number}.turns").read_text()
+    turns = [int(line) for line in text.splitlines()]
+    verdict = stage.run(["judge", f"hosted{number}.jsonl"]).printed
+    expect(judged_by_turns(stage, number, text), verdict)
+    deliveries = [place for place, event in enumerate(objects_of(replay)[1:]) if event["do"] == "deliver"]
+    for place in deliveries[:3]:
+        # those behind are as much later, so that none falls
+        bent = [turn + (at >= place) for at, turn in enumerate(turns)]
+        told = f"hosted{number}.jsonl: late at place {place}\n"
+        expect(judged_by_turns(stage, number, "".join(f"{turn}\n" for turn in bent)), b"", told.encode(), 4)
+    events = len(turns)
+    expect(judged_by_turns(stage, number, text + f"{turns[-1]}\n"), b"",
+           f"bent.turns: {events + 1} turns, {events} events\n".encode(), 4)
+
+
 def check_contest(stage: Stage, rule: Rule) -> None:
     for _ in range(TRIES):
         found = contest(stage, rule)
         sides = zip(SIDES, found.replays, found.heard)
         matches = [check_side(rule, number, *each) for number, each in enumerate(sides)]
         check_table(stage, found.run.printed, matches)
+        written = [path.name for path in stage.folder.glob("hosted*.turns")]
+        if rule.has_turns:
+            for number, replay in enumerate(found.replays):
+                check_turns(stage, number, replay)
+        elif written:
+            raise Wrong(f"turns were written under the adaptive schedule: {written}")
         if is_telling(rule, found.replays):
             return
     raise Wrong("other words make the deliveries, too: the machine is too slow")

@@ -17,6 +17,7 @@ use Rattle.bhs_command_line.specs.CommandLine.{number_in, entries_in, order_by}
 use Rattle.bhs_command_line.specs.declared.orders.Order.{Order}
 use Rattle.bhs_command_line.specs.declared.orders.Order.TheVariants.{Check, Explain, Explore, Judge, Recover, Rehearse}
 use Rattle.bhs_command_line.specs.declared.orders.Order.TheVariants.{RehearseInteractively, Serve, Table, Twin}
+use Rattle.bhs_command_line.specs.declared.orders.Order.TheVariants as order
 use Rattle.bhs_command_line.specs.declared.orders.Entry.{Entry}
 use Rattle.bhs_command_line.specs.declared.orders.Exploration.{Exploration}
 use Rattle.bhs_command_line.specs.declared.orders.Hosting.{Hosting}
@@ -25,7 +26,7 @@ use Rattle.bhs_command_line.proofs.ReadLemmas.{Enters, leaf_of, line, line_fault
 use Rattle.bhs_command_line.proofs.ReadLemmas.{read_plain, reads_more, reads_none}
 use Rattle.bhs_command_line.proofs.ServeLemmas.{serve_found}
 use Rattle.bhs_command_line.specs.CommandLine.{check, explain, explore, judge, recover, rehearse, table, twin}
-use Rattle.bhs_command_line.specs.CommandLine.{plain_exploration_in}
+use Rattle.bhs_command_line.specs.CommandLine.{appeal_of, judging_of, plain_exploration_in}
 
 -- ---- lists of kinds
 
@@ -190,10 +191,29 @@ judge_enters = record {
 }
 
 judge_named : (replay : Text) → is_dashed replay ≡ false → Gives (codes "judge" ∷ replay ∷ []) (Judge replay)
-unfolding clap_on_literals
+unfolding clap_on_literals judging_of
 judge_named replay e =
     order_read judge_enters (replay ∷ []) _ _
     (reads_more (read_plain (leaf_of judge) _ 1 idle replay e refl) (reads_none (leaf_of judge) _)) refl refl
+
+appeal_found : (replay turns tournament word : Text) → is_dashed replay ≡ false → is_dashed turns ≡ false
+    → is_dashed tournament ≡ false → is_dashed word ≡ false
+    → (let words = codes "judge" ∷ replay ∷ codes "--turns" ∷ turns ∷ codes "--tournament" ∷ tournament
+    ∷ codes "--match" ∷ word ∷ [] in (faults words ≡ [])
+    × (option_and_then order_by (command_in words)
+    ≡ option_map (order.Appeal replay) (appeal_of turns tournament (number_in word))))
+unfolding clap_on_literals judging_of
+appeal_found replay turns tournament word e f g h =
+    order_read judge_enters
+    (replay ∷ codes "--turns" ∷ turns ∷ codes "--tournament" ∷ tournament ∷ codes "--match" ∷ word ∷ []) _ _
+    (reads_more (read_plain (leaf_of judge) _ 1 idle replay e refl)
+    (reads_more (record { faultless = refl; goes = refl })
+    (reads_more (read_plain (leaf_of judge) _ 2 (option (codes "turns")) turns f refl)
+    (reads_more (record { faultless = refl; goes = refl })
+    (reads_more (read_plain (leaf_of judge) _ 2 (option (codes "tournament")) tournament g refl)
+    (reads_more (record { faultless = refl; goes = refl })
+    (reads_more (read_plain (leaf_of judge) _ 2 (option (codes "match")) word h refl)
+    (reads_none (leaf_of judge) _)))))))) refl refl
 
 recover_enters : Enters (codes "recover") (leaf_of recover)
 unfolding clap_on_literals
@@ -298,6 +318,13 @@ says_gives words (RehearseInteractively (Some name) (Some prefix)) (plain, also,
     here words _ _ is (interaction_both name prefix plain also)
 says_gives words (Check name) (plain, is) = here words _ _ is (check_named name plain)
 says_gives words (Judge replay) (plain, is) = here words _ _ is (judge_named replay plain)
+says_gives words (order.Appeal replay appeal) (word, plain, also, third, last, says, is) =
+    let found = appeal_found replay appeal.turns appeal.tournament word plain also third last in
+    here words _ _ is (
+      found.0,
+      found.1
+          ∙ ap (λ (o : Option ℕ). option_map (order.Appeal replay) (appeal_of appeal.turns appeal.tournament o)) says,
+    )
 says_gives words (Recover part) (plain, is) = here words _ _ is (recover_named part plain)
 says_gives words (Table entries) (word, plain, says, is) =
     let found = table_found word plain in

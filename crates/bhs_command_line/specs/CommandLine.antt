@@ -19,6 +19,8 @@ use Rattle.bhs_text.specs.Teams.{is_team}
 use Rattle.bhs_command_line.specs.declared.orders.Order.{Order}
 use Rattle.bhs_command_line.specs.declared.orders.Order.TheVariants.{Rehearse, Check, Judge, Table, Explain, Twin}
 use Rattle.bhs_command_line.specs.declared.orders.Order.TheVariants.{Explore, Recover, Serve, RehearseInteractively}
+use Rattle.bhs_command_line.specs.declared.orders.Order.TheVariants as variants
+use Rattle.bhs_command_line.specs.declared.orders.Appeal.{Appeal}
 use Rattle.bhs_command_line.specs.declared.orders.Entry.{Entry}
 use Rattle.bhs_command_line.specs.declared.orders.Exploration.{Exploration}
 use Rattle.bhs_command_line.specs.declared.orders.Hosting.{Hosting}
@@ -77,7 +79,9 @@ abbrev pub check : Shape
 check = command (codes "check") (must_have (codes "tournament") ∷ [])
 
 abbrev pub judge : Shape
-judge = command (codes "judge") (must_have (codes "replay") ∷ [])
+judge = command (codes "judge") (must_have (codes "replay") ∷ behind (codes "turns") (may_have (codes "turns"))
+    ∷ behind (codes "tournament") (may_have (codes "tournament")) ∷ behind (codes "match") (may_have (codes "match"))
+    ∷ [])
 
 abbrev pub table : Shape
 table = command (codes "table") (entry_words ∷ [])
@@ -268,6 +272,23 @@ abbrev pub rehearsal_of : (is_interactive : Bool) → (tournament prefix : Optio
 rehearsal_of true tournament prefix = RehearseInteractively tournament prefix
 rehearsal_of false tournament prefix = Rehearse tournament prefix
 
+-- the appeal on the match of this number, if there is one
+abbrev pub appeal_of : (turns tournament : Text) → (game : Option ℕ) → Option Appeal
+appeal_of turns tournament (Some game) = Some (record { turns = turns; tournament = tournament; game = game })
+appeal_of turns tournament None = None
+
+-- the judging of a replay by itself, or an appeal if all words of one are given
+unfoldable pub judging_of : (replay : Text) → (turns tournament game : Option Text) → Option Order
+judging_of replay None None None = Some (Judge replay)
+judging_of replay (Some turns) (Some tournament) (Some game) =
+    option_map (variants.Appeal replay) (appeal_of turns tournament (number_in game))
+judging_of replay turns tournament game = None
+
+-- the order that the words of `judge` give
+abbrev pub judging_by : List Row → Option Order
+judging_by rows = judging_of (text_in (codes "replay") rows) (first_of (codes "turns") rows)
+    (first_of (codes "tournament") rows) (first_of (codes "match") rows)
+
 -- the order that a command gives
 abbrev pub order_by : Text × List Row → Option Order
 order_by (name, rows) =
@@ -275,7 +296,7 @@ order_by (name, rows) =
     then Some (rehearsal_of (is_given (codes "interactive") rows) (first_of (codes "tournament") rows)
     (first_of (codes "prefix") rows))
     else (if bytes_eq name (codes "check") then Some (Check (text_in (codes "tournament") rows))
-    else (if bytes_eq name (codes "judge") then Some (Judge (text_in (codes "replay") rows))
+    else (if bytes_eq name (codes "judge") then judging_by rows
     else (if bytes_eq name (codes "table") then option_map Table (entries_in (texts_in (codes "entry") rows))
     else (if bytes_eq name (codes "explain")
     then option_map (Explain (text_in (codes "replay") rows)) (number_in (text_in (codes "agent") rows))
@@ -323,6 +344,11 @@ Says words (RehearseInteractively (Some name) (Some prefix)) =
     × (words ≡ codes "rehearse" ∷ name ∷ codes "--interactive" ∷ codes "--replay" ∷ prefix ∷ [])
 Says words (Check name) = IsName name × (words ≡ codes "check" ∷ name ∷ [])
 Says words (Judge replay) = IsName replay × (words ≡ codes "judge" ∷ replay ∷ [])
+Says words (variants.Appeal replay appeal) =
+    (word : Text) × IsName replay × IsName appeal.turns × IsName appeal.tournament × IsName word
+    × (number_in word ≡ Some appeal.game)
+    × (words ≡ codes "judge" ∷ replay ∷ codes "--turns" ∷ appeal.turns ∷ codes "--tournament" ∷ appeal.tournament
+    ∷ codes "--match" ∷ word ∷ [])
 Says words (Table entries) =
     (word : Text) × IsName word × (entries_in (word ∷ []) ≡ Some entries) × (words ≡ codes "table" ∷ word ∷ [])
 Says words (Explain replay agent) =

@@ -101,7 +101,19 @@ fn judge_command<'a>(alloc: Global) -> Result<Command<'a>, AllocError>
         help::JUDGE_AT_LENGTH,
         help::JUDGE_EXAMPLE,
     );
-    command.arg(must_have(alloc, "replay", "REPLAY", REPLAY_FILE))
+    let command = command.arg(must_have(alloc, "replay", "REPLAY", REPLAY_FILE));
+    let command = with(
+        command,
+        plain_option(alloc, "turns", "TURNS", help::APPEAL_TURNS),
+    );
+    let command = with(
+        command,
+        plain_option(alloc, "tournament", "TOURNAMENT", help::APPEAL_TOURNAMENT),
+    );
+    with(
+        command,
+        plain_option(alloc, "match", "MATCH", help::APPEAL_MATCH),
+    )
 }
 
 fn table_command<'a>(alloc: Global) -> Result<Command<'a>, AllocError>
@@ -326,6 +338,14 @@ fn replay_option<'a>(alloc: Global) -> Arg<'a>
         "Writes the replay of each match M that has ended to the file PREFIXM.jsonl",
     )
     .long("replay")
+}
+
+// An option that takes a word and may be left out.
+fn plain_option<'a>(alloc: Global, option: &'a str, name: &'a str, help: &'a str) -> Arg<'a>
+    ensures rule { rule_of result ≡ specs.behind option.now (specs.may_have option.now) }
+    ensures local { result.global ≡ false }
+{
+    may_have(alloc, option, name, help).long(option)
 }
 
 // An option that takes no word.

@@ -1,14 +1,15 @@
 //! The order in what clap made of the words.
 
-ghost use Rattle.std.specs.Prelude.{◌≡◌, ◌<◌, ◌^◌, IfOk, option_and_then, codes};
+ghost use Rattle.std.specs.Prelude.{◌≡◌, ◌<◌, ◌^◌, IfOk, option_and_then, option_map, codes};
 ghost use Rattle.bhs_command_line.specs.CommandLine.{order_by, exploration_by, hosting_by, number_by, entries_in};
 ghost use Rattle.bhs_command_line.specs.CommandLine.{is_given, rehearsal_of, text_in, texts_in};
+ghost use Rattle.bhs_command_line.specs.CommandLine.{appeal_of, judging_by, judging_of, number_in};
 ghost use Rattle.clap.specs.Words.{first_of, found_of, rows_of, subcommand_rows_of};
 
 use crate::numbers::{
-    AGENT, GAME, GATHER, GRACE, NAPS, NODE, Number, PAUSE, PORT, SESSIONS, STATES, TURNS,
+    AGENT, APPEALED, GAME, GATHER, GRACE, NAPS, NODE, Number, PAUSE, PORT, SESSIONS, STATES, TURNS,
 };
-use crate::orders::{Entries, Exploration, Hosting, Order};
+use crate::orders::{Appeal, Entries, Exploration, Hosting, Order};
 use crate::words::{entries_in, number_within, text};
 use bhs_text::Text;
 use clap::ArgMatches;
@@ -44,9 +45,7 @@ fn order_named(
         "check" => Ok(Some(Order::Check {
             tournament: text_given(alloc, words, "tournament")?,
         })),
-        "judge" => Ok(Some(Order::Judge {
-            replay: text_given(alloc, words, "replay")?,
-        })),
+        "judge" => judging_given(alloc, words),
         "table" => match entries_given(alloc, words)? {
             Some(entries) => Ok(Some(Order::Table { entries })),
             None => Ok(None),
@@ -95,6 +94,49 @@ fn rehearsal(is_interactive: bool, tournament: Option<Text>, prefix: Option<Text
     } else {
         Order::Rehearse { tournament, prefix }
     }
+}
+
+// The order that the words of `judge` give.
+fn judging_given(alloc: Global, words: &ArgMatches<'_>) -> Result<Option<Order>, AllocError>
+    ensures { IfOk result (λ order. order ≡ judging_by (rows_of (found_of words.now))) }
+{
+    let replay = text_given(alloc, words, "replay")?;
+    let turns = text_if_any(alloc, words, "turns")?;
+    let tournament = text_if_any(alloc, words, "tournament")?;
+    let game = text_if_any(alloc, words, "match")?;
+    Ok(judging(replay, turns, tournament, game))
+}
+
+// A judging of a replay by itself, or an appeal if all words of one are given.
+#[tactic(auto, unfolding(crate::specs::CommandLine::judging_of))]
+fn judging(
+    replay: Text,
+    turns: Option<Text>,
+    tournament: Option<Text>,
+    game: Option<Text>,
+) -> Option<Order>
+    ensures { result ≡ judging_of replay turns tournament game }
+{
+    match (turns, tournament, game) {
+        (None, None, None) => Some(Order::Judge { replay }),
+        (Some(turns), Some(tournament), Some(game)) => {
+            appealing(replay, turns, tournament, game.as_str())
+        }
+        _ => None,
+    }
+}
+
+// An appeal on a match whose number this word spells.
+fn appealing(replay: Text, turns: Text, tournament: Text, word: &str) -> Option<Order>
+    ensures { result ≡ option_map (Order.Appeal replay) (appeal_of turns tournament (number_in word.now)) }
+{
+    let game = number_within(APPEALED.least, APPEALED.most, word)? as u16;
+    let appeal = Appeal {
+        turns,
+        tournament,
+        game,
+    };
+    Some(Order::Appeal { replay, appeal })
 }
 
 // Whether an option that takes no word is given.

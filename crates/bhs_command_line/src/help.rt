@@ -162,7 +162,29 @@ standard error, as `FILE: FAULT`:
   line N     Line N is not a line of a replay
   event N    The event of line N cannot happen there
   differs N  The event of line N has another answer
-  end        The replay ends too early, or goes on behind its end";
+  end        The replay ends too early, or goes on behind its end
+
+A contest under the oblivious schedule has the file PREFIXM.turns beside the
+replay of match M: for each event the number of turns after which it happened.
+With --turns, --tournament and --match the deliveries are checked too, by the
+words of the tournament's seed: each must have been made at the first turn since
+its agent's departure that released the agent. The replay must be one of match
+MATCH of the tournament. What does not fit is told as `FILE: FAULT`, and there is
+no verdict; places are counted from 0, as `arena explain` prints them:
+
+  late at place K    The delivery at place K was not made at its turn
+  turn of place K    The turn at place K is less than the one before it
+  T turns, E events  There must be as many turns as events
+  not match M        The replay is of another network or setup
+  adaptive           The tournament's schedule is adaptive, which has no turns";
+
+pub(crate) const APPEAL_TURNS: &str =
+    "Checks the deliveries by this file, which has the turn of each event";
+
+pub(crate) const APPEAL_TOURNAMENT: &str =
+    "The file of the tournament whose seed made the deliveries";
+
+pub(crate) const APPEAL_MATCH: &str = "The match's number in the tournament, from 0";
 
 pub(crate) const JUDGE_EXAMPLE: &str = "\
 Example:
@@ -173,12 +195,18 @@ prints, if one agent accused from its home base,
 
   guess 1 moves 0 lost 0
 
+and so does, after a contest under the oblivious schedule,
+
+  arena judge cup0.jsonl --turns cup0.turns --tournament cup.toml --match 0
+
 Exit status:
 
   0  The verdict was printed
   2  The command line was refused
-  3  The file is not a replay: head, line or end
-  4  The replay could not have happened: event or differs
+  3  The file is not a replay: head, line or end; or the tournament or the turns
+     were refused
+  4  The replay could not have happened: event or differs; or the turns do not
+     fit, or a delivery was not made at its turn
   5  Memory ran out
   6  Reading or writing failed";
 

@@ -34,6 +34,13 @@ pub(crate) const GAME: Number = Number {
     most: 65_535,
 };
 
+pub(crate) const APPEALED: Number = Number {
+    id: "match",
+    name: "--match <MATCH>",
+    least: 0,
+    most: 65_535,
+};
+
 pub(crate) const STATES: Number = Number {
     id: "states",
     name: "--states <N>",

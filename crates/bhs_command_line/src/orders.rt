@@ -27,6 +27,11 @@ pub enum Order {
     Judge {
         replay: Text,
     },
+    /// Says it if each delivery of the match was made at its turn.
+    Appeal {
+        replay: Text,
+        appeal: Appeal,
+    },
     /// Prints the table of these teams, by the verdicts on the matches of their replays.
     Table {
         entries: Entries,
@@ -83,6 +88,17 @@ pub struct Hosting {
     pub address: Text,
     /// With what the names of the replays begin.
     pub prefix: Text,
+}
+
+/// What shows whether the deliveries of a replay were made at their turns.
+#[derive(Drop)]
+pub struct Appeal {
+    /// The file of the turns of its events.
+    pub turns: Text,
+    /// The file of the tournament.
+    pub tournament: Text,
+    /// The match, by its number in the tournament.
+    pub game: u16,
 }
 
 /// Which schedules are tried.

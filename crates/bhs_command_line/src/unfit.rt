@@ -2,7 +2,7 @@
 
 use crate::given::number_given;
 use crate::numbers::{
-    AGENT, GAME, GATHER, GRACE, NAPS, NODE, Number, PAUSE, PORT, SESSIONS, STATES, TURNS,
+    AGENT, APPEALED, GAME, GATHER, GRACE, NAPS, NODE, Number, PAUSE, PORT, SESSIONS, STATES, TURNS,
 };
 use crate::words::entry_in;
 use clap::ArgMatches;
@@ -12,6 +12,7 @@ use std::alloc::{AllocError, Global};
 pub(crate) fn unfit_text(alloc: Global, matches: &ArgMatches<'_>) -> Result<String, AllocError> {
     match matches.subcommand() {
         Some(("table", words)) => unfit_entry(alloc, words),
+        Some(("judge", words)) => unfit_appeal(alloc, words),
         Some(("explain", words)) => unfit_number(alloc, words, &[AGENT]),
         Some(("twin", words)) => unfit_number(alloc, words, &[NODE]),
         Some(("explore", words)) => unfit_number(alloc, words, &[GAME, STATES, NAPS]),
@@ -20,6 +21,21 @@ pub(crate) fn unfit_text(alloc: Global, matches: &ArgMatches<'_>) -> Result<Stri
         }
         _ => Ok(String::new(alloc)),
     }
+}
+
+// Tells which words of an appeal are missing, or that its number is none.
+fn unfit_appeal(alloc: Global, words: &ArgMatches<'_>) -> Result<String, AllocError> {
+    let is_whole = ["turns", "tournament", "match"]
+        .iter()
+        .all(|id| words.get_str(id).is_some());
+    if is_whole {
+        return unfit_number(alloc, words, &[APPEALED]);
+    }
+    String::from_str(
+        alloc,
+        "error: --turns <TURNS>, --tournament <TOURNAMENT> and --match <MATCH> go together\n\n\
+        For more information, try '--help'.\n",
+    )
 }
 
 // Tells the first of these numbers that the words do not give.

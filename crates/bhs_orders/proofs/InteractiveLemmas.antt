@@ -24,7 +24,7 @@ use Rattle.bhs_rehearsal.specs.Rehearsing.{Rehearsing}
 use Rattle.bhs_orders.specs.declared.faults.Fault.{Fault}
 use Rattle.bhs_orders.specs.declared.faults.Fault.TheVariants.{Read, Text, Line, File, Replay, Twin, Write, Memory}
 use Rattle.bhs_orders.specs.declared.faults.Fault.TheVariants.{Turns, Listen, Busy, Threads, Unsettled, NoMatch}
-use Rattle.bhs_orders.specs.declared.faults.Fault.TheVariants.{Exploring}
+use Rattle.bhs_orders.specs.declared.faults.Fault.TheVariants.{Exploring, Appeal}
 use Rattle.bhs_orders.specs.declared.interactive.Player.{Player}
 
 -- ---- one line
@@ -106,6 +106,7 @@ module _ {O : Type 0} (takes : O → List ℕ → Taken → O → Type 0) (flush
   refused_at progress output output' Threads refused bad = absurd bad
   refused_at progress output output' (NoMatch game) refused bad = absurd bad
   refused_at progress output output' (Exploring why) refused bad = absurd bad
+  refused_at progress output output' (Appeal why) refused bad = absurd bad
   refused_at progress output output' (Unsettled game) refused bad = absurd bad
   refused_at progress output output' Memory refused bad = absurd bad
 
@@ -310,6 +311,7 @@ module _ {I O : Type 0} (gives : I → Chunk → I → Type 0) (takes : O → Li
     stops_within Threads within = breaks_at Threads within
     stops_within (NoMatch game) within = breaks_at (NoMatch game) within
     stops_within (Exploring why) within = breaks_at (Exploring why) within
+    stops_within (Appeal why) within = breaks_at (Appeal why) within
     stops_within (Unsettled game) within = breaks_at (Unsettled game) within
     stops_within Read within = absurd within.breaks
     stops_within Turns within = absurd within.breaks

@@ -9,3 +9,4 @@ pub mod InteractiveLemmas
 pub mod LinkLemmas
 pub mod ListLemmas
 pub mod AnsweredLemmas
+pub mod TurnsLemmas

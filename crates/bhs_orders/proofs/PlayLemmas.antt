@@ -20,7 +20,7 @@ use Rattle.bhs_orders.specs.Rehearsal.{Means, Plays, Stops}
 use Rattle.bhs_orders.specs.declared.faults.Fault.{Fault}
 use Rattle.bhs_orders.specs.declared.faults.Fault.TheVariants.{Read, Text, Line, File, Replay, Twin, Write, Memory}
 use Rattle.bhs_orders.specs.declared.faults.Fault.TheVariants.{Turns, Listen, Busy, Threads, Unsettled, NoMatch}
-use Rattle.bhs_orders.specs.declared.faults.Fault.TheVariants.{Exploring}
+use Rattle.bhs_orders.specs.declared.faults.Fault.TheVariants.{Exploring, Appeal}
 
 -- a fault at the next bytes of a text
 pub stopped_at : {O : Type 0} (takes : O → List ℕ → Taken → O → Type 0) (a b c : O)
@@ -41,6 +41,7 @@ stopped_at takes a b c text bytes left Busy so_far none = absurd none
 stopped_at takes a b c text bytes left Threads so_far none = absurd none
 stopped_at takes a b c text bytes left (NoMatch game) so_far none = absurd none
 stopped_at takes a b c text bytes left (Exploring why) so_far none = absurd none
+stopped_at takes a b c text bytes left (Appeal why) so_far none = absurd none
 stopped_at takes a b c text bytes left (Unsettled game) so_far none = absurd none
 
 -- the fault that comes through a `?` is this one
@@ -122,6 +123,7 @@ module _ {I O : Type 0} (gives : I → Chunk → I → Type 0) (takes : O → Li
   stops_at Threads stopped = absurd stopped
   stops_at (NoMatch game) stopped = absurd stopped
   stops_at (Exploring why) stopped = absurd stopped
+  stops_at (Appeal why) stopped = absurd stopped
   stops_at (Unsettled game) stopped = absurd stopped
 
   pub stops_all : {T : Type 0} (r : Result T Fault)

@@ -18,7 +18,8 @@ use Rattle.bhs_view.specs.declared.twins.TwinFault.TheVariants as twins
 use Rattle.bhs_orders.specs.declared.faults.Fault.{Fault}
 use Rattle.bhs_orders.specs.declared.faults.Fault.TheVariants.{Read, Text, Turns, Line, File, Replay, Twin, Write}
 use Rattle.bhs_orders.specs.declared.faults.Fault.TheVariants.{Memory, Listen, Busy, Threads, Unsettled, NoMatch}
-use Rattle.bhs_orders.specs.declared.faults.Fault.TheVariants.{Exploring}
+use Rattle.bhs_orders.specs.declared.faults.Fault.TheVariants.{Exploring, Appeal}
+use Rattle.bhs_orders.specs.declared.appeal_faults.AppealFault.TheVariants as appeals
 use Rattle.bhs_orders.specs.declared.statuses.TheConstants.{DONE, NO_MEMORY}
 use Rattle.bhs_orders.specs.Fault.{of_twin, of_writing, status}
 use Rattle.bhs_orders.specs.Playing.{StopsPlaying}
@@ -60,6 +61,11 @@ not_done (Replay replays.Read) e = omega arith
 not_done (Replay replays.Memory) e = omega arith
 not_done (Replay replays.Turns) e = omega arith
 not_done (Twin fault) e = omega arith
+not_done (Appeal appeals.Adaptive) e = omega arith
+not_done (Appeal (appeals.Other game)) e = omega arith
+not_done (Appeal (appeals.Count turns events)) e = omega arith
+not_done (Appeal (appeals.Falls place)) e = omega arith
+not_done (Appeal (appeals.Late place)) e = omega arith
 not_done Listen e = omega arith
 not_done Busy e = omega arith
 not_done Threads e = omega arith

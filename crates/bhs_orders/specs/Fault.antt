@@ -16,10 +16,12 @@ use Rattle.bhs_view.specs.declared.twins.TwinFault.{TwinFault}
 use Rattle.bhs_view.specs.declared.twins.TwinFault.TheVariants as twins
 use Rattle.bhs_explore.specs.declared.faults.ExploreFault.{ExploreFault}
 use Rattle.bhs_explore.specs.declared.faults.ExploreFault.TheVariants as exploring
+use Rattle.bhs_orders.specs.declared.appeal_faults.AppealFault.{AppealFault}
+use Rattle.bhs_orders.specs.declared.appeal_faults.AppealFault.TheVariants.{Adaptive}
 use Rattle.bhs_orders.specs.declared.faults.Fault.{Fault}
 use Rattle.bhs_orders.specs.declared.faults.Fault.TheVariants.{Read, Text, Turns, Line, File, Replay, Twin, Write}
 use Rattle.bhs_orders.specs.declared.faults.Fault.TheVariants.{Memory, NoMatch, Exploring, Listen, Busy, Threads}
-use Rattle.bhs_orders.specs.declared.faults.Fault.TheVariants.{Unsettled}
+use Rattle.bhs_orders.specs.declared.faults.Fault.TheVariants.{Unsettled, Appeal}
 use Rattle.bhs_orders.specs.declared.statuses.TheConstants as statuses
 
 -- an error of opening or reading
@@ -72,6 +74,11 @@ replay_status (replays.Event line) = statuses.REFUSED_MATCH
 replay_status (replays.Differs line) = statuses.REFUSED_MATCH
 replay_status fault = statuses.REFUSED_TEXT
 
+-- the exit status of an appeal that is not heard: no turns make an adaptive schedule, or what is compared does not fit
+abbrev pub appeal_status : AppealFault → ℕ
+appeal_status Adaptive = statuses.REFUSED_TEXT
+appeal_status fault = statuses.REFUSED_MATCH
+
 -- the exit status of a fault
 abbrev pub status : Fault → ℕ
 status Read = statuses.FAILED_STREAM
@@ -83,6 +90,7 @@ status (Replay fault) = replay_status fault
 status (Twin fault) = statuses.REFUSED_MATCH
 status (NoMatch game) = statuses.REFUSED_TEXT
 status (Exploring fault) = statuses.REFUSED_TEXT
+status (Appeal fault) = appeal_status fault
 status Listen = statuses.FAILED_STREAM
 status Busy = statuses.FAILED_STREAM
 status Threads = statuses.NO_THREADS

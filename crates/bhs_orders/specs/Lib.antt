@@ -14,3 +14,5 @@ pub mod Players
 pub mod InteractiveTournaments
 pub mod Answered
 pub mod Naming
+pub mod Turns
+pub mod Appeals

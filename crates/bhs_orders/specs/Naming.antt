@@ -5,6 +5,10 @@ use Rattle.std.specs.Prelude.{ℕ, List, ◌++◌, ◌==◌, if◌then◌else◌
 abbrev pub replay_name : (prefix : List ℕ) → (number : ℕ) → List ℕ
 replay_name prefix number = prefix ++ (decimal number ++ codes ".jsonl")
 
+-- the file of the turns of its events
+abbrev pub turns_name : (prefix : List ℕ) → (number : ℕ) → List ℕ
+turns_name prefix number = prefix ++ (decimal number ++ codes ".turns")
+
 -- the file of the part of that replay, while the match goes on
 abbrev pub part_name : (prefix : List ℕ) → (number : ℕ) → List ℕ
 part_name prefix number = prefix ++ (decimal number ++ codes ".jsonl.part")

@@ -22,7 +22,7 @@ use Rattle.bhs_script.specs.Transcript.{transcript}
 use Rattle.bhs_orders.specs.declared.faults.Fault.{Fault}
 use Rattle.bhs_orders.specs.declared.faults.Fault.TheVariants.{Read, Text, Line, File, Replay, Twin, Write, Memory}
 use Rattle.bhs_orders.specs.declared.faults.Fault.TheVariants.{Turns, Listen, Busy, Threads, Unsettled, NoMatch}
-use Rattle.bhs_orders.specs.declared.faults.Fault.TheVariants.{Exploring}
+use Rattle.bhs_orders.specs.declared.faults.Fault.TheVariants.{Exploring, Appeal}
 use Rattle.bhs_orders.specs.declared.statuses.TheConstants.{DONE}
 use Rattle.bhs_orders.specs.Fault.{status}
 use Rattle.bhs_orders.specs.Playing.{StopsPlaying}
@@ -84,6 +84,7 @@ module _ {I O : Type 0} (gives : I → Chunk → I → Type 0) (takes : O → Li
   Stops stage input input' output output' Threads = ⊥
   Stops stage input input' output output' (NoMatch game) = ⊥
   Stops stage input input' output output' (Exploring why) = ⊥
+  Stops stage input input' output output' (Appeal why) = ⊥
   Stops stage input input' output output' (Unsettled game) = ⊥
   Stops stage input input' output output' Write = PlaysUntil Write stage input input' output output'
   Stops stage input input' output output' Memory =

@@ -6,6 +6,7 @@ ghost use Rattle.std.specs.IoError.{error_kind};
 ghost use Rattle.bhs_orders.specs.Fault.{of_exploring, of_file, of_kind, of_read, of_replay, of_script, of_twin};
 ghost use Rattle.bhs_orders.specs.Fault.{of_writing, replay_status, status};
 
+use crate::appeal_faults::AppealFault;
 use crate::names::Shown;
 use crate::statuses::{FAILED_STREAM, NO_MEMORY, NO_THREADS, REFUSED_MATCH, REFUSED_TEXT};
 use bhs_explore::ExploreFault;
@@ -49,6 +50,9 @@ pub enum Fault {
     /// Not every schedule of a match was tried.
     #[error("{0}")]
     Exploring(ExploreFault),
+    /// A replay does not stand an appeal.
+    #[error("{0}")]
+    Appeal(AppealFault),
     /// No client can connect: the port is in use, or the program may not have it.
     #[error("listen")]
     Listen,
@@ -78,6 +82,7 @@ impl Fault {
             Fault::Text | Fault::Line { .. } | Fault::File(_) => REFUSED_TEXT,
             Fault::NoMatch { .. } | Fault::Exploring(_) => REFUSED_TEXT,
             Fault::Replay(fault) => replay_status(fault),
+            Fault::Appeal(fault) => fault.status(),
             Fault::Twin(_) | Fault::Unsettled { .. } => REFUSED_MATCH,
             Fault::Memory => NO_MEMORY,
             Fault::Threads => NO_THREADS,

@@ -1,10 +1,11 @@
-//! Laws of rehearsals whose scripts are played as they come. The functions do nothing.
+//! Laws of rehearsals whose scripts are played as they come, and a worked text of turns. The functions do nothing.
 
-ghost use Rattle.std.specs.Prelude.{ℕ, Bool, List};
+ghost use Rattle.std.specs.Prelude.{◌≡◌, ℕ, Bool, List, [], ◌∷◌, codes};
 ghost use Rattle.bhs_stream.specs.Streams.{known_gives, known_takes};
 ghost use Rattle.bhs_rehearsal.specs.Stages.{Stage, Instruction};
 ghost use Rattle.bhs_orders.specs.Answered.{HasAnswered, IsTranscribed, Mean, known_flushes};
 ghost use Rattle.bhs_orders.specs.Interactive.{Progress, Interacts};
+ghost use Rattle.bhs_orders.specs.Turns.{turns_text};
 
 use std::io::{Read, Write};
 
@@ -17,6 +18,11 @@ pub fn known_answers<R: Read, W: Write>()
         output
         reads is_over progress input' output'
         → HasAnswered R.remaining W.contents stage input input' output output' progress }
+{}
+
+/// The text of three turns, as a file of turns has it.
+pub fn worked_turns()
+    ensures { turns_text (0 ∷ 12 ∷ 4294967295 ∷ []) ≡ codes "0\n12\n4294967295\n" }
 {}
 
 /// Lines are answered as a script of them prints, with an empty line behind what each of them sends, and leave the

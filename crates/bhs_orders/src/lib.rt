@@ -2,6 +2,8 @@
 //! script, checks its files, and says what came of the matches of replays, and why.
 #![tactic(auto)]
 
+mod appeal_faults;
+mod appealing;
 mod built_in_tournament;
 mod checking;
 mod discoveries;
@@ -23,10 +25,14 @@ mod showing;
 mod statuses;
 mod summaries;
 mod tabling;
+mod turn_files;
+mod turns;
 mod twinning;
 mod whole_interactive;
 mod whole_rehearsals;
 
+pub use appeal_faults::AppealFault;
+pub use appealing::print_appealed_verdict;
 pub use built_in_tournament::built_in;
 pub use checking::{check, lineup_of};
 pub use explaining::print_past;
@@ -34,7 +40,7 @@ pub use exploring::explore_named;
 pub use faults::{Fault, report};
 pub use interactive::{MAX_READS, rehearse_interactively};
 pub use judging::{print_verdict, verdict_line};
-pub use laws::{answers_are_transcripts, known_answers};
+pub use laws::{answers_are_transcripts, known_answers, worked_turns};
 pub use parts::{begin_parts, lock_name, part_name, print_recovered};
 pub use rehearsing::rehearse;
 pub use replays::{first_status, write_sealed};
@@ -43,6 +49,8 @@ pub use statuses::{
     DONE, FAILED_STREAM, FAILING, NO_MEMORY, NO_THREADS, REFUSED_MATCH, REFUSED_TEXT, REFUSED_WORDS,
 };
 pub use tabling::print_table;
+pub use turn_files::write_turns;
+pub use turns::{turns_in, turns_text};
 pub use twinning::print_twin;
 pub use whole_interactive::rehearse_interactively_named;
 pub use whole_rehearsals::rehearse_named;

@@ -10,6 +10,7 @@ ghost use Rattle.bhs_orders.specs.Showing.{PrintsByLine, Reports};
 use crate::faults::{Fault, report};
 use crate::line_by_line::passed_on;
 use crate::replays::{file_name, write_match};
+use crate::turn_files::turns_name;
 use bhs_lineup::Ready;
 use bhs_match::Sealed;
 use bhs_model::MAX_TURNS;
@@ -36,8 +37,8 @@ pub fn lock_name(alloc: Global, prefix: &str) -> Result<String, Memory>
     format!(in alloc; "{prefix}.lock")
 }
 
-/// Begins the part of each match's replay with the head of the replay. Files that stand under the names of the replays
-/// and parts, as of an earlier contest, get `.old` behind their names first, or `.old2`, or the next number that is
+/// Begins the part of each match's replay with the head of the replay. Files that stand under the names of the replays,
+/// turns and parts, as of an earlier contest, get `.old` behind their names first, or `.old2`, or the next number that is
 /// free: so none is taken for a new one, and none is ever replaced. The first fault goes to `errors` and ends it: the
 /// answer is then its exit status.
 pub fn begin_parts<F: Files, E: Write>(
@@ -83,6 +84,7 @@ fn begin<F: Files>(
     ready: &Ready,
 ) -> Result<(), Fault> {
     put_aside(alloc, files, file_name(alloc, prefix, number)?.as_str())?;
+    put_aside(alloc, files, turns_name(alloc, prefix, number)?.as_str())?;
     let name = part_name(alloc, prefix, number)?;
     put_aside(alloc, files, name.as_str())?;
     let mut line = head_of(alloc, ready.game.net(), ready.game.setup())?;

@@ -163,8 +163,8 @@ fn write_file<F: Files>(alloc: Global, files: &F, name: &str, sealed: &Sealed) -
     }
 }
 
-// Gives a file that was written its name, once its text is on the disk, and sees that the name is there too.
-fn put_in_place<F: Files>(files: &F, new: &str, name: &str) -> Result<(), Fault> {
+/// Gives a file that was written its name, once its text is on the disk, and sees that the name is there too.
+pub(crate) fn put_in_place<F: Files>(files: &F, new: &str, name: &str) -> Result<(), Fault> {
     let Ok(file) = fs::open(files, new) else {
         return Err(Fault::Write);
     };

@@ -13,6 +13,7 @@ use Rattle.bhs_command_line.specs.declared.orders.Exploration.{Exploration}
 use Rattle.bhs_explore.specs.declared.found.Found.{Found}
 use Rattle.bhs_explore.specs.declared.found.Found.TheVariants as found
 use Rattle.bhs_orders.specs.declared.faults.Fault.TheVariants.{Write, Memory, Twin, Text}
+use Rattle.bhs_orders.specs.Appeals.{Appeals, upholds, rejects, hears_nothing}
 use Rattle.bhs_orders.specs.Discoveries.{Explores, ExploresMatch, found_status, exploration_done, exploration_ends}
 use Rattle.bhs_orders.specs.Discoveries.{explores_nothing, explores_on}
 use Rattle.bhs_orders.specs.Rehearsal.{Rehearses, done, unfiled, ends}
@@ -54,6 +55,11 @@ module _ {O : Type 0} (takes : O → List ℕ → Taken → O → Type 0) (flush
       → IsStatus code
   of_many IsReport report = of_report _ _ of_lines report
 
+  of_appeal : (game : ℕ) → Appeals takes flushes game output output' code → IsStatus code
+  of_appeal game (upholds one is on_time report) = of_text _ report
+  of_appeal game (rejects one is fault wrong coded kept) = inr (inr (fault, coded))
+  of_appeal game (hears_nothing fault coded kept) = inr (inr (fault, coded))
+
 -- the exit status of what was found
 of_found : (found : Found) (code : ℕ) → code ≡ found_status found → IsStatus code
 of_found (found.Solves moves lost commands) code is = inl is
@@ -70,9 +76,10 @@ of_either false one two first second = first
 
 module _ {P O : Type 0} (files : P → List ℕ → Taken → P → Type 0) (takes : O → List ℕ → Taken → O → Type 0)
     (flushes : O → Bool → O → Type 0) where
-  of_files : (settled : List (Result Settlement Refused)) (code : ℕ) → Files files settled code → IsStatus code
-  of_files settled code (all_filed is filed) = inl is
-  of_files settled code (unfiled_one fault is) = inr (inr (fault, is))
+  of_files : (schedule : ScheduleKind) (settled : List (Result Settlement Refused)) (code : ℕ)
+      → Files files schedule settled code → IsStatus code
+  of_files schedule settled code (all_filed is filed) = inl is
+  of_files schedule settled code (unfiled_one fault is) = inr (inr (fault, is))
 
   of_table : (teams : List (List ℕ)) (settled : List (Result Settlement Refused)) (output output' : O) (code : ℕ)
       → Tables takes flushes teams settled output output' code → IsStatus code
@@ -84,7 +91,7 @@ module _ {P O : Type 0} (files : P → List ℕ → Taken → P → Type 0) (tak
       → Hosts files takes flushes seed schedule matches output output' code → IsStatus code
   of_host seed schedule matches output output' code (fares settled fared ended) =
       rw ended.coded (of_either (ended.filed == DONE) ended.filed ended.printed
-      (of_files settled ended.filed ended.writes)
+      (of_files schedule settled ended.filed ended.writes)
       (of_table _ settled output output' ended.printed ended.tables))
   of_host seed schedule matches output output' code (fails fault unbegun is kept) = inr (inr (fault, is))
 
@@ -138,6 +145,7 @@ module _ {P I O : Type 0} (files : P → List ℕ → Taken → P → Type 0) (g
   of_deed (order.RehearseInteractively (Some name) prefix) named = of_named_interaction prefix named
   of_deed (order.Check name) check = of_text takes flushes output output' code _ check.1
   of_deed (order.Judge replay) judged = of_text takes flushes output output' code _ judged.1
+  of_deed (order.Appeal replay appeal) appealed = of_appeal takes flushes output output' code _ appealed.1
   of_deed (order.Table entries) table = of_text takes flushes output output' code _ table.1
   of_deed (order.Explain replay agent) past = of_many takes flushes output output' code _ past.1
   of_deed (order.Twin replay node) twin = elim twin.1 [

@@ -3,6 +3,7 @@ use Rattle.std.specs.Prelude.{◌≡◌, ℕ, Bool, true, List, ◌∷◌, ◌++
 use Rattle.std.specs.List.{AllByRecursion}
 use Rattle.bhs_stream.specs.Streams.{Taken}
 use Rattle.bhs_time.specs.declared.kinds.ScheduleKind.{ScheduleKind}
+use Rattle.bhs_time.specs.declared.kinds.ScheduleKind.TheVariants.{Adaptive, Oblivious}
 use Rattle.bhs_lineup.specs.declared.lineups.Ready.{Ready}
 use Rattle.bhs_lineup.specs.declared.lineups.Lineup.{Lineup}
 use Rattle.bhs_lock.specs.declared.settling.Settlement.{Settlement}
@@ -14,6 +15,7 @@ use Rattle.bhs_orders.specs.Fault.{status}
 use Rattle.bhs_orders.specs.Filing.{first_status}
 use Rattle.bhs_orders.specs.Showing.{Prints, Reports, Shows, Took}
 use Rattle.bhs_orders.specs.Summary.{IsAssembled}
+use Rattle.bhs_orders.specs.Turns.{turns_text}
 use Rattle.bhs_orders.specs.declared.faults.Fault.{Fault}
 use Rattle.bhs_orders.specs.declared.faults.Fault.TheVariants as faults
 use Rattle.bhs_orders.specs.declared.statuses.TheConstants.{DONE}
@@ -42,18 +44,26 @@ IsUnbegun faults.Memory = Unit {0}
 IsUnbegun faults.Threads = Unit {0}
 IsUnbegun fault = ⊥
 
--- if the match settled, its replay was written to a file with these calls
-abbrev pub HasReplay : {P : Type 0} → (P → List ℕ → Taken → P → Type 0) → Result Settlement Refused → Type 0
-HasReplay files (Ok settlement) = Took files (replay_of settlement.sealed)
-HasReplay files (Err refused) = Unit {0}
+-- under the oblivious schedule, the turns of a match's events were written to a file with these calls
+abbrev pub HasTurns : {P : Type 0} → (P → List ℕ → Taken → P → Type 0) → ScheduleKind → (turns : List ℕ) → Type 0
+HasTurns files Adaptive turns = Unit {0}
+HasTurns files (Oblivious law) turns = Took files (turns_text turns)
 
--- what the exit status says of the replays of matches that were to be written to files with these calls
-pub data Files {P : Type 0} (files : P → List ℕ → Taken → P → Type 0) (settled : List (Result Settlement Refused))
-    (code : ℕ) : Type 0 where
+-- if the match settled, its replay, and its turns if it has such, were written to files with these calls
+abbrev pub HasReplay : {P : Type 0} → (P → List ℕ → Taken → P → Type 0) → ScheduleKind → Result Settlement Refused
+    → Type 0
+HasReplay files schedule (Ok settlement) =
+    Took files (replay_of settlement.sealed) × HasTurns files schedule settlement.turns.items
+HasReplay files schedule (Err refused) = Unit {0}
+
+-- What the exit status says of the replays of matches that were to be written to files with these calls, and of their
+-- turns under the oblivious schedule.
+pub data Files {P : Type 0} (files : P → List ℕ → Taken → P → Type 0) (schedule : ScheduleKind)
+    (settled : List (Result Settlement Refused)) (code : ℕ) : Type 0 where
   -- each was written
-  all_filed : code ≡ DONE → AllByRecursion (HasReplay files) settled → Files files settled code
+  all_filed : code ≡ DONE → AllByRecursion (HasReplay files schedule) settled → Files files schedule settled code
   -- one was not written
-  unfiled_one : (fault : Fault) → code ≡ status fault → Files files settled code
+  unfiled_one : (fault : Fault) → code ≡ status fault → Files files schedule settled code
 
 module _ {O : Type 0} (takes : O → List ℕ → Taken → O → Type 0) (flushes : O → Bool → O → Type 0) where
   -- what was printed of the matches of these teams
@@ -71,11 +81,11 @@ module _ {O : Type 0} (takes : O → List ℕ → Taken → O → Type 0) (flush
 module _ {P O : Type 0} (files : P → List ℕ → Taken → P → Type 0) (takes : O → List ℕ → Taken → O → Type 0)
     (flushes : O → Bool → O → Type 0) where
   -- the matches of these teams fared so: replays were to be written, and then a table was to be printed
-  pub record Ends (teams : List (List ℕ)) (settled : List (Result Settlement Refused)) (output output' : O) (code : ℕ) :
-      Type 0 where
+  pub record Ends (schedule : ScheduleKind) (teams : List (List ℕ)) (settled : List (Result Settlement Refused))
+      (output output' : O) (code : ℕ) : Type 0 where
     pub filed : ℕ
     pub printed : ℕ
-    pub writes : Files files settled filed
+    pub writes : Files files schedule settled filed
     pub tables : Tables takes flushes teams settled output output' printed
     pub coded : code ≡ first_status filed printed
 
@@ -86,7 +96,7 @@ module _ {P O : Type 0} (files : P → List ℕ → Taken → P → Type 0) (tak
     -- each match settled as its sessions were answered, with deliveries that were made in time; or it was refused
     fares : (settled : List (Result Settlement Refused)) →
         HaveFared (givens_of schedule 0 matches) (dealers_of seed 0 matches) settled
-        → Ends (map (λ ready. ready.team) matches) settled output output' code →
+        → Ends schedule (map (λ ready. ready.team) matches) settled output output' code →
         Hosts seed schedule matches output output' code
     -- it could not begin
     fails : (fault : Fault) → IsUnbegun fault → code ≡ status fault → output' ≡ output

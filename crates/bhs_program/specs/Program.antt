@@ -5,6 +5,7 @@ use Rattle.bhs_stream.specs.Streams.{Chunk, Taken}
 use Rattle.bhs_command_line.specs.CommandLine.{AreRefused, faults, is_asked, order_in}
 use Rattle.bhs_command_line.specs.declared.orders.Order.{Order}
 use Rattle.bhs_command_line.specs.declared.orders.Order.TheVariants as order
+use Rattle.bhs_orders.specs.Appeals.{Appeals}
 use Rattle.bhs_orders.specs.Discoveries.{Explores}
 use Rattle.bhs_orders.specs.Fault.{IsOfFault}
 use Rattle.bhs_orders.specs.RehearsedTournaments.{RehearsesEither, Rests}
@@ -38,6 +39,8 @@ module _ {P I O : Type 0} (files : P → List ℕ → Taken → P → Type 0) (g
       InteractsEither files gives takes flushes tournament prefix input input' output output' code
   Does (order.Check name) input input' output output' code = (input' ≡ input) × Tells IsSummary output output' code
   Does (order.Judge replay) input input' output output' code = (input' ≡ input) × Tells IsJudgement output output' code
+  Does (order.Appeal replay appeal) input input' output output' code =
+      (input' ≡ input) × Appeals takes flushes appeal.game output output' code
   Does (order.Table entries) input input' output output' code =
       (input' ≡ input) × Tells (IsTable entries) output output' code
   Does (order.Explain replay agent) input input' output output' code =

@@ -1,33 +1,35 @@
-//! What comes of a contest that has ended: the replays of its matches, and their table.
+//! What comes of a contest that has ended: the replays of its matches with their turns, and their table.
 
 ghost use Rattle.std.specs.Prelude.{◌≡◌, ◌⊎◌, IfOk, IfErr, Ok, length, map, string_bytes};
 ghost use Rattle.bhs_host.specs.Hosting.{IsStandings};
 ghost use Rattle.bhs_stream.specs.Streams.{known_takes};
 ghost use Rattle.bhs_orders.specs.Fault.{IsOfFault};
 ghost use Rattle.bhs_orders.specs.declared.statuses.TheConstants.{DONE};
-ghost use Rattle.bhs_program.specs.Contests.{Ends, Files, HasReplay, IsUntabled, Tables};
+ghost use Rattle.bhs_program.specs.Contests.{Ends, Files, HasReplay, HasTurns, IsUntabled, Tables};
 
 use bhs_host::standings;
 use bhs_lock::Settlement;
 use bhs_match::Sealed;
 use bhs_model::Text;
 use bhs_net::Memory;
-use bhs_orders::{DONE, Fault, first_status, report, show_made, write_sealed};
+use bhs_orders::{DONE, Fault, first_status, report, show_made, write_sealed, write_turns};
 use bhs_server::Settled;
 use bhs_stream::Output;
+use bhs_time::ScheduleKind;
 use std::alloc::Global;
 use std::io::Write;
 use std::rt::Files;
 use std::thread::Threads;
 
-/// The matches of a contest that has ended, and their teams.
+/// The matches of a contest that has ended, their schedule, and their teams.
 #[derive(Drop)]
 pub(crate) struct Finished {
+    pub(crate) schedule: ScheduleKind,
     pub(crate) teams: Vec<Text>,
     pub(crate) settled: Vec<Settled>,
 }
 
-/// Writes the replay of each match that settled. If all did, their table is shown; otherwise the first that did not is
+/// Writes the replay of each match that settled, and under the oblivious schedule its turns. If all did, their table is shown; otherwise the first that did not is
 /// reported.
 pub(crate) fn finish<R: Files + Threads + Sync, W: Output, E: Write>(
     alloc: Global,
@@ -38,10 +40,17 @@ pub(crate) fn finish<R: Files + Threads + Sync, W: Output, E: Write>(
     errors: &mut E,
 ) -> u8
     requires { length finished.teams.items ≡ length finished.settled.items }
-    ensures { Ends (known_takes R.File.contents) W.takes W.flushes finished.teams.items finished.settled.items
-        writer.old writer.new result }
+    ensures { Ends (known_takes R.File.contents) W.takes W.flushes finished.schedule finished.teams.items
+        finished.settled.items writer.old writer.new result }
 {
-    let filed = write_settled(alloc, rt, prefix, &finished.settled, errors);
+    let filed = write_settled(
+        alloc,
+        rt,
+        prefix,
+        &finished.schedule,
+        &finished.settled,
+        errors,
+    );
     let printed = show_table(alloc, rt, finished, writer, errors);
     first_status(filed, printed)
 }
@@ -57,7 +66,11 @@ fn show_table<R: Threads + Sync, W: Output, E: Write>(
     requires { length finished.teams.items ≡ length finished.settled.items }
     ensures { Tables W.takes W.flushes finished.teams.items finished.settled.items writer.old writer.new result }
 {
-    let Finished { teams, settled } = finished;
+    let Finished {
+        schedule: _,
+        teams,
+        settled,
+    } = finished;
     match all_settled(alloc, settled) {
         Ok(settlements) => show_made(table(alloc, rt, &teams, settlements), writer, errors),
         Err(fault) => report("serve", fault, errors),
@@ -79,40 +92,72 @@ fn table<R: Threads + Sync>(
     standings(rt, alloc, teams, &sealed)
 }
 
-// Writes the replay of each match that settled under the match's number. One that cannot be written is reported, and
-// keeps no other from being written. The answer is the exit status of the first that failed, and `DONE` if none did.
+// Under which name the files of a match are written.
+#[derive(Drop)]
+struct Place<'a> {
+    prefix: &'a str,
+    number: usize,
+}
+
+// Writes the replay of each match that settled under the match's number, with its turns. One that cannot be written is
+// reported, and keeps no other from being written. The answer is the exit status of the first that failed, and `DONE`
+// if none did.
 fn write_settled<F: Files, E: Write>(
     alloc: Global,
     files: &F,
     prefix: &str,
+    schedule: &ScheduleKind,
     settled: &[Settled],
     errors: &mut E,
 ) -> u8
-    ensures { Files (known_takes F.File.contents) settled.now result }
+    ensures { Files (known_takes F.File.contents) schedule.now settled.now result }
 {
     let mut status = DONE;
     for (number, one) in settled.iter().enumerate() {
-        let code = write_one(alloc, files, prefix, number, one, errors);
+        let place = Place { prefix, number };
+        let code = write_one(alloc, files, &place, schedule, one, errors);
         status = first_status(status, code);
     }
     status
 }
 
-// Writes the replay of the match of this number, if it settled.
+// Writes the replay of a match, if it settled, and under the oblivious schedule its turns before.
 fn write_one<F: Files, E: Write>(
     alloc: Global,
     files: &F,
-    prefix: &str,
-    number: usize,
+    place: &Place<'_>,
+    schedule: &ScheduleKind,
     settled: &Settled,
     errors: &mut E,
 ) -> u8
-    ensures filed { result ≡ DONE → HasReplay (known_takes F.File.contents) settled.now }
+    ensures filed { result ≡ DONE → HasReplay (known_takes F.File.contents) schedule.now settled.now }
     ensures status { result ≡ DONE ⊎ IsOfFault result }
 {
-    match settled {
-        Ok(settlement) => write_sealed(alloc, files, prefix, number, &settlement.sealed, errors),
-        Err(_) => DONE,
+    let Ok(Settlement { sealed, turns }) = settled else {
+        return DONE;
+    };
+    let timed = write_timed(alloc, files, place, schedule, turns, errors);
+    let filed = write_sealed(alloc, files, place.prefix, place.number, sealed, errors);
+    first_status(timed, filed)
+}
+
+// Writes the turns of a match's events under the oblivious schedule.
+fn write_timed<F: Files, E: Write>(
+    alloc: Global,
+    files: &F,
+    place: &Place<'_>,
+    schedule: &ScheduleKind,
+    turns: &[u32],
+    errors: &mut E,
+) -> u8
+    ensures filed { result ≡ DONE → HasTurns (known_takes F.File.contents) schedule.now turns.now }
+    ensures status { result ≡ DONE ⊎ IsOfFault result }
+{
+    match schedule {
+        ScheduleKind::Adaptive => DONE,
+        ScheduleKind::Oblivious(_) => {
+            write_turns(alloc, files, place.prefix, place.number, turns, errors)
+        }
     }
 }
 

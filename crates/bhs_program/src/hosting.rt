@@ -64,16 +64,22 @@ fn served<R: Machine>(
     manner: &Manner<'_>,
 ) -> Result<Finished, Fault>
     requires { AreFresh lineup.ready.items }
+    ensures schedule { IfOk result (λ finished. finished.schedule ≡ lineup.schedule) }
     ensures teams { IfOk result (λ finished. finished.teams.items ≡ map (λ ready. ready.team) lineup.ready.items) }
     ensures settled { IfOk result (λ finished. HaveFared (givens_of lineup.schedule 0 lineup.ready.items)
         (dealers_of lineup.seed 0 lineup.ready.items) finished.settled.items) }
     ensures unbegun { IfErr result IsUnbegun }
 {
+    let schedule = lineup.schedule;
     let Ok(Hosted { teams, contest }) = contest_of(alloc, lineup) else {
         return Err(Fault::Memory);
     };
     match settled(alloc, rt, listener, contest, manner, &teams) {
-        Ok(settled) => Ok(Finished { teams, settled }),
+        Ok(settled) => Ok(Finished {
+            schedule,
+            teams,
+            settled,
+        }),
         Err(Lack::Memory) => Err(Fault::Memory),
         Err(Lack::Thread) => Err(Fault::Threads),
     }

@@ -9,8 +9,9 @@ use crate::machines::Machine;
 use crate::serving::serve_named;
 use bhs_command_line::{Order, Parsed, order_of};
 use bhs_orders::{
-    Fault, REFUSED_WORDS, check, explore_named, print_past, print_recovered, print_table,
-    print_twin, print_verdict, rehearse_interactively_named, rehearse_named, report, show_text,
+    Fault, REFUSED_WORDS, check, explore_named, print_appealed_verdict, print_past,
+    print_recovered, print_table, print_twin, print_verdict, rehearse_interactively_named,
+    rehearse_named, report, show_text,
 };
 use bhs_stream::{Input, Output, send};
 use bhs_terminal::visible;
@@ -74,6 +75,9 @@ fn obey<
         }
         Order::Check { tournament } => check(alloc, rt, tournament.as_str(), writer, errors),
         Order::Judge { replay } => print_verdict(alloc, rt, replay.as_str(), writer, errors),
+        Order::Appeal { replay, appeal } => {
+            print_appealed_verdict(alloc, rt, replay.as_str(), &appeal, writer, errors)
+        }
         Order::Table { entries } => print_table(alloc, rt, entries.all(), writer, errors),
         Order::Explain { replay, agent } => {
             print_past(alloc, rt, replay.as_str(), agent, writer, errors)

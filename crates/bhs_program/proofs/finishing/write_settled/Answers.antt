@@ -19,7 +19,7 @@ loop-number-preserved g c =
           let both = both_done c.loop-number.status c.write_one-code.result
           (sym c.first_status-status.ensures ∙ done) in
           c.loop-number.invariant.filed both.0
-          (one_more (HasReplay (known_takes g.F.File.Write.contents)) c.args.settled.now
+          (one_more (HasReplay (known_takes g.F.File.Write.contents) c.args.schedule.now) c.args.settled.now
           c.loop-number.number c.index-settled-number.result c.loop-number-test.true c.index-settled-number.is
           (c.write_one-code.ensures.filed both.1) others);
     }
@@ -27,7 +27,7 @@ loop-number-preserved g c =
 pub returns : goal.returns
 returns g c = elim c.loop-number.invariant.status [
   | inl is ↦ all_filed is (c.loop-number.invariant.filed is
-      (no_more (HasReplay (known_takes g.F.File.Write.contents)) c.args.settled.now
+      (no_more (HasReplay (known_takes g.F.File.Write.contents) c.args.schedule.now) c.args.settled.now
       c.loop-number.number c.loop-number-test.false))
   | inr (fault, is) ↦ unfiled_one fault is
 ]

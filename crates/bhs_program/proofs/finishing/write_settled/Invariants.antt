@@ -10,6 +10,6 @@ abbrev pub invariant-loop-number : goal.invariant-loop-number
 invariant-loop-number g l = record {
   status : (l.status ≡ DONE) ⊎ IsOfFault l.status;
   filed : l.status ≡ DONE
-      → AllByRecursion (HasReplay (known_takes g.F.File.Write.contents)) (drop l.number l.settled)
-      → AllByRecursion (HasReplay (known_takes g.F.File.Write.contents)) l.settled;
+      → AllByRecursion (HasReplay (known_takes g.F.File.Write.contents) l.schedule) (drop l.number l.settled)
+      → AllByRecursion (HasReplay (known_takes g.F.File.Write.contents) l.schedule) l.settled;
 }

@@ -20,6 +20,9 @@ returns-in-Check g c = rw c.in-Check.is (does (refl, c.check.ensures))
 pub returns-in-Judge : goal.returns-in-Judge
 returns-in-Judge g c = rw c.in-Judge.is (does (refl, c.print_verdict.ensures))
 
+pub returns-in-Appeal : goal.returns-in-Appeal
+returns-in-Appeal g c = rw c.in-Appeal.is (does (refl, c.print_appealed_verdict.ensures))
+
 pub returns-in-Table : goal.returns-in-Table
 returns-in-Table g c = rw c.in-Table.is (does (refl, rw c.all.ensures at c.print_table.ensures))
 

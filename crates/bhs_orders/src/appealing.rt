@@ -1,0 +1,125 @@
+//! The verdict on the match of a replay, if its deliveries were made at their turns.
+
+ghost use Rattle.std.specs.Prelude.{◌≡◌, ◌↔◌, IsTrue, IfOk, IfErr, OnOk};
+ghost use Rattle.bhs_orders.specs.Appeals.{own_head, Appeals, IsOnTime, IsWrongWith};
+
+use crate::appeal_faults::AppealFault;
+use crate::checking::lineup_of;
+use crate::faults::{Fault, report};
+use crate::judging::verdict_line;
+use crate::replays::match_of;
+use crate::showing::show_made;
+use crate::turn_files::turns_of;
+use crate::turns::first_fall;
+use bhs_command_line::Appeal;
+use bhs_deal::{Dealer, first_late};
+use bhs_lineup::{Lineup, Ready};
+use bhs_match::Sealed;
+use bhs_net::Memory;
+use bhs_referee::judge;
+use bhs_replay::head_of;
+use bhs_stream::Output;
+use bhs_time::ScheduleKind;
+use std::alloc::Global;
+use std::io::Write;
+use std::rt::Files;
+
+/// Reads a replay, the turns of its events and a tournament, and prints the verdict on the replay's match as a line, if
+/// it is the match of that number in the tournament and each of its deliveries was made in time. A fault goes to
+/// `errors` and ends it. The answer is the exit status.
+pub fn print_appealed_verdict<F: Files, W: Output, E: Write>(
+    alloc: Global,
+    files: &F,
+    replay: &str,
+    appeal: &Appeal,
+    writer: &mut W,
+    errors: &mut E,
+) -> u8
+    ensures { Appeals W.takes W.flushes appeal.now.game writer.old writer.new result }
+{
+    let sealed = match match_of(alloc, files, replay, errors) {
+        Ok(sealed) => sealed,
+        Err(status) => return status,
+    };
+    let events = sealed.log().len();
+    let turns = match turns_of(alloc, files, appeal.turns.as_str(), events, errors) {
+        Ok(turns) => turns,
+        Err(status) => return status,
+    };
+    let lineup = match lineup_of(alloc, files, appeal.tournament.as_str(), errors) {
+        Ok(lineup) => lineup,
+        Err(status) => return status,
+    };
+    match compared(alloc, &lineup, appeal.game, &sealed, &turns) {
+        Ok(()) => show_made(verdict_line(alloc, judge(&sealed)), writer, errors),
+        Err(fault) => report(blamed(replay, appeal, fault), fault, errors),
+    }
+}
+
+// The name of the file that a fault is about.
+fn blamed<'a>(replay: &'a str, appeal: &'a Appeal, fault: Fault) -> &'a str {
+    match fault {
+        Fault::NoMatch { .. } | Fault::Appeal(AppealFault::Adaptive) => appeal.tournament.as_str(),
+        Fault::Appeal(AppealFault::Count { .. } | AppealFault::Falls { .. }) => {
+            appeal.turns.as_str()
+        }
+        _ => replay,
+    }
+}
+
+// Compares a replay and its turns with the match of this number of a tournament.
+fn compared(
+    alloc: Global,
+    lineup: &Lineup,
+    game: u16,
+    sealed: &Sealed,
+    turns: &[u32],
+) -> Result<(), Fault>
+    ensures on_time { OnOk result (IsOnTime (record {
+      lineup = lineup.now;
+      game = game;
+      play = sealed.now;
+      turns = turns.now;
+    })) }
+    ensures wrong { IfErr result (IsWrongWith (record {
+      lineup = lineup.now;
+      game = game;
+      play = sealed.now;
+      turns = turns.now;
+    })) }
+{
+    let Some(ready) = lineup.ready.get(usize::from(game)) else {
+        return Err(Fault::NoMatch { game });
+    };
+    let ScheduleKind::Oblivious(delays) = lineup.schedule else {
+        return Err(Fault::Appeal(AppealFault::Adaptive));
+    };
+    if !is_same_match(alloc, sealed, ready)? {
+        return Err(Fault::Appeal(AppealFault::Other { game }));
+    }
+    let events = sealed.log().len();
+    if turns.len() != events {
+        return Err(Fault::Appeal(AppealFault::Count {
+            turns: turns.len(),
+            events,
+        }));
+    }
+    if let Some(place) = first_fall(turns) {
+        return Err(Fault::Appeal(AppealFault::Falls { place }));
+    }
+    let dealer = Dealer::new(lineup.seed, u64::from(game));
+    match first_late(alloc, sealed, turns, delays, &dealer)? {
+        Some(place) => Err(Fault::Appeal(AppealFault::Late { place })),
+        None => Ok(()),
+    }
+}
+
+// Whether a match that has ended has the head of a match that is ready.
+fn is_same_match(alloc: Global, sealed: &Sealed, ready: &Ready) -> Result<bool, Memory>
+    ensures { IfOk result (λ same. IsTrue same ↔ (own_head sealed.now.net sealed.now.setup
+        ≡ own_head ready.now.game.net ready.now.game.setup)) }
+{
+    let own = head_of(alloc, sealed.net(), sealed.setup())?;
+    let other = head_of(alloc, ready.game.net(), ready.game.setup())?;
+    Ok(own.as_str() == other.as_str())
+}

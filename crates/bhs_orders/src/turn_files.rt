@@ -1,0 +1,109 @@
+//! Files of the turns of matches' events.
+
+ghost use Rattle.std.specs.Prelude.{◌≡◌, ◌⊎◌, IfOk, IfErr, OnOk, string_bytes};
+ghost use Rattle.bhs_stream.specs.Streams.{known_takes};
+ghost use Rattle.bhs_orders.specs.Fault.{IsOfFault};
+ghost use Rattle.bhs_orders.specs.Naming.{turns_name};
+ghost use Rattle.bhs_orders.specs.Showing.{Took};
+ghost use Rattle.bhs_orders.specs.Turns.{turns_text};
+ghost use Rattle.bhs_orders.specs.declared.statuses.TheConstants.{DONE};
+
+use crate::faults::{Fault, report};
+use crate::replays::put_in_place;
+use crate::statuses::DONE;
+use crate::turns::{turns_in, turns_text};
+use bhs_model::{MAX_TEXT, MAX_TURNS};
+use bhs_net::Memory;
+use bhs_stream::{read_text, send};
+use std::alloc::Global;
+use std::fs;
+use std::io::Write;
+use std::rt::Files;
+
+// How many bytes the line of a turn has at most.
+const LONGEST: usize = 11;
+
+/// Writes the turns of the events of the match of this number to a file, whose name is the prefix with the number and
+/// `.turns`. Any fault is reported. The answer is the exit status.
+pub fn write_turns<F: Files, E: Write>(
+    alloc: Global,
+    files: &F,
+    prefix: &str,
+    number: usize,
+    turns: &[u32],
+    errors: &mut E,
+) -> u8
+    ensures filed { result ≡ DONE → Took (known_takes F.File.contents) (turns_text turns.now) }
+    ensures status { result ≡ DONE ⊎ IsOfFault result }
+{
+    let Ok(name) = turns_name(alloc, prefix, number) else {
+        return report(prefix, Fault::Memory, errors);
+    };
+    match write_file(alloc, files, name.as_str(), turns) {
+        Ok(()) => DONE,
+        Err(fault) => report(name.as_str(), fault, errors),
+    }
+}
+
+/// The name of the file of the turns of a match's events.
+pub(crate) fn turns_name(alloc: Global, prefix: &str, number: usize) -> Result<String, Memory>
+    ensures { IfOk result (λ name. string_bytes name ≡ turns_name prefix.now number) }
+{
+    format!(in alloc; "{prefix}{number}.turns")
+}
+
+// Writes turns to a file of this name, which has the whole text or what it had before.
+fn write_file<F: Files>(alloc: Global, files: &F, name: &str, turns: &[u32]) -> Result<(), Fault>
+    ensures { OnOk result (Took (known_takes F.File.contents) (turns_text turns.now)) }
+{
+    let Ok(new) = format!(in alloc; "{name}.new") else {
+        return Err(Fault::Memory);
+    };
+    match write_new(alloc, files, new.as_str(), turns) {
+        Ok(()) => put_in_place(files, new.as_str(), name),
+        Err(fault) => {
+            let _ = fs::remove_file(files, new.as_str());
+            Err(fault)
+        }
+    }
+}
+
+// Writes turns to a new file of this name.
+fn write_new<F: Files>(alloc: Global, files: &F, name: &str, turns: &[u32]) -> Result<(), Fault>
+    ensures { OnOk result (Took (known_takes F.File.contents) (turns_text turns.now)) }
+{
+    let text = turns_text(alloc, turns)?;
+    let Ok(mut file) = fs::create(files, name) else {
+        return Err(Fault::Write);
+    };
+    send(&mut file, text.as_str().as_bytes())?;
+    Ok(())
+}
+
+/// The turns of a file of at most as many events, or the exit status of a fault that was reported.
+pub(crate) fn turns_of<F: Files, E: Write>(
+    alloc: Global,
+    files: &F,
+    name: &str,
+    events: usize,
+    errors: &mut E,
+) -> Result<Vec<u32>, u8>
+    ensures { IfErr result IsOfFault }
+{
+    match read_turns(alloc, files, name, events) {
+        Ok(turns) => Ok(turns),
+        Err(fault) => Err(report(name, fault, errors)),
+    }
+}
+
+fn read_turns<F: Files>(
+    alloc: Global,
+    files: &F,
+    name: &str,
+    events: usize,
+) -> Result<Vec<u32>, Fault> {
+    let mut file = fs::open(files, name)?;
+    let longest = events.saturating_mul(LONGEST).saturating_add(MAX_TEXT);
+    let text = read_text(alloc, &mut file, longest, MAX_TURNS)?;
+    turns_in(alloc, &text)
+}
