@@ -44,7 +44,7 @@ BENCHMARK = TOP / "crates" / "bhs_bench" / "out" / "bhs_bench"
 DEBIANS_PYTHON = "/usr/bin/python3"
 HEAD = """# Figures
 
-What was measured, on which machine and commit, and beside what. `python3 bench/figures.py` runs the benchmarks and
+What was measured, on which machine and commit, and beside what. `python3 -m bench.figures` runs the benchmarks and
 writes this page; `--only NAME` measures one section anew. The other sections were measured by the commands that they
 name, and written by hand in the same form. Times depend on the machine and on what else it does: compare figures of one
 section only.
