@@ -296,6 +296,17 @@ class Exploring(InFolder):
             self.assertEqual(self.command("--network", "ring:3", "--agent", RING.words), 130)
         self.assertIn("stopped before all were visited; no schedule failed until then", self.said)
 
+    def test_it_is_told_how_long_the_program_works(self) -> None:
+        game, fixture = self.game("--network", "ring:4", "--hole", "1", "--agent", RING.words)
+        machines, told = Machines(fixture, game.agents, 5), mock.Mock()
+        machines.start()
+        try:
+            with mock.patch("lab.search.asking.PAUSE", 0.01):
+                asked(program(), fixture, machines, 1_000_000, lambda count: None, told)
+        finally:
+            machines.stop()
+        self.assertRegex(told.call_args.args[0], r"^the program works for \d+ s and takes \d+ MB$")
+
     def test_what_has_no_name_is_told_by_name(self) -> None:
         self.command("--network", "ring:3", "--hole", 1, *self.odd("sorts"))
         self.assertRegex(self.said, r"\d+ times history stands for what a program holds: the stack of ")
