@@ -20,30 +20,14 @@ from lab.search.explore import End, explored
 from lab.search.following import follow
 from lab.search.machines import Machines
 from lab.search.pasts import NoFunction
-from lab.tests.playing import AGENTS, KNOWN_MAP, MAP, RING, InFolder, program
+from lab.tests.playing import AGENTS, FAULTY, KNOWN_MAP, MAP, RING, InFolder, program
 
 THEOREM = "every schedule solves (a theorem about programs that are functions of what they hold, as they answered here)"
 # how many drawn machines are compared
 DRAWN = 60
-ODD = '''
+ODD = FAULTY + '''
 import hashlib
-from client import MatchOver, Spent
-
-
-def raises(agent, key):
-    agent.enter(key)
-    raise KeyError("west")
-
-
-def refused(agent, key):
-    agent.enter(key)
-    while True:
-        try:
-            agent.depart(9)
-        except Spent:
-            pass
-        except Exception:
-            pass
+from client import Spent
 
 
 def polls(agent, key):
@@ -57,13 +41,6 @@ def counts(agent, key):
     looks = 0
     while True:
         looks += 1
-        agent.look()
-
-
-def sleeps(agent, key, sleep):
-    agent.enter(key)
-    while True:
-        sleep(1)
         agent.look()
 
 
@@ -90,14 +67,6 @@ def knows_and_naps(agent, key, sleep):
     knows(agent, key)
     sleep(1)
     sleep(1)
-
-
-def crashes_at_the_end(agent, key):
-    agent.enter(key)
-    try:
-        agent.depart(1)
-    except MatchOver:
-        raise AttributeError("nothing was seen")
 
 
 def crashes_on_its_link(agent, key, sleep):
@@ -263,7 +232,7 @@ class Exploring(InFolder):
                 (["knows"], "", ""), (["knows_and_naps"], "", ""),
                 (["knows_and_raises"], "under a schedule agent 0 fails", "agent 0: raises KeyError: 'east'"),
                 (["knows_and_sleeps"], "under a schedule agent 0 fails", f"agent 0: {STUCK}"),
-                (["knows", "crashes_at_the_end"], at_the_end, "agent 1: raises AttributeError: nothing was seen"),
+                (["knows", "crashes_when_it_is_over 1"], at_the_end, "agent 1: raises AttributeError: nothing was seen"),
                 (["knows", "crashes_on_its_link"], "under a schedule agent 1 fails",
                  "agent 1: raises AttributeError: nobody is told"),
                 (["knows", "stays_outside"], f"under a schedule agent 1 {STUCK}", f"agent 1: {STUCK}")):
