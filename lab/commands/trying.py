@@ -63,7 +63,8 @@ def run(wanted: Wanted) -> int:
     try:
         with bar(None, "answer") as shown:
             for fixture in fixtures:
-                tried = Tried(fixture, asked(wanted.program, fixture, machines, wanted.states, shown.update))
+                found = asked(wanted.program, fixture, machines, wanted.states, shown.update, shown.set_postfix_str)
+                tried = Tried(fixture, found)
                 shown.clear()
                 all_tried.append(beside(wanted, tried, shown))
                 print(line_of(all_tried[-1]), flush=True)

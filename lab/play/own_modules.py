@@ -48,7 +48,7 @@ def random_from(seed: int) -> ModuleType:
 
 
 class OwnModules:
-    """The modules of one agent. Used by `with` around each of its turns; it begins in its first."""
+    """The modules of one agent. Used by `with` around each of its turns, or around many; it begins in its first."""
 
     def __init__(self, seed: int) -> None:
         self.random = random_from(seed)
@@ -58,6 +58,7 @@ class OwnModules:
         self._shared: Dict[str, ModuleType] = {}
         self._path: List[str] = []
         self._count = 0
+        self._depth = 0
 
     def begin(self, folders: Sequence[str], files: Collection[str] = ()) -> None:
         """From now on modules in these folders are the agent's own, but for these files, which all agents share."""
@@ -69,12 +70,19 @@ class OwnModules:
 
     def __enter__(self) -> "OwnModules":
         LOADING.acquire()
+        self._depth += 1
+        if self._depth > 1:
+            return self
         self._path, self._shared = sys.path[:], {}
         if self._own:
             self._put(self._own)
         return self
 
     def __exit__(self, *_: object) -> None:
+        self._depth -= 1
+        if self._depth:
+            LOADING.release()
+            return
         if self._own and self._count != len(sys.modules):
             names = own_names(self._folders, self._files)
             self._own = {name: sys.modules[name] for name in names} | {RANDOM: self.random}

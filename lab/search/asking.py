@@ -3,6 +3,7 @@ import json
 import pathlib
 import subprocess
 import tempfile
+import threading
 import time
 from typing import Any, Callable, Dict, List, NamedTuple, Optional
 
@@ -15,6 +16,8 @@ SOLVES, FAILS, BREAKS, ENDLESS, EXCEEDS = "solves", "fails", "breaks", "endless"
 TOO_MANY = "states"
 STOPPED, MORE = "stopped", "more states than were to be visited"
 Found = Dict[str, Any]
+# seconds between two looks at the program while it works
+PAUSE = 1.0
 
 
 class Answered(NamedTuple):
@@ -51,7 +54,42 @@ class Run:
         return line + step.line + b"\n" if step.does == "says" else line
 
 
-def asked(program: str, fixture: Fixture, machines: Machines, most: int, shown: Callable[[int], None]) -> Answered:
+class Watch:
+    """Says now and then how long the program works and how much memory it takes, also while it asks nothing."""
+
+    def __init__(self, child: "subprocess.Popen[bytes]", said: Callable[[str], None]) -> None:
+        self._child, self._said, self._started = child, said, time.monotonic()
+        self._ended = threading.Event()
+        self._thread = threading.Thread(target=self._watch, daemon=True)
+
+    def __enter__(self) -> None:
+        self._thread.start()
+
+    def __exit__(self, *_: object) -> None:
+        self._ended.set()
+        self._thread.join()
+
+    def _watch(self) -> None:
+        while not self._ended.wait(PAUSE):
+            seconds = time.monotonic() - self._started
+            self._said(f"the program works for {seconds:.0f} s and takes {megabytes_of(self._child.pid)} MB")
+
+
+def megabytes_of(pid: int) -> int:
+    """How much memory a process takes; 0 once it has ended."""
+    try:
+        status = pathlib.Path(f"/proc/{pid}/status").read_text(encoding="utf-8")
+    except OSError:
+        return 0
+    return next((int(line.split()[1]) // 1024 for line in status.splitlines() if line.startswith("VmRSS")), 0)
+
+
+def silent(_text: str) -> None:
+    """Shows nothing."""
+
+
+def asked(program: str, fixture: Fixture, machines: Machines, most: int, shown: Callable[[int], None],
+          said: Callable[[str], None] = silent) -> Answered:
     """Lets the program try all schedules of a match, and answers its questions. Ctrl-C stops it."""
     started, run, last, errors = time.monotonic(), Run(machines), [], b""
     with tempfile.TemporaryDirectory(prefix="lab-") as name:
@@ -60,15 +98,16 @@ def asked(program: str, fixture: Fixture, machines: Machines, most: int, shown: 
         child = subprocess.Popen(words, cwd=name, stdin=subprocess.PIPE, stdout=subprocess.PIPE, stderr=subprocess.PIPE)
         assert child.stdin and child.stdout
         try:
-            for line in child.stdout:
-                said = json.loads(line)
-                if "begin" in said or "ask" in said:
-                    child.stdin.write(run.answer(said))
-                    child.stdin.flush()
-                    shown(1)
-                else:
-                    last.append(said)
-            _, errors = child.communicate()
+            with Watch(child, said):
+                for line in child.stdout:
+                    told = json.loads(line)
+                    if "begin" in told or "ask" in told:
+                        child.stdin.write(run.answer(told))
+                        child.stdin.flush()
+                        shown(1)
+                    else:
+                        last.append(told)
+                _, errors = child.communicate()
         except BrokenPipeError:
             # the program has ended, and says why
             _, errors = child.communicate()
@@ -80,7 +119,7 @@ def asked(program: str, fixture: Fixture, machines: Machines, most: int, shown: 
                 child.communicate()
     if len(last) == 2:
         return Answered(last[0], last[1], time.monotonic() - started)
-    told = text_of_fault(errors)
-    if told == f"host: {TOO_MANY}":
+    fault = text_of_fault(errors)
+    if fault == f"host: {TOO_MANY}":
         return Answered(None, {}, time.monotonic() - started, MORE)
-    raise Refused(told, child.returncode)
+    raise Refused(fault, child.returncode)

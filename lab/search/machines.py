@@ -7,10 +7,11 @@ program up to there, and names what the program holds then. Of an agent inside t
 no name is named by what was named last and all that has happened since; `unnamed` counts these.
 """
 import collections
+import contextlib
 import hashlib
 import json
 import pathlib
-from typing import Any, Dict, List, NamedTuple, Optional, OrderedDict, Tuple
+from typing import Any, ContextManager, Dict, List, NamedTuple, Optional, OrderedDict, Tuple
 
 from lab.play import programs
 from lab.play.agent_files import AGENTS, CLIENT
@@ -128,8 +129,12 @@ class Machines:
         """A program that is played from its start up to a memory."""
         agent, all_news = self.way_to(memory)
         one = self._begun(agent)
-        for news in all_news:
-            self._tell(one, news)
+        modules: ContextManager[Any] = contextlib.nullcontext()
+        if isinstance(one.player, Player):
+            modules = one.player.modules
+        with modules:
+            for news in all_news:
+                self._tell(one, news)
         if self._step(one) != self.steps[memory]:
             raise NoFunction(f"agent {agent} does something else when it is played again: explore needs agents that "
                              "are functions of what they are told")

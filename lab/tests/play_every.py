@@ -20,30 +20,14 @@ from lab.search.explore import End, explored
 from lab.search.following import follow
 from lab.search.machines import Machines
 from lab.search.pasts import NoFunction
-from lab.tests.playing import AGENTS, KNOWN_MAP, MAP, RING, InFolder, program
+from lab.tests.playing import AGENTS, FAULTY, KNOWN_MAP, MAP, RING, InFolder, program
 
 THEOREM = "every schedule solves (a theorem about programs that are functions of what they hold, as they answered here)"
 # how many drawn machines are compared
 DRAWN = 60
-ODD = '''
+ODD = FAULTY + '''
 import hashlib
-from client import MatchOver, Spent
-
-
-def raises(agent, key):
-    agent.enter(key)
-    raise KeyError("west")
-
-
-def refused(agent, key):
-    agent.enter(key)
-    while True:
-        try:
-            agent.depart(9)
-        except Spent:
-            pass
-        except Exception:
-            pass
+from client import Spent
 
 
 def polls(agent, key):
@@ -57,13 +41,6 @@ def counts(agent, key):
     looks = 0
     while True:
         looks += 1
-        agent.look()
-
-
-def sleeps(agent, key, sleep):
-    agent.enter(key)
-    while True:
-        sleep(1)
         agent.look()
 
 
@@ -90,14 +67,6 @@ def knows_and_naps(agent, key, sleep):
     knows(agent, key)
     sleep(1)
     sleep(1)
-
-
-def crashes_at_the_end(agent, key):
-    agent.enter(key)
-    try:
-        agent.depart(1)
-    except MatchOver:
-        raise AttributeError("nothing was seen")
 
 
 def crashes_on_its_link(agent, key, sleep):
@@ -263,7 +232,7 @@ class Exploring(InFolder):
                 (["knows"], "", ""), (["knows_and_naps"], "", ""),
                 (["knows_and_raises"], "under a schedule agent 0 fails", "agent 0: raises KeyError: 'east'"),
                 (["knows_and_sleeps"], "under a schedule agent 0 fails", f"agent 0: {STUCK}"),
-                (["knows", "crashes_at_the_end"], at_the_end, "agent 1: raises AttributeError: nothing was seen"),
+                (["knows", "crashes_when_it_is_over 1"], at_the_end, "agent 1: raises AttributeError: nothing was seen"),
                 (["knows", "crashes_on_its_link"], "under a schedule agent 1 fails",
                  "agent 1: raises AttributeError: nobody is told"),
                 (["knows", "stays_outside"], f"under a schedule agent 1 {STUCK}", f"agent 1: {STUCK}")):
@@ -295,6 +264,17 @@ class Exploring(InFolder):
         with mock.patch("lab.search.asking.Run.answer", side_effect=KeyboardInterrupt):
             self.assertEqual(self.command("--network", "ring:3", "--agent", RING.words), 130)
         self.assertIn("stopped before all were visited; no schedule failed until then", self.said)
+
+    def test_it_is_told_how_long_the_program_works(self) -> None:
+        game, fixture = self.game("--network", "ring:4", "--hole", "1", "--agent", RING.words)
+        machines, told = Machines(fixture, game.agents, 5), mock.Mock()
+        machines.start()
+        try:
+            with mock.patch("lab.search.asking.PAUSE", 0.01):
+                asked(program(), fixture, machines, 1_000_000, lambda count: None, told)
+        finally:
+            machines.stop()
+        self.assertRegex(told.call_args.args[0], r"^the program works for \d+ s and takes \d+ MB$")
 
     def test_what_has_no_name_is_told_by_name(self) -> None:
         self.command("--network", "ring:3", "--hole", 1, *self.odd("sorts"))

@@ -20,12 +20,12 @@ from lab.rules.model import Verdict
 from lab.rules.networks import ring
 from lab.rules.rehearsal import Rehearsal
 from lab.search import explore, hunt, pasts
-from lab.tests.playing import MAP, RING, fixture, program
+from lab.tests.playing import FAULTY, MAP, RING, fixture, program
 
 WORST = {3: 4, 4: 9, 5: 14, 6: 23}
 BY_MODEL = ("--search", "model")
 # agents that do something else although they are told the same, or have other faults
-ODD = '''
+ODD = FAULTY + '''
 import random
 from ring import Search, Walker
 
@@ -35,28 +35,10 @@ def drawn(agent, key, nodes):
         agent.look()
     Search(walker, nodes).run()
 
-def raises(agent, key):
-    agent.enter(key)
-    raise KeyError("west")
-
 def computes(agent, key):
     agent.enter(key)
     while True:
         pass
-
-def refused(agent, key):
-    agent.enter(key)
-    while True:
-        try:
-            agent.depart(9)
-        except Exception:
-            pass
-
-def sleeps(agent, key, sleep):
-    agent.enter(key)
-    while True:
-        sleep(1)
-        agent.look()
 '''
 
 

@@ -12,10 +12,10 @@ from unittest import mock
 from lab.__main__ import main, parser
 from lab.commands.words import game_of
 from lab.search import explore
-from lab.tests.playing import RING
+from lab.tests.playing import FAULTY, RING
 
 # The black hole of ring:3 is node 1. One agent walks by node 2, writes x and then y at home, and accuses.
-AGENTS = '''
+AGENTS = FAULTY + '''
 def works(agent, key):
     agent.enter(key)
     agent.depart(1)
@@ -69,21 +69,6 @@ def solves(agent, key):
     agent.enter(key)
     agent.depart(1)
     agent.accuse(1)
-
-def crashes_when_it_is_over(agent, key):
-    agent.enter(key)
-    try:
-        agent.depart(0)
-    except Exception:
-        raise AttributeError("nothing was seen")
-
-def retries(agent, key):
-    agent.enter(key)
-    while True:
-        try:
-            agent.depart(7)
-        except Exception:
-            pass
 
 def closes(agent, key):
     agent.enter(key)
@@ -160,7 +145,7 @@ class Sleepers(unittest.TestCase):
                 self.assertEqual((end.has_failed, end.verdict.outcome), wanted)
 
     def test_both_call_the_same_a_failure(self) -> None:
-        agents = {"crashes_when_it_is_over": ("solves", True), "retries": ("solves", True), "closes": ("solves", False),
+        agents = {"crashes_when_it_is_over 0": ("solves", True), "refused": ("solves", True), "closes": ("solves", False),
                   "wants_news_at_each_wake": ("touches", False), "sleeps_before_it_enters": ("touches", False)}
         for name, (other, fails) in agents.items():
             for match in (["--hole", "1"], ["--home", "1", "--hole", "2"]):

@@ -20,6 +20,40 @@ RING = AgentWords(INSIDE, f"{AGENTS / 'ring.py'} {{nodes}}")
 MAP = AgentWords(INSIDE, f"{AGENTS / 'map.py'} {{nodes}} {{links}}")
 KNOWN_MAP = AgentWords(INSIDE, str(AGENTS / "known_map.py"))
 
+# agents with a fault each, which several tests play: the text of a file
+FAULTY = '''
+from client import MatchOver
+
+
+def raises(agent, key):
+    agent.enter(key)
+    raise KeyError("west")
+
+
+def refused(agent, key):
+    agent.enter(key)
+    while True:
+        try:
+            agent.depart(9)
+        except Exception:
+            pass
+
+
+def sleeps(agent, key, sleep):
+    agent.enter(key)
+    while True:
+        sleep(1)
+        agent.look()
+
+
+def crashes_when_it_is_over(agent, key, port):
+    agent.enter(key)
+    try:
+        agent.depart(port)
+    except MatchOver:
+        raise AttributeError("nothing was seen")
+'''
+
 
 def program() -> str:
     """The built program: ARENA_PROGRAM names it, as tools/play/lab_tests.py does."""
