@@ -2,14 +2,15 @@
 use Rattle.std.specs.Prelude.{ℕ, ◌≡◌, Bool, true, false, Some, None, List, [], ◌∷◌, codes, if◌then◌else◌, ◌==◌}
 use Rattle.std.specs.Prelude.{◌||◌, ◌+◌}
 use Rattle.bhs_model.specs.declared.commands.Command.TheVariants.{Enter, Write, Depart, Accuse, Leave}
-use Rattle.bhs_model.specs.declared.replies.Reply.TheVariants.{Here, Written, Gone}
+use Rattle.bhs_model.specs.declared.replies.Reply.TheVariants.{Here, Written, Gone, Bye, Over}
 use Rattle.bhs_model.specs.Examples.{triangle, none_held}
 use Rattle.bhs_referee.specs.declared.verdicts.Outcome.TheVariants.{Solved, Silent}
 use Rattle.bhs_explore.specs.declared.minds.Step.{Step}
-use Rattle.bhs_explore.specs.declared.minds.Step.TheVariants.{Says, Sleeps, Stops}
+use Rattle.bhs_explore.specs.declared.minds.Step.TheVariants.{Says, Sleeps, Stops, Fails}
 use Rattle.bhs_explore.specs.Minds.{Heard, Woke, Mind, Minds}
 use Rattle.bhs_explore.specs.Schedules.{Trial, under, can_move, verdict}
 use Rattle.bhs_explore.specs.Machines.{Machines, memory_at, minds_of}
+use Rattle.bhs_explore.specs.Everywhere.{step_after, step_when_over}
 use Rattle.bhs_explore.specs.Spending.{used_in}
 
 -- enters, goes to node 1, and accuses the link from there to node 2
@@ -36,6 +37,21 @@ writer history = Stops
 abbrev pub sleeper : Mind
 sleeper [] = Says Enter
 sleeper history = Sleeps
+
+-- enters, leaves, and fails once it has ended
+abbrev pub quitter : Mind
+quitter [] = Says Enter
+quitter (Heard Bye ∷ history) = Fails
+quitter history = Says Leave
+
+-- enters, goes into the black hole, and fails when it is told that the match is over
+abbrev pub careless : Mind
+careless (Heard Over ∷ history) = Fails
+careless history = victim history
+
+-- sleeps, and never enters
+abbrev pub dreamer : Mind
+dreamer history = Sleeps
 
 abbrev pub two : Mind → Mind → Minds
 two one other agent = if agent == 0 then one else other
@@ -116,3 +132,14 @@ WhatIsUsed =
     (used_in (on_triangle scout victim) (under (on_triangle scout victim) (0 ∷ 0 ∷ 0 ∷ [])) 0 ≡ 1)
     × (used_in (on_triangle scout victim) (under (on_triangle scout victim) (0 ∷ 0 ∷ 0 ∷ 0 ∷ [])) 0 ≡ 2)
     × (used_in (on_triangle scout victim) (under (on_triangle scout victim) (1 ∷ 1 ∷ 1 ∷ 1 ∷ [])) 1 ≡ 1)
+
+-- An agent fails once it has ended; another does when it is told on its link that the match is over, and not before; and
+-- one that never enters sleeps where nothing more can happen.
+abbrev pub AgentsFail : Type 0
+AgentsFail =
+    (step_after (on_triangle quitter victim) (0 ∷ []) 0 ≡ Says Leave)
+    × (step_after (on_triangle quitter victim) (0 ∷ 0 ∷ []) 0 ≡ Fails)
+    × (step_after (on_triangle scout careless) (1 ∷ 1 ∷ []) 1 ≡ Stops)
+    × (step_when_over (on_triangle scout careless) (1 ∷ 1 ∷ []) 1 ≡ Fails)
+    × (moves_left (on_triangle quitter dreamer) (0 ∷ 0 ∷ 1 ∷ []) ≡ (false, false))
+    × (step_after (on_triangle quitter dreamer) (0 ∷ 0 ∷ 1 ∷ []) 1 ≡ Sleeps)
