@@ -16,7 +16,6 @@ from lab.play import schedulers
 from lab.play.agent_files import AGENTS
 from lab.play.matches import play
 from lab.play.teams import INSIDE, AgentWords, Together
-from lab.rules.engines import TOP
 from lab.rules.fixtures import Fixture, fixture_of
 from lab.rules.model import Setup
 from lab.rules.networks import named

@@ -8,7 +8,6 @@ import functools
 import io
 import multiprocessing
 import os
-import pathlib
 import pickle
 import signal
 import subprocess

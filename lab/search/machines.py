@@ -16,7 +16,7 @@ from typing import Any, ContextManager, Dict, List, NamedTuple, Optional, Ordere
 from lab.play import programs
 from lab.play.agent_files import AGENTS, CLIENT
 from lab.play.matches import STUCK
-from lab.play.players import DENIALS, DONE, SLEEPS, TRAVELS, WAITS, Player, Team
+from lab.play.players import DONE, SLEEPS, TRAVELS, WAITS, Player, Team
 from lab.play.teams import INSIDE, AgentWords
 from lab.rules.fixtures import Fixture
 from lab.rules.model import GONE, LAST, OVER as TOLD_OVER, command_of, denial, spelled, text_of

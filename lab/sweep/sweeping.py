@@ -16,8 +16,7 @@ from lab.rules.engines import Differs, judged, name_of
 from lab.support.progress import along
 from lab.sweep import grid, report, verify
 from lab.sweep.grid import Case, Grid, NoSweep
-from lab.sweep.tables import (RUNS, NoTable, alone_in, cells_in, changed_in, checked, done_in, line_of, made_by, prepared,
-                        rows_in)
+from lab.sweep.tables import RUNS, NoTable, cells_in, changed_in, checked, done_in, line_of, made_by, rows_in
 
 SUMMARY, REPORT, WORST = "summary.csv", "report.html", "worst"
 # an agent may wait for a processor that has much other work: a row is not to depend on that

@@ -1,7 +1,6 @@
 """The lab from Python: rows, agents that are functions, networks that are graphs, searches with results, and pages."""
 import hashlib
 import json
-import pathlib
 import random
 import re
 import subprocess

@@ -4,13 +4,12 @@ import contextlib
 import io
 import os
 import pathlib
-import shutil
 import subprocess
 import tempfile
 import threading
 import time
 import unittest
-from typing import Any, Dict, List, Optional
+from typing import Any, Dict, List
 from unittest import mock
 
 from lab.__main__ import main

@@ -2,7 +2,6 @@
 poll, raise or are spent; and it agrees with the Python model's search of machines that are drawn."""
 import contextlib
 import io
-import json
 import random
 import subprocess
 from typing import Dict, List, Tuple
