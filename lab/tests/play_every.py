@@ -315,11 +315,15 @@ class Exploring(InFolder):
                 for seed in range(20):
                     follow(fixture, game.agents, machines, seed, 5)
 
-    def answered(self, fixture: Fixture, agents: List[AgentWords]) -> Answered:
+    def answered(self, fixture: Fixture, agents: List[AgentWords], check: int = 0) -> Answered:
+        """What the program answers. Then this many drawn schedules are followed."""
         machines = Machines(fixture, agents, 5)
         machines.start()
         try:
-            return asked(program(), fixture, machines, 1_000_000, lambda count: None)
+            answered = asked(program(), fixture, machines, 1_000_000, lambda count: None)
+            for seed in range(check):
+                follow(fixture, agents, machines, seed, 5)
+            return answered
         finally:
             machines.stop()
 
@@ -330,14 +334,14 @@ class Exploring(InFolder):
             naps = str(seed % 3)
             game, fixture = self.game("--network", "ring:3", "--hole", "2", "--naps", naps, *self.odd("knows"),
                                       *self.odd(f"ends {seed}"))
-            found, beside = self.both(game, fixture)
+            found, beside = self.both(game, fixture, check=2)
             kinds[found["found"]] = kinds.get(found["found"], 0) + 1
             self.assertEqual(found["found"] != "solves", beside.has_failed, (seed, found, beside))
         self.assertLessEqual({"solves", "breaks", "fails"}, set(kinds), kinds)
 
-    def both(self, game: Game, fixture: Fixture) -> Tuple[Found, End]:
+    def both(self, game: Game, fixture: Fixture, check: int = 0) -> Tuple[Found, End]:
         """What the program finds, and the worst end by the Python model."""
-        found = self.answered(fixture, game.agents).found
+        found = self.answered(fixture, game.agents, check).found
         beside = explored(fixture, game.agents, mock.Mock()).explorer.worst
         assert beside is not None and found is not None
         return found, beside
