@@ -201,7 +201,7 @@ def thirds_row(nodes: int, drawn: Mapping[Tuple[str, str], str], hunted: Mapping
             f"{counted.moves() / bound(nodes):.2f}", f"{counted.moves() / halves:.2f}"]
 
 
-RINGS_EXPLORED = (3, 4, 5, 6, 7, 8, 9, 16, 24, 27, 32)
+RINGS_EXPLORED = (3, 4, 5, 6, 7, 8, 9, 16, 24, 27, 32, 48)
 NETWORKS_EXPLORED = ("ring:8", "ring:16", "hypercube:3", "hypercube:4", "hypercube:5", "torus:3x3", "torus:4x4",
                      "torus:5x5", "torus:6x6", "random:16:deg3:seed1", "random:32:deg3:seed1")
 # more commands and more states than a match of these has
