@@ -15,5 +15,4 @@ pub mod InteractiveTournaments
 pub mod Answered
 pub mod Naming
 pub mod Turns
-pub mod HeldLinks
 pub mod Appeals

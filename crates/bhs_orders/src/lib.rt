@@ -10,7 +10,6 @@ mod discoveries;
 mod explaining;
 mod exploring;
 mod faults;
-mod held_links;
 mod hosts;
 mod interactive;
 mod judging;
