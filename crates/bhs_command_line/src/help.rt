@@ -428,17 +428,18 @@ This is what --port 4000 --turns 100000 --pause 5 --gather 60000 --early --log
 --replay cup says. If --replay is given, then --gather, --early and --log hold
 only where they are given, too.
 
-The server listens on port PORT, prints `listening PORT`, and serves who
-connects. A client's first line is the enter of an agent with its key, and each
-later line is one of the agent's commands. `arena rehearse --help` says what the
-lines are. Each is answered by a line, and an arrival comes as a line too. While
-the agent is on a link its lines wait.
+The server listens on port PORT, prints `listening PORT`, and serves all clients
+that connect. A client's first line is the enter of an agent with its key, and
+each later line is one of the agent's commands. `arena rehearse --help` says
+what the lines are. Each is answered by a line, and an arrival comes as a line
+too. While the agent is on a link its lines wait.
 
-Who has not entered uses up nothing. At most 256 clients wait to be let in, each
-for 10 seconds at most, and the oldest is cut off for one that comes. At most
-SESSIONS clients are connected. Who is not served is told so in a line: `full`
-if SESSIONS agents are connected, `late` if the first line did not come in time,
-`memory` if there is no memory or thread for one more.
+A client that has not entered uses up nothing. At most 256 of them wait to be
+let in, each for 10 seconds at most, and the oldest is cut off for one that
+comes. At most SESSIONS clients are connected. A client that is not served is
+told why in a line: `full` if SESSIONS agents are connected, `late` if its first
+line did not come in time, `memory` if there is no memory or thread for one
+more.
 
 Without --gather all matches begin at once, when the server listens. In each
 match a turn comes every PAUSE milliseconds: one of the agents on a link
