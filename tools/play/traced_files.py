@@ -101,7 +101,7 @@ def put_in_place(stage: Stage) -> None:
 @case("turns get their name once their text is on the disk, before the replay has its name")
 def turns_in_place(stage: Stage) -> None:
     schedule = 'version = 3\nschedule = "oblivious"\ndelay_scales = 0\ndelay_odds = 1\n'
-    steps = traced(stage, schedule + SEED.replace("version = 2\n", "") + RED, 60, enter("ra") + LEAVE)
+    steps = steps_of(traced(stage, schedule + SEED.replace("version = 2\n", "") + RED, 60, enter("ra") + LEAVE))
     wanted = [("write", "match0.turns.new"), ("sync", "match0.turns.new"),
               ("rename", "match0.turns.new", "match0.turns"), ("rename", "match0.jsonl.new", "match0.jsonl")]
     if [step for step in steps if step in wanted or "match0.turns" in step] != wanted:
