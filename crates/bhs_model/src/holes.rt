@@ -3,6 +3,7 @@
 ghost use Rattle.std.specs.Prelude.{◌≡◌, nat_eq};
 ghost use Rattle.std.specs.Cmp.{partial_equiv_from_equiv};
 ghost use Rattle.std.specs.Cmp.Lexicographic.{pointwise, nat_list_eq_equiv};
+ghost use Rattle.bhs_model.specs.Worlds.{is_hole};
 
 use bhs_net::Memory;
 use std::marker::Model;
@@ -27,6 +28,13 @@ impl Holes {
         ensures { result.now ≡ self.now }
     {
         &self.nodes
+    }
+
+    /// Whether this node is a black hole.
+    pub fn contains(&self, node: u16) -> bool
+        ensures { result ≡ is_hole self.now node }
+    {
+        self.nodes.iter().any(|hole| *hole == node)
     }
 }
 

@@ -82,6 +82,18 @@ impl Net {
         self.rows[usize::from(v)][usize::from(p)]
     }
 
+    /// The far end of the link at an end, a node and a port there; (0, 0) if there is no such port.
+    pub fn far_end(&self, end: (u16, u16)) -> (u16, u16)
+        ensures { result ≡ far_of self.now end.0 end.1 }
+    {
+        let (node, port) = end;
+        if node < self.nodes() && port < self.degree(node) {
+            self.far(node, port)
+        } else {
+            (0, 0)
+        }
+    }
+
     /// An equal network of its own.
     pub fn try_clone(&self, alloc: Global) -> Result<Net, AllocError>
         ensures { IfOk result (λ net. net ≡ self.now) }

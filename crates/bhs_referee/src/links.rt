@@ -1,38 +1,17 @@
-//! What is to be known of a link that was accused, which is named by a node and a port, and of the node behind it.
+//! What is to be known of a link that was accused, which is named by a node and a port.
 
 ghost use Rattle.std.specs.Prelude.{◌≡◌};
-ghost use Rattle.bhs_net.specs.Network.{far_of};
-ghost use Rattle.bhs_model.specs.Worlds.{is_hole};
 ghost use Rattle.bhs_model.specs.Setups.{world_of};
 ghost use Rattle.bhs_referee.specs.Verdicts.{is_same_link, is_over_dark, is_right};
 
 use bhs_model::Setup;
 use bhs_net::Net;
 
-/// The far end of a link; (0, 0) if there is no such port.
-pub fn far(net: &Net, link: (u16, u16)) -> (u16, u16)
-    ensures { result ≡ far_of net.now link.0 link.1 }
-{
-    let (node, port) = link;
-    if node < net.nodes() && port < net.degree(node) {
-        net.far(node, port)
-    } else {
-        (0, 0)
-    }
-}
-
-/// Whether this node is a black hole.
-pub fn is_hole(setup: &Setup, node: u16) -> bool
-    ensures { result ≡ is_hole setup.now.holes node }
-{
-    setup.holes.nodes().iter().any(|hole| *hole == node)
-}
-
 /// Whether two ends are of one link.
 pub(crate) fn is_same_link(net: &Net, setup: &Setup, link: (u16, u16), end: (u16, u16)) -> bool
     ensures { result ≡ is_same_link (world_of net.now setup.now) link end }
 {
-    end == link || far(net, end) == link
+    end == link || net.far_end(end) == link
 }
 
 /// Whether a link, named by a node and a port, is dark.
@@ -50,5 +29,5 @@ pub fn is_dark(net: &Net, setup: &Setup, link: (u16, u16)) -> bool
 pub(crate) fn is_right(net: &Net, setup: &Setup, link: (u16, u16)) -> bool
     ensures { result ≡ is_right (world_of net.now setup.now) link }
 {
-    is_hole(setup, far(net, link).0) || is_dark(net, setup, link)
+    setup.holes.contains(net.far_end(link).0) || is_dark(net, setup, link)
 }

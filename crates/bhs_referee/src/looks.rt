@@ -10,7 +10,7 @@ ghost use Rattle.bhs_model.specs.Marks.{events_of};
 ghost use Rattle.bhs_match.specs.Matches.{world_in, state_of};
 ghost use Rattle.bhs_referee.specs.Walks.{found_in};
 
-use crate::links::{far, is_dark, is_hole, is_right, is_same_link};
+use crate::links::{is_dark, is_right, is_same_link};
 use crate::walks::Walk;
 use bhs_agent::Standing;
 use bhs_match::Sealed;
@@ -40,7 +40,7 @@ fn is_hole_accused(net: &Net, setup: &Setup, walk: &Walk, hole: u16) -> bool
     ensures { result ≡ is_hole_accused (world_of net.now setup.now) (found_in walk.now) hole }
 {
     (0..setup.agents).any(|agent| match walk.accused(agent) {
-        Some(link) => hole == far(net, link).0,
+        Some(link) => hole == net.far_end(link).0,
         None => false,
     })
 }
@@ -108,7 +108,7 @@ pub(crate) fn is_past_dark(net: &Net, setup: &Setup, walk: &Walk) -> bool
 fn is_unreached(net: &Net, setup: &Setup, walk: &Walk, node: u16) -> bool
     ensures { result ≡ is_unreached (world_of net.now setup.now) (found_in walk.now) node }
 {
-    node != setup.home && !is_hole(setup, node) && !walk.is_reached(node)
+    node != setup.home && !setup.holes.contains(node) && !walk.is_reached(node)
 }
 
 /// The least such node.

@@ -18,7 +18,7 @@ use crate::reading::{Reading, read};
 use bhs_match::{Sealed, Site};
 use bhs_model::{Command, Event, Holes, Kept, Mark, Setup};
 use bhs_net::{Memory, Net};
-use bhs_referee::links::{far, is_dark, is_hole};
+use bhs_referee::is_dark;
 use std::alloc::Global;
 use thiserror::Error;
 
@@ -73,7 +73,7 @@ pub fn twin_of(alloc: Global, sealed: &Sealed, node: u16) -> Result<Sealed, Twin
     if node == setup.home {
         return Err(TwinFault::Home);
     }
-    if is_hole(setup, node) {
+    if setup.holes.contains(node) {
         return Err(TwinFault::Same);
     }
     if let Some(place) = first_arrival(log, sites, node) {
@@ -132,7 +132,7 @@ fn replaced(net: &Net, setup: &Setup, log: &[Kept], sites: &[Site]) -> Option<u1
 fn least_hole(net: &Net, setup: &Setup) -> Option<u16>
     ensures { result ≡ find (is_hole setup.now.holes) (range_with_len 0 (nodes_of net.now)) }
 {
-    (0..net.nodes()).find(|node| is_hole(setup, *node))
+    (0..net.nodes()).find(|node| setup.holes.contains(*node))
 }
 
 // The black hole that was first accused by a link that is not dark.
@@ -170,8 +170,8 @@ fn hole_at(net: &Net, setup: &Setup, kept: &Kept, site: Option<u16>) -> Option<u
 fn hole_beyond(net: &Net, setup: &Setup, node: u16, port: u16) -> Option<u16>
     ensures { result ≡ hole_beyond (world_of net.now setup.now) node port }
 {
-    let (there, _) = far(net, (node, port));
-    if is_hole(setup, there) && !is_dark(net, setup, (node, port)) {
+    let (there, _) = net.far_end((node, port));
+    if setup.holes.contains(there) && !is_dark(net, setup, (node, port)) {
         Some(there)
     } else {
         None
@@ -223,5 +223,5 @@ fn moved_holes(
 fn is_moved(setup: &Setup, old: Option<u16>, new: u16, node: u16) -> bool
     ensures { result ≡ is_moved setup.now.holes old new node }
 {
-    node == new || is_hole(setup, node) && old != Some(node)
+    node == new || setup.holes.contains(node) && old != Some(node)
 }
