@@ -7,6 +7,7 @@ pub mod Answering
 pub mod Playing
 pub mod Scenes
 pub mod Leading
+pub mod Waking
 pub mod Closing
 pub mod ClosedCharts
 pub mod Verdicts

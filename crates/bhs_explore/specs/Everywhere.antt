@@ -33,8 +33,8 @@ step_after trial schedule agent = trial.minds agent ((under trial schedule).hist
 abbrev pub step_when_over : Trial → (schedule : List ℕ) → (agent : ℕ) → Step
 step_when_over trial schedule agent = trial.minds agent (Heard Over ∷ (under trial schedule).history agent)
 
--- Under each schedule, at each time, no agent has failed. Once nothing more can happen, who waits on a link does not
--- fail when it is told that the match is over, and who has not entered does not sleep.
+-- Under each schedule, at each time, no agent has failed. Once nothing more can happen, an agent on a link
+-- does not fail when it is told that the match is over, and an agent that has not entered does not sleep.
 pub record NobodyFails (trial : Trial) : Type 0 where
   pub runs : (schedule : List ℕ) (agent : ℕ) → agent < trial.world.agents
       → step_after trial schedule agent ≢ steps.Fails

@@ -133,8 +133,8 @@ WhatIsUsed =
     × (used_in (on_triangle scout victim) (under (on_triangle scout victim) (0 ∷ 0 ∷ 0 ∷ 0 ∷ [])) 0 ≡ 2)
     × (used_in (on_triangle scout victim) (under (on_triangle scout victim) (1 ∷ 1 ∷ 1 ∷ 1 ∷ [])) 1 ≡ 1)
 
--- An agent fails once it has ended; another does when it is told on its link that the match is over, and not before; and
--- one that never enters sleeps where nothing more can happen.
+-- One agent fails once it has ended. Another fails when it is told on its link that the match is over, and not before.
+-- A third never enters and sleeps, though nothing more can happen.
 abbrev pub AgentsFail : Type 0
 AgentsFail =
     (step_after (on_triangle quitter victim) (0 ∷ []) 0 ≡ Says Leave)
