@@ -172,11 +172,12 @@ its agent's departure that released the agent. The replay must be one of match
 MATCH of the tournament. What does not fit is told as `FILE: FAULT`, and there is
 no verdict; places are counted from 0, as `arena explain` prints them:
 
-  late at place K    The delivery at place K was not made at its turn
-  turn of place K    The turn at place K is less than the one before it
-  T turns, E events  There must be as many turns as events
-  not match M        The replay is of another network or setup
-  adaptive           The tournament's schedule is adaptive, which has no turns";
+  late at place K       The delivery at place K was not made at its turn
+  held link at place K  It went over a link that the tournament holds
+  turn of place K       The turn at place K is less than the one before it
+  N turns, E events     There must be as many turns as events
+  not match M           The replay is of another network or setup
+  adaptive              The tournament's schedule is adaptive, which has no turns";
 
 pub(crate) const APPEAL_TURNS: &str =
     "Checks the deliveries by this file, which has the turn of each event";

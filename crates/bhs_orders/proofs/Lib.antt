@@ -10,3 +10,4 @@ pub mod LinkLemmas
 pub mod ListLemmas
 pub mod AnsweredLemmas
 pub mod TurnsLemmas
+pub mod HeldLemmas

@@ -65,6 +65,7 @@ not_done (Appeal appeals.Adaptive) e = omega arith
 not_done (Appeal (appeals.Other game)) e = omega arith
 not_done (Appeal (appeals.Count turns events)) e = omega arith
 not_done (Appeal (appeals.Falls place)) e = omega arith
+not_done (Appeal (appeals.Held place)) e = omega arith
 not_done (Appeal (appeals.Late place)) e = omega arith
 not_done Listen e = omega arith
 not_done Busy e = omega arith

@@ -14,11 +14,12 @@ use Rattle.bhs_lineup.specs.declared.lineups.Lineup.{Lineup}
 use Rattle.bhs_lineup.specs.declared.lineups.Ready.{Ready}
 use Rattle.bhs_replay.specs.Head.{head_line, version_of}
 use Rattle.bhs_orders.specs.Fault.{status}
+use Rattle.bhs_orders.specs.HeldLinks.{first_held}
 use Rattle.bhs_orders.specs.Reports.{IsReplayed, verdict_line}
 use Rattle.bhs_orders.specs.Showing.{Prints, Reports}
 use Rattle.bhs_orders.specs.Summary.{IsAssembled}
 use Rattle.bhs_orders.specs.Turns.{first_fall}
-use Rattle.bhs_orders.specs.declared.appeal_faults.AppealFault.TheVariants.{Adaptive, Other, Count, Falls, Late}
+use Rattle.bhs_orders.specs.declared.appeal_faults.AppealFault.TheVariants.{Adaptive, Other, Count, Falls, Held, Late}
 use Rattle.bhs_orders.specs.declared.faults.Fault.{Fault}
 use Rattle.bhs_orders.specs.declared.faults.Fault.TheVariants.{NoMatch, Appeal, Memory}
 
@@ -42,8 +43,8 @@ pub record IsSameMatch (one : Case) (ready : Ready) : Type 0 where
   pub there : slice_get one.lineup.ready.items one.game ≡ Some ready
   pub same : own_head one.play.net one.play.setup ≡ own_head ready.game.net ready.game.setup
 
--- The replay is of the tournament's match, which has the oblivious schedule. Each event has a turn, no turn is less than
--- the one before it, and each delivery was made in time.
+-- The replay is of the tournament's match, which has the oblivious schedule. Each event has a turn, no turn is less
+-- than the one before it, and each delivery was made in time and over a link that is not held.
 pub record IsOnTime (one : Case) : Type 0 where
   pub ready : Ready
   pub same : IsSameMatch one ready
@@ -51,7 +52,14 @@ pub record IsOnTime (one : Case) : Type 0 where
   pub oblivious : one.lineup.schedule ≡ kinds.Oblivious law
   pub count : length one.turns ≡ length one.play.log
   pub rises : first_fall one.turns ≡ None
+  pub free : first_held ready.held one.play ≡ None
   pub in_time : AreInTime (schedule_of one law) (world_in one.play) (stamps_in one.play.log one.turns)
+
+-- the delivery at this place is the first over a link that the tournament's match holds
+pub record IsHeldAt (one : Case) (place : ℕ) : Type 0 where
+  pub ready : Ready
+  pub there : slice_get one.lineup.ready.items one.game ≡ Some ready
+  pub found : first_held ready.held one.play ≡ Some place
 
 -- the delivery at this place is the first that was not made in time
 pub record IsLateAt (one : Case) (place : ℕ) : Type 0 where
@@ -68,7 +76,7 @@ pub record IsOtherMatch (one : Case) (game : ℕ) : Type 0 where
   pub number : game ≡ one.game
   pub other : own_head one.play.net one.play.setup ≢ own_head ready.game.net ready.game.setup
 
--- there are as many turns and as many events, and these are not equally many
+-- these are the numbers of turns and of events, and they differ
 pub record IsMiscounted (one : Case) (turns events : ℕ) : Type 0 where
   pub turns_are : turns ≡ length one.turns
   pub events_are : events ≡ length one.play.log
@@ -81,6 +89,7 @@ IsWrongWith one (Appeal Adaptive) = one.lineup.schedule ≡ kinds.Adaptive
 IsWrongWith one (Appeal (Other game)) = IsOtherMatch one game
 IsWrongWith one (Appeal (Count turns events)) = IsMiscounted one turns events
 IsWrongWith one (Appeal (Falls place)) = first_fall one.turns ≡ Some place
+IsWrongWith one (Appeal (Held place)) = IsHeldAt one place
 IsWrongWith one (Appeal (Late place)) = IsLateAt one place
 IsWrongWith one Memory = Unit {0}
 IsWrongWith one fault = ⊥

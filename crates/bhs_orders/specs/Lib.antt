@@ -15,4 +15,5 @@ pub mod InteractiveTournaments
 pub mod Answered
 pub mod Naming
 pub mod Turns
+pub mod HeldLinks
 pub mod Appeals

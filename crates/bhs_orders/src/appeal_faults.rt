@@ -21,6 +21,9 @@ pub enum AppealFault {
     /// The turn of the event at this place is less than the one before it.
     #[error("turn of place {place}")]
     Falls { place: usize },
+    /// The delivery at this place went over a held link.
+    #[error("held link at place {place}")]
+    Held { place: usize },
     /// The delivery at this place was not made at its turn.
     #[error("late at place {place}")]
     Late { place: usize },

@@ -6,6 +6,7 @@ ghost use Rattle.bhs_orders.specs.Appeals.{own_head, Appeals, IsOnTime, IsWrongW
 use crate::appeal_faults::AppealFault;
 use crate::checking::lineup_of;
 use crate::faults::{Fault, report};
+use crate::held_links::first_held;
 use crate::judging::verdict_line;
 use crate::replays::match_of;
 use crate::showing::show_made;
@@ -106,6 +107,9 @@ fn compared(
     }
     if let Some(place) = first_fall(turns) {
         return Err(Fault::Appeal(AppealFault::Falls { place }));
+    }
+    if let Some(place) = first_held(alloc, sealed, &ready.held)? {
+        return Err(Fault::Appeal(AppealFault::Held { place }));
     }
     let dealer = Dealer::new(lineup.seed, u64::from(game));
     match first_late(alloc, sealed, turns, delays, &dealer)? {

@@ -10,6 +10,7 @@ mod discoveries;
 mod explaining;
 mod exploring;
 mod faults;
+mod held_links;
 mod hosts;
 mod interactive;
 mod judging;
