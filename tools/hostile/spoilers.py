@@ -305,6 +305,8 @@ def two_servers(program: str, folder: pathlib.Path) -> None:
 
 # turns that take longer than any case
 LONG = 1_000_000
+# how the teams are ranked if blue has accused a wrong link and red nobody
+RANKED = ("  1 red              silent          0    0\n", "  2 blue             wrong           0    0\n")
 
 
 def closed_in(folder: pathlib.Path) -> List[str]:
@@ -362,7 +364,13 @@ def operator_closes_early(program: str, folder: pathlib.Path) -> None:
 
 @case("the operator is told how the contest stands: who is missing, the turns, the events, the teams ranked")
 def operator_asks(program: str, folder: pathlib.Path) -> None:
-    with serving(program, folder, turns=LONG, says=subprocess.PIPE) as server, \
+    # with a log the verdict on a match that was closed is the one that was told then
+    for options in ([], ["--log"]):
+        asks(program, folder, options)
+
+
+def asks(program: str, folder: pathlib.Path, options: Sequence[str]) -> None:
+    with serving(program, folder, *options, turns=LONG, says=subprocess.PIPE) as server, \
             server.connect(enter("blue-1") + b'{"do":"accuse","port":1}\n') as client:
         answer(client, 1000)
         with server.connect(enter("red-0")) as stays:
@@ -373,11 +381,10 @@ def operator_asks(program: str, folder: pathlib.Path) -> None:
             later = server.tells("  2 ")
     for line in (" serve: sessions 1, agents to come 2, open matches 2\n", " serve: match 0 (red) is open: turns ",
                  f" of {LONG} events 1\n", " serve: match 0 (red) misses agents 1\n",
-                 " serve: match 1 (blue) misses agents 0\n", " serve: if all matches were closed now:\n",
-                 "  1 red              silent          0    0\n", "  2 blue             wrong           0    0\n"):
+                 " serve: match 1 (blue) misses agents 0\n", " serve: if all matches were closed now:\n", *RANKED):
         if line not in told:
             raise Wrong(f"{line!r} is not told, but {told!r}")
-    for line in (", open matches 1\n", " serve: match 1 (blue) is closed: turns "):
+    for line in (", open matches 1\n", " serve: match 1 (blue) is closed: turns ", *RANKED):
         if line not in later:
             raise Wrong(f"{line!r} is not told, but {later!r}")
 

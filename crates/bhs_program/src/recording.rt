@@ -14,6 +14,7 @@ use bhs_host::table_by;
 use bhs_lock::Cell;
 use bhs_model::Text;
 use bhs_net::Memory;
+use bhs_referee::Verdict;
 use bhs_server::{Outside, Watch};
 use bhs_session::Ended;
 use std::alloc::Global;
@@ -189,14 +190,23 @@ impl<R: Keep + Wait + Clock> Recorder<'_, R> {
     // How the teams would be ranked if all matches were closed now.
     fn standings_now(&self, cells: &[Cell]) -> Result<String, Memory> {
         let mut verdicts = Vec::with_capacity(self.alloc, cells.len())?;
-        for cell in cells {
-            verdicts.push(judged_now(self.rt, self.alloc, cell)?)?;
+        for (game, cell) in cells.iter().enumerate() {
+            let game = u32::try_from(game).unwrap_or(u32::MAX);
+            verdicts.push(self.verdict_now(game, cell)?)?;
         }
         if verdicts.len() != self.scene.teams.len() {
             return Err(Memory);
         }
         let table = table_by(self.alloc, self.scene.teams, &verdicts)?;
         standings_lines(self.alloc, table.as_str())
+    }
+
+    // The verdict on a match if it were closed now. One that is closed was judged then, if that was told.
+    fn verdict_now(&self, game: u32, cell: &Cell) -> Result<Verdict, Memory> {
+        match self.standings.verdict(game) {
+            Some(verdict) => Ok(verdict),
+            None => judged_now(self.rt, self.alloc, cell),
+        }
     }
 
     // Counts a look: what went on before it.
@@ -256,6 +266,7 @@ impl<R: Keep + Wait + Clock> Watch for Recorder<'_, R> {
             let judged = judged(self.rt, self.alloc, cell);
             self.tell(match judged {
                 Ok(Some((events, verdict))) => {
+                    self.standings.show(game, verdict);
                     judged_line(self.alloc, game, team, turns, events, verdict)
                 }
                 _ => unjudged_line(self.alloc, game, team, turns),

@@ -2,6 +2,8 @@
 
 use bhs_lock::Cell;
 use bhs_net::Memory;
+use bhs_referee::Verdict;
+use bhs_standings::Showcase;
 use std::alloc::Global;
 use std::sync::{Mutex, Wait};
 
@@ -18,6 +20,8 @@ pub(crate) struct Standing {
 #[derive(Drop)]
 pub(crate) struct Standings {
     all: Mutex<Vec<Standing>>,
+    /// The verdicts on those that are closed.
+    verdicts: Showcase,
 }
 
 impl Standings {
@@ -30,8 +34,10 @@ impl Standings {
                 closed: None,
             })?;
         }
+        let games = u32::try_from(cells.len()).unwrap_or(u32::MAX);
         Ok(Standings {
             all: Mutex::new(all),
+            verdicts: Showcase::new(alloc, games)?,
         })
     }
 
@@ -47,6 +53,19 @@ impl Standings {
         if let Some(standing) = self.all.lock(rt).get_mut(game as usize) {
             standing.closed = Some(turns);
         }
+    }
+
+    /// Shows the verdict on a match that is closed. If there is no memory for it, it is not shown.
+    pub(crate) fn show(&self, game: u32, verdict: Verdict) {
+        if let Some(mut note) = self.verdicts.note(game) {
+            let _shown = self.verdicts.show(game, verdict, &mut note);
+        }
+    }
+
+    /// The verdict that is shown on a match, if there is one.
+    pub(crate) fn verdict(&self, game: u32) -> Option<Verdict> {
+        let mut note = self.verdicts.note(game)?;
+        self.verdicts.shown(game, &mut note)
     }
 
     /// A copy of what is known now.
