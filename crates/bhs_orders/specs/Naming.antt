@@ -13,6 +13,10 @@ turns_name prefix number = prefix ++ (decimal number ++ codes ".turns")
 abbrev pub part_name : (prefix : List ℕ) → (number : ℕ) → List ℕ
 part_name prefix number = prefix ++ (decimal number ++ codes ".jsonl.part")
 
+-- the file into which a file is written before it gets its name
+abbrev pub new_name : (name : List ℕ) → List ℕ
+new_name name = name ++ codes ".new"
+
 -- the file that a server locks while it writes replays of a prefix
 abbrev pub lock_name : (prefix : List ℕ) → List ℕ
 lock_name prefix = prefix ++ codes ".lock"

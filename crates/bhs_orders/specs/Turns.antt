@@ -33,12 +33,13 @@ IsRefusedText text (Line line) = ¬ IsOfTurns text
 IsRefusedText text Memory = Unit {0}
 IsRefusedText text fault = ⊥
 
--- the first place of a turn that is less than the one before it, where the first turn has this place and stands behind
--- that turn
+-- The first place of a turn that is less than the turn before it. The first turn in the list has the place `place`, and
+-- the turn before it is `before`.
 abbrev pub first_fall_from : (before place : ℕ) → List ℕ → Option ℕ
 first_fall_from before place [] = None
 first_fall_from before place (turn ∷ turns) =
     if nat_lt turn before then Some place else first_fall_from turn (place + 1) turns
 
+-- the first place of a turn that is less than the turn before it
 abbrev pub first_fall : List ℕ → Option ℕ
 first_fall turns = first_fall_from 0 0 turns

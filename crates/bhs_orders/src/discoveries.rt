@@ -1,7 +1,8 @@
 //! What is printed of the schedules that were tried.
 
 ghost use Rattle.std.specs.Prelude.{◌≡◌, IfOk, string_bytes};
-ghost use Rattle.bhs_orders.specs.Discoveries.{breaks_line, discovery, failure_text, fails_line, found_line, found_status};
+ghost use Rattle.bhs_orders.specs.Discoveries.{breaks_line, discovery, failure_text, fails_line};
+ghost use Rattle.bhs_orders.specs.Discoveries.{found_line, found_status};
 ghost use Rattle.bhs_orders.specs.Discoveries.{list_text};
 
 use crate::statuses::{DONE, FAILING, REFUSED_TEXT};

@@ -1,6 +1,6 @@
 //! Reading the replays that words name, and writing those of a rehearsal.
 
-ghost use Rattle.std.specs.Prelude.{◌≡◌, ◌⊎◌, IfOk, IfErr, OnOk, map, string_bytes};
+ghost use Rattle.std.specs.Prelude.{◌≡◌, ◌⊎◌, IfOk, IfErr, IsOk, OnOk, map, string_bytes};
 ghost use Rattle.std.specs.List.{AllByRecursion};
 ghost use Rattle.bhs_stream.specs.Streams.{known_takes};
 ghost use Rattle.bhs_stream.specs.Sending.{PutsAll};
@@ -8,7 +8,7 @@ ghost use Rattle.bhs_rehearsal.specs.Rehearsing.{game_of};
 ghost use Rattle.bhs_replay.specs.Replay.{replay_of};
 ghost use Rattle.bhs_orders.specs.Fault.{IsOfFault};
 ghost use Rattle.bhs_orders.specs.Filing.{first_status};
-ghost use Rattle.bhs_orders.specs.Naming.{replay_name};
+ghost use Rattle.bhs_orders.specs.Naming.{new_name, replay_name};
 ghost use Rattle.bhs_orders.specs.Playing.{StopsPlaying};
 ghost use Rattle.bhs_orders.specs.Rehearsal.{IsFiled};
 ghost use Rattle.bhs_orders.specs.Reports.{IsReplayed};
@@ -151,20 +151,38 @@ pub(crate) fn file_name(alloc: Global, prefix: &str, number: usize) -> Result<St
 fn write_file<F: Files>(alloc: Global, files: &F, name: &str, sealed: &Sealed) -> Result<(), Fault>
     ensures { OnOk result (Took (known_takes F.File.contents) (replay_of sealed.now)) }
 {
-    let Ok(new) = format!(in alloc; "{name}.new") else {
-        return Err(Fault::Memory);
-    };
-    match write_new(alloc, files, new.as_str(), sealed) {
-        Ok(()) => put_in_place(files, new.as_str(), name),
+    let new = new_name(alloc, name)?;
+    let written = write_new(alloc, files, new.as_str(), sealed);
+    put_or_removed(files, new.as_str(), name, written)
+}
+
+/// The name of the file into which a file of this name is written first.
+pub(crate) fn new_name(alloc: Global, name: &str) -> Result<String, Memory>
+    ensures { IfOk result (λ new. string_bytes new ≡ new_name name.now) }
+{
+    format!(in alloc; "{name}.new")
+}
+
+/// Gives a new file its name, if it was written; otherwise removes it, and tells the fault.
+pub(crate) fn put_or_removed<F: Files>(
+    files: &F,
+    new: &str,
+    name: &str,
+    written: Result<(), Fault>,
+) -> Result<(), Fault>
+    ensures { OnOk result (IsOk written) }
+{
+    match written {
+        Ok(()) => put_in_place(files, new, name),
         Err(fault) => {
-            let _ = fs::remove_file(files, new.as_str());
+            let _ = fs::remove_file(files, new);
             Err(fault)
         }
     }
 }
 
-/// Gives a file that was written its name, once its text is on the disk, and sees that the name is there too.
-pub(crate) fn put_in_place<F: Files>(files: &F, new: &str, name: &str) -> Result<(), Fault> {
+// Gives a file that was written its name, once its text is on the disk, and sees that the name is there too.
+fn put_in_place<F: Files>(files: &F, new: &str, name: &str) -> Result<(), Fault> {
     let Ok(file) = fs::open(files, new) else {
         return Err(Fault::Write);
     };

@@ -9,7 +9,7 @@ ghost use Rattle.bhs_orders.specs.Turns.{turns_text};
 ghost use Rattle.bhs_orders.specs.declared.statuses.TheConstants.{DONE};
 
 use crate::faults::{Fault, report};
-use crate::replays::put_in_place;
+use crate::replays::{new_name, put_or_removed};
 use crate::statuses::DONE;
 use crate::turns::{turns_in, turns_text};
 use bhs_model::{MAX_TEXT, MAX_TURNS};
@@ -56,16 +56,9 @@ pub(crate) fn turns_name(alloc: Global, prefix: &str, number: usize) -> Result<S
 fn write_file<F: Files>(alloc: Global, files: &F, name: &str, turns: &[u32]) -> Result<(), Fault>
     ensures { OnOk result (Took (known_takes F.File.contents) (turns_text turns.now)) }
 {
-    let Ok(new) = format!(in alloc; "{name}.new") else {
-        return Err(Fault::Memory);
-    };
-    match write_new(alloc, files, new.as_str(), turns) {
-        Ok(()) => put_in_place(files, new.as_str(), name),
-        Err(fault) => {
-            let _ = fs::remove_file(files, new.as_str());
-            Err(fault)
-        }
-    }
+    let new = new_name(alloc, name)?;
+    let written = write_new(alloc, files, new.as_str(), turns);
+    put_or_removed(files, new.as_str(), name, written)
 }
 
 // Writes turns to a new file of this name.

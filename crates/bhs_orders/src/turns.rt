@@ -27,7 +27,7 @@ fn turn_line(alloc: Global, turn: u32) -> Result<String, Memory>
     format!(in alloc; "{turn}\n")
 }
 
-/// The turns of a text, or the first line, counted from 1, that is none.
+/// The turns that a text spells, or the number of its first wrong line, counted from 1.
 pub fn turns_in(alloc: Global, text: &[u8]) -> Result<Vec<u32>, Fault>
     ensures read { IfOk result (λ turns. turns_text turns.items ≡ text.now) }
     ensures refused { IfErr result (IsRefusedText text.now) }

@@ -20,7 +20,8 @@ returns c n small is =
     let read = parse-decimal 32 n c.in-Ok.text.now c.parse.result (omega arith) (omega arith)
     (c.in-Ok.ensures.cases.0 ∙ sym is) c.parse.ensures.value.0 in
     let same : c.in-Ok-parse.turn ≡ n = cc in
-    let written : c.as_str.result.now ≡ decimal c.in-Ok-parse.turn = c.as_str.ensures.value ∙ c.in_ok-spelled.ensures.ok in
+    let written : c.as_str.result.now ≡ decimal c.in-Ok-parse.turn =
+    c.as_str.ensures.value ∙ c.in_ok-spelled.ensures.ok in
     let alike : c.as_str.result.now ≡ c.in-Ok.text.now =
     written ∙ ap decimal same ∙ is ∙ sym c.in-Ok.ensures.cases.0 in
     let equal : bytes_eq c.as_str.result.now c.in-Ok.text.now ≡ true =

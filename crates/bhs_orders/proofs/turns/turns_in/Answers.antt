@@ -10,17 +10,20 @@ returns-in_default-2-clause-refused c =
     let (line, is) = c.wrong_line.ensures in
     subst (λ (fault : Fault). IsRefusedText c.args.text.now fault) (sym is)
     (λ of.
-    let on = continues c.in-Some.line.now c.in-Some.more.now c.loop-line.after.now c.in-Some.ensures.0 c.in-Some.ensures.1 (c.loop-line.invariant.left of) in
+    let on = continues c.in-Some.line.now c.in-Some.more.now c.loop-line.after.now c.in-Some.ensures.0
+    c.in-Some.ensures.1 (c.loop-line.invariant.left of) in
     (rw c.in_default-2.is at c.in_ok-turn.ensures) on.turn on.small on.spelled)
 
 pub loop-line-preserved : goal.loop-line-preserved
 loop-line-preserved c = record {
   so_far =
-      let grown : c.push.new.self.items ≡ c.loop-line.turns.items ++ c.in-Some-2.turn ∷ [] = grind (arith, common_steps) in
+      let grown : c.push.new.self.items ≡ c.loop-line.turns.items ++ c.in-Some-2.turn ∷ [] =
+      grind (arith, common_steps) in
       ap (λ (turns : List ℕ). turns_text turns ++ c.in-Some.more.now) grown
       ∙ one_read c.loop-line.turns.items c.in-Some-2.turn c.in-Some.line.now c.in-Some.more.now c.loop-line.after.now
       c.args.text.now (rw c.in-Some-2.is at c.in_ok-turn.ensures) c.in-Some.ensures.0 c.loop-line.invariant.so_far;
-  left = λ of. (continues c.in-Some.line.now c.in-Some.more.now c.loop-line.after.now c.in-Some.ensures.0 c.in-Some.ensures.1 (c.loop-line.invariant.left of)).others;
+  left = λ of. (continues c.in-Some.line.now c.in-Some.more.now c.loop-line.after.now c.in-Some.ensures.0
+      c.in-Some.ensures.1 (c.loop-line.invariant.left of)).others;
 }
 
 pub returns-else-is_empty-clause-refused : goal.returns-else-is_empty-clause-refused
