@@ -26,8 +26,6 @@ from lab.search import asking
 from lab.search.machines import Machines
 
 TOP = pathlib.Path(__file__).resolve().parents[1]
-
-
 PROGRAM = os.environ.get("ARENA", str(TOP / "arena"))
 AGENTS = TOP / "examples" / "agents"
 # seconds between two looks at the memory of the program

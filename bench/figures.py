@@ -36,8 +36,6 @@ from typing import Callable, Dict, Iterable, List, NamedTuple, Optional, Sequenc
 from lab.support import built
 
 TOP = pathlib.Path(__file__).resolve().parent.parent
-
-
 PAGE = TOP / "bench" / "FIGURES.md"
 BENCHMARK = TOP / "crates" / "bhs_bench" / "out" / "bhs_bench"
 # only Debian's Python has Debian's packages, which the lab needs

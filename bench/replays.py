@@ -36,8 +36,6 @@ from bench.inputs import MAX_AGENTS, MAX_BOARD, MAX_QUOTA, Run, median_run, run,
 from lab.rules.model import spelled
 
 TOP = pathlib.Path(__file__).resolve().parent.parent
-
-
 PROGRAM = TOP / "crates" / "bhs_main" / "out" / "bhs_main"
 SIDE = 16
 NODES = SIDE * SIDE

@@ -11,8 +11,6 @@ from typing import Iterator, List, Sequence
 from examples.contest import arena, free_port
 
 TOP = pathlib.Path(__file__).resolve().parent.parent
-
-
 MAX_SESSIONS = 1024
 START = 20
 

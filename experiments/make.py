@@ -28,6 +28,7 @@ import re
 import subprocess
 import sys
 import tempfile
+import textwrap
 import time
 import tomllib
 from typing import Callable, Dict, List, Mapping, NamedTuple, Sequence, Tuple
@@ -43,6 +44,8 @@ from lab.support.built import TOP
 EXPERIMENTS = TOP / "experiments"
 DOCUMENT = TOP / "docs" / "EXPERIMENTS.md"
 AGENTS = "examples/agents"
+# how wide a line of the document is at most
+WIDTH = 120
 RING, MAP = f"{AGENTS}/ring.py {{nodes}}", f"{AGENTS}/map.py {{nodes}} {{links}}"
 RING3 = f"{AGENTS}/ring3.py {{nodes}}"
 KNOWN_MAP = f"{AGENTS}/known_map.py"
@@ -302,7 +305,7 @@ def text_of(made: Made, seconds: float, player: str) -> str:
     search = "The Python model searched. " if made.is_searched else ""
     taken = f"{seconds:.0f} s" if seconds < 120 else f"{seconds / 60:.0f} min"
     said = f"{search}Engine: {player}. {taken} on {datetime.date.today()}, {machine()}. Commit {commit()}."
-    return f"{markdown(made.rows)}\n\n{said}\n{commands}\n"
+    return f"{markdown(made.rows)}\n\n{textwrap.fill(said, WIDTH)}\n{commands}\n"
 
 
 def written(document: str, name: str, text: str) -> str:

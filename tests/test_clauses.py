@@ -7,8 +7,6 @@ from typing import Dict, Set
 from tools.prove.clauses import contract_of, crates_given, functions_in, without_clause
 
 TOP = pathlib.Path(__file__).resolve().parents[1]
-
-
 HEADING = "## Functions without a clause"
 
 

@@ -26,8 +26,9 @@ debian, manual, wheel = release.debian, release.manual, release.wheel
 PROJECT = (TOP / "pyproject.toml").read_bytes()
 READABLE, RUNNABLE = wheel.READABLE, wheel.RUNNABLE
 RELEASED = {
-    "README.md": "read\n", "CHANGELOG.md": "changes\n", "docs/PROOFS.md": "claims\n", "lab/support/built.py": "built = 1\n",
-    "lab/README.md": "# The lab\n", "examples/agents/ring.py": "agent\n", "examples/contest.py": "contest\n",
+    "README.md": "read\n", "CHANGELOG.md": "changes\n", "docs/PROOFS.md": "claims\n",
+    "lab/support/built.py": "built = 1\n", "lab/README.md": "# The lab\n", "examples/agents/ring.py": "agent\n",
+    "examples/contest.py": "contest\n",
     "BUILD": "arena 1.2.3, proved\n", "PROVED.txt": "proved\n", "VERSION": "1.2.3\n", "tools/version.py": "",
     "SHA256SUMS": "sums\n",
 }

@@ -1,4 +1,5 @@
-"""Grades the programs of a course: plays the matches, makes the schedules of failed ones small, and writes the results."""
+"""Grades the programs of a course: plays the matches, makes the schedules of failed ones small, and writes the
+results."""
 import contextlib
 import hashlib
 import pathlib

@@ -1,4 +1,5 @@
-"""Engines: what plays a match, line by line. The proved program is one, the Python model (lab/rules/rehearsal.py) another."""
+"""Engines: what plays a match, line by line. The proved program is one, the Python model (lab/rules/rehearsal.py)
+another."""
 import os
 import pathlib
 import subprocess

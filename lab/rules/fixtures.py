@@ -45,7 +45,8 @@ def checked(setup: Setup) -> Setup:
     if not 1 <= setup.quota <= MOST_QUOTA:
         raise NoMatch(f"an agent has 1 to {MOST_QUOTA} commands, and not {setup.quota}: name another number by --quota")
     if not 0 <= setup.board <= MOST_BOARD:
-        raise NoMatch(f"a whiteboard has 0 to {MOST_BOARD} bytes, and not {setup.board}: name another number by --board")
+        raise NoMatch(f"a whiteboard has 0 to {MOST_BOARD} bytes, and not {setup.board}: name another number by "
+                      "--board")
     if any(not 0 <= node < setup.nodes for v, _, w, _ in setup.links for node in (v, w)):
         raise NoMatch(f"a link has an end that does not exist: nodes are 0 to {setup.nodes - 1}")
     if not 0 <= setup.home < setup.nodes:

@@ -30,7 +30,6 @@ TOO_DEEP = 128
 # a number of more digits is read as a fraction is
 LONG = 20
 
-
 ENCODER = json.JSONEncoder(sort_keys=True, separators=(",", ":"), ensure_ascii=False)
 
 

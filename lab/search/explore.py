@@ -1,7 +1,7 @@
 """Tries every schedule of a match: the states of the Python model, each visited once.
 
-Two matches go on alike once each agent has met the same and each whiteboard says the same. A step that neither reads nor
-writes a whiteboard meets nobody, and is taken at once.
+Two matches go on alike once each agent has met the same and each whiteboard says the same. A step that neither reads
+nor writes a whiteboard meets nobody, and is taken at once.
 """
 import time
 from array import array

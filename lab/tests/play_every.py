@@ -231,7 +231,8 @@ class Exploring(InFolder):
                 (["knows"], "", ""), (["knows_and_naps"], "", ""),
                 (["knows_and_raises"], "under a schedule agent 0 fails", "agent 0: raises KeyError: 'east'"),
                 (["knows_and_sleeps"], "under a schedule agent 0 fails", f"agent 0: {STUCK}"),
-                (["knows", "crashes_when_it_is_over 1"], at_the_end, "agent 1: raises AttributeError: nothing was seen"),
+                (["knows", "crashes_when_it_is_over 1"], at_the_end,
+                 "agent 1: raises AttributeError: nothing was seen"),
                 (["knows", "crashes_on_its_link"], "under a schedule agent 1 fails",
                  "agent 1: raises AttributeError: nobody is told"),
                 (["knows", "stays_outside"], f"under a schedule agent 1 {STUCK}", f"agent 1: {STUCK}")):

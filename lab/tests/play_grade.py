@@ -166,7 +166,8 @@ class Grading(InFolder):
         file = self.folder / "course.toml"
         file.write_text(HEAD + team("dice", ["dice.py"], "python3 dice.py {port} {key}", 1))
         self.graded(file, "out", "--engine", "model")
-        self.assertIn("something else although they are told the same", (self.folder / "out" / "team-dice.html").read_text())
+        page = self.folder / "out" / "team-dice.html"
+        self.assertIn("something else although they are told the same", page.read_text())
 
 
 # an agent that writes a number by chance on the whiteboard

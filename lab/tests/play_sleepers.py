@@ -145,8 +145,9 @@ class Sleepers(unittest.TestCase):
                 self.assertEqual((end.has_failed, end.verdict.outcome), wanted)
 
     def test_both_call_the_same_a_failure(self) -> None:
-        agents = {"crashes_when_it_is_over 0": ("solves", True), "refused": ("solves", True), "closes": ("solves", False),
-                  "wants_news_at_each_wake": ("touches", False), "sleeps_before_it_enters": ("touches", False)}
+        agents = {"crashes_when_it_is_over 0": ("solves", True), "refused": ("solves", True),
+                  "closes": ("solves", False), "wants_news_at_each_wake": ("touches", False),
+                  "sleeps_before_it_enters": ("touches", False)}
         for name, (other, fails) in agents.items():
             for match in (["--hole", "1"], ["--home", "1", "--hole", "2"]):
                 with self.subTest(name, match=match):

@@ -37,7 +37,8 @@ class Setups(unittest.TestCase):
 
 class Versions(unittest.TestCase):
     def test_later_versions_are_written_only_if_the_earlier_ones_cannot_say_it(self) -> None:
-        for setup, file, replay in ((RIGHT, 2, 2), (RIGHT._replace(quota=1001), 3, 3), (RIGHT._replace(board=4097), 3, 3),
+        for setup, file, replay in ((RIGHT, 2, 2), (RIGHT._replace(quota=1001), 3, 3),
+                                    (RIGHT._replace(board=4097), 3, 3),
                                     (RIGHT._replace(quota=65_535, board=65_535), 3, 3)):
             with self.subTest(setup=setup):
                 text = tournament_text(SEED, [(fixture_of(setup), "network.toml")])

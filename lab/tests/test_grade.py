@@ -19,7 +19,6 @@ from lab.sweep.grid import NoSweep
 HEAD = 'title = "T"\nnetworks = ["ring:4", "ring:5"]\n'
 TEAM = '[[team]]\nname = "a"\nfiles = ["agent.py"]\ncommand = "python3 agent.py {port} {key}"\n'
 
-
 SECRET = "0123456789abcdef"
 
 

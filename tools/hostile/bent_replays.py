@@ -28,8 +28,6 @@ from lab.rules.model import PRESENT, Match, Object
 from tools.play.drawn_rehearsals import ready_by_chance
 
 TOP = pathlib.Path(__file__).resolve().parents[2]
-
-
 REPLAYS, SEED, WORKERS = 10_000, 0, 2
 COMMANDS = ("judge", "explain", "twin")
 LONG = 3000

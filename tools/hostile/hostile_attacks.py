@@ -20,8 +20,6 @@ from tools.hostile.session_lines import (BYE, DEPART, HERE, LEAVE, LOOK, LOOKS, 
                                          NO_TAKEN, WRITTEN)
 
 TOP = pathlib.Path(__file__).resolve().parents[2]
-
-
 HOST = "127.0.0.1"
 POLITE, HOSTILE = 0, 1
 STRANGER = MAX_AGENTS - 1
@@ -32,7 +30,6 @@ HALF_OPEN, RESETS, FLOODS, DEAF, BURST = 8, 8, 20, 4, 32
 WAITING = 200
 SMALL_BUFFER = 4096
 MOST_UNREAD = 32 * MIB
-
 
 DEEP = 30_000
 # lines that are no commands

@@ -32,8 +32,6 @@ from typing import Any, Dict, List, Sequence
 from lab.sweep import tables
 
 TOP = pathlib.Path(__file__).resolve().parents[2]
-
-
 AGENTS, MUTANT = TOP / "examples" / "agents", TOP / "lab" / "mutants" / "reads_once.py"
 HEAD = """title = "A hostile course"
 networks = ["ring:24", "ring:48", "ring:64"]

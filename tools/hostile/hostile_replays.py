@@ -20,8 +20,6 @@ from typing import BinaryIO, Iterator, List, NamedTuple, Tuple
 from bench.inputs import MIB, peak_of_child
 
 TOP = pathlib.Path(__file__).resolve().parents[2]
-
-
 HEAD = (b'{"agents":2,"board":8,"dark":[],"holes":[2],"home":0,"links":[[0,0,1,0],[0,1,2,1],[1,1,2,0]],'
         b'"nodes":3,"quota":10,"replay":2}\n')
 ENTER = b'{"agent":0,"do":"enter","reply":{"board":"","from":null,"ok":"here","ports":2}}\n'

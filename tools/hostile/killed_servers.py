@@ -31,8 +31,6 @@ from examples.contest import free_port
 from tools.play.program_cases import SEED, TRIANGLE
 
 TOP = pathlib.Path(__file__).resolve().parents[2]
-
-
 MATCH = """
 [[match]]
 team = "{team}"

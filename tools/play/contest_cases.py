@@ -16,8 +16,6 @@ from tools.play.program_cases import MATCH, SEED, TABLE_HEAD, TRIANGLE, case, wr
 from tools.play.program_rows import DONE, FAILED_STREAM, PATIENCE, REFUSED_TEXT, Run, Stage, Wrong, expect
 
 TOP = pathlib.Path(__file__).resolve().parents[2]
-
-
 TWO_TEAMS = SEED + MATCH.format(network="tri.toml", key="r") + MATCH.format(network="tri.toml", key="b").replace(
     '"red"', '"blue"')
 # seconds: what the matches last, what sessions have left then, and within which the server is to have ended

@@ -19,8 +19,6 @@ from tools import version
 from tools.prove import unproved
 
 TOP = pathlib.Path(__file__).resolve().parents[2]
-
-
 EXAMPLES = TOP / "examples"
 CONTEST = "examples/contest.py"
 TEAMS = 4

@@ -21,8 +21,6 @@ from typing import Callable, Dict, List, Optional, Sequence, Set, Tuple
 from bench.inputs import network, tournament
 
 TOP = pathlib.Path(__file__).resolve().parents[2]
-
-
 LISTS, WORKERS = 10_000, 4
 MIN_NODES, MAX_NODES = 3, 256
 REFUSED = 3

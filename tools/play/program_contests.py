@@ -20,8 +20,6 @@ from tools.play.program_cases import case
 from tools.play.program_rows import PATIENCE, Run, Stage, Wrong, expect
 
 TOP = pathlib.Path(__file__).resolve().parents[2]
-
-
 SEED = bytes(range(32))
 TURNS, PAUSE = 400, 5
 # a contest in which the wrong words could have made the deliveries too, as on a machine that is too slow, says nothing

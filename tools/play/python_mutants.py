@@ -3,10 +3,10 @@ leagues and statistics.
 
     python3 -m tools.play.python_mutants [NUMBER ..]
 
-Each mutant of MUTANTS is one change to one file, in a copy of the repository's Python, and the tests that stand nearest
-are run on it, by Debian's Python: they must fail. It first runs all of these tests on the copy as it is: they must pass.
-It is for trying by hand, not for the gate. The last line reads `N found, M not found`, and the exit status is 1 if one
-is not found.
+Each mutant of MUTANTS is one change to one file, in a copy of the repository's Python, and the tests that stand
+nearest are run on it, by Debian's Python: they must fail. It first runs all of these tests on the copy as it is: they
+must pass. It is for trying by hand, not for the gate. The last line reads `N found, M not found`, and the exit status
+is 1 if one is not found.
 """
 import pathlib
 import shutil
@@ -41,28 +41,32 @@ MUTANTS = (
     Mutant("lab/rules/model.py", "agent.standing == PRESENT for agent", "agent.standing == AWAY for agent", MODEL),
     Mutant("lab/rules/model.py", "if not accused or not named", "if not named", MODEL),
     Mutant("lab/play/server.py", "enumerate(ranked, 1)", "enumerate(ranked)", "tests.test_bench"),
-    Mutant("lab/play/server.py", "sorted(rows, key=lambda row: rank(row[1], row[0]))", "list(rows)", "tests.test_bench"),
+    Mutant("lab/play/server.py", "sorted(rows, key=lambda row: rank(row[1], row[0]))", "list(rows)",
+           "tests.test_bench"),
     Mutant("lab/pages/screen.py", "return (len(RANKS),)", "return (-1,)", "lab.tests.test_screen"),
     Mutant("lab/pages/contest_pages.py", "(len(RANKS), 0, 0, shown.team)", "(0, 0, 0, shown.team)",
            "lab.tests.play_contest_pages"),
     Mutant("lab/play/schedulers.py", "paces.setdefault((agent.node, agent.port), chance.choice(PACES))",
            "chance.choice(PACES)", MATCHES),
-    Mutant("lab/play/schedulers.py", "if choice.do != ARRIVE:\n            return 1", "if choice.do == ARRIVE:\n            "
-           "return 1", MATCHES),
+    Mutant("lab/play/schedulers.py", "if choice.do != ARRIVE:\n            return 1",
+           "if choice.do == ARRIVE:\n            return 1", MATCHES),
     Mutant("lab/rules/networks.py", "not {(one, two), (two, one)} & set(pairs)", "(one, two) not in pairs",
            "lab.tests.test_networks"),
     Mutant("lab/rules/networks.py", "for v in path[:-1] + path[1:]:", "for v in path[:-1]:", "lab.tests.test_networks"),
     Mutant("lab/course/league.py", "return -self.solved, self.moves, self.lost", "return -self.solved, self.lost, "
            "self.moves", GRADE),
-    Mutant("lab/course/league.py", "return -self.solved, self.moves, self.lost", "return -self.solved, self.moves", GRADE),
-    Mutant("lab/course/league.py", "sum(int(row[\"lost\"]) for row in solved)", "sum(int(row[\"lost\"]) for row in own)",
+    Mutant("lab/course/league.py", "return -self.solved, self.moves, self.lost", "return -self.solved, self.moves",
            GRADE),
-    Mutant("lab/course/league.py", "place=1 + ranks.index(standing.rank())", "place=ranks.index(standing.rank())", GRADE),
+    Mutant("lab/course/league.py", 'sum(int(row["lost"]) for row in solved)', 'sum(int(row["lost"]) for row in own)',
+           GRADE),
+    Mutant("lab/course/league.py", "place=1 + ranks.index(standing.rank())", "place=ranks.index(standing.rank())",
+           GRADE),
     Mutant("lab/sweep/statistic.py", "/ math.sqrt(count)", "/ count", SWEEP),
     Mutant("lab/sweep/statistic.py", "method=\"inclusive\"", "method=\"exclusive\"", SWEEP),
     Mutant("lab/sweep/report.py", "max(rows, key=lambda row: int(row[\"moves\"]))", "max(rows, key=lambda row: "
            "row[\"moves\"])", SWEEP),
-    Mutant("lab/sweep/report.py", 'row["outcome"] == "solved" and not row["fault"]', 'row["outcome"] == "solved"', SWEEP),
+    Mutant("lab/sweep/report.py", 'row["outcome"] == "solved" and not row["fault"]', 'row["outcome"] == "solved"',
+           SWEEP),
     Mutant("lab/sweep/tables.py", "or cells[CHECK] != check_of(cells)", "", SWEEP),
 )
 
@@ -105,8 +109,8 @@ def main(given: List[str]) -> int:
             mutant = MUTANTS[number]
             found = is_found(folder, mutant)
             left += not found
-            print(f"{number} {'found' if found else 'NOT FOUND'}: {mutant.file}: {mutant.after.strip() or mutant.before}",
-                  flush=True)
+            told, shown = "found" if found else "NOT FOUND", mutant.after.strip() or mutant.before
+            print(f"{number} {told}: {mutant.file}: {shown}", flush=True)
     print(f"{len(chosen) - left} found, {left} not found")
     return 1 if left else 0
 

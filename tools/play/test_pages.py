@@ -21,8 +21,6 @@ from lab.rules.networks import hypercube
 from lab.tests.playing import MAP, RING, fixture, played, ring_fixture
 
 TOP = pathlib.Path(__file__).resolve().parents[2]
-
-
 WIDE, PHONE = (1200, 1000), (390, 844)
 SECONDS_TO_OPEN = 10
 MILLISECONDS_OF_A_STEP = 50

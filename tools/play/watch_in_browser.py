@@ -20,8 +20,6 @@ from selenium.webdriver.support.ui import WebDriverWait
 from examples import contest
 
 TOP = pathlib.Path(__file__).resolve().parents[2]
-
-
 SIZES = {"wide": (1600, 1000), "tablet": (800, 1000), "phone": (400, 850)}
 SECONDS = 60
 

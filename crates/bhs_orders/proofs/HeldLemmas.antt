@@ -1,5 +1,6 @@
 -- A pass over a log that looks for a Deliver over a held link.
-use Rattle.std.proofs.Common.{ℕ, ◌≡◌, ◌<◌, true, Option, Some, None, List, length, get_or, drop, drop-cons, arith, subst}
+use Rattle.std.proofs.Common.{ℕ, ◌≡◌, ◌<◌, true, Option, Some, None, List, length, get_or, drop, drop-cons, arith}
+use Rattle.std.proofs.Common.{subst}
 use Rattle.std.proofs.lemmas.Bool.{cond-true}
 use Rattle.bhs_model.specs.declared.marks.Kept.{Kept}
 use Rattle.bhs_orders.specs.HeldLinks.{goes_over_held, held_from}

@@ -1,6 +1,6 @@
 -- Which delivery of a log went over a held link.
-use Rattle.std.specs.Prelude.{ℕ, ◌+◌, Bool, false, Option, Some, None, List, [], ◌∷◌, if◌then◌else◌, replicate, slice_get}
-use Rattle.std.specs.Prelude.{slice_set}
+use Rattle.std.specs.Prelude.{ℕ, ◌+◌, Bool, false, Option, Some, None, List, [], ◌∷◌, if◌then◌else◌, replicate}
+use Rattle.std.specs.Prelude.{slice_get, slice_set}
 use Rattle.bhs_model.specs.declared.commands.Command.TheVariants.{Depart}
 use Rattle.bhs_model.specs.declared.events.Event.{Event}
 use Rattle.bhs_model.specs.declared.events.Event.TheVariants.{Tell, Deliver}
@@ -10,8 +10,8 @@ use Rattle.bhs_model.specs.Sites.{sites}
 use Rattle.bhs_match.specs.Matches.{Play, world_in}
 use Rattle.bhs_deal.specs.Links.{held_in}
 
--- The links by which agents last departed, by agent, after an event that was said at this site. A link is a node and the
--- port by which the agent left it.
+-- The links by which agents last departed, by agent, after an event that was said at this site. A link is a node and
+-- the port by which the agent left it.
 abbrev pub links_after : List (Option (ℕ × ℕ)) → Event → (site : Option ℕ) → List (Option (ℕ × ℕ))
 links_after links (Tell agent (Depart port)) (Some node) = slice_set links agent (Some (node, port))
 links_after links event site = links

@@ -38,9 +38,9 @@ pub fn lock_name(alloc: Global, prefix: &str) -> Result<String, Memory>
 }
 
 /// Begins the part of each match's replay with the head of the replay. Files of an earlier contest under the names of
-/// the replays, turns and parts first get `.old` behind their names, or `.old2`, or the next number that is free: so none
-/// is taken for a new one, and none is ever replaced. The first fault goes to `errors` and ends it: the answer is then its
-/// exit status.
+/// the replays, turns and parts first get `.old` behind their names, or `.old2`, or the next number that is free: so
+/// none is taken for a new one, and none is ever replaced. The first fault goes to `errors` and ends it: the answer is
+/// then its exit status.
 pub fn begin_parts<F: Files, E: Write>(
     alloc: Global,
     files: &F,

@@ -29,8 +29,8 @@ pub(crate) struct Finished {
     pub(crate) settled: Vec<Settled>,
 }
 
-/// Writes the replay of each match that settled, and under the oblivious schedule its turns. If all settled, their table
-/// is shown; otherwise the first that did not is reported.
+/// Writes the replay of each match that settled, and under the oblivious schedule its turns. If all settled, their
+/// table is shown; otherwise the first that did not is reported.
 pub(crate) fn finish<R: Files + Threads + Sync, W: Output, E: Write>(
     alloc: Global,
     rt: &R,

@@ -32,7 +32,8 @@ lines_along log (one ∷ rest) = ap (λ lines. kept_line log one ∷ lines) (lin
 
 pub replay-along : (play : Play) → map (λ one. read_if play.log one.mark) play.log ≡ replies (world_in play)
     (events_of play.log)
-    → replay_of play ≡ (head_line (version_of play.net play.setup) play.net play.setup ++ 10 ∷ []) ++ left_of play.log play.log
+    → replay_of play ≡ (head_line (version_of play.net play.setup) play.net play.setup ++ 10 ∷ [])
+    ++ left_of play.log play.log
 replay-along play answered =
     ap (λ text. (head_line (version_of play.net play.setup) play.net play.setup ++ 10 ∷ []) ++ text)
     (ap₂ (λ (lines : List (List ℕ)) (count : ℕ). with_feeds (lines ++ end_line count ∷ []))

@@ -49,7 +49,8 @@ const CALLS: [(Call, u16, &str); 10] = [
     (
         Call::Draw(0),
         0,
-        "{\"board\":\"\",\"from\":0,\"ok\":\"here\",\"ports\":2}\n{\"board\":\"\",\"from\":0,\"ok\":\"here\",\"ports\":2}
+        "{\"board\":\"\",\"from\":0,\"ok\":\"here\",\"ports\":2}
+{\"board\":\"\",\"from\":0,\"ok\":\"here\",\"ports\":2}
 {\"board\":\"\",\"from\":0,\"ok\":\"here\",\"ports\":2}\n",
     ),
     (
