@@ -16,6 +16,8 @@ from tools.play.program_rows import DONE, FAILED_STREAM, PATIENCE, REFUSED_TEXT,
 TOP = pathlib.Path(__file__).resolve().parents[2]
 MAX_LINE = 65_536
 MAX_TEXT = 1_048_576
+# the bytes of the longest line of a turn, with its line feed
+LONGEST_TURN = 11
 REFUSED_WORDS, REFUSED_MATCH, NO_MEMORY = 2, 4, 5
 
 ENTER = '{"do":"enter","key":"ka"}'
@@ -223,6 +225,21 @@ def longest_file(stage: Stage) -> None:
     for more, fault in ((0, "version"), (1, "text")):
         writes(stage, long="#" * (MAX_TEXT + more))
         expect(stage.run(["check", "long.toml"]), b"", f"long.toml: {fault}\n".encode(), REFUSED_TEXT)
+
+
+@case("a file of turns of the greatest length, one byte more, and a file without an end")
+def longest_turns(stage: Stage) -> None:
+    (stage.folder / "examples").symlink_to(TOP / "examples")
+    turns, events = stage.folder / "long.turns", 69
+    longest = LONGEST_TURN * events + MAX_TEXT
+    words = "judge examples/appeal0.jsonl --turns long.turns --tournament examples/appeal.toml --match 0".split()
+    turns.write_text("0\n" * (longest // 2))
+    told = f"long.turns: {longest // 2} turns, {events} events\n"
+    expect(stage.run(words), b"", told.encode(), REFUSED_MATCH)
+    turns.write_text("0" * (longest + 1))
+    expect(stage.run(words), b"", b"long.turns: text\n", REFUSED_TEXT)
+    os.truncate(turns, 10 ** 12)
+    expect(stage.run(words), b"", b"long.turns: text\n", REFUSED_TEXT)
 
 
 @case("names of networks have 255 bytes")
