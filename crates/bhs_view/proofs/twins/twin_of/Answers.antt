@@ -25,8 +25,8 @@ returns-in-Some-clause-fault c =
     let reached = read_arrival c.args.sealed.now c.read.result.net.now c.read.result.setup.now c.read.result.log.now
     c.args.node c.read.result.sites.now c.first_arrival.result c.read.ensures c.first_arrival.ensures in
     inr (fault_is c.args.sealed.now c.read.result.net.now c.read.result.setup.now c.nodes-nodes.result c.args.node
-    c.is_hole.result _ c.read.ensures.net c.read.ensures.setup c.nodes-nodes.ensures.count
-    c.if-node-nodes.false c.if-node-setup.false c.is_hole.ensures c.if-is_hole.false (reached ∙ c.in-Some.is))
+    c.contains.result _ c.read.ensures.net c.read.ensures.setup c.nodes-nodes.ensures.count
+    c.if-node-nodes.false c.if-node-setup.false c.contains.ensures c.if-contains.false (reached ∙ c.in-Some.is))
 
 pub begun-requires : goal.begun-requires
 begun-requires c =
@@ -67,8 +67,8 @@ returns c =
     record {
       twin = twins.twin;
       alike = twins.alike;
-      fit = fault_is play net setup c.nodes-nodes.result c.args.node c.is_hole.result _ c.read.ensures.net
+      fit = fault_is play net setup c.nodes-nodes.result c.args.node c.contains.result _ c.read.ensures.net
           c.read.ensures.setup c.nodes-nodes.ensures.count c.if-node-nodes.false c.if-node-setup.false
-          c.is_hole.ensures c.if-is_hole.false (unreached ∙ c.in_default.is);
+          c.contains.ensures c.if-contains.false (unreached ∙ c.in_default.is);
       fault = tt;
     }
