@@ -2,7 +2,7 @@
 import pathlib
 import re
 import unittest
-from typing import Dict, Set
+from typing import Set
 
 from tools.prove.clauses import contract_of, crates_given, functions_in, without_clause
 
@@ -10,21 +10,18 @@ TOP = pathlib.Path(__file__).resolve().parents[1]
 HEADING = "## Functions without a clause"
 
 
-def listed() -> Dict[str, Set[str]]:
-    """The functions in the table, by their crates."""
+def listed() -> Set[str]:
+    """The functions in the table, each behind its crate."""
     section = (TOP / "docs" / "PROOFS.md").read_text().partition(HEADING)[2].partition("\n## ")[0]
-    found: Dict[str, Set[str]] = {}
-    for crate, functions in re.findall(r"^\| `(bhs_\w+)` \| ([^|]*) \|", section, re.M):
-        found.setdefault(crate, set()).update(re.findall(r"`([^`]+)`", functions))
-    return found
+    rows = re.findall(r"^\| `(bhs_\w+)` \| ([^|]*) \|", section, re.M)
+    return {f"{crate} {name}" for crate, functions in rows for name in re.findall(r"`([^`]+)`", functions)}
 
 
 class ClausesTest(unittest.TestCase):
     def test_the_table_has_each_function_without_a_clause(self) -> None:
-        found: Dict[str, Set[str]] = {}
-        for one in without_clause(crates_given([])):
-            found.setdefault(one.crate, set()).add(one.name)
-        self.assertEqual(listed(), found)
+        table, found = listed(), {f"{one.crate} {one.name}" for one in without_clause(crates_given([]))}
+        self.assertEqual(sorted(found - table), [], "the table lacks functions without a clause")
+        self.assertEqual(sorted(table - found), [], "the table has functions that have a clause or are gone")
 
     def test_a_contract_ends_at_the_body(self) -> None:
         lines = ["fn one(", "    a: u8,", ") -> u8", "    ensures { result ≡ a }", "{", "    a", "}"]
