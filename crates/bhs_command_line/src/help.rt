@@ -403,6 +403,16 @@ pub(crate) const STATES: &str =
 pub(crate) const NAPS: &str =
     "How often a sleeping agent may wake again though nothing has changed in front of it";
 
+pub(crate) const DRAWS: &str =
+    "Draws this many schedules instead of trying all; for networks with too many states";
+
+pub(crate) const SEED: &str = "Draws from this seed; without it from 0";
+
+pub(crate) const PACE: &str = "Whose turn it is among the agents that can move; without it fair";
+
+pub(crate) const HUNT: &str =
+    "Begins every second schedule as the worst so far began: moves or lost";
+
 pub(crate) const SERVE: &str = "Serves a tournament to agents that connect over TCP";
 
 pub(crate) const SERVE_AT_LENGTH: &str = "\
