@@ -37,12 +37,14 @@ items_text before (number ∷ numbers) = (before ++ decimal number) ++ items_tex
 abbrev pub list_text : List ℕ → List ℕ
 list_text numbers = (codes "[" ++ items_text (codes "") numbers) ++ codes "]"
 
+-- a pair of numbers, as JSON spells it
+abbrev pub pair_text : ℕ × ℕ → List ℕ
+pair_text pair = codes "[" ++ (decimal pair.0 ++ (codes "," ++ (decimal pair.1 ++ codes "]")))
+
 -- pairs of numbers, the first behind this text and the others each behind a comma
 abbrev pub pair_items : (before : List ℕ) → List (ℕ × ℕ) → List ℕ
 pair_items before [] = []
-pair_items before (pair ∷ pairs) =
-    (before ++ (codes "[" ++ (decimal pair.0 ++ (codes "," ++ (decimal pair.1 ++ codes "]")))))
-    ++ pair_items (codes ",") pairs
+pair_items before (pair ∷ pairs) = (before ++ pair_text pair) ++ pair_items (codes ",") pairs
 
 -- a list of pairs of numbers, as JSON spells it
 abbrev pub pairs_text : List (ℕ × ℕ) → List ℕ

@@ -217,7 +217,8 @@ fn pairs(alloc: Global, pairs: &[(u32, u32)]) -> Result<String, Memory>
 {
     let mut text = String::from_str(alloc, "[")?;
     let mut before = "";
-    for (number, times) in pairs {
+    for pair in pairs {
+        let (number, times) = *pair;
         let one = format!(in alloc; "{before}[{number},{times}]")?;
         text.push_str(one.as_str())?;
         before = ",";
