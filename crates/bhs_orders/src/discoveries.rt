@@ -30,11 +30,11 @@ pub(crate) fn found_of(discovery: &Discovery) -> &Found
 }
 
 /// A line of what was found, and one of how much was visited or drawn.
-pub(crate) fn discovery(alloc: Global, discovery: &Discovery) -> Result<String, Memory>
-    ensures { IfOk result (λ text. string_bytes text ≡ discovery discovery.now) }
+pub(crate) fn text_of(alloc: Global, found: &Discovery) -> Result<String, Memory>
+    ensures { IfOk result (λ text. string_bytes text ≡ discovery found.now) }
 {
-    let mut text = found_line(alloc, found_of(discovery))?;
-    let counts = match discovery {
+    let mut text = found_line(alloc, found_of(found))?;
+    let counts = match found {
         Discovery::Tried(explored) => counts_line(alloc, explored)?,
         Discovery::Drawn(drawn) => draws_line(alloc, drawn)?,
     };

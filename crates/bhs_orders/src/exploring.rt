@@ -6,7 +6,7 @@ ghost use Rattle.bhs_orders.specs.Discoveries.{Explores, ExploresMatch, IsFound,
 ghost use Rattle.bhs_orders.specs.Discoveries.{found_in, is_drawn};
 
 use crate::checking::lineup_of;
-use crate::discoveries::{Discovery, discovery, found_of, status_of};
+use crate::discoveries::{Discovery, found_of, status_of, text_of};
 use crate::faults::{Fault, report};
 use crate::hosts::Host;
 use crate::links::held_links;
@@ -74,7 +74,7 @@ fn explore_and_print<R: Input, W: Output>(
     ensures { IfOk result (PrintsDiscovery W.takes W.flushes ready.now exploration writer.new) }
 {
     let found = discovered(alloc, ready, exploration, reader, writer)?;
-    let text = discovery(alloc, &found)?;
+    let text = text_of(alloc, &found)?;
     send(writer, text.as_bytes())?;
     finish(writer)?;
     Ok(status_of(found_of(&found)))
