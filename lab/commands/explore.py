@@ -18,21 +18,36 @@ match is over, and if it sleeps where nothing happens any more. The Python model
 more commands than its quota, and --search model asks for it. Nothing is proved of it. It plays agents inside the lab,
 takes a step that meets nobody at once, and writes the schedule with the most moves if none fails.
 
+Where a network has too many states, --draws N draws N schedules of each match instead: a hundred thousand runs take the
+program seconds once it was answered what the agents do. The command says how many of them solve, and the least, mean,
+median and most moves. --by NAME says whose turn it is: each agent that can move is as likely (fair), agents go as far
+as they can (last-departed), one waits for all others (starved), or some agents or links are slow (slow-agents,
+slow-links). --hunt moves begins every second schedule as the worst so far began, to find one with more moves, and
+--hunt lost one with more agents lost. The first schedule that fails is kept, or the worst. Of it the verdict is a
+theorem, as above; nothing is proved of schedules that were not drawn, nor of the counts.
+
+    python3 -m lab explore --network ring:32 --agent "examples/agents/ring.py {nodes}" --draws 100000 --hunt moves
+
 A sleeper wakes once after each change of the whiteboard in front of it, and --naps times more: a team that waits by
 counting, as for a timeout, fails once another agent is slower than it counts.
 """
 import argparse
 import pathlib
+from typing import Optional
 
-from lab.commands import trying
+from lab.commands import drawing, trying
 from lab.commands.words import add_engine, add_match, at_least_one, game_of, not_negative, program_of
 from lab.play import finds
 from lab.play.teams import Game
 from lab.rules.engines import MODEL, PROGRAM, program_at
+from lab.search.asking import Draws
 from lab.search.explore import MOST_STATES, check_inside, tried
+from lab.support.faults import Fault
 from lab.support.progress import bar
 
 FOLDER = finds.FOLDER
+# whose turn it is in drawn schedules, and what is hunted for
+PACES, HUNTS = ("fair", "last-departed", "starved", "slow-agents", "slow-links"), ("moves", "lost")
 
 
 def add_words(parser: argparse.ArgumentParser) -> None:
@@ -40,6 +55,13 @@ def add_words(parser: argparse.ArgumentParser) -> None:
     add_match(parser)
     parser.add_argument("--states", metavar="N", type=at_least_one, default=MOST_STATES, help="the most states of a "
                         f"match to visit ({MOST_STATES}); a million take about half a gigabyte")
+    parser.add_argument("--draws", metavar="N", type=at_least_one, help="draw this many schedules of each match "
+                        "instead of trying all; for networks with too many states. --states then bounds the turns of "
+                        "each")
+    parser.add_argument("--seed", metavar="S", type=not_negative, help="draw them from this seed (0)")
+    parser.add_argument("--by", choices=PACES, help="whose turn it is in them (fair)")
+    parser.add_argument("--hunt", choices=HUNTS, help="begin every second one as the worst so far began, to find more "
+                        "moves or more agents lost")
     parser.add_argument("--keep", metavar="FOLDER", type=pathlib.Path, default=FOLDER, help="write the schedule that "
                         f"is told there ({FOLDER})")
     parser.add_argument("--search", choices=(PROGRAM, MODEL), help="who tries the schedules: the program, or the "
@@ -52,10 +74,24 @@ def add_words(parser: argparse.ArgumentParser) -> None:
 
 def run(words: argparse.Namespace) -> int:
     game, engine = game_of(words), program_of(words)
+    draws = draws_of(words)
     if (words.search or words.engine) == PROGRAM:
         program = engine or program_at(words.program)
-        return trying.run(trying.Wanted(game, program, engine, words.states, words.check, words.keep))
+        wanted = trying.Wanted(game, program, engine, words.states, words.check, words.keep)
+        return drawing.run(wanted, draws) if draws else trying.run(wanted)
+    if draws:
+        raise Fault("--draws needs the program's search: give no --search model, or use `lab hunt`")
     return searched(words, game)
+
+
+def draws_of(words: argparse.Namespace) -> Optional[Draws]:
+    """The schedules that are to be drawn, if any."""
+    if words.draws is not None:
+        return Draws(words.draws, words.seed or 0, words.by or PACES[0], words.hunt)
+    for option in ("seed", "by", "hunt"):
+        if getattr(words, option) is not None:
+            raise Fault(f"--{option} needs --draws")
+    return None
 
 
 def searched(words: argparse.Namespace, game: Game) -> int:

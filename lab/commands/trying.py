@@ -169,13 +169,25 @@ def shown_failure(wanted: Wanted, tried: Tried) -> int:
     elif found["found"] == FAILS:
         print(f"it comes to: home {setup.home} holes {setup.holes}, {found['outcome']} moves {found['moves']} lost "
               f"{found['lost']}")
+    verdict = (found["outcome"], found["moves"], found["lost"]) if found["found"] == FAILS else None
+    keep(wanted, tried, choices, verdict)
+    return 1
+
+
+def shown_schedule(wanted: Wanted, tried: Tried, verdict: Tuple[str, int, int]) -> None:
+    """Writes the schedule that the program tells, once the agents have played it to this verdict."""
+    found, game = found_in(tried), wanted.game
+    keep(wanted, tried, choices_of(tried.fixture, game.agents, found["schedule"], None, game.limit), verdict)
+
+
+def keep(wanted: Wanted, tried: Tried, choices: List[Choice], verdict: Optional[Tuple[str, int, int]]) -> None:
+    """Writes a schedule, once the agents have played it."""
+    game, found = wanted.game, found_in(tried)
     schedule = schedule_of(tried.fixture, game.agents, f"explore{game.origin}", choices)
     played = finds.keep(wanted.keep, schedule, wanted.engine)
-    verdict = (found["outcome"], found["moves"], found["lost"]) if found["found"] == FAILS else None
     if found["found"] == BREAKS and not played.faults or verdict and played.verdict() != verdict:
         raise NoFunction("played again it comes to something else: explore needs agents that are functions of what "
                          "they hold")
-    return 1
 
 
 def choices_of(fixture: Fixture, agents: Sequence[AgentWords], turns: List[int], breaks: Optional[int],

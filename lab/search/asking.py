@@ -12,12 +12,27 @@ from lab.rules.fixtures import Fixture, write_tournament
 from lab.rules.model import spelled
 from lab.search.machines import WAKES, Machines
 
-SOLVES, FAILS, BREAKS, ENDLESS, EXCEEDS = "solves", "fails", "breaks", "endless", "exceeds"
+SOLVES, COMES, FAILS, BREAKS, ENDLESS, EXCEEDS = "solves", "comes", "fails", "breaks", "endless", "exceeds"
 TOO_MANY = "states"
 STOPPED, MORE = "stopped", "more states than were to be visited"
+LONGER = "a drawn schedule has more turns than --states allows"
 Found = Dict[str, Any]
 # seconds between two looks at the program while it works
 PAUSE = 1.0
+
+
+class Draws(NamedTuple):
+    """How many schedules are drawn of each match, from which seed, whose turn it is in them, and what is hunted for."""
+
+    schedules: int
+    seed: int
+    pace: str
+    hunt: Optional[str]
+
+    def words(self) -> List[str]:
+        """The words by which the program draws them."""
+        words = ["--draws", str(self.schedules), "--seed", str(self.seed), "--by", self.pace]
+        return [*words, "--hunt", self.hunt] if self.hunt else words
 
 
 class Answered(NamedTuple):
@@ -89,12 +104,13 @@ def silent(_text: str) -> None:
 
 
 def asked(program: str, fixture: Fixture, machines: Machines, most: int, shown: Callable[[int], None],
-          said: Callable[[str], None] = silent) -> Answered:
-    """Lets the program try all schedules of a match, and answers its questions. Ctrl-C stops it."""
+          said: Callable[[str], None] = silent, draws: Optional[Draws] = None) -> Answered:
+    """Lets the program try all schedules of a match, or draw some, and answers its questions. Ctrl-C stops it."""
     started, run, last, errors = time.monotonic(), Run(machines), [], b""
     with tempfile.TemporaryDirectory(prefix="lab-") as name:
         write_tournament(fixture, pathlib.Path(name))
         words = [program, "explore", "tournament.toml", "0", "--states", str(most), "--naps", str(fixture.naps)]
+        words += draws.words() if draws else []
         child = subprocess.Popen(words, cwd=name, stdin=subprocess.PIPE, stdout=subprocess.PIPE, stderr=subprocess.PIPE)
         assert child.stdin and child.stdout
         try:
@@ -121,5 +137,5 @@ def asked(program: str, fixture: Fixture, machines: Machines, most: int, shown: 
         return Answered(last[0], last[1], time.monotonic() - started)
     fault = text_of_fault(errors)
     if fault == f"host: {TOO_MANY}":
-        return Answered(None, {}, time.monotonic() - started, MORE)
+        return Answered(None, {}, time.monotonic() - started, LONGER if draws else MORE)
     raise Refused(fault, child.returncode)

@@ -26,7 +26,7 @@ use Rattle.bhs_command_line.proofs.ReadLemmas.{Enters, leaf_of, line, line_fault
 use Rattle.bhs_command_line.proofs.ReadLemmas.{read_plain, reads_more, reads_none}
 use Rattle.bhs_command_line.proofs.ServeLemmas.{serve_found}
 use Rattle.bhs_command_line.specs.CommandLine.{check, explain, explore, judge, recover, rehearse, table, twin}
-use Rattle.bhs_command_line.specs.CommandLine.{appeal_of, judging_of, plain_exploration_in}
+use Rattle.bhs_command_line.specs.CommandLine.{appeal_of, drawing_in, judging_of, plain_exploration_in}
 
 -- ---- lists of kinds
 
@@ -294,7 +294,7 @@ explore_found : (tournament word : Text) → is_dashed tournament ≡ false → 
     → (faults (codes "explore" ∷ tournament ∷ word ∷ []) ≡ [])
     × (option_and_then order_by (command_in (codes "explore" ∷ tournament ∷ word ∷ []))
     ≡ option_map (Explore tournament) (plain_exploration_in word))
-unfolding clap_on_literals
+unfolding clap_on_literals drawing_in
 explore_found tournament word e f =
     order_read explore_enters (tournament ∷ word ∷ []) _ _
     (reads_more (read_plain (leaf_of explore) _ 1 idle tournament e refl)

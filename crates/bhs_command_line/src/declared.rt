@@ -203,7 +203,11 @@ fn explore_command<'a>(alloc: Global) -> Result<Command<'a>, AllocError>
         command,
         default_option(alloc, "states", "N", help::STATES, "10000000"),
     );
-    with(command, default_option(alloc, "naps", "N", help::NAPS, "2"))
+    let command = with(command, default_option(alloc, "naps", "N", help::NAPS, "2"));
+    let command = with(command, plain_option(alloc, "draws", "N", help::DRAWS));
+    let command = with(command, plain_option(alloc, "seed", "S", help::SEED));
+    let command = with(command, plain_option(alloc, "by", "NAME", help::PACE));
+    with(command, plain_option(alloc, "hunt", "WHAT", help::HUNT))
 }
 
 fn serve_command<'a>(alloc: Global) -> Result<Command<'a>, AllocError>

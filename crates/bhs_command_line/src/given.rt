@@ -3,13 +3,16 @@
 ghost use Rattle.std.specs.Prelude.{◌≡◌, ◌<◌, ◌^◌, IfOk, option_and_then, option_map, codes};
 ghost use Rattle.bhs_command_line.specs.CommandLine.{order_by, exploration_by, hosting_by, number_by, entries_in};
 ghost use Rattle.bhs_command_line.specs.CommandLine.{is_given, rehearsal_of, text_in, texts_in};
+ghost use Rattle.bhs_command_line.specs.CommandLine.{drawing_by, drawing_in, drawing_of, hunt_in, hunted_in, pace_in};
+ghost use Rattle.bhs_command_line.specs.CommandLine.{number_within, paced_in, seed_in};
 ghost use Rattle.bhs_command_line.specs.CommandLine.{appeal_of, judging_by, judging_of, number_in};
 ghost use Rattle.clap.specs.Words.{first_of, found_of, rows_of, subcommand_rows_of};
 
 use crate::numbers::{
-    AGENT, APPEALED, GAME, GATHER, GRACE, NAPS, NODE, Number, PAUSE, PORT, SESSIONS, STATES, TURNS,
+    AGENT, APPEALED, DRAWS, GAME, GATHER, GRACE, NAPS, NODE, Number, PAUSE, PORT, SEED, SESSIONS,
+    STATES, TURNS,
 };
-use crate::orders::{Appeal, Entries, Exploration, Hosting, Order};
+use crate::orders::{Appeal, Drawing, Entries, Exploration, Hosting, Hunt, Order, Pace};
 use crate::words::{entries_in, number_within, text};
 use bhs_text::Text;
 use clap::ArgMatches;
@@ -67,7 +70,7 @@ fn order_named(
         "recover" => Ok(Some(Order::Recover {
             part: text_given(alloc, words, "part")?,
         })),
-        "explore" => match exploration_given(words) {
+        "explore" => match exploration_given(alloc, words)? {
             Some(exploration) => Ok(Some(Order::Explore {
                 tournament: text_given(alloc, words, "tournament")?,
                 exploration,
@@ -147,19 +150,144 @@ fn is_given(words: &ArgMatches<'_>, id: &str) -> bool
 }
 
 // The exploration that the words of `explore` say.
-fn exploration_given(words: &ArgMatches<'_>) -> Option<Exploration>
-    ensures { result ≡ exploration_by (rows_of (found_of words.now)) }
+fn exploration_given(
+    alloc: Global,
+    words: &ArgMatches<'_>,
+) -> Result<Option<Exploration>, AllocError>
+    ensures { IfOk result (λ exploration. exploration ≡ exploration_by (rows_of (found_of words.now))) }
 {
     let Some(game) = short_given(words, &GAME) else {
-        return None;
+        return Ok(None);
     };
     let Some(states) = number_given(words, &STATES) else {
-        return None;
+        return Ok(None);
     };
     let Some(naps) = short_given(words, &NAPS) else {
-        return None;
+        return Ok(None);
     };
-    Some(Exploration { game, states, naps })
+    let Some(drawing) = drawing_given(alloc, words)? else {
+        return Ok(None);
+    };
+    Ok(Some(Exploration {
+        game,
+        states,
+        naps,
+        drawing,
+    }))
+}
+
+// The schedules that the words of `explore` have drawn, if any.
+fn drawing_given(
+    alloc: Global,
+    words: &ArgMatches<'_>,
+) -> Result<Option<Option<Drawing>>, AllocError>
+    ensures { IfOk result (λ drawing. drawing ≡ drawing_by (rows_of (found_of words.now))) }
+{
+    let draws = text_if_any(alloc, words, "draws")?;
+    let seed = text_if_any(alloc, words, "seed")?;
+    let pace = text_if_any(alloc, words, "by")?;
+    let hunt = text_if_any(alloc, words, "hunt")?;
+    Ok(drawing(draws, seed, pace, hunt))
+}
+
+// The schedules that these words have drawn: none if there is no word.
+#[tactic(auto, unfolding(crate::specs::CommandLine::drawing_in))]
+fn drawing(
+    draws: Option<Text>,
+    seed: Option<Text>,
+    pace: Option<Text>,
+    hunt: Option<Text>,
+) -> Option<Option<Drawing>>
+    ensures { result ≡ drawing_in draws seed pace hunt }
+{
+    match (draws, seed, pace, hunt) {
+        (None, None, None, None) => Some(None),
+        (Some(draws), seed, pace, hunt) => match drawn_by(draws, seed, pace, hunt) {
+            Some(drawing) => Some(Some(drawing)),
+            None => None,
+        },
+        _ => None,
+    }
+}
+
+// The same, where there is a word of how many schedules.
+fn drawn_by(
+    draws: Text,
+    seed: Option<Text>,
+    pace: Option<Text>,
+    hunt: Option<Text>,
+) -> Option<Drawing>
+    ensures { result ≡ drawing_of (number_within 1 4294967295 draws)
+        (seed_in seed) (paced_in pace) (hunted_in hunt) }
+{
+    let schedules = number_within(DRAWS.least, DRAWS.most, draws.as_str())?;
+    let seed = seed_in(&seed)?;
+    let pace = paced_in(&pace)?;
+    let hunt = hunted_in(&hunt)?;
+    Some(Drawing {
+        schedules,
+        seed,
+        pace,
+        hunt,
+    })
+}
+
+/// The seed of this word; 0 if there is none.
+pub(crate) fn seed_in(word: &Option<Text>) -> Option<u32>
+    ensures { result ≡ seed_in word.now }
+{
+    match word {
+        Some(word) => number_within(SEED.least, SEED.most, word.as_str()),
+        None => Some(0),
+    }
+}
+
+// Whose turn it is, by this word; each agent is as likely if there is none.
+fn paced_in(word: &Option<Text>) -> Option<Pace>
+    ensures { result ≡ paced_in word.now }
+{
+    match word {
+        Some(word) => pace_in(word.as_str()),
+        None => Some(Pace::Fair),
+    }
+}
+
+/// Whose turn it is, by its name.
+pub(crate) fn pace_in(word: &str) -> Option<Pace>
+    ensures { result ≡ pace_in word.now }
+{
+    match word {
+        "fair" => Some(Pace::Fair),
+        "last-departed" => Some(Pace::LastDeparted),
+        "starved" => Some(Pace::Starved),
+        "slow-agents" => Some(Pace::SlowAgents),
+        "slow-links" => Some(Pace::SlowLinks),
+        _ => None,
+    }
+}
+
+// What is hunted for, by this word; nothing if there is none.
+fn hunted_in(word: &Option<Text>) -> Option<Option<Hunt>>
+    ensures { result ≡ hunted_in word.now }
+{
+    match word {
+        Some(word) => match hunt_in(word.as_str()) {
+            Some(hunt) => Some(Some(hunt)),
+            None => None,
+        },
+        None => Some(None),
+    }
+}
+
+/// What is hunted for, by its name.
+pub(crate) fn hunt_in(word: &str) -> Option<Hunt>
+    ensures { result ≡ hunt_in word.now }
+{
+    match word {
+        "moves" => Some(Hunt::Moves),
+        "lost" => Some(Hunt::Lost),
+        _ => None,
+    }
 }
 
 // The hosting that the words of `serve` say.

@@ -358,7 +358,26 @@ Each question is asked once. The answer is a line, N being the memory:
   N stops                 It sends nothing more, but it may still arrive
 
 Programs of agents that hold the same may share a memory. Each memory must always
-have the same step.";
+have the same step.
+
+A network with too many states ends this at --states. Then draw schedules: with
+--draws N the program draws N of them from the seed of --seed, and plays them by
+the same answers, a hundred thousand within seconds. It keeps the first that
+fails, or else the one with the most moves. --by NAME says whose turn it is among
+the agents that can move:
+
+  fair           each is as likely
+  last-departed  agents go as far as they can, and of those on links the one
+                 arrives that departed last
+  starved        one agent moves only if no other can; schedule number I starves
+                 agent I, counted round the team
+  slow-agents    some agents are slow to be answered, and some to arrive;
+                 sleepers wake seldom
+  slow-links     some links are slow, each in its two directions
+
+--hunt moves looks for more moves: every second schedule begins as the worst so
+far began, and goes on by chance. --hunt lost looks for more agents lost, and
+keeps that schedule. No drawn schedule has more than --states turns.";
 
 pub(crate) const EXPLORE_EXAMPLE: &str = "\
 At the end comes a line of what was found, and one of how much was visited:
@@ -375,7 +394,17 @@ At the end comes a line of what was found, and one of how much was visited:
       An agent may use more commands than its quota, so nothing is said
   {\"states\":S,\"memories\":M,\"stances\":T,\"boards\":B}
 
-This is proved of all agents that do as was answered. The program cannot know
+With --draws these are `fails`, `breaks` or `exceeds`, or
+
+  {\"found\":\"comes\",\"moves\":M,\"lost\":L,\"schedule\":[A,..]}
+      Under this schedule the match is solved; no drawn one fails
+  {\"schedules\":N,\"solved\":S,\"failed\":F,\"turns\":T,\"moves\":[[M,C],..],
+   \"lost\":[[L,C],..],\"memories\":M,\"stances\":T}
+      in one line: how many schedules were drawn, are solved and fail, their
+      turns, and how many come to M moves, or lose L agents
+
+What is found is proved of all agents that do as was answered; the last line is
+not. The program cannot know
 whether the agents of the host do.
 
 Example: on the triangle of `arena check --help` an agent that stops at once:
@@ -391,7 +420,7 @@ prints
 
 Exit status:
 
-  0  Every schedule solves the match
+  0  Every schedule solves the match, or each that was drawn
   1  A schedule fails, or may go on for ever
   2  The command line was refused
   3  A file or an answer was refused, or nothing can be said
@@ -399,10 +428,20 @@ Exit status:
   6  Reading or writing failed";
 
 pub(crate) const STATES: &str =
-    "Visits at most this many states; a million take about 50 megabytes";
+    "Visits at most this many states; a million take about 50 megabytes. With --draws the most turns of a schedule";
 
 pub(crate) const NAPS: &str =
     "How often a sleeping agent may wake again though nothing has changed in front of it";
+
+pub(crate) const DRAWS: &str =
+    "Draws this many schedules instead of trying all; for networks with too many states";
+
+pub(crate) const SEED: &str = "Draws from this seed; without it from 0";
+
+pub(crate) const PACE: &str = "Whose turn it is among the agents that can move; without it fair";
+
+pub(crate) const HUNT: &str =
+    "Begins every second schedule as the worst so far began: moves or lost";
 
 pub(crate) const SERVE: &str = "Serves a tournament to agents that connect over TCP";
 

@@ -20,7 +20,9 @@ mod words;
 use clap::Error;
 use clap::error::ErrorKind;
 use given::order_given;
-pub use orders::{Appeal, Entries, Entry, Exploration, Hosting, MAX_SESSIONS, Order};
+pub use orders::{
+    Appeal, Drawing, Entries, Entry, Exploration, Hosting, Hunt, MAX_SESSIONS, Order, Pace,
+};
 use std::alloc::{AllocError, Global};
 use std::convert::AsStr;
 use unfit::unfit_text;

@@ -55,6 +55,20 @@ pub(crate) const NAPS: Number = Number {
     most: 65_535,
 };
 
+pub(crate) const DRAWS: Number = Number {
+    id: "draws",
+    name: "--draws <N>",
+    least: 1,
+    most: 4_294_967_295,
+};
+
+pub(crate) const SEED: Number = Number {
+    id: "seed",
+    name: "--seed <S>",
+    least: 0,
+    most: 4_294_967_295,
+};
+
 pub(crate) const PORT: Number = Number {
     id: "port",
     name: "--port <PORT>",

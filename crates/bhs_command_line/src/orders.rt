@@ -50,7 +50,8 @@ pub enum Order {
     Recover {
         part: Text,
     },
-    /// Tries every schedule of a match of the tournament of this file, whose agents a host plays.
+    /// Tries every schedule, or schedules that are drawn, of a match of the tournament of this file, whose agents a
+    /// host plays.
     Explore {
         tournament: Text,
         exploration: Exploration,
@@ -101,15 +102,52 @@ pub struct Appeal {
     pub game: u16,
 }
 
-/// Which schedules are tried.
+/// Whose turn it is in a drawn schedule, among the agents that can move.
+#[derive(Clone, Copy, Debug, PartialEq, Eq)]
+pub enum Pace {
+    /// Each agent is as likely.
+    Fair,
+    /// Agents go as far as they can, and of those on links the one arrives that departed last.
+    LastDeparted,
+    /// One agent moves only if no other can.
+    Starved,
+    /// Some agents are slow to be answered, and some to arrive.
+    SlowAgents,
+    /// Some links are slow.
+    SlowLinks,
+}
+
+/// What is hunted for among drawn schedules that do not fail.
+#[derive(Clone, Copy, Debug, PartialEq, Eq)]
+pub enum Hunt {
+    Moves,
+    Lost,
+}
+
+/// Which schedules are drawn.
+#[derive(Clone, Copy, Debug, PartialEq, Eq)]
+pub struct Drawing {
+    /// How many schedules, 1 or more.
+    pub schedules: u32,
+    /// The seed from which they are drawn.
+    pub seed: u32,
+    /// Whose turn it is.
+    pub pace: Pace,
+    /// What is hunted for, if anything.
+    pub hunt: Option<Hunt>,
+}
+
+/// Which schedules are tried: those that are drawn, or all.
 #[derive(Clone, Copy, Debug, PartialEq, Eq)]
 pub struct Exploration {
     /// The match, by its number in the tournament.
     pub game: u16,
-    /// How many states are visited at most, 1 or more.
+    /// How many states are visited at most, or how many turns a drawn schedule has at most; 1 or more.
     pub states: u32,
     /// How often an agent that sleeps may wake again though nothing has changed in front of it.
     pub naps: u16,
+    /// The schedules that are drawn; None if all are tried.
+    pub drawing: Option<Drawing>,
 }
 
 /// A team of a table, with the name of the replay of its match.

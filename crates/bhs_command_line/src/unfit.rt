@@ -1,8 +1,9 @@
 //! What is told of a word that is no number, or no entry of a table.
 
-use crate::given::number_given;
+use crate::given::{hunt_in, number_given, pace_in};
 use crate::numbers::{
-    AGENT, APPEALED, GAME, GATHER, GRACE, NAPS, NODE, Number, PAUSE, PORT, SESSIONS, STATES, TURNS,
+    AGENT, APPEALED, DRAWS, GAME, GATHER, GRACE, NAPS, NODE, Number, PAUSE, PORT, SEED, SESSIONS,
+    STATES, TURNS,
 };
 use crate::words::entry_in;
 use clap::ArgMatches;
@@ -15,7 +16,7 @@ pub(crate) fn unfit_text(alloc: Global, matches: &ArgMatches<'_>) -> Result<Stri
         Some(("judge", words)) => unfit_appeal(alloc, words),
         Some(("explain", words)) => unfit_number(alloc, words, &[AGENT]),
         Some(("twin", words)) => unfit_number(alloc, words, &[NODE]),
-        Some(("explore", words)) => unfit_number(alloc, words, &[GAME, STATES, NAPS]),
+        Some(("explore", words)) => unfit_exploration(alloc, words),
         Some(("serve", words)) => {
             unfit_number(alloc, words, &[PORT, SESSIONS, TURNS, PAUSE, GRACE, GATHER])
         }
@@ -35,6 +36,54 @@ fn unfit_appeal(alloc: Global, words: &ArgMatches<'_>) -> Result<String, AllocEr
         alloc,
         "error: --turns <TURNS>, --tournament <TOURNAMENT> and --match <MATCH> go together\n\n\
         For more information, try '--help'.\n",
+    )
+}
+
+// Tells the first word of an exploration that is none, or those that need schedules to be drawn.
+fn unfit_exploration(alloc: Global, words: &ArgMatches<'_>) -> Result<String, AllocError> {
+    let told = unfit_number(alloc, words, &[GAME, STATES, NAPS])?;
+    if !told.is_empty() {
+        return Ok(told);
+    }
+    if words.get_str("draws").is_none() {
+        return String::from_str(
+            alloc,
+            "error: --seed <S>, --by <NAME> and --hunt <WHAT> need --draws <N>\n\n\
+            For more information, try '--help'.\n",
+        );
+    }
+    if number_given(words, &DRAWS).is_none() {
+        return unfit_number(alloc, words, &[DRAWS]);
+    }
+    if words.get_str("seed").is_some() && number_given(words, &SEED).is_none() {
+        return unfit_number(alloc, words, &[SEED]);
+    }
+    match words.get_str("by") {
+        Some(word) if pace_in(word).is_none() => unfit_name(
+            alloc,
+            word,
+            "--by <NAME>",
+            "fair, last-departed, starved, slow-agents, slow-links",
+        ),
+        _ => unfit_hunt(alloc, words),
+    }
+}
+
+// Tells the word of what is hunted for, if it is none.
+fn unfit_hunt(alloc: Global, words: &ArgMatches<'_>) -> Result<String, AllocError> {
+    match words.get_str("hunt") {
+        Some(word) if hunt_in(word).is_none() => {
+            unfit_name(alloc, word, "--hunt <WHAT>", "moves, lost")
+        }
+        _ => Ok(String::new(alloc)),
+    }
+}
+
+// Tells a word that is none of these names.
+fn unfit_name(alloc: Global, word: &str, name: &str, names: &str) -> Result<String, AllocError> {
+    format!(in alloc;
+        "error: invalid value '{word}' for '{name}': it is none of {names}\n\n\
+        For more information, try '--help'.\n"
     )
 }
 

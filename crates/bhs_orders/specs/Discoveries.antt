@@ -1,5 +1,6 @@
--- What is printed of the schedules that were tried.
-use Rattle.std.specs.Prelude.{◌≡◌, ℕ, ◌<◌, Bool, true, List, [], ◌∷◌, ◌++◌, codes, decimal, Some, slice_get}
+-- What is printed of the schedules that were tried, or drawn.
+use Rattle.std.specs.Prelude.{◌≡◌, ℕ, ◌<◌, Bool, true, false, List, [], ◌∷◌, ◌++◌, codes, decimal, Some, is_some}
+use Rattle.std.specs.Prelude.{slice_get}
 use Rattle.bhs_net.specs.Network.{nodes_of, degree_of}
 use Rattle.bhs_stream.specs.Streams.{Taken}
 use Rattle.bhs_deal.specs.Links.{held_in}
@@ -9,9 +10,10 @@ use Rattle.bhs_lineup.specs.declared.lineups.Lineup.{Lineup}
 use Rattle.bhs_lineup.specs.declared.lineups.Ready.{Ready}
 use Rattle.bhs_command_line.specs.declared.orders.Exploration.{Exploration}
 use Rattle.bhs_explore.specs.declared.found.Found.{Found}
-use Rattle.bhs_explore.specs.declared.found.Found.TheVariants.{Solves, Fails, Breaks, Endless, Exceeds}
+use Rattle.bhs_explore.specs.declared.found.Found.TheVariants.{Solves, Comes, Fails, Breaks, Endless, Exceeds}
 use Rattle.bhs_explore.specs.declared.found.Failure.{Failure}
 use Rattle.bhs_explore.specs.declared.found.Failure.TheVariants as failures
+use Rattle.bhs_explore.specs.declared.drawing.Drawn.{Drawn}
 use Rattle.bhs_explore.specs.declared.explorers.Explored.{Explored}
 use Rattle.bhs_explore.specs.Answers.{Knowledge, is_held}
 use Rattle.bhs_explore.specs.Telling.{IsTrueOf}
@@ -19,6 +21,8 @@ use Rattle.bhs_orders.specs.Fault.{status}
 use Rattle.bhs_orders.specs.RehearsedTournaments.{Rests}
 use Rattle.bhs_orders.specs.Showing.{Shows}
 use Rattle.bhs_orders.specs.Summary.{IsAssembled}
+use Rattle.bhs_orders.specs.declared.discoveries.Discovery.{Discovery}
+use Rattle.bhs_orders.specs.declared.discoveries.Discovery.TheVariants as discoveries
 use Rattle.bhs_orders.specs.declared.faults.Fault.{Fault}
 use Rattle.bhs_orders.specs.declared.statuses.TheConstants.{DONE, FAILING, REFUSED_TEXT}
 
@@ -32,6 +36,26 @@ items_text before (number ∷ numbers) = (before ++ decimal number) ++ items_tex
 -- a list of numbers, as JSON spells it
 abbrev pub list_text : List ℕ → List ℕ
 list_text numbers = (codes "[" ++ items_text (codes "") numbers) ++ codes "]"
+
+-- a pair of numbers, as JSON spells it
+abbrev pub pair_text : ℕ × ℕ → List ℕ
+pair_text pair = codes "[" ++ (decimal pair.0 ++ (codes "," ++ (decimal pair.1 ++ codes "]")))
+
+-- pairs of numbers, the first behind this text and the others each behind a comma
+abbrev pub pair_items : (before : List ℕ) → List (ℕ × ℕ) → List ℕ
+pair_items before [] = []
+pair_items before (pair ∷ pairs) = (before ++ pair_text pair) ++ pair_items (codes ",") pairs
+
+-- a list of pairs of numbers, as JSON spells it
+abbrev pub pairs_text : List (ℕ × ℕ) → List ℕ
+pairs_text pairs = (codes "[" ++ pair_items (codes "") pairs) ++ codes "]"
+
+-- the line of a schedule that solves
+abbrev pub comes_line : Verdict → (schedule : List ℕ) → List ℕ
+comes_line verdict schedule =
+    codes "{\"found\":\"comes\",\"moves\":" ++ (decimal verdict.moves
+    ++ (codes ",\"lost\":" ++ (decimal verdict.lost
+    ++ (codes ",\"schedule\":" ++ (list_text schedule ++ codes "}\n")))))
 
 -- the line of a schedule that fails
 abbrev pub fails_line : Verdict → (schedule : List ℕ) → List ℕ
@@ -60,6 +84,7 @@ found_line (Solves moves lost commands) =
     codes "{\"found\":\"solves\",\"moves\":" ++ (decimal moves
     ++ (codes ",\"lost\":" ++ (decimal lost
     ++ (codes ",\"commands\":" ++ (list_text commands.items ++ codes "}\n")))))
+found_line (Comes verdict schedule) = comes_line verdict schedule.items
 found_line (Fails verdict schedule) = fails_line verdict schedule.items
 found_line (Breaks agent failure schedule) = breaks_line agent failure schedule.items
 found_line (Endless schedule round) =
@@ -77,12 +102,40 @@ counts_line explored =
     ++ (codes ",\"stances\":" ++ (decimal explored.stances
     ++ (codes ",\"boards\":" ++ (decimal explored.boards ++ codes "}\n")))))))
 
-abbrev pub discovery : Explored → List ℕ
-discovery explored = found_line explored.found ++ counts_line explored
+-- the line of what was counted of drawn schedules
+abbrev pub draws_line : Drawn → List ℕ
+draws_line drawn =
+    (codes "{\"schedules\":" ++ (decimal drawn.schedules
+    ++ (codes ",\"solved\":" ++ (decimal drawn.solved
+    ++ (codes ",\"failed\":" ++ (decimal drawn.failed
+    ++ (codes ",\"turns\":" ++ (decimal drawn.turns
+    ++ (codes ",\"moves\":" ++ pairs_text drawn.moves.items)))))))))
+    ++ (codes ",\"lost\":" ++ (pairs_text drawn.lost.items
+    ++ (codes ",\"memories\":" ++ (decimal drawn.memories
+    ++ (codes ",\"stances\":" ++ (decimal drawn.stances ++ codes "}\n"))))))
+
+-- what was found, under every schedule or under those that were drawn
+abbrev pub found_in : Discovery → Found
+found_in (discoveries.Tried explored) = explored.found
+found_in (discoveries.Drawn drawn) = drawn.found
+
+-- whether the schedules were drawn
+abbrev pub is_drawn : Discovery → Bool
+is_drawn (discoveries.Tried explored) = false
+is_drawn (discoveries.Drawn drawn) = true
+
+-- what was counted beside it
+abbrev pub counted_line : Discovery → List ℕ
+counted_line (discoveries.Tried explored) = counts_line explored
+counted_line (discoveries.Drawn drawn) = draws_line drawn
+
+abbrev pub discovery : Discovery → List ℕ
+discovery found = found_line (found_in found) ++ counted_line found
 
 -- the exit status of what was found
 abbrev pub found_status : Found → ℕ
 found_status (Solves moves lost commands) = DONE
+found_status (Comes verdict schedule) = DONE
 found_status (Fails verdict schedule) = FAILING
 found_status (Breaks agent failure schedule) = FAILING
 found_status (Endless schedule round) = FAILING
@@ -102,11 +155,13 @@ pub record IsOf (ready : Ready) (exploration : Exploration) (known : Knowledge) 
   pub held : AreLinks ready known.held
   pub naps : known.naps ≡ exploration.naps
 
--- what was found is true of all machines that answer as was noted in an exploration of this match
-pub record IsFound (ready : Ready) (exploration : Exploration) (explored : Explored) : Type 0 where
+-- What was found is true of all machines that answer as was noted in an exploration of this match, and schedules were
+-- drawn if the exploration has that. Nothing is said of what was counted.
+pub record IsFound (ready : Ready) (exploration : Exploration) (found : Discovery) : Type 0 where
   pub known : Knowledge
   pub of : IsOf ready exploration known
-  pub is_true : IsTrueOf known explored.found
+  pub kind : is_drawn found ≡ is_some exploration.drawing
+  pub is_true : IsTrueOf known (found_in found)
 
 -- ---- the order
 
@@ -114,11 +169,11 @@ pub record IsFound (ready : Ready) (exploration : Exploration) (explored : Explo
 module _ {O : Type 0} (takes : O → List ℕ → Taken → O → Type 0) (flushes : O → Bool → O → Type 0) where
   -- what was found is printed last and passed on, and told by the exit status
   pub record PrintsDiscovery (ready : Ready) (exploration : Exploration) (output' : O) (code : ℕ) : Type 0 where
-    pub explored : Explored
-    pub is_found : IsFound ready exploration explored
-    pub told : code ≡ found_status explored.found
+    pub found : Discovery
+    pub is_found : IsFound ready exploration found
+    pub told : code ≡ found_status (found_in found)
     pub there : O
-    pub printed : Shows takes flushes (discovery explored) true there output'
+    pub printed : Shows takes flushes (discovery found) true there output'
 
   -- what the exit status says of an exploration of a match
   pub data ExploresMatch (ready : Ready) (exploration : Exploration) (output' : O) (code : ℕ) : Type 0 where

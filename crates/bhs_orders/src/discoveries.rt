@@ -1,28 +1,79 @@
-//! What is printed of the schedules that were tried.
+//! What is printed of the schedules that were tried, or drawn.
 
 ghost use Rattle.std.specs.Prelude.{◌≡◌, IfOk, string_bytes};
-ghost use Rattle.bhs_orders.specs.Discoveries.{breaks_line, discovery, failure_text, fails_line};
-ghost use Rattle.bhs_orders.specs.Discoveries.{found_line, found_status};
-ghost use Rattle.bhs_orders.specs.Discoveries.{list_text};
+ghost use Rattle.bhs_orders.specs.Discoveries.{breaks_line, comes_line, counts_line, discovery, draws_line};
+ghost use Rattle.bhs_orders.specs.Discoveries.{failure_text, fails_line, found_in, found_line, found_status};
+ghost use Rattle.bhs_orders.specs.Discoveries.{list_text, pairs_text};
 
 use crate::statuses::{DONE, FAILING, REFUSED_TEXT};
-use bhs_explore::{Explored, Failure, Found};
+use bhs_explore::{Drawn, Explored, Failure, Found};
 use bhs_net::Memory;
 use bhs_referee::Verdict;
 use bhs_standings::outcome_text;
 use std::alloc::Global;
 
-/// A line of what was found, and one of how much was visited.
-pub(crate) fn discovery(alloc: Global, explored: &Explored) -> Result<String, Memory>
-    ensures { IfOk result (λ text. string_bytes text ≡ discovery explored.now) }
+/// What was found: under every schedule, or under those that were drawn.
+#[derive(Drop)]
+pub(crate) enum Discovery {
+    Tried(Explored),
+    Drawn(Drawn),
+}
+
+/// What is told of a discovery.
+pub(crate) fn found_of(discovery: &Discovery) -> &Found
+    ensures { result.now ≡ found_in discovery.now }
 {
-    let mut text = found_line(alloc, &explored.found)?;
+    match discovery {
+        Discovery::Tried(explored) => &explored.found,
+        Discovery::Drawn(drawn) => &drawn.found,
+    }
+}
+
+/// A line of what was found, and one of how much was visited or drawn.
+pub(crate) fn text_of(alloc: Global, found: &Discovery) -> Result<String, Memory>
+    ensures { IfOk result (λ text. string_bytes text ≡ discovery found.now) }
+{
+    let mut text = found_line(alloc, found_of(found))?;
+    let counts = match found {
+        Discovery::Tried(explored) => counts_line(alloc, explored)?,
+        Discovery::Drawn(drawn) => draws_line(alloc, drawn)?,
+    };
+    text.push_str(counts.as_str())?;
+    Ok(text)
+}
+
+// The line of how much was visited.
+fn counts_line(alloc: Global, explored: &Explored) -> Result<String, Memory>
+    ensures { IfOk result (λ text. string_bytes text ≡ counts_line explored.now) }
+{
     let (states, memories) = (explored.states, explored.memories);
     let (stances, boards) = (explored.stances, explored.boards);
-    let counts = format!(in alloc;
+    format!(in alloc;
         "{{\"states\":{states},\"memories\":{memories},\"stances\":{stances},\"boards\":{boards}}}\n"
+    )
+}
+
+// The line of what was counted of drawn schedules.
+fn draws_line(alloc: Global, drawn: &Drawn) -> Result<String, Memory>
+    ensures { IfOk result (λ text. string_bytes text ≡ draws_line drawn.now) }
+{
+    let (schedules, solved, failed, turns) = (
+        drawn.schedules,
+        drawn.solved,
+        drawn.failed,
+        drawn.turns,
+    );
+    let (memories, stances) = (drawn.memories, drawn.stances);
+    let moves = pairs(alloc, &drawn.moves)?;
+    let lost = pairs(alloc, &drawn.lost)?;
+    let (moves, lost) = (moves.as_str(), lost.as_str());
+    let mut text = format!(in alloc;
+        "{{\"schedules\":{schedules},\"solved\":{solved},\"failed\":{failed},\"turns\":{turns},\"moves\":{moves}"
     )?;
-    text.push_str(counts.as_str())?;
+    let more = format!(in alloc;
+        ",\"lost\":{lost},\"memories\":{memories},\"stances\":{stances}}}\n"
+    )?;
+    text.push_str(more.as_str())?;
     Ok(text)
 }
 
@@ -31,7 +82,7 @@ pub(crate) fn status_of(found: &Found) -> u8
     ensures { result ≡ found_status found.now }
 {
     match found {
-        Found::Solves { .. } => DONE,
+        Found::Solves { .. } | Found::Comes { .. } => DONE,
         Found::Fails { .. } | Found::Breaks { .. } | Found::Endless { .. } => FAILING,
         Found::Exceeds { .. } => REFUSED_TEXT,
     }
@@ -53,6 +104,7 @@ fn found_line(alloc: Global, found: &Found) -> Result<String, Memory>
                 "{{\"found\":\"solves\",\"moves\":{moves},\"lost\":{lost},\"commands\":{commands}}}\n"
             )
         }
+        Found::Comes { verdict, schedule } => comes_line(alloc, *verdict, schedule),
         Found::Fails { verdict, schedule } => fails_line(alloc, *verdict, schedule),
         Found::Breaks {
             agent,
@@ -73,6 +125,18 @@ fn found_line(alloc: Global, found: &Found) -> Result<String, Memory>
             )
         }
     }
+}
+
+// The line of a schedule that solves.
+fn comes_line(alloc: Global, verdict: Verdict, schedule: &[u16]) -> Result<String, Memory>
+    ensures { IfOk result (λ text. string_bytes text ≡ comes_line verdict schedule.now) }
+{
+    let (moves, lost) = (verdict.moves, verdict.lost);
+    let schedule = agents(alloc, schedule)?;
+    let schedule = schedule.as_str();
+    format!(in alloc;
+        "{{\"found\":\"comes\",\"moves\":{moves},\"lost\":{lost},\"schedule\":{schedule}}}\n"
+    )
 }
 
 // The line of a schedule that fails.
@@ -140,6 +204,22 @@ fn numbers(alloc: Global, numbers: &[u32]) -> Result<String, Memory>
     let mut before = "";
     for number in numbers {
         let one = format!(in alloc; "{before}{number}")?;
+        text.push_str(one.as_str())?;
+        before = ",";
+    }
+    text.push_str("]")?;
+    Ok(text)
+}
+
+// Pairs of numbers as a list of JSON.
+fn pairs(alloc: Global, pairs: &[(u32, u32)]) -> Result<String, Memory>
+    ensures { IfOk result (λ text. string_bytes text ≡ pairs_text pairs.now) }
+{
+    let mut text = String::from_str(alloc, "[")?;
+    let mut before = "";
+    for pair in pairs {
+        let (number, times) = *pair;
+        let one = format!(in alloc; "{before}[{number},{times}]")?;
         text.push_str(one.as_str())?;
         before = ",";
     }

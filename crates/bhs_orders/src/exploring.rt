@@ -1,15 +1,17 @@
-//! Every schedule of a match, tried, where a host plays the agents.
+//! Every schedule of a match, tried, or schedules that are drawn, where a host plays the agents.
 
-ghost use Rattle.std.specs.Prelude.{IfOk};
+ghost use Rattle.std.specs.Prelude.{◌≡◌, IfOk, is_some};
+ghost use Rattle.bhs_explore.specs.Telling.{IsTrueOf};
 ghost use Rattle.bhs_orders.specs.Discoveries.{Explores, ExploresMatch, IsFound, PrintsDiscovery};
+ghost use Rattle.bhs_orders.specs.Discoveries.{found_in, is_drawn};
 
 use crate::checking::lineup_of;
-use crate::discoveries::{discovery, status_of};
+use crate::discoveries::{Discovery, found_of, status_of, text_of};
 use crate::faults::{Fault, report};
 use crate::hosts::Host;
 use crate::links::held_links;
-use bhs_command_line::Exploration;
-use bhs_explore::{ExploreFault, Explored, Explorer};
+use bhs_command_line::{Drawing, Exploration, Hunt, Pace};
+use bhs_explore::{Draws, ExploreFault, Explorer, Team};
 use bhs_lineup::Ready;
 use bhs_model::Text;
 use bhs_stream::{Input, Output, finish, send};
@@ -18,9 +20,9 @@ use std::alloc::Global;
 use std::io::Write;
 use std::rt::Files;
 
-/// Reads a tournament as `check` does, and tries every schedule of one of its matches. The host that plays the agents
-/// is asked by lines of the writer, and answers by lines of the reader. Then what was found is printed. A fault goes to
-/// `errors` and ends it. The answer is the exit status.
+/// Reads a tournament as `check` does, and tries every schedule of one of its matches, or draws some. The host that
+/// plays the agents is asked by lines of the writer, and answers by lines of the reader. Then what was found is printed.
+/// A fault goes to `errors` and ends it. The answer is the exit status.
 pub fn explore_named<F: Files, R: Input, W: Output, E: Write>(
     alloc: Global,
     files: &F,
@@ -43,7 +45,7 @@ pub fn explore_named<F: Files, R: Input, W: Output, E: Write>(
     }
 }
 
-// Tries every schedule of a match, prints what was found, and reports the fault that ended it.
+// Tries the schedules of a match, prints what was found, and reports the fault that ended it.
 fn explore_match<R: Input, W: Output, E: Write>(
     alloc: Global,
     ready: &Ready,
@@ -61,7 +63,7 @@ fn explore_match<R: Input, W: Output, E: Write>(
     }
 }
 
-// Tries every schedule of a match, and prints what was found. The answer is the exit status.
+// Tries the schedules of a match, and prints what was found. The answer is the exit status.
 fn explore_and_print<R: Input, W: Output>(
     alloc: Global,
     ready: &Ready,
@@ -71,21 +73,21 @@ fn explore_and_print<R: Input, W: Output>(
 ) -> Result<u8, Fault>
     ensures { IfOk result (PrintsDiscovery W.takes W.flushes ready.now exploration writer.new) }
 {
-    let explored = explored(alloc, ready, exploration, reader, writer)?;
-    let text = discovery(alloc, &explored)?;
+    let found = discovered(alloc, ready, exploration, reader, writer)?;
+    let text = text_of(alloc, &found)?;
     send(writer, text.as_bytes())?;
     finish(writer)?;
-    Ok(status_of(&explored.found))
+    Ok(status_of(found_of(&found)))
 }
 
-// Tries every schedule of a match whose agents a host plays.
-fn explored<R: Input, W: Output>(
+// What is found in a match whose agents a host plays.
+fn discovered<R: Input, W: Output>(
     alloc: Global,
     ready: &Ready,
     exploration: Exploration,
     reader: &mut R,
     writer: &mut W,
-) -> Result<Explored, Fault>
+) -> Result<Discovery, Fault>
     ensures { IfOk result (IsFound ready.now exploration) }
 {
     let held = held_links(alloc, ready)?;
@@ -99,9 +101,52 @@ fn explored<R: Input, W: Output>(
         Ok(explorer) => explorer,
         Err(fault) => return Err(fault_of(fault, &host)),
     };
-    match explorer.explore(&mut host, exploration.states) {
-        Ok(explored) => Ok(explored),
+    match made(&mut explorer, &mut host, exploration) {
+        Ok(discovery) => Ok(discovery),
         Err(fault) => Err(fault_of(fault, &host)),
+    }
+}
+
+// What an explorer finds, under all schedules or under those that it draws.
+fn made<T: Team>(
+    explorer: &mut Explorer,
+    team: &mut T,
+    exploration: Exploration,
+) -> Result<Discovery, ExploreFault>
+    ensures found { IfOk result (λ discovery. IsTrueOf explorer.new (found_in discovery)) }
+    ensures kind { IfOk result (λ discovery. is_drawn discovery ≡ is_some exploration.drawing) }
+    ensures same { (explorer.new.net ≡ explorer.old.net) × (explorer.new.setup ≡ explorer.old.setup) }
+    ensures held { (explorer.new.held ≡ explorer.old.held) × (explorer.new.naps ≡ explorer.old.naps) }
+{
+    match exploration.drawing {
+        None => Ok(Discovery::Tried(explorer.explore(team, exploration.states)?)),
+        Some(drawing) => {
+            let draws = draws_of(drawing, exploration.states);
+            Ok(Discovery::Drawn(explorer.draw(team, draws)?))
+        }
+    }
+}
+
+// What is drawn, where a schedule has at most so many turns.
+fn draws_of(drawing: Drawing, turns: u32) -> Draws {
+    let pace = match drawing.pace {
+        Pace::Fair => bhs_explore::Pace::Fair,
+        Pace::LastDeparted => bhs_explore::Pace::LastDeparted,
+        Pace::Starved => bhs_explore::Pace::Starved,
+        Pace::SlowAgents => bhs_explore::Pace::SlowAgents,
+        Pace::SlowLinks => bhs_explore::Pace::SlowLinks,
+    };
+    let hunt = match drawing.hunt {
+        Some(Hunt::Moves) => Some(bhs_explore::Hunt::Moves),
+        Some(Hunt::Lost) => Some(bhs_explore::Hunt::Lost),
+        None => None,
+    };
+    Draws {
+        schedules: drawing.schedules,
+        seed: u64::from(drawing.seed),
+        pace,
+        hunt,
+        turns,
     }
 }
 

@@ -14,8 +14,8 @@ use Rattle.bhs_explore.specs.declared.found.Found.{Found}
 use Rattle.bhs_explore.specs.declared.found.Found.TheVariants as found
 use Rattle.bhs_orders.specs.declared.faults.Fault.TheVariants.{Write, Memory, Twin, Text}
 use Rattle.bhs_orders.specs.Appeals.{Appeals, upholds, rejects, hears_nothing}
-use Rattle.bhs_orders.specs.Discoveries.{Explores, ExploresMatch, found_status, exploration_done, exploration_ends}
-use Rattle.bhs_orders.specs.Discoveries.{explores_nothing, explores_on}
+use Rattle.bhs_orders.specs.Discoveries.{Explores, ExploresMatch, found_in, found_status}
+use Rattle.bhs_orders.specs.Discoveries.{exploration_done, exploration_ends, explores_nothing, explores_on}
 use Rattle.bhs_orders.specs.Rehearsal.{Rehearses, done, unfiled, ends}
 use Rattle.bhs_orders.specs.RehearsedTournaments.{RehearsesNamed, rehearses_on, refuses_file}
 use Rattle.bhs_orders.specs.InteractiveTournaments.{InteractsNamed, InteractsWhole, tournament_refused}
@@ -63,6 +63,7 @@ module _ {O : Type 0} (takes : O → List ℕ → Taken → O → Type 0) (flush
 -- the exit status of what was found
 of_found : (found : Found) (code : ℕ) → code ≡ found_status found → IsStatus code
 of_found (found.Solves moves lost commands) code is = inl is
+of_found (found.Comes verdict schedule) code is = inl is
 of_found (found.Fails verdict schedule) code is = inr (inl (inr is))
 of_found (found.Breaks agent failure schedule) code is = inr (inl (inr is))
 of_found (found.Endless schedule round) code is = inr (inl (inr is))
@@ -124,7 +125,7 @@ module _ {P I O : Type 0} (files : P → List ℕ → Taken → P → Type 0) (g
 
   of_match : (ready : Ready) (exploration : Exploration) → ExploresMatch takes flushes ready exploration output' code
       → IsStatus code
-  of_match ready exploration (exploration_done printed) = of_found printed.explored.found code printed.told
+  of_match ready exploration (exploration_done printed) = of_found (found_in printed.found) code printed.told
   of_match ready exploration (exploration_ends fault is) = inr (inr (fault, is))
 
   of_exploration : (exploration : Exploration) → Explores takes flushes exploration input input' output output' code

@@ -1,0 +1,115 @@
+"""`explore --draws` by the program: it draws schedules of matches that have too many to try, and the lab answers what
+agents do (lab/search/asking.py). The worst schedule is kept, and the agents play it."""
+import statistics
+from typing import List, NamedTuple, Tuple
+
+from lab.commands.trying import FAILURES, FOUND, Tried, Wanted, checked, found_in, shown_failure, shown_schedule
+from lab.rules.model import Object
+from lab.search.asking import BREAKS, EXCEEDS, Draws, asked
+from lab.search.machines import Machines
+from lab.search.pasts import NoFunction
+from lab.support.progress import bar
+
+Pairs = List[Tuple[int, int]]
+
+
+class Moves(NamedTuple):
+    """The least, mean, median and most of numbers, each of which came so often."""
+
+    least: int
+    mean: float
+    median: float
+    most: int
+
+
+def moves_of(pairs: Pairs) -> Moves:
+    """What numbers come to that came so often, in order."""
+    numbers = [number for number, _ in pairs]
+    count = sum(times for _, times in pairs)
+    mean = sum(number * times for number, times in pairs) / count
+    return Moves(numbers[0], mean, statistics.fmean((at(pairs, (count - 1) // 2), at(pairs, count // 2))), numbers[-1])
+
+
+def at(pairs: Pairs, place: int) -> int:
+    """The number at this place, if each stands there as often as it came."""
+    for number, times in pairs:
+        if place < times:
+            return number
+        place -= times
+    raise IndexError(place)
+
+
+def run(wanted: Wanted, draws: Draws) -> int:
+    """Draws schedules of all matches, up to the first match in which one fails."""
+    game, fixtures = wanted.game, wanted.game.fixtures()
+    machines, all_tried = Machines(fixtures[0], game.agents, game.limit), []
+    machines.start()
+    try:
+        with bar(None, "answer") as shown:
+            for fixture in fixtures:
+                found = asked(wanted.program, fixture, machines, wanted.states, shown.update, shown.set_postfix_str,
+                              draws)
+                all_tried.append(Tried(fixture, found))
+                shown.clear()
+                print(line_of(all_tried[-1]), flush=True)
+                if found.found is None or all_tried[-1].has_failed() or found.found["found"] == EXCEEDS:
+                    break
+                if wanted.check:
+                    checked(wanted, machines, fixture)
+    finally:
+        machines.stop()
+    for what, count in machines.unnamed.items():
+        print(f"{count} times history stands for what a program holds: {what}")
+    return told(wanted, draws, all_tried)
+
+
+def line_of(tried: Tried) -> str:
+    """What the drawn schedules of one match come to."""
+    setup, (found, counts, seconds, why) = tried.fixture.setup, tried.answered
+    if found is None:
+        return f"home {setup.home} holes {setup.holes}: {why}, {seconds:.1f} s"
+    if found["found"] == EXCEEDS:
+        said = f"under a schedule agent {found['agent']} uses {found['commands']} commands, and its quota is less"
+    else:
+        moves, speed = moves_of(counts["moves"]), counts["turns"] / max(seconds, 1e-9)
+        said = (f"{counts['solved']} solved, {counts['failed']} failed, moves least {moves.least} "
+                f"mean {moves.mean:.1f} median {moves.median:g} most {moves.most}, {counts['turns']} steps, "
+                f"{speed:.0f} a second")
+    if found["found"] == BREAKS:
+        said += f", under a schedule agent {found['agent']} {FAILURES[found['failure']]}"
+    return f"home {setup.home} holes {setup.holes}: {said}, {seconds:.1f} s"
+
+
+def told(wanted: Wanted, draws: Draws, all_tried: List[Tried]) -> int:
+    """Says what the drawn schedules of all matches come to, and keeps the worst."""
+    last = all_tried[-1]
+    schedules, turns = (sum(tried.answered.counts.get(what, 0) for tried in all_tried)
+                        for what in ("schedules", "turns"))
+    counts = f"{schedules} drawn schedules, {turns} steps in {sum(tried.answered.seconds for tried in all_tried):.1f} s"
+    if last.answered.found is None:
+        print(f"{counts}: stopped before all were drawn; no schedule failed until then")
+        return 130
+    if last.answered.found["found"] == EXCEEDS:
+        raise NoFunction("an agent uses more commands than its quota under a drawn schedule, of which the program says "
+                         "nothing: give a larger --quota")
+    if last.answered.found["found"] in FOUND:
+        print(f"{counts}: a schedule fails")
+        return shown_failure(wanted, last)
+    print(f"{counts}: none of them fails, which says nothing of the others")
+    shown_worst(wanted, draws, all_tried)
+    return 0
+
+
+def shown_worst(wanted: Wanted, draws: Draws, all_tried: List[Tried]) -> None:
+    """Writes the schedule with the most moves, or with the most agents lost, once the agents have played it."""
+    worst = max(all_tried, key=lambda tried: measure_of(draws, found_in(tried)))
+    found, setup = found_in(worst), worst.fixture.setup
+    what = "agents lost" if draws.hunt == "lost" else "moves"
+    print(f"most {what}: home {setup.home} holes {setup.holes}, solved moves {found['moves']} lost {found['lost']}")
+    shown_schedule(wanted, worst, ("solved", found["moves"], found["lost"]))
+
+
+def measure_of(draws: Draws, found: Object) -> Tuple[int, int]:
+    """By what a kept schedule is the worst."""
+    moves, lost = found["moves"], found["lost"]
+    return (lost, moves) if draws.hunt == "lost" else (moves, lost)

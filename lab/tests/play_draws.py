@@ -1,0 +1,109 @@
+"""What `explore --draws` finds by the program: drawn schedules lie within what a search of all schedules proves, a hunt
+comes to the most moves on small rings, and the schedule that is kept comes to the same when the agents play it."""
+import contextlib
+import io
+from typing import Optional
+from unittest import main as run_tests
+
+from lab.__main__ import main, parser
+from lab.commands.drawing import moves_of
+from lab.commands.explore import PACES
+from lab.commands.mutants import FOLDER
+from lab.commands.words import game_of
+from lab.search.asking import Answered, Draws, asked
+from lab.search.machines import Machines
+from lab.tests.playing import RING, InFolder, program
+
+
+class Drawing(InFolder):
+    def command(self, *words: object) -> int:
+        said = io.StringIO()
+        with contextlib.redirect_stdout(said), contextlib.redirect_stderr(said):
+            status = main(["explore", *map(str, words), "--program", program(), "--keep", str(self.folder / "find")])
+        self.said = said.getvalue()
+        return status
+
+    def answered(self, network: str, hole: int, draws: Optional[Draws]) -> Answered:
+        """What the program finds of two agents on a ring, under all schedules or under those that are drawn."""
+        words = ["explore", "--network", network, "--hole", str(hole), "--agent", RING.words]
+        game = game_of(parser().parse_args(words))
+        (fixture,) = game.fixtures()
+        machines = Machines(fixture, game.agents, 5)
+        machines.start()
+        try:
+            return asked(program(), fixture, machines, 1_000_000, lambda count: None, draws=draws)
+        finally:
+            machines.stop()
+
+    def test_drawn_schedules_lie_within_what_is_proved(self) -> None:
+        for network, hole in (("ring:4", 2), ("ring:5", 1), ("ring:5", 3)):
+            proved = self.answered(network, hole, None).found
+            assert proved is not None
+            for pace in PACES:
+                with self.subTest(network=network, hole=hole, pace=pace):
+                    found, counts, _, _ = self.answered(network, hole, Draws(200, 1, pace, None))
+                    assert found is not None
+                    self.assertEqual((found["found"], counts["solved"], counts["failed"]), ("comes", 200, 0))
+                    self.assertEqual([sum(times for _, times in counts[what]) for what in ("moves", "lost")],
+                                     [200, 200])
+                    self.assertEqual(found["moves"], counts["moves"][-1][0])
+                    self.assertLessEqual(found["moves"], proved["moves"])
+                    self.assertLessEqual(counts["lost"][-1][0], proved["lost"])
+
+    def test_a_hunt_comes_to_the_most_moves(self) -> None:
+        for network, hole, pace in (("ring:5", 1, "fair"), ("ring:5", 2, "fair"), ("ring:6", 4, "slow-agents")):
+            with self.subTest(network=network, hole=hole):
+                proved, hunted = (self.answered(network, hole, draws).found
+                                  for draws in (None, Draws(2000, 2, pace, "moves")))
+                assert proved is not None and hunted is not None
+                self.assertEqual(hunted["moves"], proved["moves"])
+
+    def test_what_is_drawn_is_a_function_of_the_seed(self) -> None:
+        runs = [self.answered("ring:6", 3, Draws(100, seed, "slow-agents", None)) for seed in (1, 1, 2)]
+        self.assertEqual((runs[0].found, runs[0].counts), (runs[1].found, runs[1].counts))
+        self.assertNotEqual(runs[0].counts["turns"], runs[2].counts["turns"])
+
+    def test_the_agents_play_what_is_kept(self) -> None:
+        status = self.command("--network", "ring:5", "--agent", RING.words, "--draws", 1000, "--hunt", "moves",
+                              "--check", 2)
+        self.assertEqual(status, 0, self.said)
+        self.assertIn("4000 drawn schedules, ", self.said)
+        self.assertIn("2 drawn schedules, ", self.said)
+        self.assertIn("most moves: home 0 holes [1], solved moves 14 lost 1\n", self.said)
+        self.assertIn("the program's verdict: solved moves 14 lost 1", self.said)
+        self.assertEqual(main(["replay", str(self.folder / "find"), "--program", program()]), 0)
+
+    def test_a_wrong_version_is_found_out(self) -> None:
+        for hunt in ([], ["--hunt", "lost"]):
+            with self.subTest(hunt=hunt):
+                agent = f"{FOLDER / 'reads_once'}.py {{nodes}}"
+                self.assertEqual(self.command("--network", "ring:8", "--agent", agent, "--draws", 2000, *hunt), 1)
+                self.assertIn("a schedule fails\nit comes to: ", self.said)
+                verdict = self.said.partition("it comes to: ")[2].partition("\n")[0].rpartition(", ")[2]
+                self.assertIn(f"the program's verdict: {verdict}", self.said)
+
+    def test_what_has_too_many_turns(self) -> None:
+        self.assertEqual(self.command("--network", "ring:5", "--agent", RING.words, "--draws", 5, "--states", 9), 130)
+        self.assertIn("a drawn schedule has more turns than --states allows", self.said)
+
+    def test_a_quota_that_does_not_suffice(self) -> None:
+        words = ["--network", "ring:5", "--agent", RING.words, "--draws", 5]
+        self.assertNotEqual(self.command(*words, "--quota", 6), 0)
+        self.assertIn("give a larger --quota", self.said)
+
+    def test_options_of_draws_need_draws(self) -> None:
+        ring = ["--network", "ring:4", "--agent", RING.words]
+        for words, told in ((["--seed", 1], "--seed needs --draws"), (["--by", "fair"], "--by needs --draws"),
+                            (["--hunt", "lost"], "--hunt needs --draws"),
+                            (["--draws", 2, "--search", "model"], "--draws needs the program's search")):
+            with self.subTest(words=words):
+                self.assertEqual(self.command(*ring, *words), 2)
+                self.assertIn(told, self.said)
+
+    def test_least_mean_median_and_most(self) -> None:
+        self.assertEqual(moves_of([(2, 1), (4, 2), (9, 1)]), (2, 4.75, 4, 9))
+        self.assertEqual(moves_of([(2, 1), (5, 1)]), (2, 3.5, 3.5, 5))
+
+
+if __name__ == "__main__":
+    run_tests()
