@@ -72,8 +72,8 @@ def line_of(tried: Tried) -> str:
         said = f"under a schedule agent {found['agent']} uses {found['commands']} commands, and its quota is less"
     else:
         moves, speed = moves_of(counts["moves"]), counts["turns"] / max(seconds, 1e-9)
-        said = (f"{counts['solved']} solved, {counts['failed']} failed, moves least {moves.least} mean {moves.mean:.1f} "
-                f"median {moves.median:g} most {moves.most}, {counts['turns']} steps, {speed:.0f} a second")
+        said = (f"{counts['solved']} solved, {counts['failed']} failed, moves least {moves.least} "
+                f"mean {moves.mean:.1f} median {moves.median:g} most {moves.most}, {counts['turns']} steps, {speed:.0f} a second")
     if found["found"] == BREAKS:
         said += f", under a schedule agent {found['agent']} {FAILURES[found['failure']]}"
     return f"home {setup.home} holes {setup.holes}: {said}, {seconds:.1f} s"

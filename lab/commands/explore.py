@@ -55,8 +55,8 @@ def add_words(parser: argparse.ArgumentParser) -> None:
     add_match(parser)
     parser.add_argument("--states", metavar="N", type=at_least_one, default=MOST_STATES, help="the most states of a "
                         f"match to visit ({MOST_STATES}); a million take about half a gigabyte")
-    parser.add_argument("--draws", metavar="N", type=at_least_one, help="draw this many schedules of each match instead "
-                        "of trying all; for networks with too many states. --states then bounds the turns of each")
+    parser.add_argument("--draws", metavar="N", type=at_least_one, help="draw this many schedules of each match "
+                        "instead of trying all; for networks with too many states. --states then bounds the turns of each")
     parser.add_argument("--seed", metavar="S", type=not_negative, help="draw them from this seed (0)")
     parser.add_argument("--by", choices=PACES, help="whose turn it is in them (fair)")
     parser.add_argument("--hunt", choices=HUNTS, help="begin every second one as the worst so far began, to find more "

@@ -3,7 +3,8 @@
 ghost use Rattle.std.specs.Prelude.{◌≡◌, ◌<◌, ◌^◌, IfOk, option_and_then, option_map, codes};
 ghost use Rattle.bhs_command_line.specs.CommandLine.{order_by, exploration_by, hosting_by, number_by, entries_in};
 ghost use Rattle.bhs_command_line.specs.CommandLine.{is_given, rehearsal_of, text_in, texts_in};
-ghost use Rattle.bhs_command_line.specs.CommandLine.{drawing_by, drawing_in, drawing_of, hunt_in, hunted_in, pace_in, paced_in};
+ghost use Rattle.bhs_command_line.specs.CommandLine.{drawing_by, drawing_in, drawing_of};
+ghost use Rattle.bhs_command_line.specs.CommandLine.{hunt_in, hunted_in, pace_in, paced_in};
 ghost use Rattle.bhs_command_line.specs.CommandLine.{number_within, seed_in};
 ghost use Rattle.bhs_command_line.specs.CommandLine.{appeal_of, judging_by, judging_of, number_in};
 ghost use Rattle.clap.specs.Words.{first_of, found_of, rows_of, subcommand_rows_of};

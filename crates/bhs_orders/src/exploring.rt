@@ -20,9 +20,9 @@ use std::alloc::Global;
 use std::io::Write;
 use std::rt::Files;
 
-/// Reads a tournament as `check` does, and tries every schedule of one of its matches, or draws some. The host that plays the agents
-/// is asked by lines of the writer, and answers by lines of the reader. Then what was found is printed. A fault goes to
-/// `errors` and ends it. The answer is the exit status.
+/// Reads a tournament as `check` does, and tries every schedule of one of its matches, or draws some. The host that
+/// plays the agents is asked by lines of the writer, and answers by lines of the reader. Then what was found is
+/// printed. A fault goes to `errors` and ends it. The answer is the exit status.
 pub fn explore_named<F: Files, R: Input, W: Output, E: Write>(
     alloc: Global,
     files: &F,
