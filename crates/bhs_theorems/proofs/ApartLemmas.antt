@@ -1,10 +1,11 @@
 -- What an instruction leaves alone.
 use Rattle.std.proofs.Common.{◌≡◌, ◌≢◌, ◌∙◌, ℕ, zero, suc, ◌+◌, ◌<◌, Bool, true, false, cond, ◌==◌, Option}
-use Rattle.std.proofs.Common.{Some, None, List, [], ◌∷◌, ◌++◌, length, set, get_or, refl, sym, ap, ap₂, subst}
-use Rattle.std.proofs.Common.{append_assoc, arith}
+use Rattle.std.proofs.Common.{Some, None, List, [], ◌∷◌, ◌++◌, length, map, set, get_or, refl, sym, ap, ap₂}
+use Rattle.std.proofs.Common.{subst, append_assoc, append-nil, arith}
 use Rattle.std.specs.List.{position}
-use Rattle.std.proofs.lemmas.Bool.{cond-false, eqb-true, eqb-false, eq-eqb, and_parts, ne_eqb}
-use Rattle.std.proofs.lemmas.List.{set-get_or, get_or-set_same, get_or-set_other}
+use Rattle.std.proofs.lemmas.Bool.{cond-true, cond-false, eqb-true, eqb-false, eq-eqb, and_parts, ne_eqb}
+use Rattle.std.proofs.Math.ListN.{get_or-map}
+use Rattle.std.proofs.lemmas.List.{get_or-set_same, get_or-set_other}
 use Rattle.std.proofs.lemmas.List.Quantifiers.{position-Some}
 use Rattle.bhs_model.specs.declared.events.Event.{Event}
 use Rattle.bhs_model.specs.declared.events.Event.TheVariants.{Tell, Deliver, Close}
@@ -12,7 +13,7 @@ use Rattle.bhs_model.specs.declared.replies.Reply.{Reply}
 use Rattle.bhs_model.specs.declared.replies.Reply.TheVariants.{Over}
 use Rattle.bhs_session.specs.Texts.{text_of}
 use Rattle.bhs_rehearsal.specs.Games.{Game, played, reply_to, is_away, drawn, delivered}
-use Rattle.bhs_rehearsal.specs.Connections.{Item, Ends, Connection, unfed, shut, Taken, taken, after}
+use Rattle.bhs_rehearsal.specs.Connections.{Connection, unfed, shut, taken}
 use Rattle.bhs_rehearsal.specs.Stages.{Stage, game_at, connection_at, with_game, with_connection, has_seat, Entry}
 use Rattle.bhs_rehearsal.specs.Stages.{Waits, Sits, IsDenied, Goes, entry, Moved, moves, Draws, Delivers, Closes}
 use Rattle.bhs_rehearsal.specs.Stages.{sent_to, stepped, nothing, tells_arrival, delivers, waits_in, shut_in, told_over}
@@ -21,8 +22,8 @@ use Rattle.bhs_theorems.specs.ScriptLaws.{plays_in, IsOfConnection, IsOfGame, Cl
 use Rattle.bhs_theorems.specs.ScriptLaws.{MatchesKeepToThemselves}
 use Rattle.bhs_theorems.specs.Clients.{bytes_among}
 use Rattle.bhs_theorems.proofs.CuttingLemmas.{by_bool, and_false}
-use Rattle.bhs_theorems.proofs.TurnLemmas.{Turn, placed, plays_turn, enters_turn, turn_in, turn_of, moves-placed}
-use Rattle.bhs_theorems.proofs.TurnLemmas.{grown}
+use Rattle.bhs_theorems.proofs.TurnLemmas.{Turn, placed, plays_turn, enters_turn, turn_in, turn_of, moves_itself}
+use Rattle.bhs_theorems.proofs.TurnLemmas.{grown, ending, bare, seat_of, seat_after}
 use Rattle.bhs_theorems.proofs.FeedLemmas.{bytes_among-sent_to}
 use Rattle.bhs_theorems.proofs.StepCases.{client_step, by_client, event_step, by_event, by_close}
 
@@ -54,25 +55,13 @@ abbrev KeepsGames : Stage → Turn → Type 0
 KeepsGames stage turn = (game : ℕ) → plays_in game turn.connection ≡ false
     → game_at (record stage { games = turn.games }) game ≡ game_at stage game
 
-keeps_by : (stage : Stage) (seat : ℕ × ℕ) (connection : Connection) (game : Game) (is_done : Bool) (left : List Item)
-    (text : List ℕ) →
-    let done : Taken = record { game = game; is_done = is_done; left = left; text = text } in
-    KeepsGames stage (record {
-      games = set stage.games seat.0 game;
-      connection = after
-          (record connection { seat = Some seat }) done;
-      text = text;
-    })
-keeps_by stage seat connection new true left text game elsewhere =
-    get_or-set_other stage.games seat.0 game new _ (λ same. eqb-false seat.0 game elsewhere (sym same))
-keeps_by stage seat connection new false left text game elsewhere =
-    get_or-set_other stage.games seat.0 game new _ (λ same. eqb-false seat.0 game elsewhere (sym same))
-
 keeps_playing : (stage : Stage) (seat : ℕ × ℕ) (connection : Connection)
     → KeepsGames stage (plays_turn stage seat connection)
-keeps_playing stage seat connection =
+keeps_playing stage seat connection game elsewhere =
     let done = taken (game_at stage seat.0) seat.1 connection.queue in
-    keeps_by stage seat connection done.game done.is_done done.left done.text
+    let there : (seat.0 == game) ≡ false =
+    sym (ap (λ (own : Option (ℕ × ℕ)). plays_in game (bare own)) (seat_after connection seat done)) ∙ elsewhere in
+    get_or-set_other stage.games seat.0 game done.game _ (λ same. eqb-false seat.0 game there (sym same))
 
 keeps_entering : (stage : Stage) (connection : Connection) (entry : Entry)
     → KeepsGames stage (enters_turn stage connection entry)
@@ -108,26 +97,20 @@ client_of_connection stage conn connection ended = by_client (IsOfConnection sta
 pub clients_lemma : ClientsKeepToThemselves
 clients_lemma stage conn bytes =
     let old = connection_at stage conn in
-    let ending : Connection = record old { unfinished = Some []; queue = old.queue ++ Ends ∷ []; ended = true } in (
-      client_of_connection stage conn (grown old bytes) old.ended,
-      client_of_connection stage conn ending old.ended,
-    )
+    (client_of_connection stage conn (grown old bytes) old.ended, client_of_connection stage conn (ending old) old.ended)
 
 -- ---- a draw
 
 -- who has a seat
-pub seat_is : (seat : ℕ × ℕ) (own : Option (ℕ × ℕ)) (unfinished : Option (List ℕ)) (queue : List Item) (ended : Bool) →
-    has_seat seat (record { seat = own; unfinished = unfinished; queue = queue; ended = ended }) ≡ true
-    → own ≡ Some seat
-seat_is seat None unfinished queue ended has = absurd (cc)
-seat_is seat (Some own) unfinished queue ended has =
+seat_is : (seat : ℕ × ℕ) (own : Option (ℕ × ℕ)) → has_seat seat (bare own) ≡ true → own ≡ Some seat
+seat_is seat None has = absurd (cc)
+seat_is seat (Some own) has =
     let parts = and_parts (own.0 == seat.0) (own.1 == seat.1) has in
     ap₂ (λ (game agent : ℕ). Some (game, agent)) (eqb-true own.0 seat.0 parts.0) (eqb-true own.1 seat.1 parts.1)
 
 pub seat-has_seat : (seat : ℕ × ℕ) (connection : Connection) → has_seat seat connection ≡ true
     → connection.seat ≡ Some seat
-seat-has_seat seat connection has = seat_is seat connection.seat connection.unfinished connection.queue
-    connection.ended has
+seat-has_seat seat connection has = seat_is seat connection.seat has
 
 -- one match was changed, and nothing was sent
 game_alone : (stage : Stage) (game : ℕ) (new : Game) → IsOfGame stage game (nothing (with_game stage game new))
@@ -152,7 +135,7 @@ pub plays_elsewhere : (stage : Stage) (game conn other : ℕ) (agent : ℕ)
     plays_in game (connection_at stage other) ≡ false → other ≢ conn
 plays_elsewhere stage game conn other agent seated elsewhere same = absurd (
     let here : plays_in game (connection_at stage conn) ≡ true =
-    ap (λ (seat : Option (ℕ × ℕ)). plays_in game (record (connection_at stage conn) { seat = seat })) seated
+    ap (λ (seat : Option (ℕ × ℕ)). plays_in game (bare seat)) seated
     ∙ eq-eqb game game refl in
     let there : plays_in game (connection_at stage conn) ≡ false =
     ap (λ (one : ℕ). plays_in game (connection_at stage one)) (sym same) ∙ elsewhere in
@@ -170,9 +153,7 @@ moves_of_game stage game new conn agent before within seated =
     let old = connection_at stage conn in
     let turn = plays_turn between (game, agent) old in
     let is_turn : moves between conn ≡ placed between conn turn =
-    ap (λ (connections : List Connection). moves (record between { connections = connections }) conn)
-    (sym (set-get_or stage.connections conn unfed))
-    ∙ moves-placed between conn old within
+    moves_itself between conn within
     ∙ ap (λ (seat : Option (ℕ × ℕ)). placed between conn (turn_in between conn old seat)) seated in
     subst (λ (moved : Moved). IsOfGame stage game
     (record { stage = moved.stage; outs = sent_to conn (before ++ moved.text) })) (sym is_turn) (record {
@@ -221,33 +202,47 @@ deliveries_of_game stage game agent = event_of_game stage game (delivered (game_
 -- ---- a close
 
 -- who plays elsewhere doesn't wait here
-waits_by : (number : ℕ) (game : Game) (own : Option (ℕ × ℕ)) (unfinished : Option (List ℕ)) (queue : List Item)
-    (ended : Bool) →
-    let connection : Connection = record { seat = own; unfinished = unfinished; queue = queue; ended = ended } in
-    plays_in number connection ≡ false → waits_in number game connection ≡ false
-waits_by number game None unfinished queue ended elsewhere = refl
-waits_by number game (Some seat) unfinished queue ended elsewhere =
-    and_false (seat.0 == number) (is_away game seat.1) elsewhere
+waits_by : (number : ℕ) (game : Game) (own : Option (ℕ × ℕ)) → plays_in number (bare own) ≡ false
+    → waits_in number game (bare own) ≡ false
+waits_by number game None elsewhere = refl
+waits_by number game (Some seat) elsewhere = and_false (seat.0 == number) (is_away game seat.1) elsewhere
 
 waits_elsewhere : (number : ℕ) (game : Game) (connection : Connection) → plays_in number connection ≡ false
     → waits_in number game connection ≡ false
-waits_elsewhere number game connection elsewhere =
-    waits_by number game connection.seat connection.unfinished connection.queue connection.ended elsewhere
+waits_elsewhere number game connection elsewhere = waits_by number game connection.seat elsewhere
 
 abbrev pub shut_if : (number : ℕ) → Game → Connection → Connection
 shut_if number game connection = cond (waits_in number game connection) (shut connection) connection
 
+pub seat-shut_if : (number : ℕ) (game : Game) (connection : Connection)
+    → (shut_if number game connection).seat ≡ connection.seat
+seat-shut_if number game connection =
+    by_bool (waits_in number game connection)
+    (λ (waits : Bool). (cond waits (shut connection) connection).seat ≡ connection.seat)
+    (λ waits. refl) (λ stays. refl)
+
+pub seats_shut : (number : ℕ) (game : Game) (connections : List Connection)
+    → map seat_of connections ≡ map seat_of (shut_in number game connections)
+seats_shut number game [] = refl
+seats_shut number game (connection ∷ connections) =
+    ap₂ (λ (own : Option (ℕ × ℕ)) (others : List (Option (ℕ × ℕ))). own ∷ others)
+    (sym (seat-shut_if number game connection)) (seats_shut number game connections)
+
+pub shut_at : (number : ℕ) (game : Game) (connections : List Connection) (conn : ℕ) →
+    get_or (shut_in number game connections) conn unfed ≡ shut_if number game (get_or connections conn unfed)
+shut_at number game connections conn = get_or-map (shut_if number game) connections conn unfed
+
 pub not_shut : (number : ℕ) (game : Game) (connections : List Connection) (conn : ℕ)
     → plays_in number (get_or connections conn unfed) ≡ false →
     get_or (shut_in number game connections) conn unfed ≡ get_or connections conn unfed
-not_shut number game [] conn elsewhere = refl
-not_shut number game (connection ∷ connections) zero elsewhere =
-    cond-false (waits_in number game connection) (shut connection) connection
+not_shut number game connections conn elsewhere =
+    let connection = get_or connections conn unfed in
+    shut_at number game connections conn
+    ∙ cond-false (waits_in number game connection) (shut connection) connection
     (waits_elsewhere number game connection elsewhere)
-not_shut number game (connection ∷ connections) (suc conn) elsewhere = not_shut number game connections conn elsewhere
 
 -- a connection that is told so has its number or a later one
-pub told_later : (number : ℕ) (game : Game) (connections : List Connection) (first conn : ℕ) → conn < first
+told_later : (number : ℕ) (game : Game) (connections : List Connection) (first conn : ℕ) → conn < first
     → bytes_among conn (told_over number game first connections) ≡ []
 told_later number game [] first conn earlier = refl
 told_later number game (connection ∷ connections) first conn earlier =
@@ -260,34 +255,41 @@ told_later number game (connection ∷ connections) first conn earlier =
     (λ waits. sent_elsewhere conn first (text_of Over) apart) (λ stays. refl))
     (told_later number game connections (first + 1) conn (omega arith))
 
-told_here : (number : ℕ) (game : Game) (connections : List Connection) (first conn : ℕ)
-    → plays_in number (get_or connections conn unfed) ≡ false →
-    bytes_among (first + conn) (told_over number game first connections) ≡ []
-told_here number game [] first conn elsewhere = refl
-told_here number game (connection ∷ connections) first zero elsewhere =
-    ap (λ (waits : Bool). bytes_among (first + 0)
-    (cond waits (sent_to first (text_of Over)) [] ++ told_over number game (first + 1) connections))
-    (waits_elsewhere number game connection elsewhere)
-    ∙ told_later number game connections (first + 1) (first + 0) (omega arith)
-told_here number game (connection ∷ connections) first (suc conn) elsewhere =
+-- who waits is told that it is over, and nobody else
+pub told_at : (number : ℕ) (game : Game) (connections : List Connection) (first conn : ℕ) →
+    bytes_among (first + conn) (told_over number game first connections) ≡ cond
+    (waits_in number game (get_or connections conn unfed)) (text_of Over) []
+told_at number game [] first conn = refl
+told_at number game (connection ∷ connections) first zero =
+    let same : (first == first + 0) ≡ true = eq-eqb first (first + 0) (omega arith) in
+    bytes_among-append (first + 0) (cond (waits_in number game connection) (sent_to first (text_of Over)) [])
+    (told_over number game (first + 1) connections)
+    ∙ ap₂ (λ (one two : List ℕ). one ++ two)
+    (by_bool (waits_in number game connection)
+    (λ (waits : Bool). bytes_among (first + 0) (cond waits (sent_to first (text_of Over)) []) ≡ cond waits
+    (text_of Over) [])
+    (λ waits. bytes_among-sent_to (first + 0) first (text_of Over) ∙ cond-true _ _ _ same) (λ stays. refl))
+    (told_later number game connections (first + 1) (first + 0) (omega arith))
+    ∙ append-nil _
+told_at number game (connection ∷ connections) first (suc conn) =
     let apart : first + suc conn ≢ first = λ same. absurd (omega (arith, same)) in
     let later : (first + 1) + conn ≡ first + suc conn = omega arith in
-    bytes_among-append (first + suc conn) (cond (waits_in number game connection) (sent_to first (text_of Over)) [])
-    (told_over number game (first + 1) connections)
+    bytes_among-append (first + suc conn) (cond (waits_in number game connection) (sent_to first (text_of Over))
+    []) (told_over number game (first + 1) connections)
     ∙ ap₂ (λ (one two : List ℕ). one ++ two)
     (by_bool (waits_in number game connection)
     (λ (waits : Bool). bytes_among (first + suc conn) (cond waits (sent_to first (text_of Over)) []) ≡ [])
     (λ waits. sent_elsewhere (first + suc conn) first (text_of Over) apart) (λ stays. refl))
     (ap (λ (number_of : ℕ). bytes_among number_of (told_over number game (first + 1) connections)) (sym later)
-    ∙ told_here number game connections (first + 1) conn elsewhere)
+    ∙ told_at number game connections (first + 1) conn)
 
-pub told_elsewhere : (number : ℕ) (game : Game) (connections : List Connection) (conn : ℕ)
+told_elsewhere : (number : ℕ) (game : Game) (connections : List Connection) (conn : ℕ)
     → plays_in number (get_or connections conn unfed) ≡ false →
     bytes_among conn (told_over number game 0 connections) ≡ []
 told_elsewhere number game connections conn elsewhere =
-    let same : 0 + conn ≡ conn = omega arith in
-    ap (λ (other : ℕ). bytes_among other (told_over number game 0 connections)) (sym same)
-    ∙ told_here number game connections 0 conn elsewhere
+    ap (λ (other : ℕ). bytes_among other (told_over number game 0 connections)) (omega arith)
+    ∙ told_at number game connections 0 conn
+    ∙ cond-false _ _ _ (waits_elsewhere number game (get_or connections conn unfed) elsewhere)
 
 close_of_game : (stage : Stage) (game : ℕ) (new : Game) →
     let old = game_at stage game in

@@ -1,7 +1,7 @@
 -- Taking more items is taking the first, and then what they leave with the others.
-use Rattle.std.proofs.Common.{◌≡◌, ◌∙◌, ℕ, Bool, true, false, cond, ◌&&◌, nat_lt, Option, Some, None, List, [], ◌∷◌}
-use Rattle.std.proofs.Common.{◌++◌, refl, sym, ap, append_assoc, arith, if◌then◌else◌}
-use Rattle.std.proofs.lemmas.Bool.{cond-true, cond-false}
+use Rattle.std.proofs.Common.{◌≡◌, ◌≢◌, ◌∙◌, ℕ, Bool, true, false, cond, ◌&&◌, nat_lt, ◌==◌, Option, Some, None, List}
+use Rattle.std.proofs.Common.{[], ◌∷◌, ◌++◌, refl, sym, ap, append_assoc, arith, if◌then◌else◌}
+use Rattle.std.proofs.lemmas.Bool.{cond-true, cond-false, eqb-true, eqb-false}
 use Rattle.std.proofs.lemmas.Bool.Decides.{nat_tests}
 use Rattle.bhs_model.specs.declared.commands.Command.{Command}
 use Rattle.bhs_model.specs.declared.commands.Command.TheVariants.{Leave}
@@ -17,6 +17,12 @@ use Rattle.bhs_rehearsal.specs.Connections.{Item, Says, Ends, Taken, is_last, le
 pub by_bool : (b : Bool) (P : Bool → Type 0) → (b ≡ true → P true) → (b ≡ false → P false) → P b
 by_bool true P yes_case no_case = yes_case refl
 by_bool false P yes_case no_case = no_case refl
+
+-- a fact, whether two numbers are the same or not
+pub by_same : {P : Type 0} (one other : ℕ) → (one ≡ other → P) → (one ≢ other → P) → P
+by_same {P} one other same apart =
+    by_bool (one == other) (λ (is : Bool). P) (λ is. same (eqb-true one other is))
+    (λ differs. apart (eqb-false one other differs))
 
 -- what was taken, with text before it
 abbrev pub behind : (text : List ℕ) → Taken → Taken

@@ -17,8 +17,8 @@ use Rattle.bhs_rehearsal.specs.Stages.{Stage, game_at, connection_at, with_game,
 use Rattle.bhs_rehearsal.specs.Stages.{IsDenied, Goes, entry}
 use Rattle.bhs_theorems.proofs.MeetingLemmas.{view_from-append, bytes_from-append, commands-append, due-append}
 use Rattle.bhs_theorems.proofs.CuttingLemmas.{by_bool}
-use Rattle.bhs_theorems.proofs.TurnLemmas.{placed, plays_turn, enters_turn, turn_in, played_at, grown}
-use Rattle.bhs_theorems.proofs.SettledLemmas.{seat_after}
+use Rattle.bhs_theorems.proofs.TurnLemmas.{placed, plays_turn, enters_turn, turn_in, played_at, grown, ending}
+use Rattle.bhs_theorems.proofs.TurnLemmas.{seat_after}
 use Rattle.bhs_theorems.specs.Met.{Meeting, view_from, view_of, commands, bytes_from, bytes, takes_commands, AreDue}
 use Rattle.bhs_theorems.specs.Clients.{Fed, fed_more, at_end}
 use Rattle.bhs_theorems.specs.SentAsMet.{IsDenial, IsPastOf, over_text}
@@ -221,9 +221,6 @@ going_fed setup past connection input sent fed open_yet going = record {
   last = last_says connection.queue (found_in connection.unfinished fed) (going.end_waits ∙ sym going.ends ∙ open_yet);
   lives = going.lives;
 }
-
-abbrev pub ending : Connection → Connection
-ending connection = record connection { unfinished = Some []; queue = connection.queue ++ Ends ∷ []; ended = true }
 
 lines_of-end : (items : List Item) → lines_of (items ++ Ends ∷ []) ≡ lines_of items
 lines_of-end items = lines_of-append items (Ends ∷ []) ∙ append-nil (lines_of items)

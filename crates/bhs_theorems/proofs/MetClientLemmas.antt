@@ -13,7 +13,8 @@ use Rattle.bhs_theorems.specs.Clients.{bytes_among}
 use Rattle.bhs_theorems.proofs.CuttingLemmas.{by_bool}
 use Rattle.bhs_theorems.proofs.TurnLemmas.{placed, turn_of, moves-placed, grown}
 use Rattle.bhs_theorems.specs.Clients.{Fed, at_end}
-use Rattle.bhs_theorems.proofs.KnownLemmas.{Going, going_fed, going_ends, ending, met_unread}
+use Rattle.bhs_theorems.proofs.KnownLemmas.{Going, going_fed, going_ends, met_unread}
+use Rattle.bhs_theorems.proofs.TurnLemmas.{ending}
 use Rattle.bhs_theorems.proofs.KnownLemmas.{met_unended, fed_if, Unseated, unseated_fed, unseated_ends, IsKnown}
 use Rattle.bhs_theorems.proofs.KnownLemmas.{IsReady}
 use Rattle.bhs_theorems.proofs.MetMoveLemmas.{Knows, moved, same_bytes}

@@ -1,8 +1,8 @@
 -- What is known of a connection, through a close.
-use Rattle.std.proofs.Common.{◌≡◌, ◌≢◌, ◌∙◌, ℕ, zero, suc, ◌+◌, ◌<◌, inl, inr, Bool, true, false, cond, ◌&&◌}
-use Rattle.std.proofs.Common.{◌==◌, Option, Some, None, List, [], ◌∷◌, ◌++◌, length, get_or, refl}
+use Rattle.std.proofs.Common.{◌≡◌, ◌≢◌, ◌∙◌, ℕ, ◌+◌, ◌<◌, inl, inr, Bool, true, false, cond, ◌&&◌}
+use Rattle.std.proofs.Common.{◌==◌, Option, Some, None, List, [], ◌++◌, length, refl}
 use Rattle.std.proofs.Common.{sym, ap, ap₂, subst, append-nil, arith}
-use Rattle.std.proofs.lemmas.Bool.{cond-true, eqb-true, eqb-false, eq-eqb}
+use Rattle.std.proofs.lemmas.Bool.{eqb-true, eqb-false}
 use Rattle.std.proofs.lemmas.List.{get_or-set_same, get_or-set_other, length-map}
 use Rattle.bhs_model.specs.declared.events.Event.TheVariants.{Close}
 use Rattle.bhs_model.specs.declared.setups.Setup.{Setup}
@@ -12,16 +12,13 @@ use Rattle.bhs_model.specs.Views.{View, Away, standing}
 use Rattle.bhs_model.specs.Runs.{State, is_bound}
 use Rattle.bhs_session.specs.Texts.{text_of}
 use Rattle.bhs_rehearsal.specs.Games.{Game, state_of, played, is_away, world_in}
-use Rattle.bhs_rehearsal.specs.Connections.{Item, Connection, unfed, shut}
+use Rattle.bhs_rehearsal.specs.Connections.{Item, Connection, shut}
 use Rattle.bhs_rehearsal.specs.Stages.{Stage, game_at, connection_at, with_game}
-use Rattle.bhs_rehearsal.specs.Stages.{sent_to}
 use Rattle.bhs_rehearsal.specs.Stages.{waits_in, shut_in, told_over}
 use Rattle.bhs_theorems.specs.ScriptLaws.{IsSettled}
 use Rattle.bhs_theorems.specs.Clients.{bytes_among}
 use Rattle.bhs_theorems.proofs.CuttingLemmas.{by_bool}
-use Rattle.bhs_theorems.proofs.FeedLemmas.{bytes_among-sent_to}
-use Rattle.bhs_theorems.proofs.ApartLemmas.{sent_elsewhere, bytes_among-append, shut_if, told_later}
-use Rattle.bhs_theorems.proofs.SettlingLemmas.{seat-shut_if, shut_at}
+use Rattle.bhs_theorems.proofs.ApartLemmas.{shut_if, seat-shut_if, shut_at, told_at}
 use Rattle.bhs_theorems.proofs.SlowGameLemmas.{state_of-played}
 use Rattle.bhs_theorems.specs.Clients.{Fed}
 use Rattle.bhs_theorems.specs.Met.{view_of, bytes, takes_commands}
@@ -36,34 +33,6 @@ use Rattle.bhs_theorems.proofs.KnownLemmas.{Untouched, FreeAreUntouched}
 use Rattle.bhs_theorems.proofs.MetMoveLemmas.{Knows, same_bytes}
 
 -- ---- a close
-
--- who waits is told that it is over, and nobody else
-told_at : (number : ℕ) (game : Game) (connections : List Connection) (first conn : ℕ) →
-    bytes_among (first + conn) (told_over number game first connections) ≡ cond
-    (waits_in number game (get_or connections conn unfed)) (text_of replies.Over) []
-told_at number game [] first conn = refl
-told_at number game (connection ∷ connections) first zero =
-    let same : (first == first + 0) ≡ true = eq-eqb first (first + 0) (omega arith) in
-    bytes_among-append (first + 0) (cond (waits_in number game connection) (sent_to first (text_of replies.Over)) [])
-    (told_over number game (first + 1) connections)
-    ∙ ap₂ (λ (one two : List ℕ). one ++ two)
-    (by_bool (waits_in number game connection)
-    (λ (waits : Bool). bytes_among (first + 0) (cond waits (sent_to first (text_of replies.Over)) []) ≡ cond waits
-    (text_of replies.Over) [])
-    (λ waits. bytes_among-sent_to (first + 0) first (text_of replies.Over) ∙ cond-true _ _ _ same) (λ stays. refl))
-    (told_later number game connections (first + 1) (first + 0) (omega arith))
-    ∙ append-nil _
-told_at number game (connection ∷ connections) first (suc conn) =
-    let apart : first + suc conn ≢ first = λ same. absurd (omega (arith, same)) in
-    let later : (first + 1) + conn ≡ first + suc conn = omega arith in
-    bytes_among-append (first + suc conn) (cond (waits_in number game connection) (sent_to first (text_of replies.Over))
-    []) (told_over number game (first + 1) connections)
-    ∙ ap₂ (λ (one two : List ℕ). one ++ two)
-    (by_bool (waits_in number game connection)
-    (λ (waits : Bool). bytes_among (first + suc conn) (cond waits (sent_to first (text_of replies.Over)) []) ≡ [])
-    (λ waits. sent_elsewhere (first + suc conn) first (text_of replies.Over) apart) (λ stays. refl))
-    (ap (λ (number_of : ℕ). bytes_among number_of (told_over number game (first + 1) connections)) (sym later)
-    ∙ told_at number game connections (first + 1) conn)
 
 -- a match that is closed
 record ClosedOf (game new : Game) (agent : ℕ) : Type 0 where

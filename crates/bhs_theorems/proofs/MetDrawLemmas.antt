@@ -1,10 +1,10 @@
 -- What is known of a connection, through a draw.
 use Rattle.std.proofs.Common.{◌≡◌, ◌≢◌, ◌∙◌, ℕ, ◌<◌, inl, inr, Bool, true, false, not}
-use Rattle.std.proofs.Common.{◌==◌, Option, Some, None, List, [], ◌∷◌, ◌++◌, length, refl}
+use Rattle.std.proofs.Common.{Option, Some, None, List, [], ◌∷◌, ◌++◌, length, refl}
 use Rattle.std.proofs.Common.{sym, ap, ap₂, subst, append-nil}
 use Rattle.std.specs.List.{position}
-use Rattle.std.proofs.lemmas.Bool.{eqb-true, eqb-false, and_parts}
-use Rattle.std.proofs.lemmas.List.{set-get_or, get_or-set_same, get_or-set_other}
+use Rattle.std.proofs.lemmas.Bool.{and_parts}
+use Rattle.std.proofs.lemmas.List.{get_or-set_same, get_or-set_other}
 use Rattle.std.proofs.lemmas.List.Quantifiers.{position-Some}
 use Rattle.bhs_model.specs.declared.events.Event.{Event}
 use Rattle.bhs_model.specs.declared.events.Event.TheVariants.{Tell, Deliver, Close}
@@ -25,8 +25,8 @@ use Rattle.bhs_rehearsal.specs.Stages.{sent_to}
 use Rattle.bhs_rehearsal.specs.Stages.{tells_arrival, delivers}
 use Rattle.bhs_theorems.specs.ScriptLaws.{IsSettled}
 use Rattle.bhs_theorems.specs.Clients.{bytes_among}
-use Rattle.bhs_theorems.proofs.CuttingLemmas.{by_bool}
-use Rattle.bhs_theorems.proofs.TurnLemmas.{placed, turn_of, moves-placed}
+use Rattle.bhs_theorems.proofs.CuttingLemmas.{by_same, by_bool}
+use Rattle.bhs_theorems.proofs.TurnLemmas.{moves_itself}
 use Rattle.bhs_theorems.proofs.ApartLemmas.{seat-has_seat}
 use Rattle.bhs_theorems.proofs.SettlingLemmas.{nobody_plays}
 use Rattle.bhs_theorems.proofs.SlowGameLemmas.{state_of-played}
@@ -134,18 +134,15 @@ module _ (stage : Stage) (game agent conn : ℕ) (input : Fed) (sent : List ℕ)
   drawn_alike : (number other : ℕ) → (number ≡ game → Alike other old_game new_game)
       → Alike other (game_at stage number) (game_at drawn_in number)
   drawn_alike number other same =
-      by_bool (number == game) (λ (is : Bool). (number == game) ≡ is
-      → Alike other (game_at stage number) (game_at drawn_in number))
-      (λ first here.
-      let is : number ≡ game = eqb-true number game here in
+      by_same number game
+      (λ is.
       subst (λ (place : ℕ). Alike other (game_at stage place) (game_at drawn_in place)) (sym is)
       (subst (λ (one : Game). Alike other old_game one)
       (sym (get_or-set_same stage.games game new_game _ within)) (same is)))
-      (λ first elsewhere.
+      (λ apart.
       subst (λ (one : Game). Alike other (game_at stage number) one)
-      (sym (get_or-set_other stage.games game number new_game _ (eqb-false number game elsewhere)))
+      (sym (get_or-set_other stage.games game number new_game _ apart))
       (alike_itself other (game_at stage number)))
-      refl
 
   -- it moves nobody
   draw_rests : IsSettled drawn_in → arrives (world_in old_game) (state_of old_game) agent ≡ false
@@ -221,10 +218,7 @@ module _ (stage : Stage) (game agent conn : ℕ) (input : Fed) (sent : List ℕ)
         (text_of (here old_game.setup.board a.sight) ++ (moves drawn_in holder).text)))
     draw_moves settled =
         let old = connection_at stage holder in
-        let is_turn : moves drawn_in holder ≡ placed drawn_in holder (turn_of drawn_in holder old) =
-        ap (λ (connections : List Connection). moves (record drawn_in { connections = connections }) holder)
-        (sym (set-get_or stage.connections holder unfed))
-        ∙ moves-placed drawn_in holder old there in
+        let is_turn = moves_itself drawn_in holder there in
         let text = text_of (here old_game.setup.board a.sight) in
         subst (λ (m : Moved). Knows m.stage conn input (sent ++ bytes_among conn (sent_to holder (text ++ m.text))))
         (sym is_turn)

@@ -32,7 +32,8 @@ use Rattle.bhs_theorems.specs.SentAsMet.{IsDenial, OthersAreDenied, over_text, I
 use Rattle.bhs_theorems.proofs.OverLemmas.{over_none}
 use Rattle.bhs_theorems.proofs.FitLemmas.{fits_here, away_stands, here_stands}
 use Rattle.bhs_theorems.proofs.TookLemmas.{lines_of}
-use Rattle.bhs_theorems.proofs.KnownLemmas.{MetBy, ending}
+use Rattle.bhs_theorems.proofs.KnownLemmas.{MetBy}
+use Rattle.bhs_theorems.proofs.TurnLemmas.{ending}
 use Rattle.bhs_theorems.proofs.KnownLemmas.{fed_if, IsKnown}
 use Rattle.bhs_theorems.proofs.KnownLemmas.{IsReady}
 use Rattle.bhs_theorems.proofs.MetMoveLemmas.{Knows, same_bytes}

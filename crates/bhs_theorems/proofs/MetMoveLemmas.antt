@@ -10,10 +10,9 @@ use Rattle.bhs_rehearsal.specs.Stages.{sent_to}
 use Rattle.bhs_theorems.specs.ScriptLaws.{IsSettled}
 use Rattle.bhs_theorems.specs.Clients.{bytes_among}
 use Rattle.bhs_theorems.proofs.CuttingLemmas.{by_bool}
-use Rattle.bhs_theorems.proofs.TurnLemmas.{Turn, placed, turn_in, turn_of}
+use Rattle.bhs_theorems.proofs.TurnLemmas.{Turn, placed, turn_in, turn_of, seat_after}
 use Rattle.bhs_theorems.proofs.FeedLemmas.{bytes_among-sent_to}
 use Rattle.bhs_theorems.proofs.ApartLemmas.{sent_elsewhere}
-use Rattle.bhs_theorems.proofs.SettledLemmas.{seat_after}
 use Rattle.bhs_theorems.specs.Clients.{Fed}
 use Rattle.bhs_theorems.proofs.KnownLemmas.{IsKnown}
 use Rattle.bhs_theorems.proofs.KnownLemmas.{IsReady, Untouched, untouched_alike, IsFree, FreeAreUntouched, known_alike}

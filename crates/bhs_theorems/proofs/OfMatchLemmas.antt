@@ -1,25 +1,26 @@
 -- What is said and done in a match changes nothing but that match and who plays in it.
-use Rattle.std.proofs.Common.{◌≡◌, ◌≢◌, ◌∙◌, ℕ, zero, suc, ◌<◌, Bool, true, false, Option, Some, None}
-use Rattle.std.proofs.Common.{List, [], ◌∷◌, ◌++◌, length, map, set, get_or, refl, sym, ap, ap₂, subst}
+use Rattle.std.proofs.Common.{◌≡◌, ◌≢◌, ◌∙◌, ℕ, zero, suc, Bool, true, false, Option, Some, None}
+use Rattle.std.proofs.Common.{List, [], ◌∷◌, map, get_or, refl, sym, ap, subst}
 use Rattle.std.specs.List.{position}
 use Rattle.std.proofs.lemmas.Bool.{eqb-true, eq-eqb}
-use Rattle.std.proofs.lemmas.List.{set-get_or, get_or-set_other, length-set, map-set}
+use Rattle.std.proofs.lemmas.List.{get_or-set_other, length-set}
+use Rattle.std.proofs.Math.Seq.{map-set_same}
 use Rattle.std.proofs.lemmas.List.Quantifiers.{position-Some}
 use Rattle.bhs_model.specs.declared.events.Event.{Event}
 use Rattle.bhs_model.specs.declared.events.Event.TheVariants.{Tell, Deliver, Close}
 use Rattle.bhs_model.specs.declared.replies.Reply.{Reply}
 use Rattle.bhs_rehearsal.specs.Games.{Game, played, reply_to, drawn, delivered}
-use Rattle.bhs_rehearsal.specs.Connections.{Item, Ends, Connection, unfed, taken}
+use Rattle.bhs_rehearsal.specs.Connections.{Connection, unfed, taken}
 use Rattle.bhs_rehearsal.specs.Stages.{Stage, game_at, connection_at, with_game, has_seat, Moved}
-use Rattle.bhs_rehearsal.specs.Stages.{moves, Instruction, Feeds, EndsInput, Draws, Delivers, Closes, Stepped}
-use Rattle.bhs_rehearsal.specs.Stages.{tells_arrival, delivers, shut_in, step, stands_after}
+use Rattle.bhs_rehearsal.specs.Stages.{Instruction, Feeds, EndsInput, Draws, Delivers, Closes, Stepped}
+use Rattle.bhs_rehearsal.specs.Stages.{tells_arrival, delivers, step, stands_after}
 use Rattle.bhs_theorems.specs.ScriptLaws.{plays_in, IsOfConnection, SameBut, is_of_match}
 use Rattle.bhs_theorems.specs.Clients.{bytes_among}
 use Rattle.bhs_theorems.proofs.CuttingLemmas.{by_bool}
-use Rattle.bhs_theorems.proofs.TurnLemmas.{placed, plays_turn, turn_in, turn_of, moves-placed, grown}
-use Rattle.bhs_theorems.proofs.ApartLemmas.{seat-has_seat, plays_elsewhere, not_shut, clients_lemma, matches_lemma}
-use Rattle.bhs_theorems.proofs.SettledLemmas.{seat_after}
-use Rattle.bhs_theorems.proofs.SettlingLemmas.{seat-shut_if}
+use Rattle.bhs_theorems.proofs.TurnLemmas.{placed, plays_turn, turn_in, turn_of, moves_itself, grown}
+use Rattle.bhs_theorems.proofs.TurnLemmas.{ending, bare, seat_of, seat_after}
+use Rattle.bhs_theorems.proofs.ApartLemmas.{seat-has_seat, plays_elsewhere, not_shut, seats_shut, clients_lemma}
+use Rattle.bhs_theorems.proofs.ApartLemmas.{matches_lemma}
 use Rattle.bhs_theorems.proofs.StepCases.{client_step, by_client, event_step, by_event, by_close}
 
 -- ---- stages that are the same but for a match
@@ -34,20 +35,18 @@ same_itself game stage = record {
 }
 
 -- what a connection plays, by its place
-pub seats_at : (one two : List Connection) → map (λ (connection : Connection). connection.seat) one ≡ map
-    (λ (connection : Connection). connection.seat) two →
+pub seats_at : (one two : List Connection) → map seat_of one ≡ map seat_of two →
     (conn : ℕ) → (get_or one conn unfed).seat ≡ (get_or two conn unfed).seat
 seats_at [] [] same conn = refl
 seats_at [] (other ∷ two) same conn = absurd (cc)
 seats_at (first ∷ one) [] same conn = absurd (cc)
 seats_at (first ∷ one) (other ∷ two) same zero = cc
 seats_at (first ∷ one) (other ∷ two) same (suc conn) =
-    let rest : map (λ (connection : Connection). connection.seat) one ≡ map
-    (λ (connection : Connection). connection.seat) two = cc in
+    let rest : map seat_of one ≡ map seat_of two = cc in
     seats_at one two rest conn
 
 pub plays_by : (game : ℕ) (one other : Connection) → one.seat ≡ other.seat → plays_in game one ≡ plays_in game other
-plays_by game one other same = ap (λ (seat : Option (ℕ × ℕ)). plays_in game (record unfed { seat = seat })) same
+plays_by game one other same = ap (λ (own : Option (ℕ × ℕ)). plays_in game (bare own)) same
 
 -- who plays in the match does so in both
 pub plays_in_both : (game : ℕ) (one two : Stage) → SameBut game one two → (conn : ℕ)
@@ -75,39 +74,15 @@ same_through game one two three first second = record {
       ∙ second.connections conn (sym (plays_in_both game one two first conn) ∙ elsewhere);
 }
 
--- ---- seats
-
--- a seat that stays, where a connection is put in its place
-seats_stay : (connections : List Connection) (conn : ℕ) (new : Connection)
-    → new.seat ≡ (get_or connections conn unfed).seat →
-    map (λ (connection : Connection). connection.seat) connections ≡ map (λ (connection : Connection). connection.seat)
-    (set connections conn new)
-seats_stay connections conn new same =
-    let seat : Connection → Option (ℕ × ℕ) = λ (connection : Connection). connection.seat in
-    ap (map seat) (sym (set-get_or connections conn unfed))
-    ∙ map-set seat connections conn (get_or connections conn unfed)
-    ∙ ap (λ (own : Option (ℕ × ℕ)). set (map seat connections) conn own) (sym same)
-    ∙ sym (map-set seat connections conn new)
-
-pub seats_shut : (number : ℕ) (game : Game) (connections : List Connection) →
-    map (λ (connection : Connection). connection.seat) connections ≡ map (λ (connection : Connection). connection.seat)
-    (shut_in number game connections)
-seats_shut number game [] = refl
-seats_shut number game (connection ∷ connections) =
-    ap₂ (λ (own : Option (ℕ × ℕ)) (others : List (Option (ℕ × ℕ))). own ∷ others)
-    (sym (seat-shut_if number game connection)) (seats_shut number game connections)
-
-seat_by : (game : ℕ) (own : Option (ℕ × ℕ)) (unfinished : Option (List ℕ)) (queue : List Item) (ended : Bool) →
-    plays_in game (record { seat = own; unfinished = unfinished; queue = queue; ended = ended }) ≡ true → (agent : ℕ)
-    × (own ≡ Some (game, agent))
-seat_by game None unfinished queue ended here = absurd (cc)
-seat_by game (Some seat) unfinished queue ended here =
-    (seat.1, ap (λ (number : ℕ). Some (number, seat.1)) (eqb-true seat.0 game here))
-
 -- who plays in the match has a seat there
+seat_by : (game : ℕ) (own : Option (ℕ × ℕ)) → plays_in game (bare own) ≡ true → (agent : ℕ)
+    × (own ≡ Some (game, agent))
+seat_by game None here = absurd (cc)
+seat_by game (Some seat) here = (seat.1, ap (λ (number : ℕ). Some (number, seat.1)) (eqb-true seat.0 game here))
+
 pub seat_in : (game : ℕ) (connection : Connection) → plays_in game connection ≡ true → (agent : ℕ)
     × (connection.seat ≡ Some (game, agent))
-seat_in game connection here = seat_by game connection.seat connection.unfinished connection.queue connection.ended here
+seat_in game connection here = seat_by game connection.seat here
 
 -- ---- a move in the match
 
@@ -121,8 +96,8 @@ module _ (stage : Stage) (game conn agent : ℕ) (connection : Connection)
         keys = refl;
         count = sym (length-set stage.games game done.game);
         games = λ other apart. sym (get_or-set_other stage.games game other done.game _ apart);
-        seats = seats_stay stage.connections conn turn.connection
-            (seat_after connection (game, agent) done ∙ sym seated);
+        seats = sym (map-set_same seat_of stage.connections conn turn.connection unfed
+            (seat_after connection (game, agent) done ∙ sym seated));
         connections = λ other elsewhere.
             sym (get_or-set_other stage.connections conn other turn.connection unfed
             (plays_elsewhere stage game conn other agent seated elsewhere));
@@ -151,14 +126,6 @@ game_same stage game new = record {
   seats = refl;
   connections = λ conn elsewhere. refl;
 }
-
--- a connection's move, by itself
-pub moves_itself : (stage : Stage) (conn : ℕ) → conn < length stage.connections
-    → moves stage conn ≡ placed stage conn (turn_of stage conn (connection_at stage conn))
-moves_itself stage conn within =
-    ap (λ (connections : List Connection). moves (record stage { connections = connections }) conn)
-    (sym (set-get_or stage.connections conn unfed))
-    ∙ moves-placed stage conn (connection_at stage conn) within
 
 arrival_same : (stage : Stage) (game agent : ℕ) (new : Game) (reply : Option Reply) (holder : Option ℕ) →
     position (has_seat (game, agent)) stage.connections ≡ holder
@@ -216,8 +183,7 @@ of_match_same game stage (Feeds conn bytes) here =
     old.ended refl here
 of_match_same game stage (EndsInput conn) here =
     let old = connection_at stage conn in
-    let ending : Connection = record old { unfinished = Some []; queue = old.queue ++ Ends ∷ []; ended = true } in
-    client_same stage game conn ending old.ended refl here
+    client_same stage game conn (ending old) old.ended refl here
 of_match_same game stage (Draws other word) here =
     subst (λ (number : ℕ). SameBut number stage (step stage (Draws other word)).stage) (eqb-true other game here)
     (draws_same stage other word)
@@ -267,7 +233,7 @@ seated_one stage conn None outside new of_one same other seat seated =
     ap (λ (one : Connection). one.seat) (of_one.connections other apart) ∙ seated
 seated_one stage conn (Some own) inside new of_one same other seat seated =
     let here : plays_in own.0 (connection_at stage conn) ≡ true =
-    ap (λ (one : Option (ℕ × ℕ)). plays_in own.0 (record unfed { seat = one })) inside ∙ eq-eqb own.0 own.0 refl in
+    ap (λ (one : Option (ℕ × ℕ)). plays_in own.0 (bare one)) inside ∙ eq-eqb own.0 own.0 refl in
     sym (seats_at stage.connections new.stage.connections (same own.0 here).seats other) ∙ seated
 
 pub stays_seated : (stage : Stage) (instruction : Instruction) (conn : ℕ) (seat : ℕ × ℕ)
@@ -296,15 +262,14 @@ pub elsewhere_before : (game : ℕ) (stage : Stage) (instruction : Instruction) 
     plays_in game (connection_at (step stage instruction).stage conn) ≡ false
     → plays_in game (connection_at stage conn) ≡ false
 elsewhere_before game stage instruction conn elsewhere =
-    by_bool (plays_in game (connection_at stage conn)) (λ (is : Bool). plays_in game (connection_at stage conn) ≡ is
-    → plays_in game (connection_at stage conn) ≡ false)
-    (λ first here.
+    by_bool (plays_in game (connection_at stage conn)) (λ (is : Bool). plays_in game (connection_at stage conn) ≡ false)
+    (λ here.
     let seated = seat_in game (connection_at stage conn) here in
     let still = stays_seated stage instruction conn (game, seated.0) seated.1 in
     let there : plays_in game (connection_at (step stage instruction).stage conn) ≡ true =
-    ap (λ (one : Option (ℕ × ℕ)). plays_in game (record unfed { seat = one })) still ∙ eq-eqb game game refl in
+    ap (λ (one : Option (ℕ × ℕ)). plays_in game (bare one)) still ∙ eq-eqb game game refl in
     absurd (cc))
-    (λ first away. away) refl
+    (λ away. away)
 
 pub elsewhere_at_first : (game : ℕ) (stage : Stage) (script : List Instruction) (conn : ℕ) →
     plays_in game (connection_at (stands_after stage script) conn) ≡ false

@@ -1,8 +1,8 @@
 -- Settled stages, and what keeps a stage settled.
-use Rattle.std.proofs.Common.{◌≡◌, ◌≢◌, ◌∙◌, ℕ, ◌<◌, Bool, true, false, ◌&&◌, cond, nat_lt, ◌==◌, Option, Some, None}
+use Rattle.std.proofs.Common.{◌≡◌, ◌≢◌, ◌∙◌, ℕ, ◌<◌, Bool, true, false, ◌&&◌, cond, nat_lt, Option, Some, None}
 use Rattle.std.proofs.Common.{List, [], ◌∷◌, length, set, get_or, refl, sym, ap, ap₂, subst}
 use Rattle.std.specs.List.{list_any}
-use Rattle.std.proofs.lemmas.Bool.{ltb-true, ltb-false, eqb-true, eqb-false, eq-eqb}
+use Rattle.std.proofs.lemmas.Bool.{ltb-true, ltb-false, eq-eqb}
 use Rattle.std.proofs.lemmas.List.{set-get_or, get_or_past, get_or-set_same, get_or-set_other}
 use Rattle.std.proofs.lemmas.List.Folds.{list_any_at}
 use Rattle.bhs_wire.specs.Lines.{said_by}
@@ -17,34 +17,28 @@ use Rattle.bhs_rehearsal.specs.Stages.{Stage, game_at, connection_at, with_game,
 use Rattle.bhs_rehearsal.specs.Stages.{Waits, Sits, IsDenied, Goes, let_in, entry_by, entry, Moved, plays, enters}
 use Rattle.bhs_rehearsal.specs.Stages.{moves_in}
 use Rattle.bhs_theorems.specs.ScriptLaws.{awaits_arrival, IsSettled, SettledConnectionsRest}
-use Rattle.bhs_theorems.proofs.CuttingLemmas.{by_bool}
+use Rattle.bhs_theorems.proofs.CuttingLemmas.{by_bool, by_same}
 use Rattle.bhs_theorems.proofs.TurnLemmas.{Turn, placed, plays_turn, enters_turn, turn_in, turn_of, played_at}
+use Rattle.bhs_theorems.proofs.TurnLemmas.{bare, seat_after}
 use Rattle.bhs_theorems.proofs.AwayLemmas.{away-taken, taken_up, taken_rests}
 
 -- ---- who awaits an arrival
 
 -- in a stage with another match in a place, who plays there awaits as that match says, and the others as before
-awaits_by : (stage : Stage) (game : ℕ) (new : Game) (connections : List Connection) (own : Option (ℕ × ℕ))
-    (unfinished : Option (List ℕ)) (queue : List Item) (ended : Bool) →
-    let connection : Connection = record { seat = own; unfinished = unfinished; queue = queue; ended = ended } in
+awaits_by : (stage : Stage) (game : ℕ) (new : Game) (connections : List Connection) (own : Option (ℕ × ℕ)) →
     game_at (with_game stage game new) game ≡ new →
     ((agent : ℕ) → own ≡ Some (game, agent) → is_away new agent ≡ is_away (game_at stage game) agent) →
-    awaits_arrival (record (with_game stage game new) { connections = connections }) connection ≡ awaits_arrival
-    stage connection
-awaits_by stage game new connections None unfinished queue ended found same = refl
-awaits_by stage game new connections (Some own) unfinished queue ended found same =
-    by_bool (own.0 == game)
-    (λ (is : Bool). (own.0 == game) ≡ is → is_away (game_at (with_game stage game new) own.0) own.1 ≡ is_away
-    (game_at stage own.0) own.1)
-    (λ first here.
-    let is : own.0 ≡ game = eqb-true own.0 game here in
+    awaits_arrival (record (with_game stage game new) { connections = connections }) (bare own) ≡ awaits_arrival stage
+    (bare own)
+awaits_by stage game new connections None found same = refl
+awaits_by stage game new connections (Some own) found same =
+    by_same own.0 game
+    (λ is.
     ap (λ (number : ℕ). is_away (game_at (with_game stage game new) number) own.1) is
     ∙ ap (λ (one : Game). is_away one own.1) found
     ∙ same own.1 (ap (λ (number : ℕ). Some (number, own.1)) is)
     ∙ ap (λ (number : ℕ). is_away (game_at stage number) own.1) (sym is))
-    (λ first elsewhere. ap (λ (one : Game). is_away one own.1)
-    (get_or-set_other stage.games game own.0 new _ (eqb-false own.0 game elsewhere)))
-    refl
+    (λ apart. ap (λ (one : Game). is_away one own.1) (get_or-set_other stage.games game own.0 new _ apart))
 
 pub awaits_kept : (stage : Stage) (game : ℕ) (new : Game) (connections : List Connection) (connection : Connection) →
     game_at (with_game stage game new) game ≡ new →
@@ -52,8 +46,7 @@ pub awaits_kept : (stage : Stage) (game : ℕ) (new : Game) (connections : List 
     awaits_arrival (record (with_game stage game new) { connections = connections }) connection ≡ awaits_arrival
     stage connection
 awaits_kept stage game new connections connection found same =
-    awaits_by stage game new connections connection.seat connection.unfinished connection.queue
-    connection.ended found same
+    awaits_by stage game new connections connection.seat found same
 
 -- ---- one connection in its place
 
@@ -62,17 +55,13 @@ placed_each : (P : ℕ → Connection → Type 0) (connections : List Connection
     ((other : ℕ) → other ≢ conn → P other (get_or connections other unfed)) → (other : ℕ)
     → P other (get_or (set connections conn new) other unfed)
 placed_each P connections conn new within mine others other =
-    by_bool (other == conn) (λ (is : Bool). (other == conn) ≡ is
-    → P other (get_or (set connections conn new) other unfed))
-    (λ first same.
-    let is : other ≡ conn = eqb-true other conn same in
+    by_same other conn
+    (λ is.
     subst (λ (number : ℕ). P number (get_or (set connections conn new) number unfed)) (sym is)
     (subst (λ (one : Connection). P conn one) (sym (get_or-set_same connections conn new unfed within)) mine))
-    (λ first differs.
-    let apart : other ≢ conn = eqb-false other conn differs in
+    (λ apart.
     subst (λ (one : Connection). P other one) (sym (get_or-set_other connections conn other new unfed apart))
     (others other apart))
-    refl
 
 -- the stage is settled but for a connection
 pub record SettledBut (stage : Stage) (conn : ℕ) : Type 0 where
@@ -125,14 +114,6 @@ own_taken_up : (stage : Stage) (connections : List Connection) (seat : ℕ × �
 own_taken_up stage connections seat connection game true left text found up stays = refl
 own_taken_up stage connections seat connection game false left text found up stays =
     up refl (ap (λ (one : Game). is_away one seat.1) (sym found) ∙ stays)
-
-pub seat_after : (connection : Connection) (seat : ℕ × ℕ) (done : Taken)
-    → (after (record connection { seat = Some seat }) done).seat ≡ Some seat
-seat_after connection seat done =
-    by_bool done.is_done
-    (λ (is_done : Bool). (cond is_done (shut (record connection { seat = Some seat }))
-    (record connection { seat = Some seat; queue = done.left })).seat ≡ Some seat)
-    (λ is. refl) (λ goes_on. refl)
 
 module _ (stage : Stage) (conn : ℕ) (connection : Connection) (within : conn < length stage.connections)
     (but : SettledBut stage conn) where
@@ -192,10 +173,9 @@ let_in_free stage (Some other) seat is =
     (λ (below : Bool). cond below (cond (list_any (has_seat other) stage.connections) (IsDenied denials.Taken)
     (Sits other)) (IsDenied denials.Key) ≡ Sits seat → IsFree stage seat)
     (λ below. by_bool (list_any (has_seat other) stage.connections)
-    (λ (used : Bool). list_any (has_seat other) stage.connections ≡ used
-    → cond used (IsDenied denials.Taken) (Sits other) ≡ Sits seat → IsFree stage seat)
-    (λ first used same. absurd (cc))
-    (λ first unused same. let is_it : other ≡ seat = cc in subst (λ (one : ℕ × ℕ). IsFree stage one) is_it unused) refl)
+    (λ (used : Bool). cond used (IsDenied denials.Taken) (Sits other) ≡ Sits seat → IsFree stage seat)
+    (λ used same. absurd (cc))
+    (λ unused same. let is_it : other ≡ seat = cc in subst (λ (one : ℕ × ℕ). IsFree stage one) is_it unused))
     (λ past same. absurd (cc)) is
 
 sits_by_first : (stage : Stage) (first : First) (seat : ℕ × ℕ) → entry_by stage first ≡ Sits seat → IsFree stage seat
@@ -207,12 +187,10 @@ sits_free stage [] seat is = absurd (cc)
 sits_free stage (Says line ∷ items) seat is = sits_by_first stage (said_by line) seat is
 sits_free stage (Ends ∷ items) seat is = absurd (cc)
 
-pub has_own : (seat : ℕ × ℕ) (own : Option (ℕ × ℕ)) (unfinished : Option (List ℕ)) (queue : List Item) (ended : Bool)
-    → own ≡ Some seat →
-    has_seat seat (record { seat = own; unfinished = unfinished; queue = queue; ended = ended }) ≡ true
-has_own seat own unfinished queue ended mine =
-    ap (λ (one : Option (ℕ × ℕ)). has_seat seat
-    (record { seat = one; unfinished = unfinished; queue = queue; ended = ended })) mine
+pub has_own : (seat : ℕ × ℕ) (connection : Connection) → connection.seat ≡ Some seat
+    → has_seat seat connection ≡ true
+has_own seat connection mine =
+    ap (λ (own : Option (ℕ × ℕ)). has_seat seat (bare own)) mine
     ∙ ap₂ (λ (game agent : Bool). game && agent) (eq-eqb seat.0 seat.0 refl) (eq-eqb seat.1 seat.1 refl)
 
 -- nobody plays a free seat
@@ -220,15 +198,15 @@ free_alone : (connections : List Connection) (seat : ℕ × ℕ) → list_any (h
     → (get_or connections other unfed).seat ≡ Some seat → ⊥
 free_alone connections seat free other theirs =
     let one = get_or connections other unfed in
-    by_bool (nat_lt other (length connections)) (λ (below : Bool). nat_lt other (length connections) ≡ below → ⊥)
-    (λ first below.
+    by_bool (nat_lt other (length connections)) (λ (is : Bool). ⊥)
+    (λ below.
     let within : other < length connections = ltb-true other (length connections) below in
     let used : list_any (has_seat seat) connections ≡ true =
     list_any_at (has_seat seat) connections other unfed within
-    (has_own seat one.seat one.unfinished one.queue one.ended theirs) in
+    (has_own seat one theirs) in
     cc)
-    (λ first past. let none = ap (λ (it : Connection). it.seat)
-    (sym (get_or_past connections other unfed (ltb-false other (length connections) past))) ∙ theirs in cc) refl
+    (λ past. let none = ap (λ (it : Connection). it.seat)
+    (sym (get_or_past connections other unfed (ltb-false other (length connections) past))) ∙ theirs in cc)
 
 module _ (stage : Stage) (conn : ℕ) (connection : Connection) (within : conn < length stage.connections)
     (but : SettledBut stage conn) where

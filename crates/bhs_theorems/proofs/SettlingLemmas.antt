@@ -3,7 +3,7 @@ use Rattle.std.proofs.Common.{◌≡◌, ◌∙◌, ℕ, zero, suc, ◌<◌, ◌
 use Rattle.std.proofs.Common.{List, [], ◌∷◌, ◌++◌, length, replicate, get_or, refl, sym, ap, subst, arith}
 use Rattle.std.specs.List.{position, position_or_len}
 use Rattle.std.proofs.lemmas.Bool.{ltb-true, ltb-false}
-use Rattle.std.proofs.lemmas.List.{set-get_or, get_or_past, get_or-set_same}
+use Rattle.std.proofs.lemmas.List.{get_or_past, get_or-set_same}
 use Rattle.std.proofs.lemmas.List.Quantifiers.{position-Some}
 use Rattle.std.proofs.lemmas.List.Sums.{fails_before_first}
 use Rattle.bhs_model.specs.declared.events.Event.{Event}
@@ -11,7 +11,7 @@ use Rattle.bhs_model.specs.declared.events.Event.TheVariants.{Tell, Deliver, Clo
 use Rattle.bhs_model.specs.declared.replies.Reply.{Reply}
 use Rattle.bhs_lineup.specs.KeyTable.{Seat}
 use Rattle.bhs_rehearsal.specs.Games.{Game, played, reply_to, is_away, drawn, delivered}
-use Rattle.bhs_rehearsal.specs.Connections.{Ends, Connection, unfed, shut}
+use Rattle.bhs_rehearsal.specs.Connections.{Connection, unfed, shut}
 use Rattle.bhs_rehearsal.specs.Stages.{Stage, game_at, connection_at, with_game, has_seat, Moved}
 use Rattle.bhs_rehearsal.specs.Stages.{moves, sent_to, Instruction, Feeds, EndsInput, Draws, Delivers, Closes, Stepped}
 use Rattle.bhs_rehearsal.specs.Stages.{nothing, tells_arrival, delivers, waits_in, shut_in, step}
@@ -19,8 +19,8 @@ use Rattle.bhs_rehearsal.specs.Stages.{begun, stands_after}
 use Rattle.bhs_theorems.specs.ScriptLaws.{awaits_arrival, IsSettled, SettledStagesSettle, ScriptsSettle, moves_in_turn}
 use Rattle.bhs_theorems.specs.ScriptLaws.{AllItemsAreTaken}
 use Rattle.bhs_theorems.proofs.CuttingLemmas.{by_bool}
-use Rattle.bhs_theorems.proofs.TurnLemmas.{placed, turn_of, moves-placed, grown}
-use Rattle.bhs_theorems.proofs.ApartLemmas.{seat-has_seat, shut_if}
+use Rattle.bhs_theorems.proofs.TurnLemmas.{moves_itself, grown, ending}
+use Rattle.bhs_theorems.proofs.ApartLemmas.{seat-has_seat, shut_at, seat-shut_if}
 use Rattle.bhs_theorems.proofs.AwayLemmas.{away-delivered, away-unanswered, away-closed}
 use Rattle.bhs_theorems.proofs.SettledLemmas.{SettledBut, awaits_kept, has_own, rest_lemma, turn_settles}
 use Rattle.bhs_theorems.proofs.StepCases.{client_step, by_client, event_step, by_event, by_close}
@@ -46,18 +46,17 @@ pub nobody_plays : (connections : List Connection) (seat : ℕ × ℕ) → posit
     → (conn : ℕ) → (get_or connections conn unfed).seat ≡ Some seat → ⊥
 nobody_plays connections seat none conn theirs =
     let one = get_or connections conn unfed in
-    let has : has_seat seat one ≡ true = has_own seat one.seat one.unfinished one.queue one.ended theirs in
+    let has : has_seat seat one ≡ true = has_own seat one theirs in
     let all : length connections ≤ position_or_len (has_seat seat) connections =
     passed (position_or_len (has_seat seat) connections) (length connections) _ refl none in
-    by_bool (nat_lt conn (length connections)) (λ (below : Bool). nat_lt conn (length connections) ≡ below → ⊥)
-    (λ first below.
+    by_bool (nat_lt conn (length connections)) (λ (is : Bool). ⊥)
+    (λ below.
     let within : conn < length connections = ltb-true conn (length connections) below in
     let fails : has_seat seat one ≡ false = fails_before_first (has_seat seat) connections conn unfed
     (omega (arith, all, within)) in
     cc)
-    (λ first past. let never = ap (λ (it : Connection). it.seat)
-    (sym (get_or_past connections conn unfed (ltb-false conn (length connections) past))) ∙ theirs in cc)
-    refl where
+    (λ past. let never = ap (λ (it : Connection). it.seat)
+    (sym (get_or_past connections conn unfed (ltb-false conn (length connections) past))) ∙ theirs in cc) where
       passed : (place count : ℕ) (below : Bool) → nat_lt place count ≡ below
           → cond below (Some place) None ≡ None → count ≤ place
       passed place count true is some = absurd (cc)
@@ -98,11 +97,7 @@ module _ (stage : Stage) (game agent : ℕ) (within : game < length stage.games)
       → IsSettled (moves drawn_in conn).stage
   holder_settles conn there mine =
       let old = connection_at stage conn in
-      let is_turn : moves drawn_in conn ≡ placed drawn_in conn (turn_of drawn_in conn old) =
-      ap (λ (connections : List Connection). moves (record drawn_in { connections = connections }) conn)
-      (sym (set-get_or stage.connections conn unfed))
-      ∙ moves-placed drawn_in conn old there in
-      subst (λ (moved : Moved). IsSettled moved.stage) (sym is_turn)
+      subst (λ (moved : Moved). IsSettled moved.stage) (sym (moves_itself drawn_in conn there))
       (turn_settles drawn_in conn old there (draw_settles_but conn mine) refl)
 
   arrival_settles : (reply : Option Reply) (holder : Option ℕ) → reply_to (game_at stage game) (Deliver agent) ≡ reply →
@@ -128,19 +123,6 @@ delivers_settles stage game within settled (Some (Deliver agent)) =
     (position (has_seat (game, agent)) stage.connections) refl refl
 
 -- ---- a close
-
-pub shut_at : (number : ℕ) (game : Game) (connections : List Connection) (conn : ℕ) →
-    get_or (shut_in number game connections) conn unfed ≡ shut_if number game (get_or connections conn unfed)
-shut_at number game [] conn = refl
-shut_at number game (connection ∷ connections) zero = refl
-shut_at number game (connection ∷ connections) (suc conn) = shut_at number game connections conn
-
-pub seat-shut_if : (number : ℕ) (game : Game) (connection : Connection)
-    → (shut_if number game connection).seat ≡ connection.seat
-seat-shut_if number game connection =
-    by_bool (waits_in number game connection)
-    (λ (waits : Bool). (cond waits (shut connection) connection).seat ≡ connection.seat)
-    (λ waits. refl) (λ stays. refl)
 
 close_settles : (stage : Stage) (game : ℕ) → game < length stage.games → IsSettled stage →
     let old = game_at stage game in
@@ -185,8 +167,7 @@ settle_lemma stage (Feeds conn bytes) settled =
     let old = connection_at stage conn in client_settles stage conn (grown old bytes) old.ended settled refl
 settle_lemma stage (EndsInput conn) settled =
     let old = connection_at stage conn in
-    let ending : Connection = record old { unfinished = Some []; queue = old.queue ++ Ends ∷ []; ended = true } in
-    client_settles stage conn ending old.ended settled refl
+    client_settles stage conn (ending old) old.ended settled refl
 settle_lemma stage (Draws game word) settled = event_settles stage game (drawn (game_at stage game) word) settled
 settle_lemma stage (Delivers game agent) settled =
     event_settles stage game (delivered (game_at stage game) agent) settled

@@ -3,7 +3,7 @@ use Rattle.std.proofs.Common.{◌≡◌, ◌∙◌, ℕ, zero, suc, ◌<◌, Boo
 use Rattle.std.proofs.Common.{List, [], ◌∷◌, ◌++◌, length, map, set, refl, sym, ap, subst, if◌then◌else◌}
 use Rattle.std.specs.List.{list_any}
 use Rattle.std.proofs.lemmas.Bool.{ltb-true, ltb-false}
-use Rattle.std.proofs.lemmas.List.{set-set, set_past, get_or_past, get_or-set_same}
+use Rattle.std.proofs.lemmas.List.{set-set, set-get_or, set_past, get_or_past, get_or-set_same}
 use Rattle.bhs_wire.specs.Lines.{found_in, left_by, said_by}
 use Rattle.bhs_wire.specs.declared.commands.First.{First}
 use Rattle.bhs_wire.specs.declared.commands.First.TheVariants as firsts
@@ -11,11 +11,18 @@ use Rattle.bhs_wire.specs.declared.denials.Denial.TheVariants as denials
 use Rattle.bhs_lineup.specs.KeyTable.{seat_at}
 use Rattle.bhs_session.specs.Texts.{denial_text}
 use Rattle.bhs_rehearsal.specs.Games.{Game}
-use Rattle.bhs_rehearsal.specs.Connections.{Item, Says, Ends, Connection, shut, Taken, taken, after}
+use Rattle.bhs_rehearsal.specs.Connections.{Item, Says, Ends, Connection, unfed, shut, Taken, taken, after}
 use Rattle.bhs_rehearsal.specs.Stages.{Stage, game_at, connection_at, with_game, with_connection, has_seat, Entry}
 use Rattle.bhs_rehearsal.specs.Stages.{Waits, Sits, IsDenied, Goes, let_in, entry_by, entry, Moved, plays, shuts}
 use Rattle.bhs_rehearsal.specs.Stages.{enters, moves_in, moves}
 use Rattle.bhs_theorems.proofs.CuttingLemmas.{by_bool, and_then, taken-append, taken_nobody}
+
+abbrev pub seat_of : Connection → Option (ℕ × ℕ)
+seat_of connection = connection.seat
+
+-- a connection that has this seat, and was fed nothing
+abbrev pub bare : Option (ℕ × ℕ) → Connection
+bare own = record unfed { seat = own }
 
 -- the matches and the connection after a move, and what is sent
 pub record Turn : Type 0 where
@@ -50,6 +57,15 @@ abbrev pub turn_in : Stage → (conn : ℕ) → Connection → Option (ℕ × �
 turn_in stage conn connection None = enters_turn stage connection
     (entry (with_connection stage conn connection) connection.queue)
 turn_in stage conn connection (Some seat) = plays_turn stage seat connection
+
+-- a connection keeps the seat that it plays
+pub seat_after : (connection : Connection) (seat : ℕ × ℕ) (done : Taken)
+    → (after (record connection { seat = Some seat }) done).seat ≡ Some seat
+seat_after connection seat done =
+    by_bool done.is_done
+    (λ (is_done : Bool). (cond is_done (shut (record connection { seat = Some seat }))
+    (record connection { seat = Some seat; queue = done.left })).seat ≡ Some seat)
+    (λ is. refl) (λ goes_on. refl)
 
 -- the move of a connection that stands so
 abbrev pub turn_of : Stage → (conn : ℕ) → Connection → Turn
@@ -106,6 +122,14 @@ module _ (stage : Stage) (conn : ℕ) (connection : Connection) (within : conn <
       ap (λ (one : Connection). moves_in (with_connection stage conn connection) conn one.seat) placed_at
       ∙ moves_in-placed connection.seat
 
+-- of the connection as it stands
+pub moves_itself : (stage : Stage) (conn : ℕ) → conn < length stage.connections
+    → moves stage conn ≡ placed stage conn (turn_of stage conn (connection_at stage conn))
+moves_itself stage conn within =
+    ap (λ (connections : List Connection). moves (record stage { connections = connections }) conn)
+    (sym (set-get_or stage.connections conn unfed))
+    ∙ moves-placed stage conn (connection_at stage conn) within
+
 -- ---- more bytes
 
 -- the connection after it was fed bytes
@@ -114,6 +138,10 @@ grown connection bytes = record connection {
   unfinished = left_by connection.unfinished bytes;
   queue = connection.queue ++ map Says (found_in connection.unfinished bytes);
 }
+
+-- and after its input ended
+abbrev pub ending : Connection → Connection
+ending connection = record connection { unfinished = Some []; queue = connection.queue ++ Ends ∷ []; ended = true }
 
 abbrev pub sent_behind : (text : List ℕ) → Turn → Turn
 sent_behind text turn = record turn { text = text ++ turn.text }
