@@ -1,31 +1,24 @@
 -- What an instruction leaves alone.
 use Rattle.std.proofs.Common.{◌≡◌, ◌≢◌, ◌∙◌, ℕ, zero, suc, ◌+◌, ◌<◌, Bool, true, false, cond, ◌==◌, Option}
-use Rattle.std.proofs.Common.{Some, None, List, [], ◌∷◌, ◌++◌, length, map, set, get_or, refl, sym, ap, ap₂}
-use Rattle.std.proofs.Common.{subst, append_assoc, append-nil, arith}
-use Rattle.std.specs.List.{position}
+use Rattle.std.proofs.Common.{Some, None, List, [], ◌∷◌, ◌++◌, length, map, get_or, refl, sym, ap, ap₂}
+use Rattle.std.proofs.Common.{append_assoc, append-nil, arith}
 use Rattle.std.proofs.lemmas.Bool.{cond-true, cond-false, eqb-true, eqb-false, eq-eqb, and_parts, ne_eqb}
 use Rattle.std.proofs.Math.ListN.{get_or-map}
 use Rattle.std.proofs.lemmas.List.{get_or-set_same, get_or-set_other}
-use Rattle.std.proofs.lemmas.List.Quantifiers.{position-Some}
-use Rattle.bhs_model.specs.declared.events.Event.{Event}
-use Rattle.bhs_model.specs.declared.events.Event.TheVariants.{Tell, Deliver, Close}
-use Rattle.bhs_model.specs.declared.replies.Reply.{Reply}
 use Rattle.bhs_model.specs.declared.replies.Reply.TheVariants.{Over}
 use Rattle.bhs_session.specs.Texts.{text_of}
-use Rattle.bhs_rehearsal.specs.Games.{Game, played, reply_to, is_away, drawn, delivered}
+use Rattle.bhs_rehearsal.specs.Games.{Game, is_away}
 use Rattle.bhs_rehearsal.specs.Connections.{Connection, unfed, shut, taken}
-use Rattle.bhs_rehearsal.specs.Stages.{Stage, game_at, connection_at, with_game, with_connection, has_seat, Entry}
-use Rattle.bhs_rehearsal.specs.Stages.{Waits, Sits, IsDenied, Goes, entry, Moved, moves, Draws, Delivers, Closes}
-use Rattle.bhs_rehearsal.specs.Stages.{sent_to, stepped, nothing, tells_arrival, delivers, waits_in, shut_in, told_over}
-use Rattle.bhs_rehearsal.specs.Stages.{step}
-use Rattle.bhs_theorems.specs.ScriptLaws.{plays_in, IsOfConnection, IsOfGame, ClientsKeepToThemselves}
-use Rattle.bhs_theorems.specs.ScriptLaws.{MatchesKeepToThemselves}
+use Rattle.bhs_rehearsal.specs.Stages.{Stage, game_at, connection_at, with_connection, has_seat, Entry}
+use Rattle.bhs_rehearsal.specs.Stages.{Waits, Sits, IsDenied, Goes, entry}
+use Rattle.bhs_rehearsal.specs.Stages.{sent_to, stepped, nothing, waits_in, shut_in, told_over}
+use Rattle.bhs_theorems.specs.ScriptLaws.{plays_in, IsOfConnection, ClientsKeepToThemselves}
 use Rattle.bhs_theorems.specs.Clients.{bytes_among}
 use Rattle.bhs_theorems.proofs.CuttingLemmas.{by_bool, and_false}
-use Rattle.bhs_theorems.proofs.TurnLemmas.{Turn, placed, plays_turn, enters_turn, turn_in, turn_of, moves_itself}
+use Rattle.bhs_theorems.proofs.TurnLemmas.{Turn, placed, plays_turn, enters_turn, turn_in, turn_of}
 use Rattle.bhs_theorems.proofs.TurnLemmas.{grown, ending, bare, seat_of, seat_after}
 use Rattle.bhs_theorems.proofs.FeedLemmas.{bytes_among-sent_to}
-use Rattle.bhs_theorems.proofs.StepCases.{client_step, by_client, event_step, by_event, by_close}
+use Rattle.bhs_theorems.proofs.StepCases.{client_step, by_client}
 
 -- ---- what is sent
 
@@ -99,7 +92,7 @@ clients_lemma stage conn bytes =
     let old = connection_at stage conn in
     (client_of_connection stage conn (grown old bytes) old.ended, client_of_connection stage conn (ending old) old.ended)
 
--- ---- a draw
+-- ---- seats
 
 -- who has a seat
 seat_is : (seat : ℕ × ℕ) (own : Option (ℕ × ℕ)) → has_seat seat (bare own) ≡ true → own ≡ Some seat
@@ -111,93 +104,6 @@ seat_is seat (Some own) has =
 pub seat-has_seat : (seat : ℕ × ℕ) (connection : Connection) → has_seat seat connection ≡ true
     → connection.seat ≡ Some seat
 seat-has_seat seat connection has = seat_is seat connection.seat has
-
--- one match was changed, and nothing was sent
-game_alone : (stage : Stage) (game : ℕ) (new : Game) → IsOfGame stage game (nothing (with_game stage game new))
-game_alone stage game new = record {
-  games = λ other. λ apart. get_or-set_other stage.games game other new _ apart;
-  connections = λ conn. λ elsewhere. refl;
-  keys = refl;
-  outs = λ conn. λ elsewhere. refl;
-}
-
-nothing_of_game : (stage : Stage) (game : ℕ) → IsOfGame stage game (nothing stage)
-nothing_of_game stage game = record {
-  games = λ other. λ apart. refl;
-  connections = λ conn. λ elsewhere. refl;
-  keys = refl;
-  outs = λ conn. λ elsewhere. refl;
-}
-
--- who plays elsewhere is not the one that plays here
-pub plays_elsewhere : (stage : Stage) (game conn other : ℕ) (agent : ℕ)
-    → (connection_at stage conn).seat ≡ Some (game, agent) →
-    plays_in game (connection_at stage other) ≡ false → other ≢ conn
-plays_elsewhere stage game conn other agent seated elsewhere same = absurd (
-    let here : plays_in game (connection_at stage conn) ≡ true =
-    ap (λ (seat : Option (ℕ × ℕ)). plays_in game (bare seat)) seated
-    ∙ eq-eqb game game refl in
-    let there : plays_in game (connection_at stage conn) ≡ false =
-    ap (λ (one : ℕ). plays_in game (connection_at stage one)) (sym same) ∙ elsewhere in
-    cc
-    )
-
--- the holder of a seat in the match moves
-moves_of_game : (stage : Stage) (game : ℕ) (new : Game) (conn agent : ℕ) (before : List ℕ)
-    → conn < length stage.connections →
-    (connection_at stage conn).seat ≡ Some (game, agent) →
-    let moved = moves (with_game stage game new) conn in
-    IsOfGame stage game (record { stage = moved.stage; outs = sent_to conn (before ++ moved.text) })
-moves_of_game stage game new conn agent before within seated =
-    let between = with_game stage game new in
-    let old = connection_at stage conn in
-    let turn = plays_turn between (game, agent) old in
-    let is_turn : moves between conn ≡ placed between conn turn =
-    moves_itself between conn within
-    ∙ ap (λ (seat : Option (ℕ × ℕ)). placed between conn (turn_in between conn old seat)) seated in
-    subst (λ (moved : Moved). IsOfGame stage game
-    (record { stage = moved.stage; outs = sent_to conn (before ++ moved.text) })) (sym is_turn) (record {
-      games = λ other. λ apart.
-          get_or-set_other (set stage.games game new) game other
-          (taken (game_at between game) agent old.queue).game _ apart
-          ∙ get_or-set_other stage.games game other new _ apart;
-      connections = λ other. λ elsewhere.
-          get_or-set_other stage.connections conn other turn.connection unfed
-          (plays_elsewhere stage game conn other agent seated elsewhere);
-      keys = refl;
-      outs = λ other. λ elsewhere. sent_elsewhere other conn (before ++ turn.text)
-          (plays_elsewhere stage game conn other agent seated elsewhere);
-    })
-
-arrivals_of_game : (stage : Stage) (game agent : ℕ) (new : Game) (reply : Option Reply) (holder : Option ℕ) →
-    position (has_seat (game, agent)) stage.connections ≡ holder →
-    IsOfGame stage game (tells_arrival (with_game stage game new) reply holder)
-arrivals_of_game stage game agent new None holder is = game_alone stage game new
-arrivals_of_game stage game agent new (Some reply) None is = game_alone stage game new
-arrivals_of_game stage game agent new (Some reply) (Some conn) is =
-    let found = position-Some (has_seat (game, agent)) stage.connections conn unfed is in
-    moves_of_game stage game new conn agent (text_of reply) found.0
-    (seat-has_seat (game, agent) (connection_at stage conn) found.1)
-
-delivers_of_game : (stage : Stage) (game : ℕ) (event : Option Event) → IsOfGame stage game (delivers stage game event)
-delivers_of_game stage game None = nothing_of_game stage game
-delivers_of_game stage game (Some (Tell agent command)) = nothing_of_game stage game
-delivers_of_game stage game (Some Close) = nothing_of_game stage game
-delivers_of_game stage game (Some (Deliver agent)) =
-    arrivals_of_game stage game agent (played (game_at stage game) (Deliver agent))
-    (reply_to (game_at stage game) (Deliver agent))
-    (position (has_seat (game, agent)) stage.connections) refl
-
-event_of_game : (stage : Stage) (game : ℕ) (event : Option Event)
-    → IsOfGame stage game (event_step stage game event)
-event_of_game stage game event = by_event (IsOfGame stage game) stage game event (nothing_of_game stage game)
-    (λ below. delivers_of_game stage game event)
-
-draws_of_game : (stage : Stage) (game word : ℕ) → IsOfGame stage game (step stage (Draws game word))
-draws_of_game stage game word = event_of_game stage game (drawn (game_at stage game) word)
-
-deliveries_of_game : (stage : Stage) (game agent : ℕ) → IsOfGame stage game (step stage (Delivers game agent))
-deliveries_of_game stage game agent = event_of_game stage game (delivered (game_at stage game) agent)
 
 -- ---- a close
 
@@ -283,31 +189,10 @@ told_at number game (connection ∷ connections) first (suc conn) =
     (ap (λ (number_of : ℕ). bytes_among number_of (told_over number game (first + 1) connections)) (sym later)
     ∙ told_at number game connections (first + 1) conn)
 
-told_elsewhere : (number : ℕ) (game : Game) (connections : List Connection) (conn : ℕ)
+pub told_elsewhere : (number : ℕ) (game : Game) (connections : List Connection) (conn : ℕ)
     → plays_in number (get_or connections conn unfed) ≡ false →
     bytes_among conn (told_over number game 0 connections) ≡ []
 told_elsewhere number game connections conn elsewhere =
     ap (λ (other : ℕ). bytes_among other (told_over number game 0 connections)) (omega arith)
     ∙ told_at number game connections 0 conn
     ∙ cond-false _ _ _ (waits_elsewhere number game (get_or connections conn unfed) elsewhere)
-
-close_of_game : (stage : Stage) (game : ℕ) (new : Game) →
-    let old = game_at stage game in
-    IsOfGame stage game (record {
-      stage = record (with_game stage game new) { connections = shut_in game old stage.connections };
-      outs = told_over game old 0 stage.connections;
-    })
-close_of_game stage game new = record {
-  games = λ other. λ apart. get_or-set_other stage.games game other new _ apart;
-  connections = λ conn. λ elsewhere. not_shut game (game_at stage game) stage.connections conn elsewhere;
-  keys = refl;
-  outs = λ conn. λ elsewhere. told_elsewhere game (game_at stage game) stage.connections conn elsewhere;
-}
-
-closes_of_game : (stage : Stage) (game : ℕ) → IsOfGame stage game (step stage (Closes game))
-closes_of_game stage game = by_close (IsOfGame stage game) stage game (nothing_of_game stage game)
-    (λ below open_match. close_of_game stage game (played (game_at stage game) Close))
-
-pub matches_lemma : MatchesKeepToThemselves
-matches_lemma stage game word agent =
-    (draws_of_game stage game word, closes_of_game stage game, deliveries_of_game stage game agent)

@@ -14,7 +14,7 @@ use Rattle.bhs_theorems.proofs.CuttingLemmas.{by_bool}
 use Rattle.bhs_theorems.proofs.TurnLemmas.{grown, ending, bare}
 use Rattle.bhs_theorems.proofs.StepCases.{event_step}
 use Rattle.bhs_theorems.proofs.OfMatchLemmas.{same_itself, plays_in_both, same_back, same_through}
-use Rattle.bhs_theorems.proofs.OfMatchLemmas.{of_match_same, of_match_unheard, elsewhere_before, elsewhere_at_first}
+use Rattle.bhs_theorems.proofs.OfMatchLemmas.{of_match, elsewhere_before, elsewhere_at_first}
 use Rattle.bhs_theorems.proofs.AlikeLemmas.{Difference, StagesAlike, StepsAlike, client_alike, events_alike}
 use Rattle.bhs_theorems.proofs.AlikeLemmas.{closes_alike}
 
@@ -96,16 +96,16 @@ module _ (game : ℕ) (one two : Stage) (alike : SameBut game one two) where
       → HeardStep game (step one instruction) (step two instruction)
   here_alike instruction here =
       let there = sym (of_match_both instruction) ∙ here in
-      let first = of_match_same game one instruction here in
-      let second = of_match_same game two instruction there in
+      let first = of_match game one instruction here in
+      let second = of_match game two instruction there in
       record {
         stage = same_through game (step one instruction).stage one (step two instruction).stage
-            (same_back game one (step one instruction).stage first)
-            (same_through game one two (step two instruction).stage alike second);
+            (same_back game one (step one instruction).stage first.same)
+            (same_through game one two (step two instruction).stage alike second.same);
         outs = λ conn elsewhere.
             let before = elsewhere_before game one instruction conn elsewhere in
-            of_match_unheard game one instruction here conn before
-            ∙ sym (of_match_unheard game two instruction there conn
+            first.outs conn before
+            ∙ sym (second.outs conn
             (sym (plays_in_both game one two alike conn) ∙ before));
       }
 
@@ -141,12 +141,12 @@ without_alike game one two (instruction ∷ script) alike =
     (λ (is : Bool). HeardAlike game one (instruction ∷ script) two (cond is rest (instruction ∷ rest)))
     (λ here.
     let later = without_alike game after two script
-    (same_through game after one two (same_back game one after (of_match_same game one instruction here)) alike) in
+    (same_through game after one two (same_back game one after (of_match game one instruction here).same) alike) in
     record {
       stands = later.stands;
       sends = λ conn elsewhere.
           ap (λ (sent : List ℕ). sent ++ bytes_to conn (sends after script))
-          (of_match_unheard game one instruction here conn
+          ((of_match game one instruction here).outs conn
           (elsewhere_before game one instruction conn (elsewhere_at_first game after script conn elsewhere)))
           ∙ later.sends conn elsewhere;
     })
