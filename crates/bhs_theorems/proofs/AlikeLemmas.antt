@@ -1,6 +1,6 @@
 -- Two stages that are alike but for one match, through each instruction. How that match stands in both is left open, and
 -- who is heard: a connection that plays what is heard is the same in both, and is sent the same.
-use Rattle.std.proofs.Common.{◌≡◌, ◌≢◌, ◌∙◌, ℕ, zero, suc, ◌+◌, ◌<◌, Bool, true, false, not, ◌&&◌, ◌||◌, cond, nat_lt}
+use Rattle.std.proofs.Common.{◌≡◌, ◌≢◌, ◌∙◌, ℕ, zero, suc, ◌+◌, ◌<◌, Bool, not, ◌&&◌, ◌||◌, cond, nat_lt}
 use Rattle.std.proofs.Common.{◌==◌, Option, Some, None, List, [], ◌∷◌, ◌++◌, length, map, set, get_or, refl, sym, ap, ap₂}
 use Rattle.std.proofs.Common.{subst, arith}
 use Rattle.std.specs.List.{list_any, prefix_len, position}
@@ -25,7 +25,7 @@ use Rattle.bhs_rehearsal.specs.Stages.{sent_to, stepped, nothing, tells_arrival,
 use Rattle.bhs_rehearsal.specs.Stages.{step}
 use Rattle.bhs_theorems.specs.ScriptLaws.{seats_of}
 use Rattle.bhs_theorems.specs.Clients.{bytes_among}
-use Rattle.bhs_theorems.proofs.CuttingLemmas.{by_bool, by_same}
+use Rattle.bhs_theorems.proofs.CuttingLemmas.{by_same, cond_alike}
 use Rattle.bhs_theorems.proofs.TurnLemmas.{Turn, placed, plays_turn, enters_turn, turn_in, turn_of, moves-placed}
 use Rattle.bhs_theorems.proofs.TurnLemmas.{moves_itself, bare, seat_of, seat_after}
 use Rattle.bhs_theorems.proofs.ApartLemmas.{sent_elsewhere, seat-has_seat, shut_if, shut_at, seat-shut_if, seats_shut}
@@ -300,20 +300,20 @@ module _ (by : Difference) (one two : Stage) (are : StagesAlike by one two) wher
 
   -- ---- a client that is heard
 
-  client_at : (conn : ℕ) (new : Connection) (below ended : Bool) → nat_lt conn (length one.connections) ≡ below →
-      StepsAlike by
-      (cond below (cond ended (nothing one) (stepped conn (moves (with_connection one conn new) conn))) (nothing one))
-      (cond below (cond ended (nothing two) (stepped conn (moves (with_connection two conn new) conn))) (nothing two))
-  client_at conn new false ended is = nothing_alike
-  client_at conn new true true is = nothing_alike
-  client_at conn new true false is =
-      let within = ltb-true conn (length one.connections) is in
+  client_at : (conn : ℕ) (new : Connection) (ended : Bool)
+      → StepsAlike by (client_step one conn new ended) (client_step two conn new ended)
+  client_at conn new ended =
+      cond_alike (StepsAlike by) (nat_lt conn (length one.connections)) (nat_lt conn (length two.connections)) _ _ _ _
+      (ap (nat_lt conn) same_count)
+      (λ below. cond_alike (StepsAlike by) ended ended _ _ _ _ refl (λ is. nothing_alike) (λ goes_on.
+      let within = ltb-true conn (length one.connections) below in
       subst (λ (moved : Moved). StepsAlike by (stepped conn (moves (with_connection one conn new) conn))
       (stepped conn moved))
       (sym (moves-placed two conn new (subst (λ (count : ℕ). conn < count) same_count within)))
       (subst (λ (moved : Moved). StepsAlike by (stepped conn moved)
       (stepped conn (placed two conn (turn_of two conn new)))) (sym (moves-placed one conn new within))
-      (placed_alike conn new [] within))
+      (placed_alike conn new [] within))))
+      (λ past. nothing_alike)
 
   pub client_alike : (conn : ℕ) (feeds : Connection → Connection) → by.Heard (connection_at one conn).seat →
       StepsAlike by
@@ -321,11 +321,8 @@ module _ (by : Difference) (one two : Stage) (are : StagesAlike by one two) wher
       (client_step two conn (feeds (connection_at two conn)) (connection_at two conn).ended)
   client_alike conn feeds heard =
       let old = connection_at one conn in
-      subst (λ (done : Stepped). StepsAlike by (client_step one conn (feeds old) old.ended) done)
-      (ap₂ (λ (it : Connection) (count : ℕ). cond (nat_lt conn count)
-      (cond it.ended (nothing two) (stepped conn (moves (with_connection two conn (feeds it)) conn))) (nothing two))
-      (are.connections conn heard) same_count)
-      (client_at conn (feeds old) (nat_lt conn (length one.connections)) old.ended refl)
+      subst (λ (it : Connection). StepsAlike by (client_step one conn (feeds old) old.ended)
+      (client_step two conn (feeds it) it.ended)) (are.connections conn heard) (client_at conn (feeds old) old.ended)
 
   -- ---- an arrival
 
@@ -405,21 +402,17 @@ module _ (by : Difference) (one two : Stage) (are : StagesAlike by one two) wher
       (event_step two number (chosen (game_at two number)))
   events_alike chosen number here =
       let old = game_at one number in
-      subst (λ (count : ℕ). StepsAlike by (event_step one number (chosen old))
-      (cond (nat_lt number count) (delivers two number (chosen (game_at two number))) (nothing two))) (same_games by one two are)
-      (by_bool (nat_lt number (length one.games))
-      (λ (below : Bool). StepsAlike by (cond below (delivers one number (chosen old)) (nothing one))
-      (cond below (delivers two number (chosen (game_at two number))) (nothing two)))
+      cond_alike (StepsAlike by) (nat_lt number (length one.games)) (nat_lt number (length two.games)) _ _ _ _
+      (ap (nat_lt number) (same_games by one two are))
       (λ below. by_same number by.game here (λ apart.
       let same = (are.games number).other apart in
-      subst (λ (other : Game). StepsAlike by (delivers one number (chosen old))
-      (delivers two number (chosen other))) same
+      subst (λ (other : Game). StepsAlike by (delivers one number (chosen old)) (delivers two number (chosen other))) same
       (delivers_alike number (chosen old) (λ agent. by.elsewhere (number, agent) apart)
       (λ agent is. (
         games_apart by number _ _ apart (ap (λ (it : Game). played it (Deliver agent)) same),
         ap (λ (it : Game). reply_to it (Deliver agent)) same,
       )))))
-      (λ past. nothing_alike by one two are))
+      (λ past. nothing_alike by one two are)
 
   -- ---- a close
 
@@ -459,19 +452,11 @@ module _ (by : Difference) (one two : Stage) (are : StagesAlike by one two) wher
       → GamesAlike by number (played old Close) (played other Close) →
       StepsAlike by (step one (Closes number)) (step two (Closes number))
   closed_alike number same away new =
-      let old = game_at one number in
-      subst (λ (done : Stepped). StepsAlike by (step one (Closes number)) done)
-      (ap₂ (λ (count : ℕ) (closed : Bool). cond (nat_lt number count)
-      (cond closed (nothing two) (close_step two number)) (nothing two)) (same_games by one two are) same)
-      (by_bool (nat_lt number (length one.games))
-      (λ (below : Bool). StepsAlike by
-      (cond below (cond (state_of old).closed (nothing one) (close_step one number)) (nothing one))
-      (cond below (cond (state_of old).closed (nothing two) (close_step two number)) (nothing two)))
-      (λ below. by_bool (state_of old).closed
-      (λ (closed : Bool). StepsAlike by (cond closed (nothing one) (close_step one number))
-      (cond closed (nothing two) (close_step two number)))
-      (λ closed. nothing_alike by one two are) (λ goes_on. close_alike number away new))
-      (λ past. nothing_alike by one two are))
+      cond_alike (StepsAlike by) (nat_lt number (length one.games)) (nat_lt number (length two.games)) _ _ _ _
+      (ap (nat_lt number) (same_games by one two are))
+      (λ below. cond_alike (StepsAlike by) (state_of (game_at one number)).closed (state_of (game_at two number)).closed
+      _ _ _ _ same (λ closed. nothing_alike by one two are) (λ goes_on. close_alike number away new))
+      (λ past. nothing_alike by one two are)
 
   -- of any match
   pub closes_alike : (number : ℕ)

@@ -24,6 +24,14 @@ by_same {P} one other same apart =
     by_bool (one == other) (λ (is : Bool). P) (λ is. same (eqb-true one other is))
     (λ differs. apart (eqb-false one other differs))
 
+-- what is chosen by equal tests is related if each of the choices is
+pub cond_alike : {A B : Type 0} (R : A → B → Type 0) (one two : Bool) (x y : A) (z w : B) → one ≡ two
+    → (one ≡ true → R x z) → (one ≡ false → R y w) → R (cond one x y) (cond two z w)
+cond_alike R true true x y z w same yes_case no_case = yes_case refl
+cond_alike R true false x y z w same yes_case no_case = absurd (cc)
+cond_alike R false true x y z w same yes_case no_case = absurd (cc)
+cond_alike R false false x y z w same yes_case no_case = no_case refl
+
 -- what was taken, with text before it
 abbrev pub behind : (text : List ℕ) → Taken → Taken
 behind text done = record done { text = text ++ done.text }

@@ -9,12 +9,13 @@ use Rattle.bhs_model.specs.declared.events.Event.TheVariants.{Tell, Deliver, Clo
 use Rattle.bhs_model.specs.declared.replies.Reply.{Reply}
 use Rattle.bhs_model.specs.Worlds.{World, doomed}
 use Rattle.bhs_model.specs.Runs.{State, initial, Position, Before, At, Bound, After, changed, position_after, heard}
-use Rattle.bhs_model.specs.Runs.{told, delivered, is_bound, is_doomed, arrives, next, run_from, reply}
+use Rattle.bhs_model.specs.Runs.{delivered, is_bound, is_doomed, arrives, next, run_from, reply}
 use Rattle.bhs_model.specs.Twins.{Twins, is_struck}
 use Rattle.bhs_model.specs.Kept.{keeps, lost}
 use Rattle.bhs_model.specs.Draws.{Held, SlowInstead, is_held, delivery_to, draw, pool, pick}
 use Rattle.bhs_model.proofs.StepLemmas.{next_no_arrival, no_arrival_no_reply}
 use Rattle.bhs_model.proofs.KeptLemmas.{unkept_state}
+use Rattle.bhs_model.proofs.LegalLemmas.{either}
 use Rattle.bhs_model.proofs.AddLemmas.{run-append}
 use Rattle.bhs_model.proofs.TwinLemmas.{doomed_not_through, other_world, reply_alike, next_twin}
 use Rattle.bhs_model.proofs.SlowLemmas.{MadeAlike, draw_alike}
@@ -26,7 +27,7 @@ use Rattle.bhs_rehearsal.specs.Games.{Game, world_in, state_of, played, reply_to
 use Rattle.bhs_rehearsal.specs.Games.{delivered as delivered_event}
 use Rattle.bhs_rehearsal.specs.Connections.{Item, Says, Ends, Taken, is_last, leaves, answers, taken}
 use Rattle.bhs_theorems.specs.ScriptLaws.{IsSlowFor, slow_of, SlowMatchesBegin}
-use Rattle.bhs_theorems.proofs.CuttingLemmas.{by_bool, behind}
+use Rattle.bhs_theorems.proofs.CuttingLemmas.{by_bool, cond_alike}
 use Rattle.bhs_theorems.proofs.TwinLogLemmas.{keeps_alike, twins-both, twins-one}
 
 -- ---- one event
@@ -38,11 +39,10 @@ state_of-played game event =
     let world = world_in game in
     let is_kept = keeps world (state_of game) (lost world game.log) event in
     by_bool is_kept
-    (λ (kept : Bool). is_kept ≡ kept → state_of (cond kept (record game { log = game.log ++ event ∷ [] }) game) ≡ next
+    (λ (kept : Bool). state_of (cond kept (record game { log = game.log ++ event ∷ [] }) game) ≡ next
     world (state_of game) event)
-    (λ first kept. run-append world initial game.log (event ∷ []))
-    (λ first unkept. sym (unkept_state world (state_of game) (lost world game.log) event unkept))
-    refl
+    (λ kept. run-append world initial game.log (event ∷ []))
+    (λ unkept. sym (unkept_state world (state_of game) (lost world game.log) event unkept))
 
 -- with this log, where it is kept
 abbrev logged : (kept : Bool) → Game → List Event → Game
@@ -71,59 +71,47 @@ IsOnPort world Before = Unit {0}
 IsOnPort world (At node came) = Unit {0}
 IsOnPort world After = Unit {0}
 
-departs_on_port : (world : World) (node port : ℕ) (came : Option ℕ)
-    → IsOnPort world (position_after world (At node came) (Depart port))
-departs_on_port world node port came =
-    cond_both (nat_lt port (world.net.degree node)) (Bound node port) (At node came) (IsOnPort world)
-    (λ below. ltb-true port (world.net.degree node) below) (λ past. tt)
-
-accuses_on_port : (world : World) (node port : ℕ) (came : Option ℕ)
-    → IsOnPort world (position_after world (At node came) (Accuse port))
-accuses_on_port world node port came =
-    cond_both (nat_lt port (world.net.degree node)) After (At node came) (IsOnPort world) (λ below. tt) (λ past. tt)
-
-command_on_port : (world : World) (position : Position) (command : Command) → IsOnPort world position
+told_on_port : (world : World) (position : Position) (command : Command) → IsOnPort world position
     → IsOnPort world (position_after world position command)
-command_on_port world position Enter on = tt
-command_on_port world position Leave on = tt
-command_on_port world (At node came) (Depart port) on = departs_on_port world node port came
-command_on_port world (At node came) (Accuse port) on = accuses_on_port world node port came
-command_on_port world position command on = on
+told_on_port world position Enter on = tt
+told_on_port world position Leave on = tt
+told_on_port world (At node came) (Depart port) on =
+    cond_both (nat_lt port (world.net.degree node)) (Bound node port) (At node came) (IsOnPort world)
+    (ltb-true port (world.net.degree node)) (λ past. tt)
+told_on_port world (At node came) (Accuse port) on =
+    either (IsOnPort world) (nat_lt port (world.net.degree node)) After (At node came) tt tt
+told_on_port world position command on = on
 
-changed_on_port : (world : World) (state : State) (agent : ℕ) (new : Position) (other : ℕ)
-    → IsOnPort world (state.position other) → IsOnPort world new →
-    IsOnPort world (changed state.position agent new other)
-changed_on_port world state agent new other old_on new_on =
-    cond_both (other == agent) new (state.position other) (IsOnPort world) (λ same. new_on) (λ apart. old_on)
+abbrev AllOnPorts : World → State → Type 0
+AllOnPorts world state = (agent : ℕ) → IsOnPort world (state.position agent)
 
-delivered_on_port : (world : World) (state : State) (agent : ℕ) (position : Position) (other : ℕ)
-    → IsOnPort world (state.position other) →
-    IsOnPort world ((delivered world state agent position).position other)
-delivered_on_port world state agent (Bound node port) other on = changed_on_port world state agent _ other on tt
-delivered_on_port world state agent Before other on = on
-delivered_on_port world state agent (At node came) other on = on
-delivered_on_port world state agent After other on = on
+changed_on_port : (world : World) (state : State) (agent : ℕ) (new : Position) → IsOnPort world new
+    → AllOnPorts world state → (other : ℕ) → IsOnPort world (changed state.position agent new other)
+changed_on_port world state agent new on all other =
+    either (IsOnPort world) (other == agent) new (state.position other) on (all other)
 
-next_on_port : (world : World) (state : State) (event : Event)
-    → ((agent : ℕ) → IsOnPort world (state.position agent)) → (other : ℕ) →
-    IsOnPort world ((next world state event).position other)
-next_on_port world state (Tell agent command) on other =
-    by_bool (heard world state agent command)
-    (λ (is : Bool). IsOnPort world ((cond is (told world state agent command) state).position other))
-    (λ is. changed_on_port world state agent _ other (on other)
-    (command_on_port world (state.position agent) command (on agent))) (λ unheard. on other)
-next_on_port world state (Deliver agent) on other =
-    by_bool (arrives world state agent) (λ (is : Bool). IsOnPort world
-    ((cond is (delivered world state agent (state.position agent)) state).position other))
-    (λ is. delivered_on_port world state agent (state.position agent) other (on other)) (λ stays. on other)
-next_on_port world state Close on other = on other
+delivered_on_port : (world : World) (state : State) (agent : ℕ) (position : Position) → AllOnPorts world state
+    → AllOnPorts world (delivered world state agent position)
+delivered_on_port world state agent (Bound node port) all = changed_on_port world state agent _ tt all
+delivered_on_port world state agent Before all = all
+delivered_on_port world state agent (At node came) all = all
+delivered_on_port world state agent After all = all
 
-run_on_port : (world : World) (state : State) (events : List Event)
-    → ((agent : ℕ) → IsOnPort world (state.position agent)) → (agent : ℕ) →
-    IsOnPort world ((run_from world state events).position agent)
-run_on_port world state [] on = on
-run_on_port world state (event ∷ events) on =
-    run_on_port world (next world state event) events (next_on_port world state event on)
+next_on_port : (world : World) (state : State) (event : Event) → AllOnPorts world state
+    → AllOnPorts world (next world state event)
+next_on_port world state (Tell agent command) all =
+    either (AllOnPorts world) (heard world state agent command) _ state
+    (changed_on_port world state agent _ (told_on_port world (state.position agent) command (all agent)) all) all
+next_on_port world state (Deliver agent) all =
+    either (AllOnPorts world) (arrives world state agent) _ state
+    (delivered_on_port world state agent (state.position agent) all) all
+next_on_port world state Close all = all
+
+run_on_port : (world : World) (state : State) (events : List Event) → AllOnPorts world state
+    → AllOnPorts world (run_from world state events)
+run_on_port world state [] all = all
+run_on_port world state (event ∷ events) all =
+    run_on_port world (next world state event) events (next_on_port world state event all)
 
 on_ports : (game : Game) (agent : ℕ) → IsOnPort (world_in game) ((state_of game).position agent)
 on_ports game = run_on_port (world_in game) initial game.log (λ agent. tt)
@@ -256,12 +244,7 @@ answers_slow : (reply : Option Reply) (game slow : Game) (others slow_others : T
     TakenAlike (answers reply game others) (answers reply slow slow_others)
 answers_slow None game slow others slow_others is alike = alike
 answers_slow (Some reply) game slow others slow_others is alike =
-    by_bool (is_last reply)
-    (λ (last : Bool). TakenAlike
-    (cond last (record { game = game; is_done = true; left = []; text = text_of reply })
-    (behind (text_of reply) others))
-    (cond last (record { game = slow; is_done = true; left = []; text = text_of reply })
-    (behind (text_of reply) slow_others)))
+    cond_alike TakenAlike (is_last reply) (is_last reply) _ _ _ _ refl
     (λ last. record { game = is; is_done = refl; left = refl; text = refl })
     (λ goes_on. record {
       game = alike.game;
@@ -280,36 +263,24 @@ taken_slow game slow agent [] is = leaves_slow game slow [] is
 taken_slow game slow agent (Says line ∷ items) is =
     let event = Tell agent (command_by (said_by line)) in
     let here = answers (reply_to game event) (played game event) (taken (played game event) agent items) in
-    let there = answers (reply_to slow event) (played slow event) (taken (played slow event) agent items) in
     let next_slow = played_slow game slow is event refl in
-    let alike : TakenAlike here there =
-    subst (λ (reply : Option Reply). TakenAlike here
+    cond_alike TakenAlike (is_away game agent) (is_away slow agent) _ _ _ _ (away_slow game slow is agent)
+    (λ away. leaves_slow game slow (Says line ∷ items) is)
+    (λ stays. subst (λ (reply : Option Reply). TakenAlike here
     (answers reply (played slow event) (taken (played slow event) agent items)))
     (reply_slow game slow is event refl)
     (answers_slow (reply_to game event) (played game event) (played slow event) (taken (played game event) agent items)
     (taken (played slow event) agent items)
-    next_slow (taken_slow (played game event) (played slow event) agent items next_slow)) in
-    subst (λ (away : Bool). TakenAlike (cond (is_away game agent) (leaves game (Says line ∷ items)) here)
-    (cond away (leaves slow (Says line ∷ items)) there)) (away_slow game slow is agent)
-    (by_bool (is_away game agent)
-    (λ (away : Bool). TakenAlike (cond away (leaves game (Says line ∷ items)) here)
-    (cond away (leaves slow (Says line ∷ items)) there))
-    (λ away. leaves_slow game slow (Says line ∷ items) is) (λ stays. alike))
+    next_slow (taken_slow (played game event) (played slow event) agent items next_slow)))
 taken_slow game slow agent (Ends ∷ items) is =
-    let here : Taken = record { game = played game (Tell agent Leave); is_done = true; left = []; text = [] } in
-    let there : Taken = record { game = played slow (Tell agent Leave); is_done = true; left = []; text = [] } in
-    subst (λ (away : Bool). TakenAlike (cond (is_away game agent) (leaves game (Ends ∷ items)) here)
-    (cond away (leaves slow (Ends ∷ items)) there)) (away_slow game slow is agent)
-    (by_bool (is_away game agent)
-    (λ (away : Bool). TakenAlike (cond away (leaves game (Ends ∷ items)) here)
-    (cond away (leaves slow (Ends ∷ items)) there))
+    cond_alike TakenAlike (is_away game agent) (is_away slow agent) _ _ _ _ (away_slow game slow is agent)
     (λ away. leaves_slow game slow (Ends ∷ items) is)
     (λ stays. record {
       game = played_slow game slow is (Tell agent Leave) refl;
       is_done = refl;
       left = refl;
       text = refl;
-    }))
+    })
 
 -- ---- matches that begin
 
