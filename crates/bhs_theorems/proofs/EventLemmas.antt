@@ -1,11 +1,11 @@
 -- What one command makes of its agent and of the others.
 use Rattle.std.proofs.Common.{◌≡◌, ◌≢◌, ◌∙◌, ℕ, ◌<◌, Bool, true, false, cond, not, ◌&&◌, nat_lt, nat_le, bytes_eq}
-use Rattle.std.proofs.Common.{length, Option, Some, [], ◌∷◌, ◌++◌, refl, sym, ap, subst}
-use Rattle.std.proofs.lemmas.Bool.{cond-true, lt-ltb, ne_eqb}
+use Rattle.std.proofs.Common.{length, Option, Some, [], ◌∷◌, refl, sym, ap, subst}
+use Rattle.std.proofs.lemmas.Bool.{cond-true, lt-ltb}
 use Rattle.bhs_model.specs.declared.commands.Command.{Command}
 use Rattle.bhs_model.specs.declared.commands.Command.TheVariants as commands
 use Rattle.bhs_model.specs.declared.events.Event.{Event}
-use Rattle.bhs_model.specs.declared.events.Event.TheVariants.{Tell, Deliver}
+use Rattle.bhs_model.specs.declared.events.Event.TheVariants.{Tell}
 use Rattle.bhs_model.specs.declared.setups.Setup.{Setup}
 use Rattle.bhs_model.specs.declared.replies.Reply.{Reply}
 use Rattle.bhs_model.specs.declared.replies.Reply.TheVariants as replies
@@ -14,15 +14,14 @@ use Rattle.bhs_model.specs.Views.{View, Told, Glance, Nothing, Saw, Seen, Standi
 use Rattle.bhs_model.specs.Views.{standing, standing_after, ports}
 use Rattle.bhs_model.specs.Replying.{answer, sight_answer, text, accepts, hears, rep}
 use Rattle.bhs_model.specs.Worlds.{World}
-use Rattle.bhs_model.specs.Runs.{State, Position, Before, At, Bound, After, glance, is_bound, position_after, heard}
-use Rattle.bhs_model.specs.Runs.{told, arrives, delivered, next}
-use Rattle.bhs_model.specs.Kept.{keeps, lost}
-use Rattle.bhs_model.proofs.StepLemmas.{changed_same, changed_other, heard_by_past, refused_by_past, answered_by_past}
-use Rattle.bhs_model.proofs.StepLemmas.{next_heard, next_unheard, next_no_arrival}
+use Rattle.bhs_model.specs.Runs.{State, Position, At, After, glance, is_bound, position_after, heard}
+use Rattle.bhs_model.specs.Runs.{told}
+use Rattle.bhs_model.proofs.StepLemmas.{changed_same, heard_by_past, refused_by_past, answered_by_past}
+use Rattle.bhs_model.proofs.StepLemmas.{next_heard, next_unheard}
 use Rattle.bhs_rehearsal.specs.Games.{Game, world_in, state_of, played, reply_to, is_away}
 use Rattle.bhs_rehearsal.specs.Connections.{is_last}
 use Rattle.bhs_theorems.proofs.CuttingLemmas.{by_bool}
-use Rattle.bhs_theorems.proofs.SlowGameLemmas.{state_of-played}
+use Rattle.bhs_theorems.proofs.AwayLemmas.{state_of-played, setup-played}
 use Rattle.bhs_theorems.proofs.FitLemmas.{fits_here, here_stands}
 use Rattle.bhs_theorems.specs.Met.{Meeting, Hears, Refuses, past_after, command_in, answer_to, takes_commands, IsDue}
 
@@ -31,99 +30,9 @@ pub record IsIn (setup : Setup) (agent : ℕ) (game : Game) : Type 0 where
   pub setup_is : game.setup ≡ setup
   pub within : agent < setup.agents
 
-pub setup-played : (game : Game) (event : Event) → (played game event).setup ≡ game.setup
-setup-played game event =
-    by_bool (keeps (world_in game) (state_of game) (lost (world_in game) game.log) event)
-    (λ (kept : Bool). (cond kept (record game { log = game.log ++ event ∷ [] }) game).setup ≡ game.setup) (λ kept. refl)
-    (λ unkept. refl)
-
 pub played_in : (setup : Setup) (agent : ℕ) (game : Game) (event : Event) → IsIn setup agent game
     → IsIn setup agent (played game event)
 played_in setup agent game event is = record { setup_is = setup-played game event ∙ is.setup_is; within = is.within }
-
--- ---- nothing changes for an agent
-
-pub record Alike (agent : ℕ) (game new : Game) : Type 0 where
-  pub setup_is : new.setup ≡ game.setup
-  pub past : (state_of new).past agent ≡ (state_of game).past agent
-  pub away : is_away new agent ≡ is_away game agent
-  pub closed : (state_of new).closed ≡ (state_of game).closed
-
-pub alike_itself : (agent : ℕ) (game : Game) → Alike agent game game
-alike_itself agent game = record { setup_is = refl; past = refl; away = refl; closed = refl }
-
-pub alike_through : (agent : ℕ) (game new newest : Game) → Alike agent game new → Alike agent new newest
-    → Alike agent game newest
-alike_through agent game new newest one two = record {
-  setup_is = two.setup_is ∙ one.setup_is;
-  past = two.past ∙ one.past;
-  away = two.away ∙ one.away;
-  closed = two.closed ∙ one.closed;
-}
-
--- two states that are the same for an agent
-record SameFor (agent : ℕ) (state new : State) : Type 0 where
-  past : new.past agent ≡ state.past agent
-  away : is_bound (new.position agent) ≡ is_bound (state.position agent)
-  closed : new.closed ≡ state.closed
-
-same_for : (agent : ℕ) (state : State) → SameFor agent state state
-same_for agent state = record { past = refl; away = refl; closed = refl }
-
-alike_by : (agent : ℕ) (game : Game) (event : Event)
-    → SameFor agent (state_of game) (next (world_in game) (state_of game) event) → Alike agent game (played game event)
-alike_by agent game event same =
-    let is = state_of-played game event in
-    record {
-      setup_is = setup-played game event;
-      past = ap (λ (state : State). state.past agent) is ∙ same.past;
-      away = ap (λ (state : State). is_bound (state.position agent)) is ∙ same.away;
-      closed = ap (λ (state : State). state.closed) is ∙ same.closed;
-    }
-
-told_others : (world : World) (state : State) (agent : ℕ) (command : Command) (other : ℕ) → other ≢ agent
-    → SameFor other state (next world state (Tell agent command))
-told_others world state agent command other apart =
-    by_bool (heard world state agent command)
-    (λ (is : Bool). SameFor other state (cond is (told world state agent command) state))
-    (λ is. record {
-      past = changed_other state.past agent other _ (ne_eqb other agent apart);
-      away = ap is_bound (changed_other state.position agent other _ (ne_eqb other agent apart));
-      closed = refl;
-    }) (λ unheard. same_for other state)
-
-arrived_others : (world : World) (state : State) (agent : ℕ) (position : Position) (other : ℕ) → other ≢ agent
-    → SameFor other state (delivered world state agent position)
-arrived_others world state agent (Bound node port) other apart = record {
-  past = changed_other state.past agent other _ (ne_eqb other agent apart);
-  away = ap is_bound (changed_other state.position agent other _ (ne_eqb other agent apart));
-  closed = refl;
-}
-arrived_others world state agent Before other apart = same_for other state
-arrived_others world state agent (At node came) other apart = same_for other state
-arrived_others world state agent After other apart = same_for other state
-
-delivered_others : (world : World) (state : State) (agent other : ℕ) → other ≢ agent
-    → SameFor other state (next world state (Deliver agent))
-delivered_others world state agent other apart =
-    by_bool (arrives world state agent) (λ (is : Bool). SameFor other state
-    (cond is (delivered world state agent (state.position agent)) state))
-    (λ is. arrived_others world state agent (state.position agent) other apart) (λ stays. same_for other state)
-
-pub alike-told : (game : Game) (agent : ℕ) (command : Command) (other : ℕ) → other ≢ agent
-    → Alike other game (played game (Tell agent command))
-alike-told game agent command other apart = alike_by other game (Tell agent command)
-    (told_others (world_in game) (state_of game) agent command other apart)
-
-pub alike-delivered : (game : Game) (agent other : ℕ) → other ≢ agent → Alike other game (played game (Deliver agent))
-alike-delivered game agent other apart = alike_by other game (Deliver agent)
-    (delivered_others (world_in game) (state_of game) agent other apart)
-
-pub alike-no_arrival : (game : Game) (agent other : ℕ) → arrives (world_in game) (state_of game) agent ≡ false
-    → Alike other game (played game (Deliver agent))
-alike-no_arrival game agent other none =
-    alike_by other game (Deliver agent) (subst (λ (state : State). SameFor other (state_of game) state)
-    (sym (next_no_arrival (world_in game) (state_of game) agent none)) (same_for other (state_of game)))
 
 -- ---- one command
 

@@ -23,9 +23,10 @@ use Rattle.bhs_theorems.specs.Met.{Meeting, view_from, view_of, commands, bytes_
 use Rattle.bhs_theorems.specs.Clients.{Fed, fed_more, at_end}
 use Rattle.bhs_theorems.specs.SentAsMet.{IsDenial, IsPastOf, over_text}
 use Rattle.bhs_theorems.proofs.OverLemmas.{EndsLast, has_end, last_says, last_end, over_same, nothing_first}
-use Rattle.bhs_theorems.proofs.EventLemmas.{Alike, alike_itself}
+use Rattle.bhs_theorems.proofs.AwayLemmas.{Alike, alike_itself}
 use Rattle.bhs_theorems.proofs.TookLemmas.{lines_of, lines_of-append, lines_of-says, has_end-says}
-use Rattle.bhs_theorems.proofs.TookLemmas.{has_end-end, IsQuiet, IsOpen, Took, took, taken_alike}
+use Rattle.bhs_theorems.proofs.TookLemmas.{has_end-end, IsQuiet, IsOpen, Took, took}
+use Rattle.bhs_theorems.proofs.AwayLemmas.{taken_alike}
 
 -- ---- what is known of a connection that plays
 

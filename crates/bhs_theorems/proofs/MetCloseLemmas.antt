@@ -19,13 +19,13 @@ use Rattle.bhs_theorems.specs.ScriptLaws.{IsSettled}
 use Rattle.bhs_theorems.specs.Clients.{bytes_among}
 use Rattle.bhs_theorems.proofs.CuttingLemmas.{by_bool}
 use Rattle.bhs_theorems.proofs.ApartLemmas.{shut_if, seat-shut_if, shut_at, told_at}
-use Rattle.bhs_theorems.proofs.SlowGameLemmas.{state_of-played}
+use Rattle.bhs_theorems.proofs.AwayLemmas.{state_of-played}
 use Rattle.bhs_theorems.specs.Clients.{Fed}
 use Rattle.bhs_theorems.specs.Met.{view_of, bytes, takes_commands}
 use Rattle.bhs_theorems.specs.SentAsMet.{IsDenial, over_text}
 use Rattle.bhs_theorems.proofs.FitLemmas.{fits_here, away_stands}
 use Rattle.bhs_theorems.proofs.OverLemmas.{over_away}
-use Rattle.bhs_theorems.proofs.EventLemmas.{setup-played}
+use Rattle.bhs_theorems.proofs.AwayLemmas.{setup-played}
 use Rattle.bhs_theorems.proofs.TookLemmas.{lines_of}
 use Rattle.bhs_theorems.proofs.KnownLemmas.{MetBy, MetIn}
 use Rattle.bhs_theorems.proofs.KnownLemmas.{IsKnown}

@@ -29,10 +29,10 @@ use Rattle.bhs_theorems.proofs.CuttingLemmas.{by_same, by_bool}
 use Rattle.bhs_theorems.proofs.TurnLemmas.{moves_itself}
 use Rattle.bhs_theorems.proofs.ApartLemmas.{seat-has_seat}
 use Rattle.bhs_theorems.proofs.SettlingLemmas.{nobody_plays}
-use Rattle.bhs_theorems.proofs.SlowGameLemmas.{state_of-played}
+use Rattle.bhs_theorems.proofs.AwayLemmas.{state_of-played}
 use Rattle.bhs_theorems.specs.Met.{Arrives}
 use Rattle.bhs_theorems.specs.Clients.{Fed}
-use Rattle.bhs_theorems.proofs.EventLemmas.{Alike, alike_itself, alike-delivered, alike-no_arrival, setup-played}
+use Rattle.bhs_theorems.proofs.AwayLemmas.{Alike, alike_itself, alike-delivered, alike-no_arrival, setup-played}
 use Rattle.bhs_theorems.proofs.FitLemmas.{fits_here, away_stands}
 use Rattle.bhs_theorems.proofs.MeetingLemmas.{view_from-append, bytes_from-append, commands-append, due-append}
 use Rattle.bhs_theorems.proofs.KnownLemmas.{Going, GoesOn}

@@ -29,7 +29,7 @@ use Rattle.bhs_theorems.specs.OneMachine.{Ran, heard_of, rests, runs, phase_in, 
 use Rattle.bhs_theorems.specs.OneMachine.{IsNews, ArrivalsAreNews, HeardFirst}
 use Rattle.bhs_theorems.proofs.CuttingLemmas.{behind}
 use Rattle.bhs_rehearsal.proofs.TakeLemmas.{takes_line, takes_end, takes_none}
-use Rattle.bhs_theorems.proofs.SlowGameLemmas.{state_of-played}
+use Rattle.bhs_theorems.proofs.AwayLemmas.{state_of-played}
 use Rattle.bhs_theorems.proofs.FitLemmas.{FitsHere, fits_here}
 use Rattle.bhs_theorems.proofs.MetDrawLemmas.{arrival, away_arrives, arrived_here}
 

@@ -20,7 +20,7 @@ use Rattle.bhs_theorems.specs.ScriptLaws.{awaits_arrival, IsSettled, SettledConn
 use Rattle.bhs_theorems.proofs.CuttingLemmas.{by_bool, by_same}
 use Rattle.bhs_theorems.proofs.TurnLemmas.{Turn, placed, plays_turn, enters_turn, turn_in, turn_of, played_at}
 use Rattle.bhs_theorems.proofs.TurnLemmas.{bare, seat_after}
-use Rattle.bhs_theorems.proofs.AwayLemmas.{away-taken, taken_up, taken_rests}
+use Rattle.bhs_theorems.proofs.AwayLemmas.{taken_alike, taken_up, taken_rests}
 
 -- ---- who awaits an arrival
 
@@ -128,8 +128,8 @@ module _ (stage : Stage) (conn : ℕ) (connection : Connection) (within : conn <
       (own_taken_up stage new.connections seat connection done.game done.is_done done.left done.text found
       (taken_up (game_at stage seat.0) seat.1 connection.queue))
       (λ other apart. awaits_kept stage seat.0 done.game new.connections (connection_at stage other) found
-      (λ agent theirs. away-taken (game_at stage seat.0) seat.1 connection.queue agent
-      (λ same. alone other apart seat refl (theirs ∙ ap (λ (number : ℕ). Some (seat.0, number)) same))))
+      (λ agent theirs. (taken_alike (game_at stage seat.0) seat.1 connection.queue agent
+      (λ same. alone other apart seat refl (theirs ∙ ap (λ (number : ℕ). Some (seat.0, number)) same))).away))
       (λ other apart own mine theirs. alone other apart own (sym (seat_after connection seat done) ∙ mine) theirs)
 
   -- a connection that is not let in, and takes or waits for nothing

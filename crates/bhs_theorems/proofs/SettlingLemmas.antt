@@ -21,7 +21,7 @@ use Rattle.bhs_theorems.specs.ScriptLaws.{AllItemsAreTaken}
 use Rattle.bhs_theorems.proofs.CuttingLemmas.{by_bool}
 use Rattle.bhs_theorems.proofs.TurnLemmas.{moves_itself, grown, ending}
 use Rattle.bhs_theorems.proofs.ApartLemmas.{seat-has_seat, shut_at, seat-shut_if}
-use Rattle.bhs_theorems.proofs.AwayLemmas.{away-delivered, away-unanswered, away-closed}
+use Rattle.bhs_theorems.proofs.AwayLemmas.{alike-delivered, alike-unanswered, away-closed}
 use Rattle.bhs_theorems.proofs.SettledLemmas.{SettledBut, awaits_kept, has_own, rest_lemma, turn_settles}
 use Rattle.bhs_theorems.proofs.StepCases.{client_step, by_client, event_step, by_event, by_close}
 
@@ -87,9 +87,9 @@ module _ (stage : Stage) (game agent : ℕ) (within : game < length stage.games)
   draw_settles_but conn mine = record {
     others_taken = λ other apart stays. settled.all_taken other
         (sym (awaits_kept stage game new_game stage.connections (connection_at stage other) found_again
-        (λ number theirs. away-delivered (game_at stage game) agent number
+        (λ number theirs. (alike-delivered (game_at stage game) agent number
         (λ same. apart (settled.one_each other conn (game, agent) (theirs ∙ ap (λ (one : ℕ). Some (game, one)) same)
-        mine)))) ∙ stays);
+        mine))).away)) ∙ stays);
     one_each = settled.one_each;
   }
 
@@ -104,11 +104,11 @@ module _ (stage : Stage) (game agent : ℕ) (within : game < length stage.games)
       position (has_seat (game, agent)) stage.connections ≡ holder
       → IsSettled (tells_arrival drawn_in reply holder).stage
   arrival_settles None holder unanswered held =
-      draw_settles (λ conn other theirs. away-unanswered (game_at stage game) agent other unanswered)
+      draw_settles (λ conn other theirs. (alike-unanswered (game_at stage game) agent other unanswered).away)
   arrival_settles (Some reply) None answered nobody =
-      draw_settles (λ conn other theirs. away-delivered (game_at stage game) agent other
+      draw_settles (λ conn other theirs. (alike-delivered (game_at stage game) agent other
       (λ same. nobody_plays stage.connections (game, agent) nobody conn
-      (theirs ∙ ap (λ (one : ℕ). Some (game, one)) same)))
+      (theirs ∙ ap (λ (one : ℕ). Some (game, one)) same))).away)
   arrival_settles (Some reply) (Some conn) answered held =
       let at_holder = position-Some (has_seat (game, agent)) stage.connections conn unfed held in
       holder_settles conn at_holder.0 (seat-has_seat (game, agent) (connection_at stage conn) at_holder.1)

@@ -14,9 +14,7 @@ use Rattle.bhs_model.specs.Twins.{Twins, is_struck}
 use Rattle.bhs_model.specs.Kept.{keeps, lost}
 use Rattle.bhs_model.specs.Draws.{Held, SlowInstead, is_held, delivery_to, draw, pool, pick}
 use Rattle.bhs_model.proofs.StepLemmas.{next_no_arrival, no_arrival_no_reply}
-use Rattle.bhs_model.proofs.KeptLemmas.{unkept_state}
 use Rattle.bhs_model.proofs.LegalLemmas.{either}
-use Rattle.bhs_model.proofs.AddLemmas.{run-append}
 use Rattle.bhs_model.proofs.TwinLemmas.{doomed_not_through, other_world, reply_alike, next_twin}
 use Rattle.bhs_model.proofs.SlowLemmas.{MadeAlike, draw_alike}
 use Rattle.bhs_deal.specs.Links.{held_in}
@@ -27,22 +25,11 @@ use Rattle.bhs_rehearsal.specs.Games.{Game, world_in, state_of, played, reply_to
 use Rattle.bhs_rehearsal.specs.Games.{delivered as delivered_event}
 use Rattle.bhs_rehearsal.specs.Connections.{Item, Says, Ends, Taken, is_last, leaves, answers, taken}
 use Rattle.bhs_theorems.specs.ScriptLaws.{IsSlowFor, slow_of, SlowMatchesBegin}
-use Rattle.bhs_theorems.proofs.CuttingLemmas.{by_bool, cond_alike}
+use Rattle.bhs_theorems.proofs.CuttingLemmas.{cond_alike}
+use Rattle.bhs_theorems.proofs.AwayLemmas.{state_of-played}
 use Rattle.bhs_theorems.proofs.TwinLogLemmas.{keeps_alike, twins-both, twins-one}
 
 -- ---- one event
-
--- the match after an event stands as the model says, kept or not
-pub state_of-played : (game : Game) (event : Event) → state_of (played game event) ≡ next (world_in game)
-    (state_of game) event
-state_of-played game event =
-    let world = world_in game in
-    let is_kept = keeps world (state_of game) (lost world game.log) event in
-    by_bool is_kept
-    (λ (kept : Bool). state_of (cond kept (record game { log = game.log ++ event ∷ [] }) game) ≡ next
-    world (state_of game) event)
-    (λ kept. run-append world initial game.log (event ∷ []))
-    (λ unkept. sym (unkept_state world (state_of game) (lost world game.log) event unkept))
 
 -- with this log, where it is kept
 abbrev logged : (kept : Bool) → Game → List Event → Game

@@ -1,5 +1,5 @@
 -- What an agent meets while items of its connection are taken.
-use Rattle.std.proofs.Common.{◌≡◌, ◌≢◌, ◌∙◌, ℕ, ◌⊎◌, inl, inr, Bool, true, false, cond, not, Option, Some, None, List}
+use Rattle.std.proofs.Common.{◌≡◌, ◌≢◌, ◌∙◌, ℕ, ◌⊎◌, inl, inr, Bool, true, false, cond, not, Option, List}
 use Rattle.std.proofs.Common.{[], ◌∷◌, ◌++◌, map, refl, sym, ap, ap₂, subst, append-nil}
 use Rattle.bhs_model.specs.declared.commands.Command.{Command}
 use Rattle.bhs_model.specs.declared.commands.Command.TheVariants.{Leave}
@@ -16,13 +16,13 @@ use Rattle.bhs_session.specs.Texts.{text_of, command_of}
 use Rattle.bhs_rehearsal.specs.Games.{Game, world_in, state_of, played, reply_to, is_away}
 use Rattle.bhs_rehearsal.specs.Connections.{Item, Says, Ends, Taken, is_last, leaves, answers, taken}
 use Rattle.bhs_theorems.proofs.CuttingLemmas.{by_bool, behind}
-use Rattle.bhs_theorems.proofs.SlowGameLemmas.{state_of-played}
+use Rattle.bhs_theorems.proofs.AwayLemmas.{state_of-played}
 use Rattle.bhs_theorems.specs.Met.{Meeting, past_after, view_from, commands, answer_to, bytes_from, takes_commands}
 use Rattle.bhs_theorems.specs.Met.{AreDue}
 use Rattle.bhs_theorems.specs.SentAsMet.{IsPastOf, over_text}
 use Rattle.bhs_theorems.proofs.OverLemmas.{EndsLast, has_end, over_none, over_next, over_ended}
 use Rattle.bhs_theorems.proofs.FitLemmas.{fits_here, here_stands}
-use Rattle.bhs_theorems.proofs.EventLemmas.{IsIn, played_in, Alike, alike_itself, alike_through, alike-told}
+use Rattle.bhs_theorems.proofs.EventLemmas.{IsIn, played_in}
 use Rattle.bhs_theorems.proofs.EventLemmas.{closed-told, Answered, answered-open, answered-closed, unheard-closed}
 
 -- the lines among items
@@ -369,37 +369,3 @@ took setup closed game agent (Ends ∷ items) is lives at last =
     (record { game = played game (Tell agent Leave); is_done = true; left = []; text = [] })) agent)
     (λ away. took-leaves setup closed game agent (Ends ∷ items) is lives at)
     (λ here. took-end setup closed game agent items is at here last)
-
--- ---- and of the others
-
-answers_alike : (reply : Option Reply) (game played_game : Game) (others : Taken) (agent : ℕ)
-    → Alike agent game played_game → Alike agent game others.game →
-    Alike agent game (answers reply played_game others).game
-answers_alike None game played_game others agent same later = later
-answers_alike (Some reply) game played_game others agent same later =
-    by_bool (is_last reply)
-    (λ (last : Bool). Alike agent game (cond last
-    (record { game = played_game; is_done = true; left = []; text = text_of reply })
-    (behind (text_of reply) others)).game)
-    (λ last. same) (λ more. later)
-
--- taking an agent's items changes nothing for another
-pub taken_alike : (game : Game) (agent : ℕ) (items : List Item) (other : ℕ) → other ≢ agent
-    → Alike other game (taken game agent items).game
-taken_alike game agent [] other apart = alike_itself other game
-taken_alike game agent (Says line ∷ items) other apart =
-    let command = command_of line in
-    let next_game = played game (Tell agent command) in
-    let same = alike-told game agent command other apart in
-    by_bool (is_away game agent)
-    (λ (away : Bool). Alike other game (cond away (leaves game (Says line ∷ items))
-    (answers (reply_to game (Tell agent command)) next_game (taken next_game agent items))).game)
-    (λ away. alike_itself other game)
-    (λ stays. answers_alike (reply_to game (Tell agent command)) game next_game (taken next_game agent items) other same
-    (alike_through other game next_game (taken next_game agent items).game same
-    (taken_alike next_game agent items other apart)))
-taken_alike game agent (Ends ∷ items) other apart =
-    by_bool (is_away game agent)
-    (λ (away : Bool). Alike other game (cond away (leaves game (Ends ∷ items))
-    (record { game = played game (Tell agent Leave); is_done = true; left = []; text = [] })).game)
-    (λ away. alike_itself other game) (λ stays. alike-told game agent Leave other apart)
