@@ -24,6 +24,7 @@ use Rattle.bhs_theorems.proofs.CuttingLemmas.{by_bool}
 use Rattle.bhs_theorems.proofs.AwayLemmas.{state_of-played, setup-played}
 use Rattle.bhs_theorems.proofs.FitLemmas.{fits_here, here_stands}
 use Rattle.bhs_theorems.specs.Met.{Meeting, Hears, Refuses, past_after, command_in, answer_to, takes_commands, IsDue}
+use Rattle.bhs_model.proofs.LegalLemmas.{either}
 
 -- a match that was set up so, with this agent in it
 pub record IsIn (setup : Setup) (agent : ℕ) (game : Game) : Type 0 where
@@ -41,9 +42,8 @@ pub closed-told : (game : Game) (agent : ℕ) (command : Command)
     → (state_of (played game (Tell agent command))).closed ≡ (state_of game).closed
 closed-told game agent command =
     ap (λ (state : State). state.closed) (state_of-played game (Tell agent command))
-    ∙ by_bool (heard (world_in game) (state_of game) agent command)
-    (λ (is : Bool). (cond is (told (world_in game) (state_of game) agent command) (state_of game)).closed ≡ (state_of
-    game).closed) (λ is. refl) (λ unheard. refl)
+    ∙ either (λ (state : State). state.closed ≡ (state_of game).closed)
+    (heard (world_in game) (state_of game) agent command) _ (state_of game) refl refl
 
 -- what a command comes to before the close
 pub record Answered (setup : Setup) (view new : View) (command : Command) (replied : Option Reply)
@@ -252,10 +252,10 @@ module _ (setup : Setup) (game : Game) (agent : ℕ) (command : Command) (is : I
       (reply_to game (Tell agent command)) (not (is_away (played game (Tell agent command)) agent)))
       is.setup_is
       (by_bool (hears game.setup.quota view command)
-      (λ (accepts : Bool). hears game.setup.quota view command ≡ accepts →
+      (λ (accepts : Bool).
       Answered game.setup view ((state_of (played game (Tell agent command))).past agent) command
       (reply_to game (Tell agent command)) (not (is_away (played game (Tell agent command)) agent)))
-      (λ first allowed. answered_heard still allowed) (λ first refused. answered_refused still refused) refl)
+      (answered_heard still) (answered_refused still))
 
   -- after the close everything is answered so
   pub answered-closed : state.closed ≡ true → reply_to game (Tell agent command) ≡ Some replies.Over

@@ -1,9 +1,9 @@
 -- What is known of a connection: what its agent met, what was taken of it and what it was sent; and how a move keeps
 -- it.
-use Rattle.std.proofs.Common.{◌≡◌, ◌≢◌, ◌∙◌, ℕ, suc, ◌<◌, ◌⊎◌, inl, inr, Bool, true, false, cond, ◌==◌, Option, Some}
+use Rattle.std.proofs.Common.{◌≡◌, ◌≢◌, ◌∙◌, ℕ, suc, ◌<◌, ◌⊎◌, inl, inr, Bool, true, false, cond, Option, Some}
 use Rattle.std.proofs.Common.{None, List, [], ◌∷◌, ◌++◌, map, refl, sym, ap, ap₂, subst, append_assoc, append-nil}
 use Rattle.std.proofs.Common.{arith}
-use Rattle.std.proofs.lemmas.Bool.{cond-true, eqb-true, eqb-false}
+use Rattle.std.proofs.lemmas.Bool.{cond-true}
 use Rattle.std.proofs.lemmas.List.{map-append, get_or-set_other}
 use Rattle.bhs_model.specs.declared.commands.Command.{Command}
 use Rattle.bhs_model.specs.declared.setups.Setup.{Setup}
@@ -16,7 +16,7 @@ use Rattle.bhs_rehearsal.specs.Connections.{Item, Says, Ends, Connection, shut, 
 use Rattle.bhs_rehearsal.specs.Stages.{Stage, game_at, connection_at, with_game, with_connection, Entry, Waits, Sits}
 use Rattle.bhs_rehearsal.specs.Stages.{IsDenied, Goes, entry}
 use Rattle.bhs_theorems.proofs.MeetingLemmas.{view_from-append, bytes_from-append, commands-append, due-append}
-use Rattle.bhs_theorems.proofs.CuttingLemmas.{by_bool}
+use Rattle.bhs_theorems.proofs.CuttingLemmas.{by_bool, by_same}
 use Rattle.bhs_theorems.proofs.TurnLemmas.{placed, plays_turn, enters_turn, turn_in, played_at, grown, ending}
 use Rattle.bhs_theorems.proofs.TurnLemmas.{seat_after}
 use Rattle.bhs_theorems.specs.Met.{Meeting, view_from, view_of, commands, bytes_from, bytes, takes_commands, AreDue}
@@ -385,19 +385,16 @@ module _ (stage : Stage) (conn : ℕ) (connection : Connection) where
       Alike agent (game_at stage game) (game_at (placed stage conn (plays_turn stage seat connection)).stage game)
   others_play seat game agent apart =
       let done = taken (game_at stage seat.0) seat.1 connection.queue in
-      by_bool (seat.0 == game) (λ (is : Bool). (seat.0 == game) ≡ is
-      → Alike agent (game_at stage game) (game_at (with_game stage seat.0 done.game) game))
-      (λ first here.
-      let is : seat.0 ≡ game = eqb-true seat.0 game here in
+      by_same seat.0 game
+      (λ is.
       subst (λ (number : ℕ). Alike agent (game_at stage number) (game_at (with_game stage seat.0 done.game) number)) is
       (subst (λ (one : Game). Alike agent (game_at stage seat.0) one) (sym (played_at stage seat connection.queue))
       (taken_alike (game_at stage seat.0) seat.1 connection.queue agent
       (λ same. apart (ap₂ (λ (a b : ℕ). Some (a, b)) is (sym same))))))
-      (λ first elsewhere.
+      (λ elsewhere.
       subst (λ (one : Game). Alike agent (game_at stage game) one)
-      (sym (get_or-set_other stage.games seat.0 game done.game _ (λ same. eqb-false seat.0 game elsewhere (sym same))))
+      (sym (get_or-set_other stage.games seat.0 game done.game _ (λ same. elsewhere (sym same))))
       (alike_itself agent (game_at stage game)))
-      refl
 
   others_enter : (how : Entry) (game agent : ℕ)
       → ((enters_turn stage connection how).connection.seat ≡ Some (game, agent) → ⊥) →

@@ -1,8 +1,8 @@
 -- What is known of a connection, where a client is fed or ends.
 use Rattle.std.proofs.Common.{◌≡◌, ◌≢◌, ◌∙◌, ℕ, inl, inr, Bool, true, false, cond}
-use Rattle.std.proofs.Common.{nat_lt, ◌==◌, Option, Some, None, List, [], ◌++◌, length, refl}
+use Rattle.std.proofs.Common.{nat_lt, Option, Some, None, List, [], ◌++◌, length, refl}
 use Rattle.std.proofs.Common.{sym, subst, append-nil, arith}
-use Rattle.std.proofs.lemmas.Bool.{cond-true, cond-false, ltb-true, ltb-false, eqb-true, eqb-false}
+use Rattle.std.proofs.lemmas.Bool.{cond-true, cond-false, ltb-true, ltb-false}
 use Rattle.bhs_rehearsal.specs.Games.{state_of}
 use Rattle.bhs_rehearsal.specs.Connections.{Connection, unfed}
 use Rattle.bhs_rehearsal.specs.Stages.{Stage, game_at, connection_at, with_connection}
@@ -10,7 +10,7 @@ use Rattle.bhs_rehearsal.specs.Stages.{Moved, moves}
 use Rattle.bhs_rehearsal.specs.Stages.{Stepped, sent_to, stepped, nothing}
 use Rattle.bhs_theorems.specs.ScriptLaws.{IsSettled}
 use Rattle.bhs_theorems.specs.Clients.{bytes_among}
-use Rattle.bhs_theorems.proofs.CuttingLemmas.{by_bool}
+use Rattle.bhs_theorems.proofs.CuttingLemmas.{by_same}
 use Rattle.bhs_theorems.proofs.TurnLemmas.{placed, turn_of, moves-placed, grown}
 use Rattle.bhs_theorems.specs.Clients.{Fed, at_end}
 use Rattle.bhs_theorems.proofs.KnownLemmas.{Going, going_fed, going_ends, met_unread}
@@ -43,18 +43,17 @@ client stage mover conn connection fed input sent false ended below as_before se
     same_bytes stage conn input fed (sent ++ []) (sent ++ []) (unfed apart) refl
     (nothing_more stage conn input sent knows)
 client stage mover conn connection fed input sent true true below as_before settled knows unfed unread ready =
-    by_bool (conn == mover) (λ (is : Bool). (conn == mover) ≡ is → Knows stage conn fed (sent ++ []))
-    (λ first same. nothing_more stage conn fed sent
+    by_same conn mover
+    (λ is. nothing_more stage conn fed sent
     (record {
-      known = unread (eqb-true conn mover same) refl;
+      known = unread is refl;
       free = knows.free;
       settled = knows.settled;
       there = knows.there;
     }))
-    (λ first differs.
-    same_bytes stage conn input fed (sent ++ []) (sent ++ []) (unfed (eqb-false conn mover differs)) refl
+    (λ apart.
+    same_bytes stage conn input fed (sent ++ []) (sent ++ []) (unfed apart) refl
     (nothing_more stage conn input sent knows))
-    refl
 client stage mover conn connection fed input sent true false below as_before settled knows unfed unread ready =
     let within = ltb-true mover (length stage.connections) below in
     let is_placed = moves-placed stage mover connection within in

@@ -2,7 +2,7 @@
 use Rattle.std.proofs.Common.{◌≡◌, ◌≢◌, ◌∙◌, ℕ, ◌+◌, ◌<◌, inl, inr, Bool, true, false, cond, ◌&&◌}
 use Rattle.std.proofs.Common.{◌==◌, Option, Some, None, List, [], ◌++◌, length, refl}
 use Rattle.std.proofs.Common.{sym, ap, ap₂, subst, append-nil, arith}
-use Rattle.std.proofs.lemmas.Bool.{eqb-true, eqb-false}
+use Rattle.std.proofs.lemmas.Bool.{eq-eqb, ne_eqb}
 use Rattle.std.proofs.lemmas.List.{get_or-set_same, get_or-set_other, length-map}
 use Rattle.bhs_model.specs.declared.events.Event.TheVariants.{Close}
 use Rattle.bhs_model.specs.declared.setups.Setup.{Setup}
@@ -17,7 +17,7 @@ use Rattle.bhs_rehearsal.specs.Stages.{Stage, game_at, connection_at, with_game}
 use Rattle.bhs_rehearsal.specs.Stages.{waits_in, shut_in, told_over}
 use Rattle.bhs_theorems.specs.ScriptLaws.{IsSettled}
 use Rattle.bhs_theorems.specs.Clients.{bytes_among}
-use Rattle.bhs_theorems.proofs.CuttingLemmas.{by_bool}
+use Rattle.bhs_theorems.proofs.CuttingLemmas.{by_same}
 use Rattle.bhs_theorems.proofs.ApartLemmas.{shut_if, seat-shut_if, shut_at, told_at}
 use Rattle.bhs_theorems.proofs.AwayLemmas.{state_of-played}
 use Rattle.bhs_theorems.specs.Clients.{Fed}
@@ -158,14 +158,11 @@ module _ (stage : Stage) (game conn : ℕ) (input : Fed) (sent : List ℕ) (with
       let before = knows.free number agent (λ other theirs. free other
       (ap (λ (one : Connection). one.seat) (shut_at game closing stage.connections other)
       ∙ seat-shut_if game closing (connection_at stage other) ∙ theirs)) in
-      by_bool (number == game) (λ (is : Bool). (number == game) ≡ is → Untouched (game_at after_close number) agent)
-      (λ first same.
-      let is : number ≡ game = eqb-true number game same in
+      by_same number game
+      (λ is.
       subst (λ (one : Game). Untouched one agent) (sym (ap (λ (place : ℕ). game_at after_close place) is ∙ closed_here))
       (untouched_closed closing agent (subst (λ (place : ℕ). Untouched (game_at stage place) agent) is before)))
-      (λ first differs. subst (λ (one : Game). Untouched one agent)
-      (sym (same_elsewhere number (eqb-false number game differs))) before)
-      refl
+      (λ apart. subst (λ (one : Game). Untouched one agent) (sym (same_elsewhere number apart)) before)
 
   abbrev over_if : (waits : Bool) → List ℕ
   over_if waits = cond waits (text_of replies.Over) []
@@ -175,12 +172,10 @@ module _ (stage : Stage) (game conn : ℕ) (input : Fed) (sent : List ℕ) (with
       IsKnown stage connection input sent (Some seat) → IsKnown after_close (cond waits (shut connection) connection)
       input (sent ++ over_if waits) (Some seat)
   close_seated seat connection waits is_wait known =
-      by_bool (seat.0 == game)
-      (λ (is : Bool). (seat.0 == game) ≡ is → IsKnown after_close (cond waits (shut connection) connection) input
-      (sent ++ over_if waits) (Some seat))
-      (λ first same.
-      let is : seat.0 ≡ game = eqb-true seat.0 game same in
-      let here : waits ≡ is_away closing seat.1 = is_wait ∙ ap (λ (it : Bool). it && is_away closing seat.1) same in
+      by_same seat.0 game
+      (λ is.
+      let here : waits ≡ is_away closing seat.1 =
+      is_wait ∙ ap (λ (it : Bool). it && is_away closing seat.1) (eq-eqb seat.0 game is) in
       let before : seat.1 < closing.setup.agents → MetIn closing seat.1 connection input sent =
       subst (λ (place : ℕ). seat.1 < (game_at stage place).setup.agents → MetIn (game_at stage place) seat.1 connection
       input sent) is known in
@@ -189,15 +184,14 @@ module _ (stage : Stage) (game conn : ℕ) (input : Fed) (sent : List ℕ) (with
       (sym (ap (λ (place : ℕ). game_at after_close place) is ∙ closed_here))
       (λ inside. met_closed closing seat.1 connection input sent waits open_match here
       (before (subst (λ (setup : Setup). seat.1 < setup.agents) (setup-played closing Close) inside))))
-      (λ first differs.
-      let stays : waits ≡ false = is_wait ∙ ap (λ (it : Bool). it && is_away closing seat.1) differs in
+      (λ apart.
+      let stays : waits ≡ false = is_wait ∙ ap (λ (it : Bool). it && is_away closing seat.1) (ne_eqb seat.0 game apart) in
       subst (λ (it : Bool). IsKnown after_close (cond it (shut connection) connection) input (sent ++ over_if it)
       (Some seat)) (sym stays)
       (subst (λ (one : Game). seat.1 < one.setup.agents → MetIn one seat.1 connection input (sent ++ []))
-      (sym (same_elsewhere seat.0 (eqb-false seat.0 game differs)))
+      (sym (same_elsewhere seat.0 apart))
       (subst (λ (out : List ℕ). seat.1 < (game_at stage seat.0).setup.agents
       → MetIn (game_at stage seat.0) seat.1 connection input out) (sym (append-nil sent)) known)))
-      refl
 
   close_by : (own : Option (ℕ × ℕ)) (unfinished : Option (List ℕ)) (queue : List Item) (ended : Bool) →
       let connection : Connection = record { seat = own; unfinished = unfinished; queue = queue; ended = ended } in

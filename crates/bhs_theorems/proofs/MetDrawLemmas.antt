@@ -254,18 +254,16 @@ module _ (stage : Stage) (game agent conn : ℕ) (input : Fed) (sent : List ℕ)
   draw_known settled =
       let holder = position (has_seat (game, agent)) stage.connections in
       by_bool (arrives (world_in old_game) (state_of old_game) agent)
-      (λ (comes : Bool). arrives (world_in old_game) (state_of old_game) agent ≡ comes →
-      Knows (delivers stage game (Some (Deliver agent))).stage conn input
+      (λ (comes : Bool). Knows (delivers stage game (Some (Deliver agent))).stage conn input
       (sent ++ bytes_among conn (delivers stage game (Some (Deliver agent))).outs))
-      (λ first comes. draw_tells comes (reply_to old_game (Deliver agent)) refl holder refl settled)
-      (λ first stays.
+      (λ comes. draw_tells comes (reply_to old_game (Deliver agent)) refl holder refl settled)
+      (λ stays.
       let none = no_arrival_no_reply (world_in old_game) (state_of old_game) agent stays in
       let settled_there : IsSettled drawn_in =
       subst (λ (replied : Option Reply). IsSettled (tells_arrival drawn_in replied holder).stage) none settled in
       subst (λ (replied : Option Reply). Knows (tells_arrival drawn_in replied holder).stage conn input
       (sent ++ bytes_among conn (tells_arrival drawn_in replied holder).outs)) (sym none)
       (draw_rests settled_there stays))
-      refl
 
 pub delivers_known : (stage : Stage) (game conn : ℕ) (input : Fed) (sent : List ℕ) → game < length stage.games
     → Knows stage conn input sent → (event : Option Event) →

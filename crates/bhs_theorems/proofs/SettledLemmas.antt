@@ -1,14 +1,13 @@
 -- Settled stages, and what keeps a stage settled.
-use Rattle.std.proofs.Common.{◌≡◌, ◌≢◌, ◌∙◌, ℕ, ◌<◌, Bool, true, false, ◌&&◌, cond, nat_lt, Option, Some, None}
+use Rattle.std.proofs.Common.{◌≡◌, ◌≢◌, ◌∙◌, ℕ, ◌<◌, Bool, true, false, ◌&&◌, nat_lt, Option, Some, None}
 use Rattle.std.proofs.Common.{List, [], ◌∷◌, length, set, get_or, refl, sym, ap, ap₂, subst}
 use Rattle.std.specs.List.{list_any}
-use Rattle.std.proofs.lemmas.Bool.{ltb-true, ltb-false, eq-eqb}
+use Rattle.std.proofs.lemmas.Bool.{cond_both, ltb-true, ltb-false, eq-eqb}
 use Rattle.std.proofs.lemmas.List.{set-get_or, get_or_past, get_or-set_same, get_or-set_other}
 use Rattle.std.proofs.lemmas.List.Folds.{list_any_at}
 use Rattle.bhs_wire.specs.Lines.{said_by}
 use Rattle.bhs_wire.specs.declared.commands.First.{First}
 use Rattle.bhs_wire.specs.declared.commands.First.TheVariants as firsts
-use Rattle.bhs_wire.specs.declared.denials.Denial.TheVariants as denials
 use Rattle.bhs_lineup.specs.KeyTable.{seat_at}
 use Rattle.bhs_session.specs.Texts.{denial_text}
 use Rattle.bhs_rehearsal.specs.Games.{Game, is_away}
@@ -21,6 +20,7 @@ use Rattle.bhs_theorems.proofs.CuttingLemmas.{by_bool, by_same}
 use Rattle.bhs_theorems.proofs.TurnLemmas.{Turn, placed, plays_turn, enters_turn, turn_in, turn_of, played_at}
 use Rattle.bhs_theorems.proofs.TurnLemmas.{bare, seat_after}
 use Rattle.bhs_theorems.proofs.AwayLemmas.{taken_alike, taken_up, taken_rests}
+use Rattle.bhs_model.proofs.LegalLemmas.{either}
 
 -- ---- who awaits an arrival
 
@@ -145,12 +145,9 @@ module _ (stage : Stage) (conn : ℕ) (connection : Connection) (within : conn <
 never_waits : (stage : Stage) (seat : Option (ℕ × ℕ)) → let_in stage seat ≡ Waits → ⊥
 never_waits stage None is = cc
 never_waits stage (Some seat) is =
-    by_bool (nat_lt seat.0 (length stage.games))
-    (λ (below : Bool). cond below (cond (list_any (has_seat seat) stage.connections) (IsDenied denials.Taken)
-    (Sits seat)) (IsDenied denials.Key) ≡ Waits → ⊥)
-    (λ below. by_bool (list_any (has_seat seat) stage.connections)
-    (λ (used : Bool). cond used (IsDenied denials.Taken) (Sits seat) ≡ Waits → ⊥)
-    (λ used same. cc) (λ unused same. cc)) (λ past same. cc) is
+    either (λ (how : Entry). how ≡ Waits → ⊥) (nat_lt seat.0 (length stage.games)) _ _
+    (either (λ (how : Entry). how ≡ Waits → ⊥) (list_any (has_seat seat) stage.connections) _ _ (λ same. cc)
+    (λ same. cc)) (λ same. cc) is
 
 waits_by_first : (stage : Stage) (first : First) → entry_by stage first ≡ Waits → ⊥
 waits_by_first stage (firsts.Enter key) is = never_waits stage (seat_at key stage.keys) is
@@ -169,14 +166,11 @@ let_in_free : (stage : Stage) (other : Option (ℕ × ℕ)) (seat : ℕ × ℕ) 
     → IsFree stage seat
 let_in_free stage None seat is = absurd (cc)
 let_in_free stage (Some other) seat is =
-    by_bool (nat_lt other.0 (length stage.games))
-    (λ (below : Bool). cond below (cond (list_any (has_seat other) stage.connections) (IsDenied denials.Taken)
-    (Sits other)) (IsDenied denials.Key) ≡ Sits seat → IsFree stage seat)
-    (λ below. by_bool (list_any (has_seat other) stage.connections)
-    (λ (used : Bool). cond used (IsDenied denials.Taken) (Sits other) ≡ Sits seat → IsFree stage seat)
+    either (λ (how : Entry). how ≡ Sits seat → IsFree stage seat) (nat_lt other.0 (length stage.games)) _ _
+    (cond_both (list_any (has_seat other) stage.connections) _ _ (λ (how : Entry). how ≡ Sits seat → IsFree stage seat)
     (λ used same. absurd (cc))
     (λ unused same. let is_it : other ≡ seat = cc in subst (λ (one : ℕ × ℕ). IsFree stage one) is_it unused))
-    (λ past same. absurd (cc)) is
+    (λ same. absurd (cc)) is
 
 sits_by_first : (stage : Stage) (first : First) (seat : ℕ × ℕ) → entry_by stage first ≡ Sits seat → IsFree stage seat
 sits_by_first stage (firsts.Enter key) seat is = let_in_free stage (seat_at key stage.keys) seat is

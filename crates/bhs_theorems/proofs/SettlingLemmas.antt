@@ -11,7 +11,7 @@ use Rattle.bhs_model.specs.declared.events.Event.TheVariants.{Tell, Deliver, Clo
 use Rattle.bhs_model.specs.declared.replies.Reply.{Reply}
 use Rattle.bhs_lineup.specs.KeyTable.{Seat}
 use Rattle.bhs_rehearsal.specs.Games.{Game, played, reply_to, is_away, drawn, delivered}
-use Rattle.bhs_rehearsal.specs.Connections.{Connection, unfed, shut}
+use Rattle.bhs_rehearsal.specs.Connections.{Connection, unfed}
 use Rattle.bhs_rehearsal.specs.Stages.{Stage, game_at, connection_at, with_game, has_seat, Moved}
 use Rattle.bhs_rehearsal.specs.Stages.{moves, sent_to, Instruction, Feeds, EndsInput, Draws, Delivers, Closes, Stepped}
 use Rattle.bhs_rehearsal.specs.Stages.{nothing, tells_arrival, delivers, waits_in, shut_in, step}
@@ -24,6 +24,7 @@ use Rattle.bhs_theorems.proofs.ApartLemmas.{seat-has_seat, shut_at, seat-shut_if
 use Rattle.bhs_theorems.proofs.AwayLemmas.{alike-delivered, alike-unanswered, away-closed}
 use Rattle.bhs_theorems.proofs.SettledLemmas.{SettledBut, awaits_kept, has_own, rest_lemma, turn_settles}
 use Rattle.bhs_theorems.proofs.StepCases.{client_step, by_client, event_step, by_event, by_close}
+use Rattle.bhs_model.proofs.LegalLemmas.{either}
 
 -- ---- a client
 
@@ -138,12 +139,9 @@ close_settles stage game within settled =
       all_taken = λ conn.
           subst (λ (one : Connection). awaits_arrival new one ≡ false → one.queue ≡ [])
           (sym (shut_at game old stage.connections conn))
-          (by_bool (waits_in game old (connection_at stage conn))
-          (λ (waits : Bool). awaits_arrival new
-          (cond waits (shut (connection_at stage conn)) (connection_at stage conn)) ≡ false →
-          (cond waits (shut (connection_at stage conn)) (connection_at stage conn)).queue ≡ [])
-          (λ waits stays. refl)
-          (λ goes_on stays. settled.all_taken conn
+          (either (λ (one : Connection). awaits_arrival new one ≡ false → one.queue ≡ [])
+          (waits_in game old (connection_at stage conn)) _ (connection_at stage conn) (λ stays. refl)
+          (λ stays. settled.all_taken conn
           (sym (awaits_kept stage game (played old Close) connections (connection_at stage conn)
           (get_or-set_same stage.games game (played old Close) _ within) (λ agent theirs. away-closed old agent))
           ∙ stays)));

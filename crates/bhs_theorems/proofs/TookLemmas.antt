@@ -1,5 +1,5 @@
 -- What an agent meets while items of its connection are taken.
-use Rattle.std.proofs.Common.{◌≡◌, ◌≢◌, ◌∙◌, ℕ, ◌⊎◌, inl, inr, Bool, true, false, cond, not, Option, List}
+use Rattle.std.proofs.Common.{◌≡◌, ◌≢◌, ◌∙◌, ℕ, ◌⊎◌, inl, inr, Bool, true, false, not, Option, List}
 use Rattle.std.proofs.Common.{[], ◌∷◌, ◌++◌, map, refl, sym, ap, ap₂, subst, append-nil}
 use Rattle.bhs_model.specs.declared.commands.Command.{Command}
 use Rattle.bhs_model.specs.declared.commands.Command.TheVariants.{Leave}
@@ -9,13 +9,13 @@ use Rattle.bhs_model.specs.declared.replies.Reply.{Reply}
 use Rattle.bhs_model.specs.declared.replies.Reply.TheVariants as replies
 use Rattle.bhs_model.specs.Views.{View, Told, Nothing, Away, Ended, standing}
 use Rattle.bhs_model.specs.Worlds.{World}
-use Rattle.bhs_model.specs.Runs.{State, Position, is_bound, glance, position_after, heard, told, next}
+use Rattle.bhs_model.specs.Runs.{State, Position, is_bound, glance, position_after, heard, next}
 use Rattle.bhs_model.proofs.StepLemmas.{changed_same}
 use Rattle.bhs_wire.specs.Lines.{Line}
 use Rattle.bhs_session.specs.Texts.{text_of, command_of}
 use Rattle.bhs_rehearsal.specs.Games.{Game, world_in, state_of, played, reply_to, is_away}
 use Rattle.bhs_rehearsal.specs.Connections.{Item, Says, Ends, Taken, is_last, leaves, answers, taken}
-use Rattle.bhs_theorems.proofs.CuttingLemmas.{by_bool, behind}
+use Rattle.bhs_theorems.proofs.CuttingLemmas.{behind}
 use Rattle.bhs_theorems.proofs.AwayLemmas.{state_of-played}
 use Rattle.bhs_theorems.specs.Met.{Meeting, past_after, view_from, commands, answer_to, bytes_from, takes_commands}
 use Rattle.bhs_theorems.specs.Met.{AreDue}
@@ -24,6 +24,8 @@ use Rattle.bhs_theorems.proofs.OverLemmas.{EndsLast, has_end, over_none, over_ne
 use Rattle.bhs_theorems.proofs.FitLemmas.{fits_here, here_stands}
 use Rattle.bhs_theorems.proofs.EventLemmas.{IsIn, played_in}
 use Rattle.bhs_theorems.proofs.EventLemmas.{closed-told, Answered, answered-open, answered-closed, unheard-closed}
+use Rattle.bhs_model.proofs.LegalLemmas.{either}
+use Rattle.std.proofs.lemmas.Bool.{cond_both}
 
 -- the lines among items
 abbrev pub lines_of : List Item → List Line
@@ -128,10 +130,8 @@ took-leaves setup closed game agent items is lives at = record {
 left_position : (world : World) (state : State) (agent : ℕ) → is_bound (state.position agent) ≡ false
     → is_bound ((next world state (Tell agent Leave)).position agent) ≡ false
 left_position world state agent at =
-    by_bool (heard world state agent Leave) (λ (is : Bool). is_bound
-    ((cond is (told world state agent Leave) state).position agent) ≡ false)
-    (λ is. ap is_bound (changed_same state.position agent (position_after world (state.position agent) Leave)))
-    (λ unheard. at)
+    either (λ (new : State). is_bound (new.position agent) ≡ false) (heard world state agent Leave) _ state
+    (ap is_bound (changed_same state.position agent (position_after world (state.position agent) Leave))) at
 
 left_glance : (world : World) (state : State) (position : Position) → glance world state position Leave ≡ Nothing
 left_glance world state position = refl
@@ -139,13 +139,13 @@ left_glance world state position = refl
 left_past : (world : World) (state : State) (agent : ℕ)
     → IsPastOf true (state.past agent) ((next world state (Tell agent Leave)).past agent)
 left_past world state agent =
-    by_bool (heard world state agent Leave) (λ (is : Bool). IsPastOf true (state.past agent)
-    ((cond is (told world state agent Leave) state).past agent))
-    (λ is. inr (
+    either (λ (new : State). IsPastOf true (state.past agent) (new.past agent)) (heard world state agent Leave) _ state
+    (inr (
       changed_same state.past agent _ ∙ ap (λ seen. Told (state.past agent) Leave seen)
           (left_glance world state (state.position agent)),
       refl,
-    )) (λ unheard. inl refl)
+    ))
+    (inl refl)
 
 took-end : (setup : Setup) (closed : Bool) (game : Game) (agent : ℕ) (items : List Item) → IsIn setup agent game
     → (state_of game).closed ≡ closed → is_away game agent ≡ false → items ≡ [] →
@@ -323,11 +323,9 @@ module _ (setup : Setup) (game : Game) (agent : ℕ) (line : Line) (items : List
       let reply = answer_to setup.board old a.meeting in
       subst (λ (replied : Option Reply). Took setup false (is_away game agent) old (Says line ∷ items)
       (answers replied next_game others) agent) (sym a.replied_is)
-      (by_bool (is_last reply)
-      (λ (last : Bool). is_last reply ≡ last → Took setup false (is_away game agent) old (Says line ∷ items)
-      (cond last (record { game = next_game; is_done = true; left = []; text = text_of reply })
-      (behind (text_of reply) others)) agent)
-      (λ first last. took-last a last) (λ first goes_on. took-more a others (more (a.goes_on goes_on))) refl)
+      (cond_both (is_last reply) _ _
+      (λ (done : Taken). Took setup false (is_away game agent) old (Says line ∷ items) done agent)
+      (took-last a) (λ goes_on. took-more a others (more (a.goes_on goes_on))))
 
 pub took : (setup : Setup) (closed : Bool) (game : Game) (agent : ℕ) (items : List Item) → IsIn setup agent game
     → standing ((state_of game).past agent) ≢ Ended → (state_of game).closed ≡ closed → EndsLast items →
@@ -337,9 +335,8 @@ took setup closed game agent (Says line ∷ items) is lives at last =
     let event = Tell agent (command_of line) in
     let next_game = played game event in
     let others = taken next_game agent items in
-    by_bool (is_away game agent)
-    (λ (away : Bool). Took setup closed (is_away game agent) ((state_of game).past agent) (Says line ∷ items)
-    (cond away (leaves game (Says line ∷ items)) (answers (reply_to game event) next_game others)) agent)
+    cond_both (is_away game agent) _ _ (λ (done : Taken). Took setup closed (is_away game agent)
+    ((state_of game).past agent) (Says line ∷ items) done agent)
     (λ away. took-leaves setup closed game agent (Says line ∷ items) is lives at)
     (λ here. by_closed setup closed game agent line items is lives at here others
     (λ still_lives. took setup closed next_game agent items (played_in setup agent game event is) still_lives
@@ -363,9 +360,7 @@ took setup closed game agent (Says line ∷ items) is lives at last =
     by_closed setup false game agent line items is lives at here others more =
         took-line setup game agent line items is lives at here others more
 took setup closed game agent (Ends ∷ items) is lives at last =
-    by_bool (is_away game agent)
-    (λ (away : Bool). Took setup closed (is_away game agent) ((state_of game).past agent) (Ends ∷ items)
-    (cond away (leaves game (Ends ∷ items))
-    (record { game = played game (Tell agent Leave); is_done = true; left = []; text = [] })) agent)
+    cond_both (is_away game agent) _ _ (λ (done : Taken). Took setup closed (is_away game agent)
+    ((state_of game).past agent) (Ends ∷ items) done agent)
     (λ away. took-leaves setup closed game agent (Ends ∷ items) is lives at)
     (λ here. took-end setup closed game agent items is at here last)

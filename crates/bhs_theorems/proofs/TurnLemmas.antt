@@ -16,6 +16,7 @@ use Rattle.bhs_rehearsal.specs.Stages.{Stage, game_at, connection_at, with_game,
 use Rattle.bhs_rehearsal.specs.Stages.{Waits, Sits, IsDenied, Goes, let_in, entry_by, entry, Moved, plays, shuts}
 use Rattle.bhs_rehearsal.specs.Stages.{enters, moves_in, moves}
 use Rattle.bhs_theorems.proofs.CuttingLemmas.{by_bool, and_then, taken-append, taken_nobody}
+use Rattle.bhs_model.proofs.LegalLemmas.{either}
 
 abbrev pub seat_of : Connection → Option (ℕ × ℕ)
 seat_of connection = connection.seat
@@ -62,10 +63,7 @@ turn_in stage conn connection (Some seat) = plays_turn stage seat connection
 pub seat_after : (connection : Connection) (seat : ℕ × ℕ) (done : Taken)
     → (after (record connection { seat = Some seat }) done).seat ≡ Some seat
 seat_after connection seat done =
-    by_bool done.is_done
-    (λ (is_done : Bool). (cond is_done (shut (record connection { seat = Some seat }))
-    (record connection { seat = Some seat; queue = done.left })).seat ≡ Some seat)
-    (λ is. refl) (λ goes_on. refl)
+    either (λ (new : Connection). new.seat ≡ Some seat) done.is_done _ _ refl refl
 
 -- the move of a connection that stands so
 abbrev pub turn_of : Stage → (conn : ℕ) → Connection → Turn
