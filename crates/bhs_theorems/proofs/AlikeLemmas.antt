@@ -28,8 +28,8 @@ use Rattle.bhs_theorems.specs.Clients.{bytes_among}
 use Rattle.bhs_theorems.proofs.CuttingLemmas.{by_same, cond_alike}
 use Rattle.bhs_theorems.proofs.TurnLemmas.{Turn, placed, plays_turn, enters_turn, turn_in, turn_of, moves-placed}
 use Rattle.bhs_theorems.proofs.TurnLemmas.{moves_itself, bare, seat_of, seat_after}
-use Rattle.bhs_theorems.proofs.ApartLemmas.{sent_elsewhere, seat-has_seat, shut_if, shut_at, seat-shut_if, seats_shut}
-use Rattle.bhs_theorems.proofs.StepCases.{client_step, event_step, close_step}
+use Rattle.bhs_theorems.proofs.ApartLemmas.{sent_elsewhere, shut_if, shut_at, seat-shut_if, seats_shut}
+use Rattle.bhs_theorems.proofs.StepCases.{client_step, seat-has_seat, event_step, close_step}
 
 -- ---- what seats alone decide
 

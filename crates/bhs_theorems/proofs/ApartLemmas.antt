@@ -2,20 +2,19 @@
 use Rattle.std.proofs.Common.{◌≡◌, ◌≢◌, ◌∙◌, ℕ, zero, suc, ◌+◌, ◌<◌, Bool, true, false, cond, ◌==◌, Option}
 use Rattle.std.proofs.Common.{Some, None, List, [], ◌∷◌, ◌++◌, length, map, get_or, refl, sym, ap, ap₂}
 use Rattle.std.proofs.Common.{append_assoc, append-nil, arith}
-use Rattle.std.proofs.lemmas.Bool.{cond-true, cond-false, eqb-true, eqb-false, eq-eqb, and_parts, ne_eqb}
+use Rattle.std.proofs.lemmas.Bool.{cond-true, cond-false, eqb-false, eq-eqb, ne_eqb}
 use Rattle.std.proofs.Math.ListN.{get_or-map}
 use Rattle.std.proofs.lemmas.List.{get_or-set_same, get_or-set_other}
 use Rattle.bhs_model.specs.declared.replies.Reply.TheVariants.{Over}
 use Rattle.bhs_session.specs.Texts.{text_of}
 use Rattle.bhs_rehearsal.specs.Games.{Game, is_away}
 use Rattle.bhs_rehearsal.specs.Connections.{Connection, unfed, shut, taken}
-use Rattle.bhs_rehearsal.specs.Stages.{Stage, game_at, connection_at, with_connection, has_seat, Entry}
-use Rattle.bhs_rehearsal.specs.Stages.{Waits, Sits, IsDenied, Goes, entry}
+use Rattle.bhs_rehearsal.specs.Stages.{Stage, game_at, connection_at}
 use Rattle.bhs_rehearsal.specs.Stages.{sent_to, stepped, nothing, waits_in, shut_in, told_over}
 use Rattle.bhs_theorems.specs.ScriptLaws.{plays_in, IsOfConnection, ClientsKeepToThemselves}
 use Rattle.bhs_theorems.specs.Clients.{bytes_among}
 use Rattle.bhs_theorems.proofs.CuttingLemmas.{by_bool, and_false}
-use Rattle.bhs_theorems.proofs.TurnLemmas.{Turn, placed, plays_turn, enters_turn, turn_in, turn_of}
+use Rattle.bhs_theorems.proofs.TurnLemmas.{Turn, by_turn, placed, plays_turn, turn_of}
 use Rattle.bhs_theorems.proofs.TurnLemmas.{grown, ending, bare, seat_of, seat_after}
 use Rattle.bhs_theorems.proofs.FeedLemmas.{bytes_among-sent_to}
 use Rattle.bhs_theorems.proofs.StepCases.{client_step, by_client}
@@ -56,19 +55,6 @@ keeps_playing stage seat connection game elsewhere =
     sym (ap (λ (own : Option (ℕ × ℕ)). plays_in game (bare own)) (seat_after connection seat done)) ∙ elsewhere in
     get_or-set_other stage.games seat.0 game done.game _ (λ same. eqb-false seat.0 game there (sym same))
 
-keeps_entering : (stage : Stage) (connection : Connection) (entry : Entry)
-    → KeepsGames stage (enters_turn stage connection entry)
-keeps_entering stage connection Waits game elsewhere = refl
-keeps_entering stage connection (Sits seat) game elsewhere = keeps_playing stage seat connection game elsewhere
-keeps_entering stage connection (IsDenied denial) game elsewhere = refl
-keeps_entering stage connection Goes game elsewhere = refl
-
-keeps_in : (stage : Stage) (conn : ℕ) (connection : Connection) (seat : Option (ℕ × ℕ))
-    → KeepsGames stage (turn_in stage conn connection seat)
-keeps_in stage conn connection None = keeps_entering stage connection
-    (entry (with_connection stage conn connection) connection.queue)
-keeps_in stage conn connection (Some seat) = keeps_playing stage seat connection
-
 turn_of_connection : (stage : Stage) (conn : ℕ) (connection : Connection) → conn < length stage.connections →
     IsOfConnection stage conn (stepped conn (placed stage conn (turn_of stage conn connection)))
 turn_of_connection stage conn connection within =
@@ -76,7 +62,8 @@ turn_of_connection stage conn connection within =
     record {
       connections = λ other. λ apart. get_or-set_other stage.connections conn other turn.connection _ apart;
       games = λ game. λ elsewhere.
-          keeps_in stage conn connection connection.seat game
+          by_turn (KeepsGames stage) stage conn connection (λ new text other away. refl)
+          (λ seat. keeps_playing stage seat connection) connection.seat game
           (ap (plays_in game) (sym (get_or-set_same stage.connections conn turn.connection unfed within)) ∙ elsewhere);
       keys = refl;
       outs = λ other. λ apart. sent_elsewhere other conn turn.text apart;
@@ -91,19 +78,6 @@ pub clients_lemma : ClientsKeepToThemselves
 clients_lemma stage conn bytes =
     let old = connection_at stage conn in
     (client_of_connection stage conn (grown old bytes) old.ended, client_of_connection stage conn (ending old) old.ended)
-
--- ---- seats
-
--- who has a seat
-seat_is : (seat : ℕ × ℕ) (own : Option (ℕ × ℕ)) → has_seat seat (bare own) ≡ true → own ≡ Some seat
-seat_is seat None has = absurd (cc)
-seat_is seat (Some own) has =
-    let parts = and_parts (own.0 == seat.0) (own.1 == seat.1) has in
-    ap₂ (λ (game agent : ℕ). Some (game, agent)) (eqb-true own.0 seat.0 parts.0) (eqb-true own.1 seat.1 parts.1)
-
-pub seat-has_seat : (seat : ℕ × ℕ) (connection : Connection) → has_seat seat connection ≡ true
-    → connection.seat ≡ Some seat
-seat-has_seat seat connection has = seat_is seat connection.seat has
 
 -- ---- a close
 

@@ -136,7 +136,7 @@ answered_there world state agent Before through none = cc
 answered_there world state agent (At node came) through none = cc
 answered_there world state agent After through none = cc
 
-unanswered : (world : World) (state : State) (agent : ℕ) → reply world state (Deliver agent) ≡ None
+pub unanswered : (world : World) (state : State) (agent : ℕ) → reply world state (Deliver agent) ≡ None
     → arrives world state agent ≡ false
 unanswered world state agent none =
     false_from_ne_true (arrives world state agent) (λ arrival.

@@ -17,7 +17,7 @@ use Rattle.bhs_rehearsal.specs.Stages.{Stage, game_at, connection_at, with_game,
 use Rattle.bhs_rehearsal.specs.Stages.{IsDenied, Goes, entry}
 use Rattle.bhs_theorems.proofs.MeetingLemmas.{view_from-append, bytes_from-append, commands-append, due-append}
 use Rattle.bhs_theorems.proofs.CuttingLemmas.{by_bool, by_same}
-use Rattle.bhs_theorems.proofs.TurnLemmas.{placed, plays_turn, enters_turn, turn_in, played_at, grown, ending}
+use Rattle.bhs_theorems.proofs.TurnLemmas.{Turn, by_turn, placed, plays_turn, enters_turn, turn_in, played_at, grown, ending}
 use Rattle.bhs_theorems.proofs.TurnLemmas.{seat_after}
 use Rattle.bhs_theorems.specs.Met.{Meeting, view_from, view_of, commands, bytes_from, bytes, takes_commands, AreDue}
 use Rattle.bhs_theorems.specs.Clients.{Fed, fed_more, at_end}
@@ -396,25 +396,16 @@ module _ (stage : Stage) (conn : ℕ) (connection : Connection) where
       (sym (get_or-set_other stage.games seat.0 game done.game _ (λ same. elsewhere (sym same))))
       (alike_itself agent (game_at stage game)))
 
-  others_enter : (how : Entry) (game agent : ℕ)
-      → ((enters_turn stage connection how).connection.seat ≡ Some (game, agent) → ⊥) →
-      Alike agent (game_at stage game) (game_at (placed stage conn (enters_turn stage connection how)).stage game)
-  others_enter Waits game agent apart = alike_itself agent (game_at stage game)
-  others_enter (Sits seat) game agent apart =
-      others_play seat game agent (λ same. apart
-      (seat_after connection seat (taken (game_at stage seat.0) seat.1 connection.queue) ∙ same))
-  others_enter (IsDenied denial) game agent apart = alike_itself agent (game_at stage game)
-  others_enter Goes game agent apart = alike_itself agent (game_at stage game)
-
   -- a move changes nothing for who is not played by it
   pub others_turn : (own : Option (ℕ × ℕ)) (game agent : ℕ)
       → ((turn_in stage conn connection own).connection.seat ≡ Some (game, agent) → ⊥) →
       Alike agent (game_at stage game) (game_at (placed stage conn (turn_in stage conn connection own)).stage game)
-  others_turn None game agent apart = others_enter (entry (with_connection stage conn connection) connection.queue)
-      game agent apart
-  others_turn (Some seat) game agent apart =
-      others_play seat game agent (λ same. apart
-      (seat_after connection seat (taken (game_at stage seat.0) seat.1 connection.queue) ∙ same))
+  others_turn own game agent =
+      by_turn (λ (turn : Turn). (turn.connection.seat ≡ Some (game, agent) → ⊥)
+      → Alike agent (game_at stage game) (game_at (placed stage conn turn).stage game)) stage conn connection
+      (λ new text apart. alike_itself agent (game_at stage game))
+      (λ seat apart. others_play seat game agent (λ same. apart
+      (seat_after connection seat (taken (game_at stage seat.0) seat.1 connection.queue) ∙ same))) own
 
   module _ (input : Fed) (sent : List ℕ) where
     own_play : (seat : ℕ × ℕ) → IsReady stage connection input sent (Some seat) →

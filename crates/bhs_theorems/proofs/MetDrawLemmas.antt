@@ -1,13 +1,10 @@
 -- What is known of a connection, through a draw.
 use Rattle.std.proofs.Common.{◌≡◌, ◌≢◌, ◌∙◌, ℕ, ◌<◌, inl, inr, Bool, true, false, not}
-use Rattle.std.proofs.Common.{Option, Some, None, List, [], ◌∷◌, ◌++◌, length, refl}
+use Rattle.std.proofs.Common.{Option, Some, List, [], ◌∷◌, ◌++◌, length, refl}
 use Rattle.std.proofs.Common.{sym, ap, ap₂, subst, append-nil}
-use Rattle.std.specs.List.{position}
 use Rattle.std.proofs.lemmas.Bool.{and_parts}
 use Rattle.std.proofs.lemmas.List.{get_or-set_same, get_or-set_other}
-use Rattle.std.proofs.lemmas.List.Quantifiers.{position-Some}
-use Rattle.bhs_model.specs.declared.events.Event.{Event}
-use Rattle.bhs_model.specs.declared.events.Event.TheVariants.{Tell, Deliver, Close}
+use Rattle.bhs_model.specs.declared.events.Event.TheVariants.{Deliver}
 use Rattle.bhs_model.specs.declared.setups.Setup.{Setup}
 use Rattle.bhs_model.specs.declared.replies.Reply.{Reply}
 use Rattle.bhs_model.specs.Replying.{rep, here}
@@ -18,16 +15,12 @@ use Rattle.bhs_model.specs.Runs.{is_let_through, delivered}
 use Rattle.bhs_model.proofs.StepLemmas.{changed_same, arrival_by_past, no_arrival_no_reply, next_arrived}
 use Rattle.bhs_session.specs.Texts.{text_of}
 use Rattle.bhs_rehearsal.specs.Games.{Game, world_in, state_of, played, reply_to, is_away}
-use Rattle.bhs_rehearsal.specs.Connections.{Connection, unfed}
-use Rattle.bhs_rehearsal.specs.Stages.{Stage, game_at, connection_at, with_game, has_seat}
-use Rattle.bhs_rehearsal.specs.Stages.{Moved, moves}
+use Rattle.bhs_rehearsal.specs.Connections.{Connection}
+use Rattle.bhs_rehearsal.specs.Stages.{Stage, game_at, connection_at, with_game}
 use Rattle.bhs_rehearsal.specs.Stages.{sent_to}
-use Rattle.bhs_rehearsal.specs.Stages.{tells_arrival, delivers}
 use Rattle.bhs_theorems.specs.ScriptLaws.{IsSettled}
 use Rattle.bhs_theorems.specs.Clients.{bytes_among}
-use Rattle.bhs_theorems.proofs.CuttingLemmas.{by_same, by_bool}
-use Rattle.bhs_theorems.proofs.TurnLemmas.{moves_itself}
-use Rattle.bhs_theorems.proofs.ApartLemmas.{seat-has_seat}
+use Rattle.bhs_theorems.proofs.CuttingLemmas.{by_same}
 use Rattle.bhs_theorems.proofs.SettlingLemmas.{nobody_plays}
 use Rattle.bhs_theorems.proofs.AwayLemmas.{state_of-played}
 use Rattle.bhs_theorems.specs.Met.{Arrives}
@@ -40,6 +33,10 @@ use Rattle.bhs_theorems.proofs.KnownLemmas.{IsKnown}
 use Rattle.bhs_theorems.proofs.KnownLemmas.{IsReady, untouched_alike, FreeAreUntouched, known_alike}
 use Rattle.bhs_theorems.proofs.MetMoveLemmas.{Knows, moved}
 use Rattle.bhs_theorems.proofs.MetClientLemmas.{nothing_more}
+use Rattle.bhs_theorems.proofs.StepCases.{IsUntold, arrival_step}
+use Rattle.bhs_theorems.proofs.AwayLemmas.{unanswered}
+use Rattle.bhs_theorems.proofs.TurnLemmas.{placed, turn_of}
+use Rattle.std.proofs.lemmas.Bool.{false_from_ne_true, true_from_ne_false}
 
 -- ---- a draw
 
@@ -212,66 +209,34 @@ module _ (stage : Stage) (game agent conn : ℕ) (input : Fed) (sent : List ℕ)
           inr (arrived_here old_game agent comes),
         )))
 
-    draw_moves : IsSettled (moves drawn_in holder).stage →
-        Knows (moves drawn_in holder).stage conn input
-        (sent ++ bytes_among conn (sent_to holder
-        (text_of (here old_game.setup.board a.sight) ++ (moves drawn_in holder).text)))
+    draw_moves : let turn = turn_of drawn_in holder (connection_at stage holder) in
+        IsSettled (placed drawn_in holder turn).stage →
+        Knows (placed drawn_in holder turn).stage conn input
+        (sent ++ bytes_among conn (sent_to holder (text_of (here old_game.setup.board a.sight) ++ turn.text)))
     draw_moves settled =
-        let old = connection_at stage holder in
-        let is_turn = moves_itself drawn_in holder there in
-        let text = text_of (here old_game.setup.board a.sight) in
-        subst (λ (m : Moved). Knows m.stage conn input (sent ++ bytes_among conn (sent_to holder (text ++ m.text))))
-        (sym is_turn)
-        (moved drawn_in holder old there refl drawn_free (subst (λ (m : Moved). IsSettled m.stage) is_turn settled) conn
-        text input sent knows.there drawn_other drawn_own)
+        moved drawn_in holder (connection_at stage holder) there refl drawn_free settled conn
+        (text_of (here old_game.setup.board a.sight)) input sent knows.there drawn_other drawn_own
 
-  draw_tells : arrives (world_in old_game) (state_of old_game) agent ≡ true → (replied : Option Reply)
-      → reply_to old_game (Deliver agent) ≡ replied →
-      (holder : Option ℕ) → position (has_seat (game, agent)) stage.connections ≡ holder →
-      IsSettled (tells_arrival drawn_in replied holder).stage →
-      Knows (tells_arrival drawn_in replied holder).stage conn input
-      (sent ++ bytes_among conn (tells_arrival drawn_in replied holder).outs)
-  draw_tells comes None replied_is holder held settled =
-      absurd (let some = (arrival old_game agent comes).replied_is in cc)
-  draw_tells comes (Some reply) replied_is None held settled = absurd (
-      let untouched = knows.free game agent (nobody_plays stage.connections (game, agent) held) in
-      let here = untouched.at in
-      let away = (away_arrives (world_in old_game) (state_of old_game) agent comes).0 in
-      cc
-      )
-  draw_tells comes (Some reply) replied_is (Some holder) held settled =
-      let at_holder = position-Some (has_seat (game, agent)) stage.connections holder unfed held in
+  pub draw_untold : IsUntold stage game agent → IsSettled drawn_in → Knows drawn_in conn input (sent ++ [])
+  draw_untold untold settled =
+      draw_rests settled (elim untold [
+        | inl none ↦ unanswered (world_in old_game) (state_of old_game) agent none
+        | inr nobody ↦ false_from_ne_true (arrives (world_in old_game) (state_of old_game) agent) (λ comes.
+            let here = (knows.free game agent (nobody_plays stage.connections (game, agent) nobody)).at in
+            let away = (away_arrives (world_in old_game) (state_of old_game) agent comes).0 in
+            cc)
+      ])
+
+  pub draw_told : (holder : ℕ) (reply : Reply) → reply_to old_game (Deliver agent) ≡ Some reply
+      → holder < length stage.connections → (connection_at stage holder).seat ≡ Some (game, agent) →
+      IsSettled (arrival_step drawn_in holder reply).stage →
+      Knows (arrival_step drawn_in holder reply).stage conn input
+      (sent ++ bytes_among conn (arrival_step drawn_in holder reply).outs)
+  draw_told holder reply answered there mine settled =
+      let comes = true_from_ne_false (arrives (world_in old_game) (state_of old_game) agent) (λ stays.
+      let none = no_arrival_no_reply (world_in old_game) (state_of old_game) agent stays in cc) in
       let same : here old_game.setup.board (arrival old_game agent comes).sight ≡ reply =
       let some = (arrival old_game agent comes).replied_is in cc in
-      subst (λ (told : Reply). Knows (moves drawn_in holder).stage conn input
-      (sent ++ bytes_among conn (sent_to holder (text_of told ++ (moves drawn_in holder).text)))) same
-      (draw_moves comes holder at_holder.0 (seat-has_seat (game, agent) (connection_at stage holder) at_holder.1)
-      settled)
-
-  draw_known : IsSettled (delivers stage game (Some (Deliver agent))).stage →
-      Knows (delivers stage game (Some (Deliver agent))).stage conn input
-      (sent ++ bytes_among conn (delivers stage game (Some (Deliver agent))).outs)
-  draw_known settled =
-      let holder = position (has_seat (game, agent)) stage.connections in
-      by_bool (arrives (world_in old_game) (state_of old_game) agent)
-      (λ (comes : Bool). Knows (delivers stage game (Some (Deliver agent))).stage conn input
-      (sent ++ bytes_among conn (delivers stage game (Some (Deliver agent))).outs))
-      (λ comes. draw_tells comes (reply_to old_game (Deliver agent)) refl holder refl settled)
-      (λ stays.
-      let none = no_arrival_no_reply (world_in old_game) (state_of old_game) agent stays in
-      let settled_there : IsSettled drawn_in =
-      subst (λ (replied : Option Reply). IsSettled (tells_arrival drawn_in replied holder).stage) none settled in
-      subst (λ (replied : Option Reply). Knows (tells_arrival drawn_in replied holder).stage conn input
-      (sent ++ bytes_among conn (tells_arrival drawn_in replied holder).outs)) (sym none)
-      (draw_rests settled_there stays))
-
-pub delivers_known : (stage : Stage) (game conn : ℕ) (input : Fed) (sent : List ℕ) → game < length stage.games
-    → Knows stage conn input sent → (event : Option Event) →
-    IsSettled (delivers stage game event).stage → Knows (delivers stage game event).stage conn input
-    (sent ++ bytes_among conn (delivers stage game event).outs)
-delivers_known stage game conn input sent within knows None settled = nothing_more stage conn input sent knows
-delivers_known stage game conn input sent within knows (Some (Tell agent command)) settled =
-    nothing_more stage conn input sent knows
-delivers_known stage game conn input sent within knows (Some Close) settled = nothing_more stage conn input sent knows
-delivers_known stage game conn input sent within knows (Some (Deliver agent)) settled =
-    draw_known stage game agent conn input sent within knows settled
+      subst (λ (told : Reply). Knows (arrival_step drawn_in holder told).stage conn input
+      (sent ++ bytes_among conn (arrival_step drawn_in holder told).outs)) same
+      (draw_moves comes holder there mine settled)

@@ -2,23 +2,20 @@
 use Rattle.std.proofs.Common.{◌≡◌, ◌≢◌, ◌∙◌, ℕ, zero, suc, ◌<◌, ◌≤◌, inl, inr, Bool, true, false, cond}
 use Rattle.std.proofs.Common.{nat_lt, ◌==◌, Option, Some, None, List, [], ◌∷◌, ◌++◌, length, replicate, refl}
 use Rattle.std.proofs.Common.{sym, ap, subst, append_assoc, append-nil, arith}
-use Rattle.std.specs.List.{position}
 use Rattle.std.proofs.lemmas.Bool.{cond-true, cond-false, ltb-true, ltb-false, eq-eqb, ne_eqb}
 use Rattle.std.proofs.lemmas.List.{get_or_past, length-set, length-map}
 use Rattle.bhs_model.specs.declared.events.Event.{Event}
-use Rattle.bhs_model.specs.declared.events.Event.TheVariants.{Tell, Deliver, Close}
 use Rattle.bhs_model.specs.declared.setups.Setup.{Setup}
-use Rattle.bhs_model.specs.declared.replies.Reply.{Reply}
 use Rattle.bhs_model.specs.Views.{View, Away, standing}
 use Rattle.bhs_model.specs.Runs.{initial, is_bound}
 use Rattle.bhs_model.specs.Runs.{run_from}
 use Rattle.bhs_lineup.specs.KeyTable.{Seat}
-use Rattle.bhs_rehearsal.specs.Games.{Game, world_in, state_of, played, reply_to, is_away, drawn, delivered}
+use Rattle.bhs_rehearsal.specs.Games.{Game, world_in, state_of, is_away, drawn, delivered}
 use Rattle.bhs_rehearsal.specs.Connections.{Connection, Item, unfed, shut}
-use Rattle.bhs_rehearsal.specs.Stages.{Stage, game_at, connection_at, with_game, has_seat, Entry}
-use Rattle.bhs_rehearsal.specs.Stages.{Waits, Sits, IsDenied, Goes, entry, enters, moves_in, Instruction}
+use Rattle.bhs_rehearsal.specs.Stages.{Stage, game_at, connection_at}
+use Rattle.bhs_rehearsal.specs.Stages.{Instruction}
 use Rattle.bhs_rehearsal.specs.Stages.{Feeds, EndsInput, Draws, Delivers, Closes, Stepped}
-use Rattle.bhs_rehearsal.specs.Stages.{tells_arrival, delivers, waits_in, step, begun}
+use Rattle.bhs_rehearsal.specs.Stages.{waits_in, step, begun}
 use Rattle.bhs_rehearsal.specs.Stages.{stands_after, sends}
 use Rattle.bhs_theorems.specs.ScriptLaws.{awaits_arrival, IsSettled}
 use Rattle.bhs_theorems.specs.Clients.{bytes_among, bytes_to}
@@ -39,7 +36,7 @@ use Rattle.bhs_theorems.proofs.KnownLemmas.{IsReady}
 use Rattle.bhs_theorems.proofs.MetMoveLemmas.{Knows, same_bytes}
 use Rattle.bhs_theorems.proofs.MetClientLemmas.{client, end_ready, fed_ready, nothing_more, unended_known}
 use Rattle.bhs_theorems.proofs.MetClientLemmas.{unread_known}
-use Rattle.bhs_theorems.proofs.MetDrawLemmas.{delivers_known}
+use Rattle.bhs_theorems.proofs.MetDrawLemmas.{draw_untold, draw_told}
 use Rattle.bhs_theorems.proofs.MetCloseLemmas.{close_known}
 use Rattle.bhs_theorems.proofs.StepCases.{by_client, event_step, by_event, by_close}
 
@@ -55,7 +52,8 @@ event_known : (stage : Stage) (conn : ℕ) (input : Fed) (sent : List ℕ) (game
     Knows (event_step stage game event).stage conn input (sent ++ bytes_among conn (event_step stage game event).outs)
 event_known stage conn input sent game event knows = by_event (KnowsBy conn input sent) stage game event
     (λ settled. nothing_more stage conn input sent knows)
-    (λ below settled. delivers_known stage game conn input sent below knows event settled)
+    (λ agent below. draw_untold stage game agent conn input sent below knows)
+    (λ agent holder reply below. draw_told stage game agent conn input sent below knows holder reply)
 
 step_known : (stage : Stage) (conn : ℕ) (input : Fed) (sent : List ℕ) (instruction : Instruction)
     → Knows stage conn input sent →
@@ -125,39 +123,12 @@ script_known stage conn input sent (instruction ∷ script) knows =
 
 -- ---- as many connections as there were
 
-length_enters : (stage : Stage) (conn : ℕ) (how : Entry) → length (enters stage conn how).stage.connections ≡ length
-    stage.connections
-length_enters stage conn Waits = refl
-length_enters stage conn (Sits seat) = length-set stage.connections conn _
-length_enters stage conn (IsDenied denial) = length-set stage.connections conn _
-length_enters stage conn Goes = length-set stage.connections conn _
-
-length_moves : (stage : Stage) (conn : ℕ) (own : Option (ℕ × ℕ))
-    → length (moves_in stage conn own).stage.connections ≡ length stage.connections
-length_moves stage conn None = length_enters stage conn (entry stage (connection_at stage conn).queue)
-length_moves stage conn (Some seat) = length-set stage.connections conn _
-
-length_tells : (stage : Stage) (replied : Option Reply) (holder : Option ℕ)
-    → length (tells_arrival stage replied holder).stage.connections ≡ length stage.connections
-length_tells stage None holder = refl
-length_tells stage (Some reply) None = refl
-length_tells stage (Some reply) (Some conn) = length_moves stage conn (connection_at stage conn).seat
-
-length_delivers : (stage : Stage) (game : ℕ) (event : Option Event)
-    → length (delivers stage game event).stage.connections ≡ length stage.connections
-length_delivers stage game None = refl
-length_delivers stage game (Some (Tell agent command)) = refl
-length_delivers stage game (Some Close) = refl
-length_delivers stage game (Some (Deliver agent)) =
-    length_tells (with_game stage game (played (game_at stage game) (Deliver agent)))
-    (reply_to (game_at stage game) (Deliver agent)) (position (has_seat (game, agent)) stage.connections)
-
 abbrev HasAsMany : Stage → Stepped → Type 0
 HasAsMany stage done = length done.stage.connections ≡ length stage.connections
 
 length_event : (stage : Stage) (game : ℕ) (event : Option Event) → HasAsMany stage (event_step stage game event)
-length_event stage game event = by_event (HasAsMany stage) stage game event refl
-    (λ below. length_delivers stage game event)
+length_event stage game event = by_event (HasAsMany stage) stage game event refl (λ agent below untold. refl)
+    (λ agent conn reply below answered within seated. length-set stage.connections conn _)
 
 length_step : (stage : Stage) (instruction : Instruction) → length (step stage instruction).stage.connections ≡ length
     stage.connections

@@ -1,29 +1,26 @@
 -- What is said and done in a match changes nothing but that match and who plays in it.
 use Rattle.std.proofs.Common.{◌≡◌, ◌≢◌, ◌∙◌, ℕ, zero, suc, Bool, true, false, Option, Some, None}
 use Rattle.std.proofs.Common.{List, [], ◌∷◌, ◌++◌, map, get_or, refl, sym, ap, subst}
-use Rattle.std.specs.List.{position}
 use Rattle.std.proofs.lemmas.Bool.{eqb-true, eq-eqb}
 use Rattle.std.proofs.lemmas.List.{get_or-set_other, length-set}
 use Rattle.std.proofs.Math.Seq.{map-set_same}
-use Rattle.std.proofs.lemmas.List.Quantifiers.{position-Some}
 use Rattle.bhs_model.specs.declared.events.Event.{Event}
-use Rattle.bhs_model.specs.declared.events.Event.TheVariants.{Tell, Deliver, Close}
-use Rattle.bhs_model.specs.declared.replies.Reply.{Reply}
+use Rattle.bhs_model.specs.declared.events.Event.TheVariants.{Close}
 use Rattle.bhs_session.specs.Texts.{text_of}
-use Rattle.bhs_rehearsal.specs.Games.{Game, played, reply_to, drawn, delivered}
+use Rattle.bhs_rehearsal.specs.Games.{Game, played, drawn, delivered}
 use Rattle.bhs_rehearsal.specs.Connections.{Connection, unfed, taken}
-use Rattle.bhs_rehearsal.specs.Stages.{Stage, game_at, connection_at, with_game, has_seat, Moved}
+use Rattle.bhs_rehearsal.specs.Stages.{Stage, game_at, connection_at, with_game}
 use Rattle.bhs_rehearsal.specs.Stages.{Instruction, Feeds, EndsInput, Draws, Delivers, Closes, Stepped}
-use Rattle.bhs_rehearsal.specs.Stages.{sent_to, nothing, tells_arrival, delivers, step, stands_after}
+use Rattle.bhs_rehearsal.specs.Stages.{sent_to, nothing, step, stands_after}
 use Rattle.bhs_theorems.specs.ScriptLaws.{plays_in, seats_of, IsOfConnection, IsOfGame, SameBut, is_of_match}
 use Rattle.bhs_theorems.specs.ScriptLaws.{MatchesKeepToThemselves}
 use Rattle.bhs_theorems.specs.Clients.{bytes_among}
 use Rattle.bhs_theorems.proofs.CuttingLemmas.{by_bool, by_same}
-use Rattle.bhs_theorems.proofs.TurnLemmas.{placed, plays_turn, turn_in, turn_of, moves_itself, grown}
+use Rattle.bhs_theorems.proofs.TurnLemmas.{placed, plays_turn, turn_in, turn_of, grown}
 use Rattle.bhs_theorems.proofs.TurnLemmas.{ending, bare, seat_of, seat_after}
-use Rattle.bhs_theorems.proofs.ApartLemmas.{sent_elsewhere, seat-has_seat, not_shut, seats_shut, told_elsewhere}
+use Rattle.bhs_theorems.proofs.ApartLemmas.{sent_elsewhere, not_shut, seats_shut, told_elsewhere}
 use Rattle.bhs_theorems.proofs.ApartLemmas.{clients_lemma}
-use Rattle.bhs_theorems.proofs.StepCases.{client_step, by_client, event_step, by_event, by_close}
+use Rattle.bhs_theorems.proofs.StepCases.{client_step, by_client, event_step, drawn_in, by_event, by_close}
 
 -- ---- stages that are the same but for a match
 
@@ -154,41 +151,19 @@ game_same stage game new = record {
   connections = λ conn elsewhere. refl;
 }
 
-arrival_of_match : (stage : Stage) (game agent : ℕ) (new : Game) (reply : Option Reply) (holder : Option ℕ) →
-    position (has_seat (game, agent)) stage.connections ≡ holder
-    → IsOfMatch game stage (tells_arrival (with_game stage game new) reply holder)
-arrival_of_match stage game agent new None holder is =
-    record { same = game_same stage game new; outs = λ conn elsewhere. refl }
-arrival_of_match stage game agent new (Some reply) None is =
-    record { same = game_same stage game new; outs = λ conn elsewhere. refl }
-arrival_of_match stage game agent new (Some reply) (Some conn) is =
-    let found = position-Some (has_seat (game, agent)) stage.connections conn unfed is in
-    let between = with_game stage game new in
+event_of_match : (game : ℕ) (stage : Stage) (event : Option Event) → IsOfMatch game stage (event_step stage game event)
+event_of_match game stage event =
+    by_event (IsOfMatch game stage) stage game event (nothing_of_match game stage)
+    (λ agent below untold. record { same = game_same stage game _; outs = λ conn elsewhere. refl })
+    (λ agent conn reply below answered within seated.
+    let between = drawn_in stage game agent in
     let old = connection_at stage conn in
-    let seated = seat-has_seat (game, agent) old found.1 in
     let turned = turn_of_match between game conn agent old (text_of reply) seated seated in
-    subst (λ (moved : Moved). IsOfMatch game stage
-    (record { stage = moved.stage; outs = sent_to conn (text_of reply ++ moved.text) }))
-    (sym (moves_itself between conn found.0))
-    (record {
+    record {
       same = same_through game stage between (placed between conn (turn_of between conn old)).stage
-          (game_same stage game new) turned.same;
+          (game_same stage game _) turned.same;
       outs = turned.outs;
     })
-
-delivers_of_match : (stage : Stage) (game : ℕ) (event : Option Event)
-    → IsOfMatch game stage (delivers stage game event)
-delivers_of_match stage game None = nothing_of_match game stage
-delivers_of_match stage game (Some (Tell agent command)) = nothing_of_match game stage
-delivers_of_match stage game (Some Close) = nothing_of_match game stage
-delivers_of_match stage game (Some (Deliver agent)) =
-    arrival_of_match stage game agent (played (game_at stage game) (Deliver agent))
-    (reply_to (game_at stage game) (Deliver agent))
-    (position (has_seat (game, agent)) stage.connections) refl
-
-event_of_match : (game : ℕ) (stage : Stage) (event : Option Event) → IsOfMatch game stage (event_step stage game event)
-event_of_match game stage event = by_event (IsOfMatch game stage) stage game event (nothing_of_match game stage)
-    (λ below. delivers_of_match stage game event)
 
 closes_of_match : (game : ℕ) (stage : Stage) → IsOfMatch game stage (step stage (Closes game))
 closes_of_match game stage =

@@ -142,44 +142,31 @@ module _ (stage : Stage) (conn : ℕ) (connection : Connection) (within : conn <
 
 -- ---- an entry
 
-never_waits : (stage : Stage) (seat : Option (ℕ × ℕ)) → let_in stage seat ≡ Waits → ⊥
-never_waits stage None is = cc
-never_waits stage (Some seat) is =
-    either (λ (how : Entry). how ≡ Waits → ⊥) (nat_lt seat.0 (length stage.games)) _ _
-    (either (λ (how : Entry). how ≡ Waits → ⊥) (list_any (has_seat seat) stage.connections) _ _ (λ same. cc)
-    (λ same. cc)) (λ same. cc) is
-
-waits_by_first : (stage : Stage) (first : First) → entry_by stage first ≡ Waits → ⊥
-waits_by_first stage (firsts.Enter key) is = never_waits stage (seat_at key stage.keys) is
-waits_by_first stage (firsts.Tell command) is = cc
-
-waits_for_more : (stage : Stage) (items : List Item) → entry stage items ≡ Waits → items ≡ []
-waits_for_more stage [] is = refl
-waits_for_more stage (Says line ∷ items) is = absurd (waits_by_first stage (said_by line) is)
-waits_for_more stage (Ends ∷ items) is = absurd (cc)
-
 -- who is let in plays what nobody played
 abbrev IsFree : Stage → (seat : ℕ × ℕ) → Type 0
 IsFree stage seat = list_any (has_seat seat) stage.connections ≡ false
 
-let_in_free : (stage : Stage) (other : Option (ℕ × ℕ)) (seat : ℕ × ℕ) → let_in stage other ≡ Sits seat
-    → IsFree stage seat
-let_in_free stage None seat is = absurd (cc)
-let_in_free stage (Some other) seat is =
-    either (λ (how : Entry). how ≡ Sits seat → IsFree stage seat) (nat_lt other.0 (length stage.games)) _ _
-    (cond_both (list_any (has_seat other) stage.connections) _ _ (λ (how : Entry). how ≡ Sits seat → IsFree stage seat)
-    (λ used same. absurd (cc))
-    (λ unused same. let is_it : other ≡ seat = cc in subst (λ (one : ℕ × ℕ). IsFree stage one) is_it unused))
-    (λ same. absurd (cc)) is
+-- what an entry says: one that waits has no items
+abbrev EntrySays : Stage → List Item → Entry → Type 0
+EntrySays stage items Waits = items ≡ []
+EntrySays stage items (Sits seat) = IsFree stage seat
+EntrySays stage items how = Unit {0}
 
-sits_by_first : (stage : Stage) (first : First) (seat : ℕ × ℕ) → entry_by stage first ≡ Sits seat → IsFree stage seat
-sits_by_first stage (firsts.Enter key) seat is = let_in_free stage (seat_at key stage.keys) seat is
-sits_by_first stage (firsts.Tell command) seat is = absurd (cc)
+let_in_says : (stage : Stage) (items : List Item) (seat : Option (ℕ × ℕ)) → EntrySays stage items (let_in stage seat)
+let_in_says stage items None = tt
+let_in_says stage items (Some seat) =
+    either (EntrySays stage items) (nat_lt seat.0 (length stage.games)) _ _
+    (cond_both (list_any (has_seat seat) stage.connections) _ _ (EntrySays stage items) (λ used. tt)
+    (λ unused. unused)) tt
 
-sits_free : (stage : Stage) (items : List Item) (seat : ℕ × ℕ) → entry stage items ≡ Sits seat → IsFree stage seat
-sits_free stage [] seat is = absurd (cc)
-sits_free stage (Says line ∷ items) seat is = sits_by_first stage (said_by line) seat is
-sits_free stage (Ends ∷ items) seat is = absurd (cc)
+first_says : (stage : Stage) (items : List Item) (first : First) → EntrySays stage items (entry_by stage first)
+first_says stage items (firsts.Enter key) = let_in_says stage items (seat_at key stage.keys)
+first_says stage items (firsts.Tell command) = tt
+
+entry_says : (stage : Stage) (items : List Item) → EntrySays stage items (entry stage items)
+entry_says stage [] = refl
+entry_says stage (Says line ∷ items) = first_says stage (Says line ∷ items) (said_by line)
+entry_says stage (Ends ∷ items) = tt
 
 pub has_own : (seat : ℕ × ℕ) (connection : Connection) → connection.seat ≡ Some seat
     → has_seat seat connection ≡ true
@@ -204,27 +191,25 @@ free_alone connections seat free other theirs =
 
 module _ (stage : Stage) (conn : ℕ) (connection : Connection) (within : conn < length stage.connections)
     (but : SettledBut stage conn) where
-  enters_settles : connection.seat ≡ None → (how : Entry) → entry (with_connection stage conn connection)
-      connection.queue ≡ how →
+  enters_settles : connection.seat ≡ None → (how : Entry)
+      → EntrySays (with_connection stage conn connection) connection.queue how →
       IsSettled (placed stage conn (enters_turn stage connection how)).stage
-  enters_settles outside Waits is =
-      stays_settles stage conn connection within but connection []
-      (waits_for_more (with_connection stage conn connection) connection.queue is) outside
-  enters_settles outside (Sits seat) is =
-      let free = sits_free (with_connection stage conn connection) connection.queue seat is in
+  enters_settles outside Waits none = stays_settles stage conn connection within but connection [] none outside
+  enters_settles outside (Sits seat) free =
       plays_settles stage conn connection within but seat (λ other apart own mine theirs.
       let same : own ≡ seat = cc in
       free_alone (set stage.connections conn connection) seat free other
       (ap (λ (one : Connection). one.seat) (get_or-set_other stage.connections conn other connection unfed apart)
       ∙ theirs ∙ ap Some same))
-  enters_settles outside (IsDenied denial) is = stays_settles stage conn connection within but (shut connection)
+  enters_settles outside (IsDenied denial) says = stays_settles stage conn connection within but (shut connection)
       (denial_text denial) refl outside
-  enters_settles outside Goes is = stays_settles stage conn connection within but (shut connection) [] refl outside
+  enters_settles outside Goes says = stays_settles stage conn connection within but (shut connection) [] refl outside
 
   turn_in_settles : connection.seat ≡ (connection_at stage conn).seat → (own : Option (ℕ × ℕ)) → connection.seat ≡ own
       → IsSettled (placed stage conn (turn_in stage conn connection own)).stage
   turn_in_settles as_before None outside = enters_settles outside
-      (entry (with_connection stage conn connection) connection.queue) refl
+      (entry (with_connection stage conn connection) connection.queue)
+      (entry_says (with_connection stage conn connection) connection.queue)
   turn_in_settles as_before (Some seat) seated =
       plays_settles stage conn connection within but seat
       (λ other apart own mine theirs. apart (sym (but.one_each conn other own (sym as_before ∙ seated ∙ mine) theirs)))

@@ -1,29 +1,27 @@
 -- Each instruction settles a settled stage.
-use Rattle.std.proofs.Common.{◌≡◌, ◌∙◌, ℕ, zero, suc, ◌<◌, ◌≤◌, Bool, true, false, cond, nat_lt, Option, Some, None}
+use Rattle.std.proofs.Common.{inl, inr, ◌≡◌, ◌∙◌, ℕ, zero, suc, ◌<◌, ◌≤◌, Bool, true, false, cond, nat_lt, Option, Some, None}
 use Rattle.std.proofs.Common.{List, [], ◌∷◌, ◌++◌, length, replicate, get_or, refl, sym, ap, subst, arith}
 use Rattle.std.specs.List.{position, position_or_len}
 use Rattle.std.proofs.lemmas.Bool.{ltb-true, ltb-false}
 use Rattle.std.proofs.lemmas.List.{get_or_past, get_or-set_same}
-use Rattle.std.proofs.lemmas.List.Quantifiers.{position-Some}
 use Rattle.std.proofs.lemmas.List.Sums.{fails_before_first}
 use Rattle.bhs_model.specs.declared.events.Event.{Event}
-use Rattle.bhs_model.specs.declared.events.Event.TheVariants.{Tell, Deliver, Close}
-use Rattle.bhs_model.specs.declared.replies.Reply.{Reply}
+use Rattle.bhs_model.specs.declared.events.Event.TheVariants.{Deliver, Close}
 use Rattle.bhs_lineup.specs.KeyTable.{Seat}
-use Rattle.bhs_rehearsal.specs.Games.{Game, played, reply_to, is_away, drawn, delivered}
+use Rattle.bhs_rehearsal.specs.Games.{Game, played, is_away, drawn, delivered}
 use Rattle.bhs_rehearsal.specs.Connections.{Connection, unfed}
 use Rattle.bhs_rehearsal.specs.Stages.{Stage, game_at, connection_at, with_game, has_seat, Moved}
-use Rattle.bhs_rehearsal.specs.Stages.{moves, sent_to, Instruction, Feeds, EndsInput, Draws, Delivers, Closes, Stepped}
-use Rattle.bhs_rehearsal.specs.Stages.{nothing, tells_arrival, delivers, waits_in, shut_in, step}
+use Rattle.bhs_rehearsal.specs.Stages.{sent_to, Instruction, Feeds, EndsInput, Draws, Delivers, Closes, Stepped}
+use Rattle.bhs_rehearsal.specs.Stages.{nothing, waits_in, shut_in, step}
 use Rattle.bhs_rehearsal.specs.Stages.{begun, stands_after}
 use Rattle.bhs_theorems.specs.ScriptLaws.{awaits_arrival, IsSettled, SettledStagesSettle, ScriptsSettle, moves_in_turn}
 use Rattle.bhs_theorems.specs.ScriptLaws.{AllItemsAreTaken}
 use Rattle.bhs_theorems.proofs.CuttingLemmas.{by_bool}
-use Rattle.bhs_theorems.proofs.TurnLemmas.{moves_itself, grown, ending}
-use Rattle.bhs_theorems.proofs.ApartLemmas.{seat-has_seat, shut_at, seat-shut_if}
+use Rattle.bhs_theorems.proofs.TurnLemmas.{grown, ending}
+use Rattle.bhs_theorems.proofs.ApartLemmas.{shut_at, seat-shut_if}
 use Rattle.bhs_theorems.proofs.AwayLemmas.{alike-delivered, alike-unanswered, away-closed}
 use Rattle.bhs_theorems.proofs.SettledLemmas.{SettledBut, awaits_kept, has_own, rest_lemma, turn_settles}
-use Rattle.bhs_theorems.proofs.StepCases.{client_step, by_client, event_step, by_event, by_close}
+use Rattle.bhs_theorems.proofs.StepCases.{client_step, by_client, event_step, drawn_in, by_event, by_close}
 use Rattle.bhs_model.proofs.LegalLemmas.{either}
 
 -- ---- a client
@@ -67,15 +65,12 @@ module _ (stage : Stage) (game agent : ℕ) (within : game < length stage.games)
   abbrev new_game : Game
   new_game = played (game_at stage game) (Deliver agent)
 
-  abbrev drawn_in : Stage
-  drawn_in = with_game stage game new_game
-
-  found_again : game_at drawn_in game ≡ new_game
+  found_again : game_at (drawn_in stage game agent) game ≡ new_game
   found_again = get_or-set_same stage.games game new_game _ within
 
   -- where the draw moves no agent that is played
   draw_settles : ((conn : ℕ) (other : ℕ) → (connection_at stage conn).seat ≡ Some (game, other)
-      → is_away new_game other ≡ is_away (game_at stage game) other) → IsSettled drawn_in
+      → is_away new_game other ≡ is_away (game_at stage game) other) → IsSettled (drawn_in stage game agent)
   draw_settles same = record {
     all_taken = λ conn stays. settled.all_taken conn
         (sym (awaits_kept stage game new_game stage.connections (connection_at stage conn) found_again (same conn))
@@ -84,7 +79,7 @@ module _ (stage : Stage) (game agent : ℕ) (within : game < length stage.games)
   }
 
   -- where it moves the agent of this connection
-  draw_settles_but : (conn : ℕ) → (connection_at stage conn).seat ≡ Some (game, agent) → SettledBut drawn_in conn
+  draw_settles_but : (conn : ℕ) → (connection_at stage conn).seat ≡ Some (game, agent) → SettledBut (drawn_in stage game agent) conn
   draw_settles_but conn mine = record {
     others_taken = λ other apart stays. settled.all_taken other
         (sym (awaits_kept stage game new_game stage.connections (connection_at stage other) found_again
@@ -93,35 +88,6 @@ module _ (stage : Stage) (game agent : ℕ) (within : game < length stage.games)
         mine))).away)) ∙ stays);
     one_each = settled.one_each;
   }
-
-  holder_settles : (conn : ℕ) → conn < length stage.connections → (connection_at stage conn).seat ≡ Some (game, agent)
-      → IsSettled (moves drawn_in conn).stage
-  holder_settles conn there mine =
-      let old = connection_at stage conn in
-      subst (λ (moved : Moved). IsSettled moved.stage) (sym (moves_itself drawn_in conn there))
-      (turn_settles drawn_in conn old there (draw_settles_but conn mine) refl)
-
-  arrival_settles : (reply : Option Reply) (holder : Option ℕ) → reply_to (game_at stage game) (Deliver agent) ≡ reply →
-      position (has_seat (game, agent)) stage.connections ≡ holder
-      → IsSettled (tells_arrival drawn_in reply holder).stage
-  arrival_settles None holder unanswered held =
-      draw_settles (λ conn other theirs. (alike-unanswered (game_at stage game) agent other unanswered).away)
-  arrival_settles (Some reply) None answered nobody =
-      draw_settles (λ conn other theirs. (alike-delivered (game_at stage game) agent other
-      (λ same. nobody_plays stage.connections (game, agent) nobody conn
-      (theirs ∙ ap (λ (one : ℕ). Some (game, one)) same))).away)
-  arrival_settles (Some reply) (Some conn) answered held =
-      let at_holder = position-Some (has_seat (game, agent)) stage.connections conn unfed held in
-      holder_settles conn at_holder.0 (seat-has_seat (game, agent) (connection_at stage conn) at_holder.1)
-
-delivers_settles : (stage : Stage) (game : ℕ) → game < length stage.games → IsSettled stage → (event : Option Event)
-    → IsSettled (delivers stage game event).stage
-delivers_settles stage game within settled None = settled
-delivers_settles stage game within settled (Some (Tell agent command)) = settled
-delivers_settles stage game within settled (Some Close) = settled
-delivers_settles stage game within settled (Some (Deliver agent)) =
-    arrival_settles stage game agent within settled (reply_to (game_at stage game) (Deliver agent))
-    (position (has_seat (game, agent)) stage.connections) refl refl
 
 -- ---- a close
 
@@ -153,8 +119,16 @@ close_settles stage game within settled =
 
 event_settles : (stage : Stage) (game : ℕ) (event : Option Event) → IsSettled stage
     → IsSettled (event_step stage game event).stage
-event_settles stage game event settled = by_event (λ (done : Stepped). IsSettled done.stage) stage game event settled
-    (λ below. delivers_settles stage game below settled event)
+event_settles stage game event settled =
+    by_event (λ (done : Stepped). IsSettled done.stage) stage game event settled
+    (λ agent below untold. draw_settles stage game agent below settled (λ conn other theirs. elim untold [
+      | inl unanswered ↦ (alike-unanswered (game_at stage game) agent other unanswered).away
+      | inr nobody ↦ (alike-delivered (game_at stage game) agent other
+          (λ same. nobody_plays stage.connections (game, agent) nobody conn
+          (theirs ∙ ap (λ (one : ℕ). Some (game, one)) same))).away
+    ]))
+    (λ agent conn reply below answered there mine. turn_settles (drawn_in stage game agent) conn
+    (connection_at stage conn) there (draw_settles_but stage game agent below settled conn mine) refl)
 
 closes_settle : (stage : Stage) (game : ℕ) → IsSettled stage → IsSettled (step stage (Closes game)).stage
 closes_settle stage game settled = by_close (λ (done : Stepped). IsSettled done.stage) stage game settled

@@ -69,6 +69,23 @@ seat_after connection seat done =
 abbrev pub turn_of : Stage → (conn : ℕ) → Connection → Turn
 turn_of stage conn connection = turn_in stage conn connection connection.seat
 
+-- what holds of a turn in which nothing is taken, and of one that plays
+by_enters : (P : Turn → Type 0) (stage : Stage) (connection : Connection) →
+    ((new : Connection) (text : List ℕ) → P (record { games = stage.games; connection = new; text = text })) →
+    ((seat : ℕ × ℕ) → P (plays_turn stage seat connection)) → (how : Entry) → P (enters_turn stage connection how)
+by_enters P stage connection stays plays Waits = stays connection []
+by_enters P stage connection stays plays (Sits seat) = plays seat
+by_enters P stage connection stays plays (IsDenied denial) = stays (shut connection) (denial_text denial)
+by_enters P stage connection stays plays Goes = stays (shut connection) []
+
+pub by_turn : (P : Turn → Type 0) (stage : Stage) (conn : ℕ) (connection : Connection) →
+    ((new : Connection) (text : List ℕ) → P (record { games = stage.games; connection = new; text = text })) →
+    ((seat : ℕ × ℕ) → P (plays_turn stage seat connection)) → (own : Option (ℕ × ℕ))
+    → P (turn_in stage conn connection own)
+by_turn P stage conn connection stays plays None =
+    by_enters P stage connection stays plays (entry (with_connection stage conn connection) connection.queue)
+by_turn P stage conn connection stays plays (Some seat) = plays seat
+
 -- ---- it is the move
 
 module _ (stage : Stage) (conn : ℕ) (connection : Connection) (within : conn < length stage.connections) where
