@@ -1,7 +1,8 @@
--- Two stages that are alike but for one match, through each instruction. How that match stands in both is left open, and
--- who is heard: a connection that plays what is heard is the same in both, and is sent the same.
+-- Two stages that are alike but for one match, through each instruction. How that match stands in both is left open,
+-- and so is who is heard: a connection that is heard is the same in both, and is sent the same.
 use Rattle.std.proofs.Common.{◌≡◌, ◌≢◌, ◌∙◌, ℕ, zero, suc, ◌+◌, ◌<◌, Bool, not, ◌&&◌, ◌||◌, cond, nat_lt}
-use Rattle.std.proofs.Common.{◌==◌, Option, Some, None, List, [], ◌∷◌, ◌++◌, length, map, set, get_or, refl, sym, ap, ap₂}
+use Rattle.std.proofs.Common.{◌==◌, Option, Some, None, List, [], ◌∷◌, ◌++◌, length, map, set, get_or, refl, sym, ap}
+use Rattle.std.proofs.Common.{ap₂}
 use Rattle.std.proofs.Common.{subst, arith}
 use Rattle.std.specs.List.{list_any, prefix_len, position}
 use Rattle.std.proofs.lemmas.Bool.{ltb-true}
@@ -19,7 +20,8 @@ use Rattle.bhs_lineup.specs.KeyTable.{Seat, seat_at}
 use Rattle.bhs_session.specs.Texts.{text_of, denial_text}
 use Rattle.bhs_rehearsal.specs.Games.{Game, state_of, played, reply_to, is_away}
 use Rattle.bhs_rehearsal.specs.Connections.{Item, Says, Ends, Connection, unfed, shut, Taken, taken}
-use Rattle.bhs_rehearsal.specs.Stages.{Stage, game_at, connection_at, with_game, with_connection, has_seat, Entry, Waits}
+use Rattle.bhs_rehearsal.specs.Stages.{Stage, game_at, connection_at, with_game, with_connection, has_seat, Entry}
+use Rattle.bhs_rehearsal.specs.Stages.{Waits}
 use Rattle.bhs_rehearsal.specs.Stages.{Sits, IsDenied, Goes, let_in, entry_by, entry, Moved, moves, Closes, Stepped}
 use Rattle.bhs_rehearsal.specs.Stages.{sent_to, stepped, nothing, tells_arrival, delivers, waits_in, told_over}
 use Rattle.bhs_rehearsal.specs.Stages.{step}
@@ -295,7 +297,8 @@ module _ (by : Difference) (one two : Stage) (are : StagesAlike by one two) wher
             (turns.same (subst (λ (it : Connection). by.Heard it.seat) mine heard)).1)
             (λ apart. sent_elsewhere other conn (before ++ turn.text) apart
             ∙ sym (sent_elsewhere other conn (before ++ other_turn.text) apart));
-        all = λ every. ap (λ (text : List ℕ). sent_to conn (before ++ text)) (turns.same (every turn.connection.seat)).1;
+        all = λ every. ap (λ (text : List ℕ). sent_to conn (before ++ text))
+            (turns.same (every turn.connection.seat)).1;
       }
 
   -- ---- a client that is heard
@@ -406,7 +409,8 @@ module _ (by : Difference) (one two : Stage) (are : StagesAlike by one two) wher
       (ap (nat_lt number) (same_games by one two are))
       (λ below. by_same number by.game here (λ apart.
       let same = (are.games number).other apart in
-      subst (λ (other : Game). StepsAlike by (delivers one number (chosen old)) (delivers two number (chosen other))) same
+      subst (λ (other : Game). StepsAlike by (delivers one number (chosen old)) (delivers two number (chosen other)))
+      same
       (delivers_alike number (chosen old) (λ agent. by.elsewhere (number, agent) apart)
       (λ agent is. (
         games_apart by number _ _ apart (ap (λ (it : Game). played it (Deliver agent)) same),

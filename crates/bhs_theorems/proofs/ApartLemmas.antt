@@ -76,8 +76,10 @@ client_of_connection stage conn connection ended = by_client (IsOfConnection sta
 
 pub clients_lemma : ClientsKeepToThemselves
 clients_lemma stage conn bytes =
-    let old = connection_at stage conn in
-    (client_of_connection stage conn (grown old bytes) old.ended, client_of_connection stage conn (ending old) old.ended)
+    let old = connection_at stage conn in (
+      client_of_connection stage conn (grown old bytes) old.ended,
+      client_of_connection stage conn (ending old) old.ended,
+    )
 
 -- ---- a close
 

@@ -17,7 +17,8 @@ use Rattle.bhs_rehearsal.specs.Stages.{Stage, game_at, connection_at, with_game,
 use Rattle.bhs_rehearsal.specs.Stages.{IsDenied, Goes, entry}
 use Rattle.bhs_theorems.proofs.MeetingLemmas.{view_from-append, bytes_from-append, commands-append, due-append}
 use Rattle.bhs_theorems.proofs.CuttingLemmas.{by_bool, by_same}
-use Rattle.bhs_theorems.proofs.TurnLemmas.{Turn, by_turn, placed, plays_turn, enters_turn, turn_in, played_at, grown, ending}
+use Rattle.bhs_theorems.proofs.TurnLemmas.{Turn, by_turn, placed, plays_turn, enters_turn, turn_in, played_at, grown}
+use Rattle.bhs_theorems.proofs.TurnLemmas.{ending}
 use Rattle.bhs_theorems.proofs.TurnLemmas.{seat_after}
 use Rattle.bhs_theorems.specs.Met.{Meeting, view_from, view_of, commands, bytes_from, bytes, takes_commands, AreDue}
 use Rattle.bhs_theorems.specs.Clients.{Fed, fed_more, at_end}

@@ -185,7 +185,8 @@ module _ (stage : Stage) (game conn : ℕ) (input : Fed) (sent : List ℕ) (with
       (λ inside. met_closed closing seat.1 connection input sent waits open_match here
       (before (subst (λ (setup : Setup). seat.1 < setup.agents) (setup-played closing Close) inside))))
       (λ apart.
-      let stays : waits ≡ false = is_wait ∙ ap (λ (it : Bool). it && is_away closing seat.1) (ne_eqb seat.0 game apart) in
+      let stays : waits ≡ false =
+      is_wait ∙ ap (λ (it : Bool). it && is_away closing seat.1) (ne_eqb seat.0 game apart) in
       subst (λ (it : Bool). IsKnown after_close (cond it (shut connection) connection) input (sent ++ over_if it)
       (Some seat)) (sym stays)
       (subst (λ (one : Game). seat.1 < one.setup.agents → MetIn one seat.1 connection input (sent ++ []))

@@ -106,7 +106,8 @@ plays_elsewhere stage game conn other agent seated elsewhere same =
 module _ (stage : Stage) (game conn agent : ℕ) (connection : Connection) (before : List ℕ)
     (seated : (connection_at stage conn).seat ≡ Some (game, agent)) where
   playing_of_match : let turn = plays_turn stage (game, agent) connection in
-      IsOfMatch game stage (record { stage = (placed stage conn turn).stage; outs = sent_to conn (before ++ turn.text) })
+      IsOfMatch game stage
+      (record { stage = (placed stage conn turn).stage; outs = sent_to conn (before ++ turn.text) })
   playing_of_match =
       let done = taken (game_at stage game) agent connection.queue in
       let turn = plays_turn stage (game, agent) connection in
@@ -126,7 +127,8 @@ module _ (stage : Stage) (game conn agent : ℕ) (connection : Connection) (befo
       }
 
   turn_of_match : connection.seat ≡ Some (game, agent) → let turn = turn_of stage conn connection in
-      IsOfMatch game stage (record { stage = (placed stage conn turn).stage; outs = sent_to conn (before ++ turn.text) })
+      IsOfMatch game stage
+      (record { stage = (placed stage conn turn).stage; outs = sent_to conn (before ++ turn.text) })
   turn_of_match own =
       subst (λ (seat : Option (ℕ × ℕ)). let turn = turn_in stage conn connection seat in IsOfMatch game stage
       (record { stage = (placed stage conn turn).stage; outs = sent_to conn (before ++ turn.text) })) (sym own)

@@ -1,5 +1,6 @@
 -- Each instruction settles a settled stage.
-use Rattle.std.proofs.Common.{inl, inr, ◌≡◌, ◌∙◌, ℕ, zero, suc, ◌<◌, ◌≤◌, Bool, true, false, cond, nat_lt, Option, Some, None}
+use Rattle.std.proofs.Common.{inl, inr, ◌≡◌, ◌∙◌, ℕ, zero, suc, ◌<◌, ◌≤◌, Bool, true, false, cond, nat_lt, Option, Some}
+use Rattle.std.proofs.Common.{None}
 use Rattle.std.proofs.Common.{List, [], ◌∷◌, ◌++◌, length, replicate, get_or, refl, sym, ap, subst, arith}
 use Rattle.std.specs.List.{position, position_or_len}
 use Rattle.std.proofs.lemmas.Bool.{ltb-true, ltb-false}
@@ -79,7 +80,8 @@ module _ (stage : Stage) (game agent : ℕ) (within : game < length stage.games)
   }
 
   -- where it moves the agent of this connection
-  draw_settles_but : (conn : ℕ) → (connection_at stage conn).seat ≡ Some (game, agent) → SettledBut (drawn_in stage game agent) conn
+  draw_settles_but : (conn : ℕ) → (connection_at stage conn).seat ≡ Some (game, agent)
+      → SettledBut (drawn_in stage game agent) conn
   draw_settles_but conn mine = record {
     others_taken = λ other apart stays. settled.all_taken other
         (sym (awaits_kept stage game new_game stage.connections (connection_at stage other) found_again

@@ -10,7 +10,8 @@ use Rattle.bhs_model.specs.declared.replies.Reply.{Reply}
 use Rattle.bhs_session.specs.Texts.{text_of}
 use Rattle.bhs_rehearsal.specs.Games.{state_of, played, reply_to}
 use Rattle.bhs_rehearsal.specs.Connections.{Connection, unfed}
-use Rattle.bhs_rehearsal.specs.Stages.{Stage, game_at, connection_at, with_game, with_connection, has_seat, Moved, moves}
+use Rattle.bhs_rehearsal.specs.Stages.{Stage, game_at, connection_at, with_game, with_connection, has_seat, Moved}
+use Rattle.bhs_rehearsal.specs.Stages.{moves}
 use Rattle.bhs_rehearsal.specs.Stages.{Closes, Stepped, sent_to, stepped, nothing, tells_arrival, delivers, shut_in}
 use Rattle.bhs_rehearsal.specs.Stages.{told_over, step}
 use Rattle.bhs_theorems.proofs.TurnLemmas.{placed, turn_of, moves-placed, moves_itself, bare}
@@ -103,7 +104,8 @@ by_event P stage game event none untold told =
     cond_both (nat_lt game (length stage.games)) _ _ P
     (λ below.
     let within = ltb-true game (length stage.games) below in
-    by_delivers P stage game event none (λ agent. untold agent within) (λ agent conn reply. told agent conn reply within))
+    by_delivers P stage game event none (λ agent. untold agent within)
+    (λ agent conn reply. told agent conn reply within))
     (λ past. none)
 
 -- the close of a match that is open
