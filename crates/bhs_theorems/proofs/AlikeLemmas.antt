@@ -132,8 +132,9 @@ pub record TakenAlike (Match : Game → Game → Type 0) (IsHeard : Type 0) (one
   pub game : Match one.game two.game
   pub same : IsHeard → (one.is_done ≡ two.is_done) × (one.left ≡ two.left) × (one.text ≡ two.text)
 
--- What two stages of so many matches may differ in: how a match stands in one and in the other, and which seats are
--- heard. Whoever doesn't play in the match is, and lines that are taken in it leave it in both as it may be.
+-- What two stages of so many matches may differ in: how a match stands in one and in the other, and who plays in it. Of
+-- which seats the connections are heard is left open too, but whoever plays elsewhere is. Taking lines keeps the match
+-- in both as it may stand.
 pub record Difference : Type 1 where
   pub total : ℕ
   pub game : ℕ

@@ -12,13 +12,12 @@ use Rattle.bhs_model.specs.Runs.{State, initial, Position, Before, At, Bound, Af
 use Rattle.bhs_model.specs.Runs.{delivered, is_bound, is_doomed, arrives, next, run_from, reply}
 use Rattle.bhs_model.specs.Twins.{Twins, is_struck}
 use Rattle.bhs_model.specs.Kept.{keeps, lost}
-use Rattle.bhs_model.specs.Draws.{Held, SlowInstead, is_held, delivery_to, draw, pool, pick}
+use Rattle.bhs_model.specs.Draws.{Held, SlowInstead, is_held, delivery_to, pool, pick}
 use Rattle.bhs_model.proofs.StepLemmas.{next_no_arrival, no_arrival_no_reply}
 use Rattle.bhs_model.proofs.LegalLemmas.{either}
 use Rattle.bhs_model.proofs.TwinLemmas.{doomed_not_through, other_world, reply_alike, next_twin}
-use Rattle.bhs_model.proofs.SlowLemmas.{MadeAlike, draw_alike}
+use Rattle.bhs_model.proofs.SlowLemmas.{MadeAlike, harmless_at, draw_alike}
 use Rattle.bhs_deal.specs.Links.{held_in}
-use Rattle.bhs_deal.specs.Drawing.{delivery_of}
 use Rattle.bhs_wire.specs.Lines.{said_by}
 use Rattle.bhs_session.specs.Texts.{text_of, command_by}
 use Rattle.bhs_rehearsal.specs.Games.{Game, world_in, state_of, played, reply_to, is_away, drawn}
@@ -26,29 +25,8 @@ use Rattle.bhs_rehearsal.specs.Games.{delivered as delivered_event}
 use Rattle.bhs_rehearsal.specs.Connections.{Item, Says, Ends, Taken, is_last, leaves, answers, taken}
 use Rattle.bhs_theorems.specs.ScriptLaws.{IsSlowFor, slow_of, SlowMatchesBegin}
 use Rattle.bhs_theorems.proofs.CuttingLemmas.{cond_alike}
-use Rattle.bhs_theorems.proofs.AwayLemmas.{state_of-played}
 use Rattle.bhs_theorems.proofs.TwinLogLemmas.{keeps_alike, twins-both, twins-one}
-
--- ---- one event
-
--- with this log, where it is kept
-abbrev logged : (kept : Bool) → Game → List Event → Game
-logged kept game log = cond kept (record game { log = log }) game
-
-slow_both : (game slow : Game) (kept : Bool) (log slow_log : List Event) → IsSlowFor game slow →
-    Twins (world_in game) log (world_in slow) slow_log → state_of (logged kept game log) ≡ state_of
-    (logged kept slow slow_log) →
-    IsSlowFor (logged kept game log) (logged kept slow slow_log)
-slow_both game slow true log slow_log is twins same =
-    record { worlds = is.worlds; harmless = is.harmless; held_too = is.held_too; stands = same; twins = twins }
-slow_both game slow false log slow_log is twins same = is
-
-slow_one : (game slow : Game) (kept : Bool) (log : List Event) → IsSlowFor game slow →
-    Twins (world_in game) log (world_in slow) slow.log → state_of (logged kept game log) ≡ state_of slow →
-    IsSlowFor (logged kept game log) slow
-slow_one game slow true log is twins same = record
-    { worlds = is.worlds; harmless = is.harmless; held_too = is.held_too; stands = same; twins = twins }
-slow_one game slow false log is twins same = is
+use Rattle.bhs_model.proofs.AddLemmas.{run-append}
 
 -- ---- who is on a link is on a port
 
@@ -112,21 +90,22 @@ module _ (game slow : Game) (is : IsSlowFor game slow) where
   -- an event that destroys in neither
   pub played_slow : (event : Event) → IsUnstruck event → IsSlowFor (played game event) (played slow event)
   played_slow event unstruck =
-      let same : state_of (played game event) ≡ state_of (played slow event) =
-      state_of-played game event ∙ next_twin (world_in game) (world_in slow) (state_of game) event is.worlds unstruck
-      ∙ ap (λ (state : State). next (world_in slow) state event) is.stands ∙ sym (state_of-played slow event) in
-      let kept = keeps (world_in game) (state_of game) (lost (world_in game) game.log) event in
-      let as_there : kept ≡ keeps (world_in slow) (state_of slow) (lost (world_in slow) slow.log) event =
-      keeps_alike (world_in game) (world_in slow) (state_of game) (lost (world_in game) game.log)
+      cond_alike IsSlowFor (keeps (world_in game) (state_of game) (lost (world_in game) game.log) event)
+      (keeps (world_in slow) (state_of slow) (lost (world_in slow) slow.log) event) _ _ _ _
+      (keeps_alike (world_in game) (world_in slow) (state_of game) (lost (world_in game) game.log)
       (lost (world_in slow) slow.log) event is.worlds unstruck
-      ∙ ap (λ (state : State). keeps (world_in slow) state (lost (world_in slow) slow.log) event) is.stands in
-      let log = game.log ++ event ∷ [] in
-      let slow_log = slow.log ++ event ∷ [] in
-      subst (λ (there : Bool). IsSlowFor (logged kept game log) (logged there slow slow_log)) as_there
-      (slow_both game slow kept log slow_log is
-      (twins-both (world_in game) (world_in slow) game.log slow.log event is.twins is.stands unstruck)
-      (subst (λ (there : Bool). state_of (logged kept game log) ≡ state_of (logged there slow slow_log))
-      (sym as_there) same))
+      ∙ ap (λ (state : State). keeps (world_in slow) state (lost (world_in slow) slow.log) event) is.stands)
+      (λ kept. record {
+        worlds = is.worlds;
+        harmless = is.harmless;
+        held_too = is.held_too;
+        stands = run-append (world_in game) initial game.log (event ∷ [])
+            ∙ next_twin (world_in game) (world_in slow) (state_of game) event is.worlds unstruck
+            ∙ ap (λ (state : State). next (world_in slow) state event) is.stands
+            ∙ sym (run-append (world_in slow) initial slow.log (event ∷ []));
+        twins = twins-both (world_in game) (world_in slow) game.log slow.log event is.twins is.stands unstruck;
+      })
+      (λ unkept. is)
 
   pub reply_slow : (event : Event) → IsUnstruck event → reply_to game event ≡ reply_to slow event
   reply_slow event unstruck =
@@ -147,31 +126,34 @@ module _ (game slow : Game) (is : IsSlowFor game slow) where
   doomed_stays agent doomed = and_right (not (state_of game).closed) _
       (doomed_not_through (world_in game) ((state_of game).position agent) doomed)
 
-  harmless_at : (position : Position) → is_doomed (world_in slow) position ≡ false
-  harmless_at (Bound node port) = is.harmless node port
-  harmless_at Before = refl
-  harmless_at (At node came) = refl
-  harmless_at After = refl
+  -- the links on which the second must hold back
+  abbrev held_or_doomed : Held
+  held_or_doomed node port = held_in game.held node port || doomed (world_in game) node port
+
+  abbrev instead : SlowInstead (world_in game) (held_in game.held) (world_in slow) held_or_doomed
+  instead = record { worlds = is.worlds; harmless = is.harmless; held_too = λ node port. refl }
 
   pub destroyed_slow : (agent : ℕ) → is_doomed (world_in game) ((state_of game).position agent) ≡ true
       → IsSlowFor (played game (Deliver agent)) slow
   destroyed_slow agent doomed =
-      let same : state_of (played game (Deliver agent)) ≡ state_of slow =
-      state_of-played game (Deliver agent) ∙ next_no_arrival (world_in game) (state_of game) agent
-      (doomed_stays agent doomed) ∙ is.stands in
-      slow_one game slow (keeps (world_in game) (state_of game) (lost (world_in game) game.log) (Deliver agent))
-      (game.log ++ Deliver agent ∷ []) is
-      (twins-one (world_in game) (world_in slow) game.log slow.log agent is.twins doomed
-      (harmless_at ((state_of game).position agent))) same
+      either (λ (new : Game). IsSlowFor new slow)
+      (keeps (world_in game) (state_of game) (lost (world_in game) game.log) (Deliver agent)) _ game
+      (record {
+        worlds = is.worlds;
+        harmless = is.harmless;
+        held_too = is.held_too;
+        stands = run-append (world_in game) initial game.log (Deliver agent ∷ [])
+            ∙ next_no_arrival (world_in game) (state_of game) agent (doomed_stays agent doomed) ∙ is.stands;
+        twins = twins-one (world_in game) (world_in slow) game.log slow.log agent is.twins doomed
+            (harmless_at (world_in game) (held_in game.held) (world_in slow) held_or_doomed instead
+            ((state_of game).position agent));
+      })
+      is
 
   pub destroyed_unanswered : (agent : ℕ) → is_doomed (world_in game) ((state_of game).position agent) ≡ true
       → reply_to game (Deliver agent) ≡ None
   destroyed_unanswered agent doomed = no_arrival_no_reply (world_in game) (state_of game) agent
       (doomed_stays agent doomed)
-
-  -- the links on which the second must hold back
-  abbrev held_or_doomed : Held
-  held_or_doomed node port = held_in game.held node port || doomed (world_in game) node port
 
   held_alike : (position : Position) → IsOnPort (world_in game) position → is_held held_or_doomed position ≡ is_held
       (held_in slow.held) position
@@ -187,35 +169,33 @@ module _ (game slow : Game) (is : IsSlowFor game slow) where
       ap (λ (back : Bool). cond back None (Some (Deliver agent)))
       (held_alike ((state_of game).position agent) (on_ports game agent))
 
-  -- what a word draws
-  pub drawn_slow : (word : ℕ) → MadeAlike (world_in game) (world_in slow) (state_of game) (drawn game word)
-      (drawn slow word)
-  drawn_slow word =
-      let picked = pick (pool (state_of game)) word in
-      let instead : SlowInstead (world_in game) (held_in game.held) (world_in slow) held_or_doomed =
-      record { worlds = is.worlds; harmless = is.harmless; held_too = λ node port. refl } in
-      let same : draw held_or_doomed (state_of game) word ≡ drawn slow word =
-      ap (λ (event : Option Event). cond (state_of game).closed None event) (let_go_same picked)
-      ∙ ap (λ (state : State). draw (held_in slow.held) state word) is.stands in
-      subst (λ (there : Option Event). MadeAlike (world_in game) (world_in slow) (state_of game)
-      (drawn game word) there) same
-      (draw_alike (world_in game) (held_in game.held) (world_in slow) held_or_doomed instead (state_of game)
-      (state_of game).closed picked)
+  -- the delivery of who is picked, if any
+  abbrev made : Game → (State → Option ℕ) → Option Event
+  made one picked =
+      let state = state_of one in
+      cond state.closed None (delivery_to (held_in one.held) state (picked state))
 
-  -- what delivers an agent
-  pub delivered_slow : (agent : ℕ) → MadeAlike (world_in game) (world_in slow) (state_of game)
-      (delivered_event game agent)
-      (delivered_event slow agent)
-  delivered_slow agent =
-      let instead : SlowInstead (world_in game) (held_in game.held) (world_in slow) held_or_doomed =
-      record { worlds = is.worlds; harmless = is.harmless; held_too = λ node port. refl } in
-      let same : delivery_of held_or_doomed (state_of game) agent ≡ delivered_event slow agent =
-      ap (λ (event : Option Event). cond (state_of game).closed None event) (let_go_same (Some agent))
-      ∙ ap (λ (state : State). delivery_of (held_in slow.held) state agent) is.stands in
-      subst (λ (there : Option Event). MadeAlike (world_in game) (world_in slow) (state_of game)
-      (delivered_event game agent) there) same
+  made_slow : (picked : State → Option ℕ)
+      → MadeAlike (world_in game) (world_in slow) (state_of game) (made game picked) (made slow picked)
+  made_slow picked =
+      let one = picked (state_of game) in
+      let same : cond (state_of game).closed None (delivery_to held_or_doomed (state_of game) one) ≡ made slow picked =
+      ap (λ (event : Option Event). cond (state_of game).closed None event) (let_go_same one)
+      ∙ ap (λ (state : State). cond state.closed None (delivery_to (held_in slow.held) state (picked state))) is.stands
+      in
+      subst (λ (there : Option Event). MadeAlike (world_in game) (world_in slow) (state_of game) (made game picked) there)
+      same
       (draw_alike (world_in game) (held_in game.held) (world_in slow) held_or_doomed instead (state_of game)
-      (state_of game).closed (Some agent))
+      (state_of game).closed one)
+
+  -- what a word draws, and what delivers an agent
+  pub drawn_slow : (word : ℕ)
+      → MadeAlike (world_in game) (world_in slow) (state_of game) (drawn game word) (drawn slow word)
+  drawn_slow word = made_slow (λ (state : State). pick (pool state) word)
+
+  pub delivered_slow : (agent : ℕ) → MadeAlike (world_in game) (world_in slow) (state_of game)
+      (delivered_event game agent) (delivered_event slow agent)
+  delivered_slow agent = made_slow (λ (state : State). Some agent)
 
 -- ---- items
 
