@@ -1,8 +1,8 @@
 -- Settled stages, and what keeps a stage settled.
-use Rattle.std.proofs.Common.{◌≡◌, ◌≢◌, ◌∙◌, ℕ, ◌<◌, Bool, true, false, ◌&&◌, nat_lt, Option, Some, None}
+use Rattle.std.proofs.Common.{inl, inr, ◌≡◌, ◌≢◌, ◌∙◌, ℕ, ◌<◌, Bool, true, false, ◌&&◌, nat_lt, Option, Some, None}
 use Rattle.std.proofs.Common.{List, [], ◌∷◌, length, set, get_or, refl, sym, ap, ap₂, subst}
 use Rattle.std.specs.List.{list_any}
-use Rattle.std.proofs.lemmas.Bool.{cond_both, ltb-true, ltb-false, eq-eqb}
+use Rattle.std.proofs.lemmas.Bool.{cond_both, eq-eqb}
 use Rattle.std.proofs.lemmas.List.{set-get_or, get_or_past, get_or-set_same, get_or-set_other}
 use Rattle.std.proofs.lemmas.List.Folds.{list_any_at}
 use Rattle.bhs_wire.specs.Lines.{said_by}
@@ -16,11 +16,12 @@ use Rattle.bhs_rehearsal.specs.Stages.{Stage, game_at, connection_at, with_game,
 use Rattle.bhs_rehearsal.specs.Stages.{Waits, Sits, IsDenied, Goes, let_in, entry_by, entry, Moved, plays, enters}
 use Rattle.bhs_rehearsal.specs.Stages.{moves_in}
 use Rattle.bhs_theorems.specs.ScriptLaws.{awaits_arrival, IsSettled, SettledConnectionsRest}
-use Rattle.bhs_theorems.proofs.CuttingLemmas.{by_bool, by_same}
+use Rattle.bhs_theorems.proofs.CuttingLemmas.{by_same}
 use Rattle.bhs_theorems.proofs.TurnLemmas.{Turn, placed, plays_turn, enters_turn, turn_in, turn_of, played_at}
 use Rattle.bhs_theorems.proofs.TurnLemmas.{bare, seat_after}
 use Rattle.bhs_theorems.proofs.AwayLemmas.{taken_alike, taken_up, taken_rests}
 use Rattle.bhs_model.proofs.LegalLemmas.{either}
+use Rattle.std.proofs.lemmas.Bool.{cases_lt}
 
 -- ---- who awaits an arrival
 
@@ -103,18 +104,6 @@ placed_settles stage conn turn within but own_taken same alone =
 
 -- ---- a turn
 
--- the connection after its items were taken
-own_taken_up : (stage : Stage) (connections : List Connection) (seat : ℕ × ℕ) (connection : Connection) (game : Game)
-    (is_done : Bool) (left : List Item) (text : List ℕ) →
-    let done : Taken = record { game = game; is_done = is_done; left = left; text = text } in
-    let new = after (record connection { seat = Some seat }) done in
-    game_at (with_game stage seat.0 game) seat.0 ≡ game →
-    (is_done ≡ false → is_away game seat.1 ≡ false → left ≡ []) →
-    awaits_arrival (record (with_game stage seat.0 game) { connections = connections }) new ≡ false → new.queue ≡ []
-own_taken_up stage connections seat connection game true left text found up stays = refl
-own_taken_up stage connections seat connection game false left text found up stays =
-    up refl (ap (λ (one : Game). is_away one seat.1) (sym found) ∙ stays)
-
 module _ (stage : Stage) (conn : ℕ) (connection : Connection) (within : conn < length stage.connections)
     (but : SettledBut stage conn) where
   plays_settles : (seat : ℕ × ℕ) → IsAlone stage conn (Some seat)
@@ -125,8 +114,10 @@ module _ (stage : Stage) (conn : ℕ) (connection : Connection) (within : conn <
       let found = played_at stage seat connection.queue in
       let new = (placed stage conn turn).stage in
       placed_settles stage conn turn within but
-      (own_taken_up stage new.connections seat connection done.game done.is_done done.left done.text found
-      (taken_up (game_at stage seat.0) seat.1 connection.queue))
+      (cond_both done.is_done _ _ (λ (one : Connection). awaits_arrival new one ≡ false → one.queue ≡ [])
+      (λ is_done stays. refl)
+      (λ goes_on stays. taken_up (game_at stage seat.0) seat.1 connection.queue goes_on
+      (ap (λ (one : Game). is_away one seat.1) (sym found) ∙ stays)))
       (λ other apart. awaits_kept stage seat.0 done.game new.connections (connection_at stage other) found
       (λ agent theirs. (taken_alike (game_at stage seat.0) seat.1 connection.queue agent
       (λ same. alone other apart seat refl (theirs ∙ ap (λ (number : ℕ). Some (seat.0, number)) same))).away))
@@ -174,20 +165,23 @@ has_own seat connection mine =
     ap (λ (own : Option (ℕ × ℕ)). has_seat seat (bare own)) mine
     ∙ ap₂ (λ (game agent : Bool). game && agent) (eq-eqb seat.0 seat.0 refl) (eq-eqb seat.1 seat.1 refl)
 
+-- who has a seat is there
+pub seat_within : (connections : List Connection) (conn : ℕ) (seat : ℕ × ℕ)
+    → (get_or connections conn unfed).seat ≡ Some seat → conn < length connections
+seat_within connections conn seat theirs = elim (cases_lt conn (length connections)) [
+  | inl below ↦ below
+  | inr past ↦ absurd (let never = ap (λ (it : Connection). it.seat) (sym (get_or_past connections conn unfed past))
+      ∙ theirs in cc)
+]
+
 -- nobody plays a free seat
 free_alone : (connections : List Connection) (seat : ℕ × ℕ) → list_any (has_seat seat) connections ≡ false → (other : ℕ)
     → (get_or connections other unfed).seat ≡ Some seat → ⊥
 free_alone connections seat free other theirs =
-    let one = get_or connections other unfed in
-    by_bool (nat_lt other (length connections)) (λ (is : Bool). ⊥)
-    (λ below.
-    let within : other < length connections = ltb-true other (length connections) below in
     let used : list_any (has_seat seat) connections ≡ true =
-    list_any_at (has_seat seat) connections other unfed within
-    (has_own seat one theirs) in
-    cc)
-    (λ past. let none = ap (λ (it : Connection). it.seat)
-    (sym (get_or_past connections other unfed (ltb-false other (length connections) past))) ∙ theirs in cc)
+    list_any_at (has_seat seat) connections other unfed (seat_within connections other seat theirs)
+    (has_own seat (get_or connections other unfed) theirs) in
+    cc
 
 module _ (stage : Stage) (conn : ℕ) (connection : Connection) (within : conn < length stage.connections)
     (but : SettledBut stage conn) where

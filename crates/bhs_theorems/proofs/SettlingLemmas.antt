@@ -3,8 +3,8 @@ use Rattle.std.proofs.Common.{inl, inr, ◌≡◌, ◌∙◌, ℕ, zero, suc, �
 use Rattle.std.proofs.Common.{None}
 use Rattle.std.proofs.Common.{List, [], ◌∷◌, ◌++◌, length, replicate, get_or, refl, sym, ap, subst, arith}
 use Rattle.std.specs.List.{position, position_or_len}
-use Rattle.std.proofs.lemmas.Bool.{ltb-true, ltb-false}
-use Rattle.std.proofs.lemmas.List.{get_or_past, get_or-set_same}
+use Rattle.std.proofs.lemmas.Bool.{ltb-false}
+use Rattle.std.proofs.lemmas.List.{get_or-set_same}
 use Rattle.std.proofs.lemmas.List.Sums.{fails_before_first}
 use Rattle.bhs_model.specs.declared.events.Event.{Event}
 use Rattle.bhs_model.specs.declared.events.Event.TheVariants.{Deliver, Close}
@@ -17,11 +17,10 @@ use Rattle.bhs_rehearsal.specs.Stages.{nothing, waits_in, shut_in, step}
 use Rattle.bhs_rehearsal.specs.Stages.{begun, stands_after}
 use Rattle.bhs_theorems.specs.ScriptLaws.{awaits_arrival, IsSettled, SettledStagesSettle, ScriptsSettle, moves_in_turn}
 use Rattle.bhs_theorems.specs.ScriptLaws.{AllItemsAreTaken}
-use Rattle.bhs_theorems.proofs.CuttingLemmas.{by_bool}
 use Rattle.bhs_theorems.proofs.TurnLemmas.{grown, ending}
 use Rattle.bhs_theorems.proofs.ApartLemmas.{shut_at, seat-shut_if}
 use Rattle.bhs_theorems.proofs.AwayLemmas.{alike-delivered, alike-unanswered, away-closed}
-use Rattle.bhs_theorems.proofs.SettledLemmas.{SettledBut, awaits_kept, has_own, rest_lemma, turn_settles}
+use Rattle.bhs_theorems.proofs.SettledLemmas.{SettledBut, awaits_kept, has_own, seat_within, rest_lemma, turn_settles}
 use Rattle.bhs_theorems.proofs.StepCases.{client_step, by_client, event_step, drawn_in, by_event, by_close}
 use Rattle.bhs_model.proofs.LegalLemmas.{either}
 
@@ -45,18 +44,13 @@ client_settles stage conn connection ended settled as_before =
 pub nobody_plays : (connections : List Connection) (seat : ℕ × ℕ) → position (has_seat seat) connections ≡ None
     → (conn : ℕ) → (get_or connections conn unfed).seat ≡ Some seat → ⊥
 nobody_plays connections seat none conn theirs =
-    let one = get_or connections conn unfed in
-    let has : has_seat seat one ≡ true = has_own seat one theirs in
     let all : length connections ≤ position_or_len (has_seat seat) connections =
     passed (position_or_len (has_seat seat) connections) (length connections) _ refl none in
-    by_bool (nat_lt conn (length connections)) (λ (is : Bool). ⊥)
-    (λ below.
-    let within : conn < length connections = ltb-true conn (length connections) below in
-    let fails : has_seat seat one ≡ false = fails_before_first (has_seat seat) connections conn unfed
-    (omega (arith, all, within)) in
-    cc)
-    (λ past. let never = ap (λ (it : Connection). it.seat)
-    (sym (get_or_past connections conn unfed (ltb-false conn (length connections) past))) ∙ theirs in cc) where
+    let fails : has_seat seat (get_or connections conn unfed) ≡ false =
+    fails_before_first (has_seat seat) connections conn unfed
+    (omega (arith, all, seat_within connections conn seat theirs)) in
+    let has = has_own seat (get_or connections conn unfed) theirs in
+    cc where
       passed : (place count : ℕ) (below : Bool) → nat_lt place count ≡ below
           → cond below (Some place) None ≡ None → count ≤ place
       passed place count true is some = absurd (cc)
