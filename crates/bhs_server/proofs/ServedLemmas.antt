@@ -36,7 +36,7 @@ use Rattle.bhs_server.specs.Exchanges.{phase_from, AreInTurn}
 use Rattle.bhs_server.specs.Written.{Ends, IsWrittenFor, IsAttended}
 use Rattle.bhs_server.proofs.DrainedLemmas.{session_drained, none_more}
 use Rattle.bhs_server.proofs.KnownLemmas.{MayLeave, Talks, Alone, Known, IsPlayedOn, Answered}
-use Rattle.bhs_server.proofs.KnownLemmas.{answered_all, few_lines, leaves_without}
+use Rattle.bhs_server.proofs.KnownLemmas.{talks_on, answered_all, few_lines, leaves_without}
 use Rattle.bhs_server.proofs.KnownLemmas.{line_answered, PassNews, pass_news, news_answered, stopped_known, sent_known}
 
 -- ---- the port
@@ -79,23 +79,8 @@ finished_without : (written : List ℕ) (taken : List Line) (line : Line) (pass 
     → Answered written taken Fresh pass → Talks written (taken ++ line ∷ []) (Finished endings.Memory) pass
 finished_without written taken line pass a =
     let k = leaves_without written taken (line ∷ []) Fresh pass (few_lines line) a in
-    record {
-      all = k.all;
-      in_turn = k.in_turn;
-      parting = k.parting;
-      receipts = k.receipts;
-      kept = k.kept;
-      arrivals = k.arrivals;
-      left = k.left;
-      few = k.few;
-      said = k.said;
-      last = k.last;
-      is_last = k.is_last;
-      unwritten = k.unwritten;
-      heard = k.heard;
-      is_unwritten = tt;
-      stands = tt;
-    }
+    talks_on written written (taken ++ line ∷ []) (Leaves endings.Memory) (Finished endings.Memory) pass k k.unwritten
+    k.heard tt tt
 
 -- a port by its parts
 abbrev seated : List Seat → List Given → Option Played → Seated
