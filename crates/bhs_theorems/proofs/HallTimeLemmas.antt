@@ -57,6 +57,7 @@ use Rattle.bhs_theorems.specs.Timely.{HallsAreTimedExecutions, EqualWaitsUnderLo
 use Rattle.bhs_lock.proofs.ToldLemmas.{same_play}
 use Rattle.bhs_lock.proofs.DrawLemmas.{length_told, length_turned}
 use Rattle.bhs_lock.proofs.TallyLemmas.{has_agreed, is_some_if}
+use Rattle.std.proofs.lemmas.Bool.{ne_eqb}
 
 -- ---- the state after an event
 
@@ -279,18 +280,12 @@ Comes timed who after drawn =
     ⊎ ((arrived_by after.state drawn ≡ Some who) × ((departed_at (after.pasts who) ≡ timed.turn)
     × ((other : ℕ) → (other ≡ who → ⊥) → after.pasts other ≡ timed.pasts other)))
 
-unequal : (one two : ℕ) → (one ≡ two → ⊥) → (one == two) ≡ false
-unequal one two apart = elim (eqb_tells one two) [
-  | inl h ↦ absurd (apart h.1)
-  | inr h ↦ h.0
-]
-
 module _ (world : World) (held : Held) (timed : TimedState) (who : ℕ) where
   come_by : (position : Position) →
       Comes timed who (arrived_then world timed who position) (if is_bound position then Delivered who else Nobody)
   come_by (Bound node port) =
       let own : (who == who) ≡ true = eq-eqb who who refl in
-      inr (rw own refl, (rw own refl, λ other apart. rw (unequal other who apart) refl))
+      inr (rw own refl, (rw own refl, λ other apart. rw (ne_eqb other who apart) refl))
   come_by Before = inl (refl, λ other. refl)
   come_by (At node came) = inl (refl, λ other. refl)
   come_by After = inl (refl, λ other. refl)

@@ -1,9 +1,9 @@
 -- What is known of a connection, through each instruction.
-use Rattle.std.proofs.Common.{◌≡◌, ◌≢◌, ◌∙◌, ℕ, zero, suc, ◌<◌, ◌≤◌, inl, inr, Bool, true, false, cond}
+use Rattle.std.proofs.Common.{◌≡◌, ◌≢◌, ◌∙◌, ℕ, zero, suc, ◌<◌, inl, inr, Bool, true, false, cond}
 use Rattle.std.proofs.Common.{nat_lt, ◌==◌, Option, Some, None, List, [], ◌∷◌, ◌++◌, length, replicate, refl}
 use Rattle.std.proofs.Common.{sym, ap, subst, append_assoc, append-nil, arith}
-use Rattle.std.proofs.lemmas.Bool.{cond-true, cond-false, ltb-true, ltb-false, eq-eqb, ne_eqb}
-use Rattle.std.proofs.lemmas.List.{get_or_past, length-set, length-map}
+use Rattle.std.proofs.lemmas.Bool.{cond-true, cond-false, eq-eqb, ne_eqb}
+use Rattle.std.proofs.lemmas.List.{length-set, length-map}
 use Rattle.bhs_model.specs.declared.events.Event.{Event}
 use Rattle.bhs_model.specs.declared.setups.Setup.{Setup}
 use Rattle.bhs_model.specs.Views.{View, Away, standing}
@@ -39,6 +39,8 @@ use Rattle.bhs_theorems.proofs.MetClientLemmas.{unread_known}
 use Rattle.bhs_theorems.proofs.MetDrawLemmas.{draw_untold, draw_told}
 use Rattle.bhs_theorems.proofs.MetCloseLemmas.{close_known}
 use Rattle.bhs_theorems.proofs.StepCases.{by_client, event_step, by_event, by_close}
+use Rattle.bhs_theorems.proofs.SettledLemmas.{seat_within}
+use Rattle.bhs_theorems.proofs.TurnLemmas.{bare}
 
 -- ---- every instruction
 
@@ -202,10 +204,10 @@ sent_of setup past closed away connection input sent waits is here settled on_li
             ∙ over_none closed (standing (view_of g.met))
             (λ on. here stays (ap standing g.lived ∙ on))
       ]));
-  all_taken = λ still unended takes. by_bool waits (λ (is : Bool). waits ≡ is → lines_of connection.queue ≡ [])
-      (λ first on. absurd (let at = ap (λ (view : View). takes_commands (standing view)) g.lived in
+  all_taken = λ still unended takes. by_bool waits (λ (is : Bool). lines_of connection.queue ≡ [])
+      (λ on. absurd (let at = ap (λ (view : View). takes_commands (standing view)) g.lived in
       let away_now = ap takes_commands (on_link on) in cc))
-      (λ first off. ap lines_of (settled off)) refl;
+      (λ off. ap lines_of (settled off));
 }
 sent_of setup past closed away connection input sent waits is here settled on_link (inr d) = record {
   met = d.met;
@@ -226,30 +228,24 @@ sent_as_met_lemma one conn seat fresh_logs seated inside =
     let game = match_of one seat in
     let fed = fed_to conn nothing_fed one.script in
     let sent = sent_in one conn in
-    by_bool (nat_lt conn one.connections)
-    (λ (below : Bool). nat_lt conn one.connections ≡ below → IsSentAsMet game.setup (past_of one seat)
-    (state_of game).closed fed sent)
-    (λ first below.
+    let below : conn < one.connections =
+    let within = seat_within final.connections conn seat seated in
+    let same = length_script start one.script in
+    let count = length_fresh one.connections in
+    omega (arith, within, same, count) in
     let knows = script_known start conn nothing_fed [] one.script
-    (begun_known one.games one.keys one.connections conn (ltb-true conn one.connections below) fresh_logs) in
+    (begun_known one.games one.keys one.connections conn below fresh_logs) in
     let known : IsKnown final (connection_at final conn) fed sent (Some seat) =
     subst (λ (own : Option (ℕ × ℕ)). IsKnown final (connection_at final conn) fed sent own) seated knows.known in
     let waits : awaits_arrival final (connection_at final conn) ≡ is_away game seat.1 =
-    ap (λ (own : Option (ℕ × ℕ)). awaits_arrival final (record (connection_at final conn) { seat = own })) seated in
+    ap (λ (own : Option (ℕ × ℕ)). awaits_arrival final (bare own)) seated in
     sent_of game.setup (past_of one seat) (state_of game).closed (is_away game seat.1)
     (connection_at final conn) fed sent
     (awaits_arrival final (connection_at final conn)) waits
     (here_stands (world_in game) (past_of one seat) ((state_of game).position seat.1) (fits_here game seat.1))
     (knows.settled.all_taken conn)
     (λ on. away_stands (world_in game) (past_of one seat) ((state_of game).position seat.1) (fits_here game seat.1)
-    (sym waits ∙ on)) (known inside))
-    (λ first past.
-    let few : length final.connections ≤ conn = let same = length_script start one.script in
-    let count = length_fresh one.connections in let far = ltb-false conn one.connections past in
-    omega (arith, same, count, far) in
-    absurd (let never = sym (ap (λ (it : Connection). it.seat) (get_or_past final.connections conn unfed few))
-    ∙ seated in cc))
-    refl
+    (sym waits ∙ on)) (known inside)
 
 denied_of : (stage : Stage) (connection : Connection) (input : Fed) (sent : List ℕ)
     → IsKnown stage connection input sent None → IsDenial sent
