@@ -398,7 +398,8 @@ module _ (written some rest text : List ℕ) (taken : List Line) (cause : Ending
           → Talks (written ++ some) taken phase pass
       with_phase phase =
           talks_on written (written ++ some) taken (Owes text next) phase pass k rest
-          (append_assoc written some rest ∙ ap (λ (all : List ℕ). written ++ all) (split ∙ sym k.is_unwritten) ∙ k.heard)
+          (append_assoc written some rest
+          ∙ ap (λ (all : List ℕ). written ++ all) (split ∙ sym k.is_unwritten) ∙ k.heard)
 
       go : (next : Phase) → Behind next (phase_from Fresh k.all) k.parting k.left k.last
           → Talks (written ++ some) taken (stopped next cause) pass

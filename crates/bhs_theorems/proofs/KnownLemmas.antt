@@ -16,7 +16,7 @@ use Rattle.bhs_rehearsal.specs.Connections.{Item, Says, Ends, Connection, shut, 
 use Rattle.bhs_rehearsal.specs.Stages.{Stage, game_at, connection_at, with_game, with_connection, Entry, Waits, Sits}
 use Rattle.bhs_rehearsal.specs.Stages.{IsDenied, Goes, entry}
 use Rattle.bhs_theorems.proofs.MeetingLemmas.{view_from-append, bytes_from-append, commands-append, due-append}
-use Rattle.bhs_theorems.proofs.CuttingLemmas.{by_bool, by_same}
+use Rattle.bhs_theorems.proofs.CuttingLemmas.{by_same}
 use Rattle.bhs_theorems.proofs.TurnLemmas.{Turn, by_turn, placed, plays_turn, enters_turn, turn_in, played_at, grown}
 use Rattle.bhs_theorems.proofs.TurnLemmas.{ending}
 use Rattle.bhs_theorems.proofs.TurnLemmas.{seat_after}
@@ -28,6 +28,8 @@ use Rattle.bhs_theorems.proofs.AwayLemmas.{Alike, alike_itself}
 use Rattle.bhs_theorems.proofs.TookLemmas.{lines_of, lines_of-append, lines_of-says, has_end-says}
 use Rattle.bhs_theorems.proofs.TookLemmas.{has_end-end, IsQuiet, IsOpen, Took, took}
 use Rattle.bhs_theorems.proofs.AwayLemmas.{taken_alike}
+use Rattle.std.proofs.Common.{subst₂}
+use Rattle.std.proofs.lemmas.Bool.{cond_both}
 
 -- ---- what is known of a connection that plays
 
@@ -76,17 +78,21 @@ abbrev pub MetIn : Game → (agent : ℕ) → Connection → (input : Fed) (sent
 MetIn game agent connection input sent = MetBy game.setup ((state_of game).past agent) (state_of game).closed
     (is_away game agent) connection input sent
 
+-- of an agent that has this past, and so on
+pub met_from : {setup : Setup} {past : View} {closed away : Bool} (game : Game) (agent : ℕ) (connection : Connection)
+    (input : Fed) (sent : List ℕ) → game.setup ≡ setup → (state_of game).past agent ≡ past
+    → (state_of game).closed ≡ closed → is_away game agent ≡ away →
+    MetBy setup past closed away connection input sent → MetIn game agent connection input sent
+met_from {closed = closed} {away = away} game agent connection input sent setup_is past_is closed_is away_is met =
+    subst₂ (λ (one other : Bool). MetBy game.setup ((state_of game).past agent) one other connection input sent)
+    (sym closed_is) (sym away_is)
+    (subst₂ (λ (setup : Setup) (past : View). MetBy setup past closed away connection input sent) (sym setup_is)
+    (sym past_is) met)
+
 pub met_alike : (game new : Game) (agent : ℕ) (connection : Connection) (input : Fed) (sent : List ℕ)
     → Alike agent game new → MetIn game agent connection input sent → MetIn new agent connection input sent
 met_alike game new agent connection input sent same met =
-    subst (λ (setup : Setup). MetBy setup ((state_of new).past agent) (state_of new).closed (is_away new agent)
-    connection input sent) (sym same.setup_is)
-    (subst (λ (past : View). MetBy game.setup past (state_of new).closed (is_away new agent) connection input sent)
-    (sym same.past)
-    (subst (λ (closed : Bool). MetBy game.setup ((state_of game).past agent) closed (is_away new agent) connection input
-    sent) (sym same.closed)
-    (subst (λ (away : Bool). MetBy game.setup ((state_of game).past agent) (state_of game).closed away connection input
-    sent) (sym same.away) met)))
+    met_from new agent connection input sent same.setup_is same.past same.closed same.away met
 
 -- ---- it plays
 
@@ -180,15 +186,11 @@ met_taken game agent seat connection input sent within (going, open_yet) =
     done agent =
     took game.setup (state_of game).closed game agent connection.queue (record { setup_is = refl; within = within })
     going.lives refl going.last in
-    subst (λ (setup : Setup). MetBy setup ((state_of done.game).past agent) (state_of done.game).closed
-    (is_away done.game agent) (after (record connection { seat = Some seat }) done) input (sent ++ done.text))
-    (sym t.is_in.setup_is)
-    (subst (λ (closed : Bool). MetBy game.setup ((state_of done.game).past agent) closed (is_away done.game agent)
-    (after (record connection { seat = Some seat }) done) input (sent ++ done.text))
-    (sym t.closed_is)
+    met_from done.game agent (after (record connection { seat = Some seat }) done) input (sent ++ done.text)
+    t.is_in.setup_is refl t.closed_is refl
     (met_more game.setup ((state_of game).past agent) connection input sent going (state_of game).closed
     (is_away game agent) open_yet agent seat
-    done.game done.is_done done.left done.text t))
+    done.game done.is_done done.left done.text t)
 
 -- ---- it is fed
 
@@ -256,8 +258,7 @@ met_unread setup past closed away connection input sent fed ended (inl going) =
     subst (λ (new : Fed). MetBy setup past closed away connection new sent)
     (sym (cond-true _ _ _ (sym going.0.ends ∙ ended))) (inl going)
 met_unread setup past closed away connection input sent fed ended (inr done) =
-    by_bool input.has_ended (λ (has : Bool). MetBy setup past closed away connection
-    (cond has input (fed_more input fed)) sent)
+    cond_both input.has_ended _ _ (λ (new : Fed). MetBy setup past closed away connection new sent)
     (λ has. inr done)
     (λ not_yet.
     let awaited : done.over ≡ [] → takes_commands (standing (view_of done.met)) ≡ true → ⊥ =
@@ -454,14 +455,7 @@ module _ (stage : Stage) (conn : ℕ) (connection : Connection) where
         IsKnown (placed stage conn turn).stage turn.connection input (sent ++ turn.text) turn.connection.seat
     own_enter Waits outside untouched ready =
         subst (λ (own : Option (ℕ × ℕ)). IsKnown stage connection input (sent ++ []) own) (sym outside)
-        (inl (record {
-          heard = append-nil sent ∙ ready.heard;
-          split = ready.split;
-          still = ready.still;
-          ends = ready.ends;
-          end_waits = ready.end_waits;
-          last = ready.last;
-        }))
+        (inl (subst (Unseated connection input) (sym (append-nil sent)) ready))
     own_enter (Sits seat) outside untouched ready =
         own_play seat (begins seat (untouched seat
         (seat_after connection seat (taken (game_at stage seat.0) seat.1 connection.queue))) ready)

@@ -8,7 +8,7 @@ use Rattle.bhs_model.specs.declared.events.Event.TheVariants.{Close}
 use Rattle.bhs_model.specs.declared.setups.Setup.{Setup}
 use Rattle.bhs_model.specs.declared.replies.Reply.TheVariants as replies
 use Rattle.bhs_model.specs.Replying.{here}
-use Rattle.bhs_model.specs.Views.{View, Away, standing}
+use Rattle.bhs_model.specs.Views.{Away, standing}
 use Rattle.bhs_model.specs.Runs.{State, is_bound}
 use Rattle.bhs_session.specs.Texts.{text_of}
 use Rattle.bhs_rehearsal.specs.Games.{Game, state_of, played, is_away, world_in}
@@ -31,6 +31,7 @@ use Rattle.bhs_theorems.proofs.KnownLemmas.{MetBy, MetIn}
 use Rattle.bhs_theorems.proofs.KnownLemmas.{IsKnown}
 use Rattle.bhs_theorems.proofs.KnownLemmas.{Untouched, FreeAreUntouched}
 use Rattle.bhs_theorems.proofs.MetMoveLemmas.{Knows, same_bytes}
+use Rattle.bhs_theorems.proofs.KnownLemmas.{Going, Unseated, met_from}
 
 -- ---- a close
 
@@ -66,17 +67,10 @@ met_closed : (game : Game) (agent : ℕ) (connection : Connection) (input : Fed)
     (sent ++ cond waits (text_of replies.Over) [])
 met_closed game agent connection input sent waits was_open is met =
     let c = closed_of game agent in
-    let new = played game Close in
-    subst (λ (setup : Setup). MetBy setup ((state_of new).past agent) (state_of new).closed (is_away new agent)
-    (cond waits (shut connection) connection) input (sent ++ cond waits (text_of replies.Over) [])) (sym c.setup_is)
-    (subst (λ (past : View). MetBy game.setup past (state_of new).closed (is_away new agent)
-    (cond waits (shut connection) connection) input (sent ++ cond waits (text_of replies.Over) [])) (sym c.past)
-    (subst (λ (closed : Bool). MetBy game.setup ((state_of game).past agent) closed (is_away new agent)
-    (cond waits (shut connection) connection) input (sent ++ cond waits (text_of replies.Over) [])) (sym c.closed)
-    (subst (λ (away : Bool). MetBy game.setup ((state_of game).past agent) true away
-    (cond waits (shut connection) connection) input (sent ++ cond waits (text_of replies.Over) [])) (sym c.away)
+    met_from (played game Close) agent (cond waits (shut connection) connection) input
+    (sent ++ cond waits (text_of replies.Over) []) c.setup_is c.past c.closed c.away
     (by_waits (is_away game agent) waits is (away_stands (world_in game) ((state_of game).past agent)
-    ((state_of game).position agent) (fits_here game agent)) met)))) where
+    ((state_of game).position agent) (fits_here game agent)) met) where
       by_waits : (away waits : Bool) → waits ≡ away → (away ≡ true → standing ((state_of game).past agent) ≡ Away)
           → MetBy game.setup ((state_of game).past agent)
           (state_of game).closed away connection input sent →
@@ -101,23 +95,11 @@ met_closed game agent connection input sent waits was_open is met =
             done_by = λ still unended. absurd (cc);
           })
       by_waits away true is stands (inr d) = absurd (elim d.quiet [ inl closed ↦ cc | inr here ↦ cc ])
-      by_waits away false is stands (inl (g, open_yet)) = inl (
-        record {
-          met = g.met;
-          taken = g.taken;
-          split = g.split;
-          said = g.said;
-          due = g.due;
-          lived = g.lived;
-          heard = append-nil sent ∙ g.heard;
-          still = g.still;
-          ends = g.ends;
-          end_waits = g.end_waits;
-          last = g.last;
-          lives = g.lives;
-        },
-        inr (sym is),
-      )
+      by_waits away false is stands (inl (g, open_yet)) =
+          inl (
+            subst (Going game.setup ((state_of game).past agent) connection input) (sym (append-nil sent)) g,
+            inr (sym is),
+          )
       by_waits away false is stands (inr d) = inr (record {
         met = d.met;
         taken = d.taken;
@@ -199,14 +181,8 @@ module _ (stage : Stage) (game conn : ℕ) (input : Fed) (sent : List ℕ) (with
       IsKnown stage connection input sent own → IsKnown after_close (shut_if game closing connection) input
       (sent ++ over_if (waits_in game closing connection)) own
   close_by None unfinished queue ended (inl k) =
-      inl (record {
-        heard = append-nil sent ∙ k.heard;
-        split = k.split;
-        still = k.still;
-        ends = k.ends;
-        end_waits = k.end_waits;
-        last = k.last;
-      })
+      inl (subst (Unseated (record { seat = None; unfinished = unfinished; queue = queue; ended = ended }) input)
+      (sym (append-nil sent)) k)
   close_by None unfinished queue ended (inr k) = inr (k.0, subst IsDenial (sym (append-nil sent)) k.1)
   close_by (Some seat) unfinished queue ended known =
       close_seated seat (record { seat = Some seat; unfinished = unfinished; queue = queue; ended = ended })

@@ -183,8 +183,8 @@ module _ (game slow : Game) (is : IsSlowFor game slow) where
       ap (λ (event : Option Event). cond (state_of game).closed None event) (let_go_same one)
       ∙ ap (λ (state : State). cond state.closed None (delivery_to (held_in slow.held) state (picked state))) is.stands
       in
-      subst (λ (there : Option Event). MadeAlike (world_in game) (world_in slow) (state_of game) (made game picked) there)
-      same
+      subst (λ (there : Option Event). MadeAlike (world_in game) (world_in slow) (state_of game) (made game picked)
+      there) same
       (draw_alike (world_in game) (held_in game.held) (world_in slow) held_or_doomed instead (state_of game)
       (state_of game).closed one)
 
