@@ -33,19 +33,23 @@ use Rattle.std.proofs.lemmas.Bool.{cond_both}
 
 -- ---- what is known of a connection that plays
 
--- it goes on
-pub record Going (setup : Setup) (past : View) (connection : Connection) (input : Fed) (sent : List ℕ) : Type 0 where
-  pub met : List Meeting
-  pub taken : List Line
+-- what it was fed, where these lines were taken and the others wait
+pub record Reads (connection : Connection) (input : Fed) (taken : List Line) : Type 0 where
   pub split : lines input.bytes ≡ taken ++ lines_of connection.queue
-  pub said : commands met ≡ map command_of taken
-  pub due : AreDue setup.quota Start met
-  pub lived : past ≡ view_of met
-  pub heard : sent ≡ bytes setup.board met
   pub still : connection.ended ≡ false → connection.unfinished ≡ held_of input.bytes
   pub ends : connection.ended ≡ input.has_ended
   pub end_waits : has_end connection.queue ≡ input.has_ended
   pub last : EndsLast connection.queue
+
+-- it goes on
+pub record Going (setup : Setup) (past : View) (connection : Connection) (input : Fed) (sent : List ℕ) : Type 0 where
+  pub met : List Meeting
+  pub taken : List Line
+  pub reads : Reads connection input taken
+  pub said : commands met ≡ map command_of taken
+  pub due : AreDue setup.quota Start met
+  pub lived : past ≡ view_of met
+  pub heard : sent ≡ bytes setup.board met
   pub lives : standing past ≢ Ended
 
 -- it is done
@@ -124,7 +128,7 @@ module _ (setup : Setup) (past : View) (connection : Connection) (input : Fed) (
   split_joined : (found over : List Line) → lines_of connection.queue ≡ found ++ over
       → lines input.bytes ≡ (going.taken ++ found) ++ over
   split_joined found over is =
-      going.split ∙ ap (λ (queued : List Line). going.taken ++ queued) is ∙ sym (append_assoc going.taken found over)
+      going.reads.split ∙ ap (λ (queued : List Line). going.taken ++ queued) is ∙ sym (append_assoc going.taken found over)
 
   met_more : (game : Game) (is_done : Bool) (left : List Item) (text : List ℕ) →
       let done : Taken = record { game = game; is_done = is_done; left = left; text = text } in
@@ -135,16 +139,18 @@ module _ (setup : Setup) (past : View) (connection : Connection) (input : Fed) (
     (record {
       met = going.met ++ t.met;
       taken = going.taken ++ t.lines;
-      split = split_joined t.lines t.over t.split
-          ∙ ap (λ (over : List Line). (going.taken ++ t.lines) ++ over) (t.left refl);
+      reads = record {
+        split = split_joined t.lines t.over t.split
+            ∙ ap (λ (over : List Line). (going.taken ++ t.lines) ++ over) (t.left refl);
+        still = going.reads.still;
+        ends = going.reads.ends;
+        end_waits = sym (t.end_left refl) ∙ going.reads.end_waits;
+        last = t.last_left refl going.reads.last;
+      };
       said = said_joined t.met t.lines t.said;
       due = due_joined t.met t.due;
       lived = t.lived refl ∙ view_joined t.met;
       heard = ap (λ (more : List ℕ). sent ++ more) (t.heard refl) ∙ bytes_joined t.met;
-      still = going.still;
-      ends = going.ends;
-      end_waits = sym (t.end_left refl) ∙ going.end_waits;
-      last = t.last_left refl going.last;
       lives = t.lives refl;
     }),
     t.open_left refl open_yet,
@@ -158,7 +164,7 @@ module _ (setup : Setup) (past : View) (connection : Connection) (input : Fed) (
     due = due_joined t.met t.due;
     lived = subst (λ (view : View). IsPastOf input.has_ended view ((state_of game).past agent)) (view_joined t.met)
         (subst (λ (at : Bool). IsPastOf at (view_from past t.met) ((state_of game).past agent))
-        going.end_waits (t.died refl));
+        going.reads.end_waits (t.died refl));
     heard = ap (λ (more : List ℕ). sent ++ more) (t.last refl)
         ∙ sym (append_assoc sent (bytes_from setup.board past t.met)
         (over_text closed (standing (view_from past t.met)) t.over))
@@ -166,12 +172,12 @@ module _ (setup : Setup) (past : View) (connection : Connection) (input : Fed) (
         (ap (λ (view : View). over_text closed (standing view) t.over) (view_joined t.met));
     mute = λ still. ap (λ (view : View). over_text true (standing view) t.over) (sym (view_joined t.met))
         ∙ t.mute refl still;
-    by_end = λ none takes. sym going.end_waits ∙ t.by_end refl none
+    by_end = λ none takes. sym going.reads.end_waits ∙ t.by_end refl none
         (ap (λ (view : View). takes_commands (standing view)) (view_joined t.met) ∙ takes);
     quiet = t.quiet refl;
     ended = refl;
     done_by = λ still unended. ap (λ (view : View). takes_commands (standing view)) (sym (view_joined t.met))
-        ∙ t.done_by refl still (going.end_waits ∙ unended);
+        ∙ t.done_by refl still (going.reads.end_waits ∙ unended);
   })
 
 -- its items are taken
@@ -185,7 +191,7 @@ met_taken game agent seat connection input sent within (going, open_yet) =
     let t : Took game.setup (state_of game).closed (is_away game agent) ((state_of game).past agent) connection.queue
     done agent =
     took game.setup (state_of game).closed game agent connection.queue (record { setup_is = refl; within = within })
-    going.lives refl going.last in
+    going.lives refl going.reads.last in
     met_from done.game agent (after (record connection { seat = Some seat }) done) input (sent ++ done.text)
     t.is_in.setup_is refl t.closed_is refl
     (met_more game.setup ((state_of game).past agent) connection input sent going (state_of game).closed
@@ -207,45 +213,57 @@ found_more connection input fed taken split still =
     (ap (λ (last : List Line). lines_of connection.queue ++ last) (sym (lines_of-says found))
     ∙ sym (lines_of-append connection.queue (map Says found)))
 
-pub going_fed : (setup : Setup) (past : View) (connection : Connection) (input : Fed) (sent fed : List ℕ)
-    → connection.ended ≡ false →
-    Going setup past connection input sent → Going setup past (grown connection fed) (fed_more input fed) sent
-going_fed setup past connection input sent fed open_yet going = record {
-  met = going.met;
-  taken = going.taken;
-  split = found_more connection input fed going.taken going.split (going.still open_yet);
-  said = going.said;
-  due = going.due;
-  lived = going.lived;
-  heard = going.heard;
-  still = λ again. ap (λ (held : Option (List ℕ)). left_by held fed) (going.still open_yet)
+reads_fed : (connection : Connection) (input : Fed) (fed : List ℕ) (taken : List Line) → connection.ended ≡ false
+    → Reads connection input taken → Reads (grown connection fed) (fed_more input fed) taken
+reads_fed connection input fed taken open_yet is = record {
+  split = found_more connection input fed taken is.split (is.still open_yet);
+  still = λ again. ap (λ (held : Option (List ℕ)). left_by held fed) (is.still open_yet)
       ∙ sym (held_of-append input.bytes fed);
-  ends = going.ends;
-  end_waits = has_end-says connection.queue (found_in connection.unfinished fed) ∙ going.end_waits;
-  last = last_says connection.queue (found_in connection.unfinished fed) (going.end_waits ∙ sym going.ends ∙ open_yet);
-  lives = going.lives;
+  ends = is.ends;
+  end_waits = has_end-says connection.queue (found_in connection.unfinished fed) ∙ is.end_waits;
+  last = last_says connection.queue (found_in connection.unfinished fed) (is.end_waits ∙ sym is.ends ∙ open_yet);
 }
 
 lines_of-end : (items : List Item) → lines_of (items ++ Ends ∷ []) ≡ lines_of items
 lines_of-end items = lines_of-append items (Ends ∷ []) ∙ append-nil (lines_of items)
 
-pub going_ends : (setup : Setup) (past : View) (connection : Connection) (input : Fed) (sent : List ℕ)
-    → connection.ended ≡ false →
-    Going setup past connection input sent → Going setup past (ending connection) (at_end input) sent
-going_ends setup past connection input sent open_yet going = record {
+reads_ends : (connection : Connection) (input : Fed) (taken : List Line) → connection.ended ≡ false
+    → Reads connection input taken → Reads (ending connection) (at_end input) taken
+reads_ends connection input taken open_yet is = record {
+  split = is.split ∙ ap (λ (queued : List Line). taken ++ queued) (sym (lines_of-end connection.queue));
+  still = λ again. absurd (cc);
+  ends = refl;
+  end_waits = has_end-end connection.queue;
+  last = last_end connection.queue (is.end_waits ∙ sym is.ends ∙ open_yet);
+}
+
+-- of another connection and input, of which as much was taken
+going_reads : (setup : Setup) (past : View) (connection new : Connection) (input more : Fed) (sent : List ℕ)
+    (going : Going setup past connection input sent) → Reads new more going.taken → Going setup past new more sent
+going_reads setup past connection new input more sent going reads = record {
   met = going.met;
   taken = going.taken;
-  split = going.split ∙ ap (λ (queued : List Line). going.taken ++ queued) (sym (lines_of-end connection.queue));
+  reads = reads;
   said = going.said;
   due = going.due;
   lived = going.lived;
   heard = going.heard;
-  still = λ again. absurd (cc);
-  ends = refl;
-  end_waits = has_end-end connection.queue;
-  last = last_end connection.queue (going.end_waits ∙ sym going.ends ∙ open_yet);
   lives = going.lives;
 }
+
+pub going_fed : (setup : Setup) (past : View) (connection : Connection) (input : Fed) (sent fed : List ℕ)
+    → connection.ended ≡ false →
+    Going setup past connection input sent → Going setup past (grown connection fed) (fed_more input fed) sent
+going_fed setup past connection input sent fed open_yet going =
+    going_reads setup past connection (grown connection fed) input (fed_more input fed) sent going
+    (reads_fed connection input fed going.taken open_yet going.reads)
+
+pub going_ends : (setup : Setup) (past : View) (connection : Connection) (input : Fed) (sent : List ℕ)
+    → connection.ended ≡ false →
+    Going setup past connection input sent → Going setup past (ending connection) (at_end input) sent
+going_ends setup past connection input sent open_yet going =
+    going_reads setup past connection (ending connection) input (at_end input) sent going
+    (reads_ends connection input going.taken open_yet going.reads)
 
 -- what comes behind the end is not looked at
 abbrev pub fed_if : Fed → List ℕ → Fed
@@ -256,7 +274,7 @@ pub met_unread : (setup : Setup) (past : View) (closed away : Bool) (connection 
     MetBy setup past closed away connection input sent → MetBy setup past closed away connection (fed_if input fed) sent
 met_unread setup past closed away connection input sent fed ended (inl going) =
     subst (λ (new : Fed). MetBy setup past closed away connection new sent)
-    (sym (cond-true _ _ _ (sym going.0.ends ∙ ended))) (inl going)
+    (sym (cond-true _ _ _ (sym going.0.reads.ends ∙ ended))) (inl going)
 met_unread setup past closed away connection input sent fed ended (inr done) =
     cond_both input.has_ended _ _ (λ (new : Fed). MetBy setup past closed away connection new sent)
     (λ has. inr done)
@@ -288,7 +306,7 @@ pub met_unended : (setup : Setup) (past : View) (closed away : Bool) (connection
     MetBy setup past closed away connection input sent → MetBy setup past closed away connection (at_end input) sent
 met_unended setup past closed away connection input sent ended (inl going) =
     subst (λ (has : Bool). MetBy setup past closed away connection (record input { has_ended = has }) sent)
-    (sym going.0.ends ∙ ended) (inl going)
+    (sym going.0.reads.ends ∙ ended) (inl going)
 met_unended setup past closed away connection input sent ended (inr done) = inr (record {
   met = done.met;
   taken = done.taken;
@@ -309,11 +327,7 @@ met_unended setup past closed away connection input sent ended (inr done) = inr 
 
 pub record Unseated (connection : Connection) (input : Fed) (sent : List ℕ) : Type 0 where
   pub heard : sent ≡ []
-  pub split : lines input.bytes ≡ lines_of connection.queue
-  pub still : connection.ended ≡ false → connection.unfinished ≡ held_of input.bytes
-  pub ends : connection.ended ≡ input.has_ended
-  pub end_waits : has_end connection.queue ≡ input.has_ended
-  pub last : EndsLast connection.queue
+  pub reads : Reads connection input []
 
 abbrev pub IsKnown : Stage → Connection → (input : Fed) (sent : List ℕ) → Option (ℕ × ℕ) → Type 0
 IsKnown stage connection input sent None = Unseated connection input sent ⊎ ((connection.ended ≡ true) × IsDenial sent)
@@ -331,26 +345,13 @@ IsReady stage connection input sent (Some seat) =
 pub unseated_fed : (connection : Connection) (input : Fed) (sent fed : List ℕ) → connection.ended ≡ false
     → Unseated connection input sent →
     Unseated (grown connection fed) (fed_more input fed) sent
-unseated_fed connection input sent fed open_yet is = record {
-  heard = is.heard;
-  split = found_more connection input fed [] is.split (is.still open_yet);
-  still = λ again. ap (λ (held : Option (List ℕ)). left_by held fed) (is.still open_yet)
-      ∙ sym (held_of-append input.bytes fed);
-  ends = is.ends;
-  end_waits = has_end-says connection.queue (found_in connection.unfinished fed) ∙ is.end_waits;
-  last = last_says connection.queue (found_in connection.unfinished fed) (is.end_waits ∙ sym is.ends ∙ open_yet);
-}
+unseated_fed connection input sent fed open_yet is =
+    record { heard = is.heard; reads = reads_fed connection input fed [] open_yet is.reads }
 
 pub unseated_ends : (connection : Connection) (input : Fed) (sent : List ℕ) → connection.ended ≡ false
     → Unseated connection input sent → Unseated (ending connection) (at_end input) sent
-unseated_ends connection input sent open_yet is = record {
-  heard = is.heard;
-  split = is.split ∙ sym (lines_of-end connection.queue);
-  still = λ again. absurd (cc);
-  ends = refl;
-  end_waits = has_end-end connection.queue;
-  last = last_end connection.queue (is.end_waits ∙ sym is.ends ∙ open_yet);
-}
+unseated_ends connection input sent open_yet is =
+    record { heard = is.heard; reads = reads_ends connection input [] open_yet is.reads }
 
 -- who is not played has met nothing
 pub record Untouched (game : Game) (agent : ℕ) : Type 0 where
@@ -433,15 +434,11 @@ module _ (stage : Stage) (conn : ℕ) (connection : Connection) where
       record {
         met = [];
         taken = [];
-        split = ready.split;
+        reads = ready.reads;
         said = refl;
         due = tt;
         lived = untouched.past;
         heard = ready.heard;
-        still = ready.still;
-        ends = ready.ends;
-        end_waits = ready.end_waits;
-        last = ready.last;
         lives = λ ended. let is = ap standing untouched.past in cc;
       },
       inr untouched.at,

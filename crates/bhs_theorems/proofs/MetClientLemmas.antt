@@ -72,7 +72,7 @@ pub unread_known : (stage : Stage) (connection : Connection) (input : Fed) (sent
     IsKnown stage connection input sent own → IsKnown stage connection (fed_if input fed) sent own
 unread_known stage connection input sent fed None ended (inl known) =
     subst (λ (new : Fed). IsKnown stage connection new sent None)
-    (sym (cond-true _ _ _ (sym known.ends ∙ ended))) (inl known)
+    (sym (cond-true _ _ _ (sym known.reads.ends ∙ ended))) (inl known)
 unread_known stage connection input sent fed None ended (inr known) = inr known
 unread_known stage connection input sent fed (Some seat) ended known =
     λ within. met_unread _ _ _ _ connection input sent fed ended (known within)
@@ -82,7 +82,7 @@ pub unended_known : (stage : Stage) (connection : Connection) (input : Fed) (sen
     IsKnown stage connection input sent own → IsKnown stage connection (at_end input) sent own
 unended_known stage connection input sent None ended (inl known) =
     subst (λ (has : Bool). IsKnown stage connection (record input { has_ended = has }) sent None)
-    (sym known.ends ∙ ended) (inl known)
+    (sym known.reads.ends ∙ ended) (inl known)
 unended_known stage connection input sent None ended (inr known) = inr known
 unended_known stage connection input sent (Some seat) ended known =
     λ within. met_unended _ _ _ _ connection input sent ended (known within)
@@ -92,7 +92,7 @@ pub fed_ready : (stage : Stage) (connection : Connection) (input : Fed) (sent fe
     → connection.ended ≡ false →
     IsKnown stage connection input sent own → IsReady stage (grown connection fed) (fed_if input fed) sent own
 fed_ready stage connection input sent fed None still (inl known) =
-    subst (λ (new : Fed). Unseated (grown connection fed) new sent) (sym (cond-false _ _ _ (sym known.ends ∙ still)))
+    subst (λ (new : Fed). Unseated (grown connection fed) new sent) (sym (cond-false _ _ _ (sym known.reads.ends ∙ still)))
     (unseated_fed connection input sent fed still known)
 fed_ready stage connection input sent fed None still (inr known) = absurd (let ended = known.0 in cc)
 fed_ready stage connection input sent fed (Some seat) still known =
@@ -100,7 +100,7 @@ fed_ready stage connection input sent fed (Some seat) still known =
       | inl (going, open_yet) ↦ (
         subst (λ (new : Fed). Going (game_at stage seat.0).setup
             ((state_of (game_at stage seat.0)).past seat.1) (grown connection fed) new sent)
-            (sym (cond-false _ _ _ (sym going.ends ∙ still))) (going_fed _ _ connection input sent fed still going),
+            (sym (cond-false _ _ _ (sym going.reads.ends ∙ still))) (going_fed _ _ connection input sent fed still going),
         open_yet,
       )
       | inr done ↦ absurd (let ended = done.ended in cc)

@@ -101,7 +101,7 @@ going_arrives : (setup : Setup) (old new : View) (connection : Connection) (inpu
 going_arrives setup old new connection input sent sight away is going = record {
   met = going.met ++ Arrives sight ∷ [];
   taken = going.taken;
-  split = going.split;
+  reads = going.reads;
   said = commands-append going.met (Arrives sight ∷ []) ∙ append-nil _ ∙ going.said;
   due = due-append setup.quota Start going.met (Arrives sight ∷ []) going.due
       (ap standing (sym going.lived) ∙ away, tt);
@@ -109,10 +109,6 @@ going_arrives setup old new connection input sent sight away is going = record {
       ∙ sym (view_from-append Start going.met (Arrives sight ∷ []));
   heard = ap₂ (λ (one two : List ℕ). one ++ two) going.heard (sym (append-nil (text_of (here setup.board sight))))
       ∙ sym (bytes_from-append setup.board Start going.met (Arrives sight ∷ []));
-  still = going.still;
-  ends = going.ends;
-  end_waits = going.end_waits;
-  last = going.last;
   lives = λ ended. let at = ap standing is in cc;
 }
 

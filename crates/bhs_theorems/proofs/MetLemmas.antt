@@ -167,11 +167,7 @@ begun_known games keys connections conn there fresh_logs =
       known = subst (λ (one : Connection). IsKnown start one nothing_fed [] one.seat) (sym (fresh_at connections conn))
           (inl (record {
             heard = refl;
-            split = refl;
-            still = λ again. refl;
-            ends = refl;
-            end_waits = refl;
-            last = tt;
+            reads = record { split = refl; still = λ again. refl; ends = refl; end_waits = refl; last = tt };
           }));
       free = λ game agent free. record {
         past = ap (λ (log : List Event). (run_from (world_in (game_at start game)) initial log).past agent)
@@ -191,7 +187,7 @@ sent_of setup past closed away connection input sent waits is here settled on_li
   met = g.met;
   taken = g.taken;
   untaken = lines_of connection.queue;
-  split = g.split;
+  split = g.reads.split;
   said = g.said;
   due = g.due;
   lived = inl g.lived;
