@@ -128,7 +128,8 @@ module _ (setup : Setup) (past : View) (connection : Connection) (input : Fed) (
   split_joined : (found over : List Line) → lines_of connection.queue ≡ found ++ over
       → lines input.bytes ≡ (going.taken ++ found) ++ over
   split_joined found over is =
-      going.reads.split ∙ ap (λ (queued : List Line). going.taken ++ queued) is ∙ sym (append_assoc going.taken found over)
+      going.reads.split ∙ ap (λ (queued : List Line). going.taken ++ queued) is
+      ∙ sym (append_assoc going.taken found over)
 
   met_more : (game : Game) (is_done : Bool) (left : List Item) (text : List ℕ) →
       let done : Taken = record { game = game; is_done = is_done; left = left; text = text } in

@@ -92,7 +92,8 @@ pub fed_ready : (stage : Stage) (connection : Connection) (input : Fed) (sent fe
     → connection.ended ≡ false →
     IsKnown stage connection input sent own → IsReady stage (grown connection fed) (fed_if input fed) sent own
 fed_ready stage connection input sent fed None still (inl known) =
-    subst (λ (new : Fed). Unseated (grown connection fed) new sent) (sym (cond-false _ _ _ (sym known.reads.ends ∙ still)))
+    subst (λ (new : Fed). Unseated (grown connection fed) new sent)
+    (sym (cond-false _ _ _ (sym known.reads.ends ∙ still)))
     (unseated_fed connection input sent fed still known)
 fed_ready stage connection input sent fed None still (inr known) = absurd (let ended = known.0 in cc)
 fed_ready stage connection input sent fed (Some seat) still known =
@@ -100,7 +101,8 @@ fed_ready stage connection input sent fed (Some seat) still known =
       | inl (going, open_yet) ↦ (
         subst (λ (new : Fed). Going (game_at stage seat.0).setup
             ((state_of (game_at stage seat.0)).past seat.1) (grown connection fed) new sent)
-            (sym (cond-false _ _ _ (sym going.reads.ends ∙ still))) (going_fed _ _ connection input sent fed still going),
+            (sym (cond-false _ _ _ (sym going.reads.ends ∙ still)))
+            (going_fed _ _ connection input sent fed still going),
         open_yet,
       )
       | inr done ↦ absurd (let ended = done.ended in cc)
