@@ -7,7 +7,7 @@ use Rattle.std.proofs.Common.{slice_set}
 use Rattle.std.proofs.Math.ListN.{length-replicate}
 use Rattle.rand_chacha.specs.ChaCha.{ChaCha}
 use Rattle.std.specs.Prelude.{is_some, replicate}
-use Rattle.std.proofs.lemmas.Bool.{cond-true, cond-false, cond_both, lt-ltb, eq-eqb}
+use Rattle.std.proofs.lemmas.Bool.{cond-true, cond_both, lt-ltb, eq-eqb}
 use Rattle.std.proofs.lemmas.Bool.Decides.{eqb_tells}
 use Rattle.std.proofs.lemmas.List.{get_or-set_same, get_or-set_other}
 use Rattle.bhs_net.specs.Network.{Network}
@@ -26,7 +26,6 @@ use Rattle.bhs_model.specs.Runs.{Position, Before, At, Bound, After, State, init
 use Rattle.bhs_model.specs.Runs.{next, run}
 use Rattle.bhs_model.specs.Draws.{Held, is_held}
 use Rattle.bhs_model.specs.Kept.{lost}
-use Rattle.bhs_model.proofs.StepLemmas.{by_cases}
 use Rattle.bhs_model.proofs.AddLemmas.{run-append}
 use Rattle.bhs_model.proofs.KeptLemmas.{unkept_state}
 use Rattle.bhs_model.proofs.LegalLemmas.{AllLegal, all_run}
@@ -58,6 +57,8 @@ use Rattle.bhs_lock.proofs.ToldLemmas.{same_play}
 use Rattle.bhs_lock.proofs.DrawLemmas.{length_told, length_turned}
 use Rattle.bhs_lock.proofs.TallyLemmas.{has_agreed, is_some_if}
 use Rattle.std.proofs.lemmas.Bool.{ne_eqb}
+use Rattle.bhs_theorems.proofs.CuttingLemmas.{cond_alike}
+use Rattle.std.proofs.Common.{cond}
 
 -- ---- the state after an event
 
@@ -193,6 +194,12 @@ module _ (first : Play) (held : Held) (schedule : Schedule) (timed : TimedState)
         ∙ is.departed other below)
   ]
 
+  -- times that stand as a timed execution does
+  abbrev TimesAre : Timed → TimedState → Type 0
+  TimesAre times after = (times.turn ≡ after.turn)
+      × ((other : ℕ) → other < first.setup.agents → departed_in times.departed other ≡ departed_at (after.pasts other))
+      × (length times.departed ≡ first.setup.agents)
+
   told_by : (hall' : Housed) (pass pass' : Passed) (command : Command) (answer : Answer) → agrees hall pass ≡ true →
       IsHeardBy hall pass command answer hall' pass' →
       Alike first (timed_next (world_in first) held schedule timed (Says pass.agent command)) hall'
@@ -210,40 +217,27 @@ module _ (first : Play) (held : Held) (schedule : Schedule) (timed : TimedState)
       by.times
       ∙ ap₂ (λ (some away : Bool). if some then told_at away agent hall.times else hall.times) is_heard
       (away_by first timed hall is agent) in
-      by_cases (heard (world_in first) timed.state agent command) _
-      (λ (yes : heard (world_in first) timed.state agent command ≡ true).
-      let later : hall'.times ≡ told_at (is_away (standing (bare (timed.pasts agent)))) agent hall.times =
-      times ∙ cond-true _ _ _ yes in
-      let after : happened (world_in first) timed (Tell agent command) ≡ told_then
-      (world_in first) timed agent command =
-      cond-true _ _ _ yes in
+      let told : TimesAre (cond (heard (world_in first) timed.state agent command)
+      (told_at (is_away (standing (bare (timed.pasts agent)))) agent hall.times) hall.times)
+      (happened (world_in first) timed (Tell agent command)) =
+      cond_alike TimesAre (heard (world_in first) timed.state agent command)
+      (heard (world_in first) timed.state agent command) _ _ _ _ refl
+      (λ yes. (
+        told_turn _ agent hall.times ∙ is.turn,
+        told_departed agent command within,
+        length_told _ agent hall.times ∙ is.long,
+      ))
+      (λ no. (is.turn, is.departed, is.long)) in
       record {
         net = ap (λ (play : Play). play.net) by.told.grown ∙ is.net;
         setup = ap (λ (play : Play). play.setup) by.told.grown ∙ is.setup;
         state = state_after first timed hall is (Tell agent command) _ hall'.play by.told.grown;
-        turn = ap (λ (some : Timed). some.turn) later ∙ told_turn _ agent hall.times ∙ is.turn
-            ∙ sym (ap (λ (there : TimedState). there.turn) after);
+        turn = ap (λ (some : Timed). some.turn) times ∙ told.0;
         departed = λ other below.
-            ap (λ (some : Timed). departed_in some.departed other) later
-            ∙ told_departed agent command within other below
-            ∙ sym (ap (λ (there : TimedState). departed_at (there.pasts other)) after);
-        long = ap (λ (some : Timed). length some.departed) later ∙ length_told _ agent hall.times ∙ is.long;
+            ap (λ (some : Timed). departed_in some.departed other) times ∙ told.1 other below;
+        long = ap (λ (some : Timed). length some.departed) times ∙ told.2;
         stamped = next_stamped (world_in first) held schedule timed (Says agent command) is.stamped;
-      })
-      (λ (no : heard (world_in first) timed.state agent command ≡ false).
-      let later : hall'.times ≡ hall.times = times ∙ cond-false _ _ _ no in
-      let after : happened (world_in first) timed (Tell agent command) ≡ timed = cond-false _ _ _ no in
-      record {
-        net = ap (λ (play : Play). play.net) by.told.grown ∙ is.net;
-        setup = ap (λ (play : Play). play.setup) by.told.grown ∙ is.setup;
-        state = state_after first timed hall is (Tell agent command) _ hall'.play by.told.grown;
-        turn = ap (λ (some : Timed). some.turn) later ∙ is.turn ∙ sym (ap (λ (there : TimedState). there.turn) after);
-        departed = λ other below.
-            ap (λ (some : Timed). departed_in some.departed other) later ∙ is.departed other below
-            ∙ sym (ap (λ (there : TimedState). departed_at (there.pasts other)) after);
-        long = ap (λ (some : Timed). length some.departed) later ∙ is.long;
-        stamped = next_stamped (world_in first) held schedule timed (Says agent command) is.stamped;
-      })
+      }
 
   told_alike : (hall' : Housed) (agent : ℕ) (command : Command) → IsToldCall hall agent command hall' →
       Alike first (timed_next (world_in first) held schedule timed (Says agent command)) hall'

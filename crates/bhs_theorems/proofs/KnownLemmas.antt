@@ -103,9 +103,6 @@ met_alike game new agent connection input sent same met =
 module _ (setup : Setup) (past : View) (connection : Connection) (input : Fed) (sent : List ℕ)
     (going : Going setup past connection input sent) (closed was_away : Bool) (open_yet : IsOpen closed was_away)
     (agent : ℕ) (seat : ℕ × ℕ) where
-  abbrev all_met : List Meeting → List Meeting
-  all_met more = going.met ++ more
-
   bytes_joined : (more : List Meeting) → sent ++ bytes_from setup.board past more ≡ bytes setup.board
       (going.met ++ more)
   bytes_joined more =
