@@ -21,6 +21,8 @@ use Rattle.bhs_wire.specs.Lines.{said_by}
 use Rattle.bhs_session.specs.Texts.{command_by}
 use Rattle.bhs_rehearsal.specs.Games.{Game, world_in, state_of, played, reply_to, is_away}
 use Rattle.bhs_rehearsal.specs.Connections.{Item, Says, Ends, Taken, is_last, leaves, answers, taken}
+use Rattle.bhs_model.specs.Views.{Sight, Away}
+use Rattle.bhs_model.specs.Standings.{standing_at}
 
 -- ---- one event
 
@@ -59,10 +61,10 @@ alike_through agent game new newest one two = record {
 }
 
 -- two states that are the same for an agent
-record SameFor (agent : ℕ) (state new : State) : Type 0 where
-  past : new.past agent ≡ state.past agent
-  away : is_bound (new.position agent) ≡ is_bound (state.position agent)
-  closed : new.closed ≡ state.closed
+pub record SameFor (agent : ℕ) (state new : State) : Type 0 where
+  pub past : new.past agent ≡ state.past agent
+  pub away : is_bound (new.position agent) ≡ is_bound (state.position agent)
+  pub closed : new.closed ≡ state.closed
 
 same_for : (agent : ℕ) (state : State) → SameFor agent state state
 same_for agent state = record { past = refl; away = refl; closed = refl }
@@ -78,7 +80,7 @@ alike_by agent game event same =
       closed = ap (λ (state : State). state.closed) is ∙ same.closed;
     }
 
-told_others : (world : World) (state : State) (agent : ℕ) (command : Command) (other : ℕ) → other ≢ agent
+pub told_others : (world : World) (state : State) (agent : ℕ) (command : Command) (other : ℕ) → other ≢ agent
     → SameFor other state (next world state (Tell agent command))
 told_others world state agent command other apart =
     either (SameFor other state) (heard world state agent command) _ state
@@ -100,7 +102,7 @@ arrived_others world state agent Before other apart = same_for other state
 arrived_others world state agent (At node came) other apart = same_for other state
 arrived_others world state agent After other apart = same_for other state
 
-delivered_others : (world : World) (state : State) (agent other : ℕ) → other ≢ agent
+pub delivered_others : (world : World) (state : State) (agent other : ℕ) → other ≢ agent
     → SameFor other state (next world state (Deliver agent))
 delivered_others world state agent other apart =
     either (SameFor other state) (arrives world state agent) _ state
@@ -121,28 +123,43 @@ alike-no_arrival game agent other none =
     alike_by other game (Deliver agent) (subst (λ (state : State). SameFor other (state_of game) state)
     (sym (next_no_arrival (world_in game) (state_of game) agent none)) (same_for other (state_of game)))
 
--- ---- an arrival is answered
+-- ---- an arrival
 
-answered_there : (world : World) (state : State) (agent : ℕ) (position : Position)
-    → is_let_through world position ≡ true →
-    rep world.board ((delivered world state agent position).past agent) ≡ None → ⊥
-answered_there world state agent (Bound node port) through none =
+-- where an agent arrives
+pub record Arriving (world : World) (state : State) (agent : ℕ) (position : Position) : Type 0 where
+  pub sight : Sight
+  pub past_is : (delivered world state agent position).past agent ≡ Arrived (state.past agent) sight
+  pub away : standing_at position ≡ Away
+  -- it is on no link then
+  pub lands : is_bound ((delivered world state agent position).position agent) ≡ false
+
+arriving_at : (world : World) (state : State) (agent : ℕ) (position : Position)
+    → is_let_through world position ≡ true → Arriving world state agent position
+arriving_at world state agent (Bound node port) through =
     let far = world.net.far node port in
-    let past : (delivered world state agent (Bound node port)).past agent ≡ Arrived (state.past agent)
-    (sight_at world state far.0 (Some far.1)) = changed_same state.past agent _ in
-    let some = ap (rep world.board) past in
-    cc
-answered_there world state agent Before through none = cc
-answered_there world state agent (At node came) through none = cc
-answered_there world state agent After through none = cc
+    record {
+      sight = sight_at world state far.0 (Some far.1);
+      past_is = changed_same state.past agent _;
+      away = refl;
+      lands = ap is_bound (changed_same state.position agent _);
+    }
+arriving_at world state agent Before through = absurd (cc)
+arriving_at world state agent (At node came) through = absurd (cc)
+arriving_at world state agent After through = absurd (cc)
 
+pub arriving : (world : World) (state : State) (agent : ℕ) → arrives world state agent ≡ true
+    → Arriving world state agent (state.position agent)
+arriving world state agent comes =
+    arriving_at world state agent (state.position agent) (and_parts (not state.closed) _ comes).1
+
+-- it is answered
 pub unanswered : (world : World) (state : State) (agent : ℕ) → reply world state (Deliver agent) ≡ None
     → arrives world state agent ≡ false
 unanswered world state agent none =
-    false_from_ne_true (arrives world state agent) (λ arrival.
-    answered_there world state agent (state.position agent)
-    (and_parts (not state.closed) (is_let_through world (state.position agent)) arrival).1
-    (sym (arrival_by_past world state agent arrival) ∙ none))
+    false_from_ne_true (arrives world state agent) (λ comes.
+    let some = arrival_by_past world state agent comes
+    ∙ ap (rep world.board) (arriving world state agent comes).past_is in
+    cc)
 
 -- without an answer everyone stays
 pub alike-unanswered : (game : Game) (agent other : ℕ) → reply_to game (Deliver agent) ≡ None

@@ -10,9 +10,9 @@ use Rattle.bhs_model.specs.declared.replies.Reply.{Reply}
 use Rattle.bhs_model.specs.Replying.{rep, here}
 use Rattle.bhs_model.specs.Views.{View, Start, Arrived, Sight, Away, standing}
 use Rattle.bhs_model.specs.Worlds.{World}
-use Rattle.bhs_model.specs.Runs.{State, Position, Before, At, Bound, After, is_bound, sight_at, arrives}
-use Rattle.bhs_model.specs.Runs.{is_let_through, delivered}
-use Rattle.bhs_model.proofs.StepLemmas.{changed_same, arrival_by_past, no_arrival_no_reply, next_arrived}
+use Rattle.bhs_model.specs.Runs.{State, is_bound, arrives}
+use Rattle.bhs_model.specs.Runs.{is_let_through}
+use Rattle.bhs_model.proofs.StepLemmas.{arrival_by_past, no_arrival_no_reply, next_arrived}
 use Rattle.bhs_session.specs.Texts.{text_of}
 use Rattle.bhs_rehearsal.specs.Games.{Game, world_in, state_of, played, reply_to, is_away}
 use Rattle.bhs_rehearsal.specs.Connections.{Connection}
@@ -37,6 +37,7 @@ use Rattle.bhs_theorems.proofs.StepCases.{IsUntold, arrival_step}
 use Rattle.bhs_theorems.proofs.AwayLemmas.{unanswered}
 use Rattle.bhs_theorems.proofs.TurnLemmas.{placed, turn_of}
 use Rattle.std.proofs.lemmas.Bool.{false_from_ne_true, true_from_ne_false}
+use Rattle.bhs_theorems.proofs.AwayLemmas.{arriving}
 
 -- ---- a draw
 
@@ -46,36 +47,21 @@ pub record Arrival (setup : Setup) (old new : View) (replied : Option Reply) : T
   pub replied_is : replied ≡ Some (here setup.board sight)
   pub new_is : new ≡ Arrived old sight
 
-arrival_at : (world : World) (state : State) (agent : ℕ) (position : Position) → is_let_through world position ≡ true →
-    (sight : Sight) × ((delivered world state agent position).past agent ≡ Arrived (state.past agent) sight)
-arrival_at world state agent (Bound node port) through = let far = world.net.far node port in
-    (sight_at world state far.0 (Some far.1), changed_same state.past agent _)
-arrival_at world state agent Before through = absurd (cc)
-arrival_at world state agent (At node came) through = absurd (cc)
-arrival_at world state agent After through = absurd (cc)
-
 pub arrival : (game : Game) (agent : ℕ) → arrives (world_in game) (state_of game) agent ≡ true →
     Arrival game.setup ((state_of game).past agent) ((state_of (played game (Deliver agent))).past agent)
     (reply_to game (Deliver agent))
 arrival game agent comes =
     let world = world_in game in
     let state = state_of game in
-    let at = arrival_at world state agent (state.position agent) (and_parts (not state.closed) _ comes).1 in
+    let at = arriving world state agent comes in
     record {
-      sight = at.0;
-      replied_is = arrival_by_past world state agent comes ∙ ap (λ (view : View). rep game.setup.board view) at.1;
+      sight = at.sight;
+      replied_is = arrival_by_past world state agent comes ∙ ap (λ (view : View). rep game.setup.board view) at.past_is;
       new_is = ap (λ (after : State). after.past agent)
-          (state_of-played game (Deliver agent) ∙ next_arrived world state agent comes) ∙ at.1;
+          (state_of-played game (Deliver agent) ∙ next_arrived world state agent comes) ∙ at.past_is;
     }
 
 -- who has arrived is on no link
-arrived_at : (world : World) (state : State) (agent : ℕ) (position : Position) → is_let_through world position ≡ true →
-    is_bound ((delivered world state agent position).position agent) ≡ false
-arrived_at world state agent (Bound node port) through = ap is_bound (changed_same state.position agent _)
-arrived_at world state agent Before through = absurd (cc)
-arrived_at world state agent (At node came) through = absurd (cc)
-arrived_at world state agent After through = absurd (cc)
-
 pub arrived_here : (game : Game) (agent : ℕ) → arrives (world_in game) (state_of game) agent ≡ true
     → is_away (played game (Deliver agent)) agent ≡ false
 arrived_here game agent comes =
@@ -83,7 +69,7 @@ arrived_here game agent comes =
     let state = state_of game in
     ap (λ (after : State). is_bound (after.position agent))
     (state_of-played game (Deliver agent) ∙ next_arrived world state agent comes)
-    ∙ arrived_at world state agent (state.position agent) (and_parts (not state.closed) _ comes).1
+    ∙ (arriving world state agent comes).lands
 
 -- who arrives is on a link, before the close
 pub away_arrives : (world : World) (state : State) (agent : ℕ) → arrives world state agent ≡ true
