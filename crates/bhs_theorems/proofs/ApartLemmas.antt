@@ -72,7 +72,7 @@ turn_of_connection stage conn connection within =
 client_of_connection : (stage : Stage) (conn : ℕ) (connection : Connection) (ended : Bool)
     → IsOfConnection stage conn (client_step stage conn connection ended)
 client_of_connection stage conn connection ended = by_client (IsOfConnection stage conn) stage conn connection ended
-    (nothing_of_connection stage conn) (turn_of_connection stage conn connection)
+    (λ idle. nothing_of_connection stage conn) (λ within goes_on. turn_of_connection stage conn connection within)
 
 pub clients_lemma : ClientsKeepToThemselves
 clients_lemma stage conn bytes =

@@ -1,23 +1,23 @@
 -- What is known of a connection, where a client is fed or ends.
-use Rattle.std.proofs.Common.{◌≡◌, ◌≢◌, ◌∙◌, ℕ, inl, inr, Bool, true, false, cond}
-use Rattle.std.proofs.Common.{nat_lt, Option, Some, None, List, [], ◌++◌, length, refl}
+use Rattle.std.proofs.Common.{◌≡◌, ◌≢◌, ◌∙◌, ℕ, inl, inr, Bool, true, false}
+use Rattle.std.proofs.Common.{Option, Some, None, List, [], ◌++◌, refl}
 use Rattle.std.proofs.Common.{sym, subst, append-nil, arith}
-use Rattle.std.proofs.lemmas.Bool.{cond-true, cond-false, ltb-true, ltb-false}
+use Rattle.std.proofs.lemmas.Bool.{cond-true, cond-false}
 use Rattle.bhs_rehearsal.specs.Games.{state_of}
 use Rattle.bhs_rehearsal.specs.Connections.{Connection, unfed}
-use Rattle.bhs_rehearsal.specs.Stages.{Stage, game_at, connection_at, with_connection}
-use Rattle.bhs_rehearsal.specs.Stages.{Moved, moves}
-use Rattle.bhs_rehearsal.specs.Stages.{Stepped, sent_to, stepped, nothing}
+use Rattle.bhs_rehearsal.specs.Stages.{Stage, game_at, connection_at}
+use Rattle.bhs_rehearsal.specs.Stages.{Stepped}
 use Rattle.bhs_theorems.specs.ScriptLaws.{IsSettled}
 use Rattle.bhs_theorems.specs.Clients.{bytes_among}
 use Rattle.bhs_theorems.proofs.CuttingLemmas.{by_same}
-use Rattle.bhs_theorems.proofs.TurnLemmas.{placed, turn_of, moves-placed, grown}
+use Rattle.bhs_theorems.proofs.TurnLemmas.{grown}
 use Rattle.bhs_theorems.specs.Clients.{Fed, at_end}
 use Rattle.bhs_theorems.proofs.KnownLemmas.{Going, going_fed, going_ends, met_unread}
 use Rattle.bhs_theorems.proofs.TurnLemmas.{ending}
 use Rattle.bhs_theorems.proofs.KnownLemmas.{met_unended, fed_if, Unseated, unseated_fed, unseated_ends, IsKnown}
 use Rattle.bhs_theorems.proofs.KnownLemmas.{IsReady}
 use Rattle.bhs_theorems.proofs.MetMoveLemmas.{Knows, moved, same_bytes}
+use Rattle.bhs_theorems.proofs.StepCases.{client_step, by_client}
 
 -- ---- a client
 
@@ -28,43 +28,33 @@ nothing_more stage conn input sent knows = same_bytes stage conn input input sen
 
 -- before a client's connection moves, it stands so; and its input is this then
 pub client : (stage : Stage) (mover conn : ℕ) (connection : Connection) (fed input : Fed) (sent : List ℕ)
-    (below ended : Bool) → nat_lt mover (length stage.connections) ≡ below →
-    connection.seat ≡ (connection_at stage mover).seat →
-    let after : Stepped = cond below (cond ended (nothing stage)
-    (stepped mover (moves (with_connection stage mover connection) mover))) (nothing stage) in
-    IsSettled after.stage → Knows stage conn input sent →
+    (ended : Bool) → connection.seat ≡ (connection_at stage mover).seat → Knows stage conn input sent →
     (conn ≢ mover → input ≡ fed) →
     (conn ≡ mover → ended ≡ true → IsKnown stage (connection_at stage conn) fed sent (connection_at stage conn).seat) →
     (conn ≡ mover → ended ≡ false → IsReady stage connection fed sent connection.seat) →
-    Knows after.stage conn fed (sent ++ bytes_among conn after.outs)
-client stage mover conn connection fed input sent false ended below as_before settled knows unfed unread ready =
-    let apart : conn ≢ mover = λ same. absurd (let past = ltb-false mover (length stage.connections) below in
-    let there = knows.there in omega (arith, past, there, same)) in
-    same_bytes stage conn input fed (sent ++ []) (sent ++ []) (unfed apart) refl
-    (nothing_more stage conn input sent knows)
-client stage mover conn connection fed input sent true true below as_before settled knows unfed unread ready =
-    by_same conn mover
-    (λ is. nothing_more stage conn fed sent
-    (record {
-      known = unread is refl;
+    let after = client_step stage mover connection ended in
+    IsSettled after.stage → Knows after.stage conn fed (sent ++ bytes_among conn after.outs)
+client stage mover conn connection fed input sent ended as_before knows unfed unread ready =
+    by_client (λ (after : Stepped). IsSettled after.stage
+    → Knows after.stage conn fed (sent ++ bytes_among conn after.outs)) stage mover connection ended
+    (λ idle settled. by_same conn mover
+    (λ is. nothing_more stage conn fed sent (record {
+      known = unread is (elim idle [
+        | inl past ↦ absurd (let there = knows.there in omega (arith, past, there, is))
+        | inr has_ended ↦ has_ended
+      ]);
       free = knows.free;
       settled = knows.settled;
       there = knows.there;
     }))
-    (λ apart.
-    same_bytes stage conn input fed (sent ++ []) (sent ++ []) (unfed apart) refl
-    (nothing_more stage conn input sent knows))
-client stage mover conn connection fed input sent true false below as_before settled knows unfed unread ready =
-    let within = ltb-true mover (length stage.connections) below in
-    let is_placed = moves-placed stage mover connection within in
-    let settled_placed : IsSettled (placed stage mover (turn_of stage mover connection)).stage =
-    subst (λ (m : Moved). IsSettled m.stage) is_placed settled in
-    subst (λ (m : Moved). Knows m.stage conn fed (sent ++ bytes_among conn (sent_to mover m.text))) (sym is_placed)
-    (moved stage mover connection within as_before knows.free settled_placed conn [] fed sent knows.there
+    (λ apart. same_bytes stage conn input fed (sent ++ []) (sent ++ []) (unfed apart) refl
+    (nothing_more stage conn input sent knows)))
+    (λ within goes_on settled. moved stage mover connection within as_before knows.free settled conn [] fed sent
+    knows.there
     (λ apart. subst (λ (from : Fed). IsKnown stage (connection_at stage conn) from sent (connection_at stage conn).seat)
     (unfed apart) knows.known)
     (λ same. subst (λ (out : List ℕ). IsReady stage connection fed out connection.seat) (sym (append-nil sent))
-    (ready same refl)))
+    (ready same goes_on)))
 
 -- an ended connection, fed more, or ended again
 pub unread_known : (stage : Stage) (connection : Connection) (input : Fed) (sent fed : List ℕ) (own : Option (ℕ × ℕ))

@@ -1,6 +1,6 @@
 -- What is known of a connection, through each instruction.
 use Rattle.std.proofs.Common.{◌≡◌, ◌≢◌, ◌∙◌, ℕ, zero, suc, ◌<◌, inl, inr, Bool, true, false, cond}
-use Rattle.std.proofs.Common.{nat_lt, ◌==◌, Option, Some, None, List, [], ◌∷◌, ◌++◌, length, replicate, refl}
+use Rattle.std.proofs.Common.{◌==◌, Option, Some, None, List, [], ◌∷◌, ◌++◌, length, replicate, refl}
 use Rattle.std.proofs.Common.{sym, ap, subst, append_assoc, append-nil, arith}
 use Rattle.std.proofs.lemmas.Bool.{cond-true, cond-false, eq-eqb, ne_eqb}
 use Rattle.std.proofs.lemmas.List.{length-set, length-map}
@@ -68,9 +68,7 @@ step_known stage conn input sent (Feeds mover fed) knows =
     same knows.known in
     let all : conn ≡ mover → fed_if input fed ≡ fed_by conn input (Feeds mover fed) =
     λ same. sym (cond-true (mover == conn) (fed_if input fed) input (eq-eqb mover conn (sym same))) in
-    client stage mover conn (grown old fed) (fed_by conn input (Feeds mover fed)) input sent
-    (nat_lt mover (length stage.connections)) old.ended refl refl
-    (settle_lemma stage (Feeds mover fed) knows.settled) knows
+    client stage mover conn (grown old fed) (fed_by conn input (Feeds mover fed)) input sent old.ended refl knows
     (λ apart. sym (cond-false (mover == conn) (fed_if input fed) input (ne_eqb mover conn (λ same. apart (sym same)))))
     (λ same ended. subst (λ (new : Fed). IsKnown stage (connection_at stage conn) new sent
     (connection_at stage conn).seat) (all same)
@@ -78,6 +76,7 @@ step_known stage conn input sent (Feeds mover fed) knows =
     (ap (λ (one : ℕ). (connection_at stage one).ended) same ∙ ended) knows.known))
     (λ same still. subst (λ (new : Fed). IsReady stage (grown old fed) new sent old.seat) (all same)
     (fed_ready stage old input sent fed old.seat still (mine same)))
+    (settle_lemma stage (Feeds mover fed) knows.settled)
 step_known stage conn input sent (EndsInput mover) knows =
     let old = connection_at stage mover in
     let mine : conn ≡ mover → IsKnown stage old input sent old.seat =
@@ -85,9 +84,7 @@ step_known stage conn input sent (EndsInput mover) knows =
     same knows.known in
     let all : conn ≡ mover → at_end input ≡ fed_by conn input (EndsInput mover) =
     λ same. sym (cond-true (mover == conn) (at_end input) input (eq-eqb mover conn (sym same))) in
-    client stage mover conn (ending old) (fed_by conn input (EndsInput mover)) input sent
-    (nat_lt mover (length stage.connections)) old.ended refl refl
-    (settle_lemma stage (EndsInput mover) knows.settled) knows
+    client stage mover conn (ending old) (fed_by conn input (EndsInput mover)) input sent old.ended refl knows
     (λ apart. sym (cond-false (mover == conn) (at_end input) input (ne_eqb mover conn (λ same. apart (sym same)))))
     (λ same ended. subst (λ (new : Fed). IsKnown stage (connection_at stage conn) new sent
     (connection_at stage conn).seat) (all same)
@@ -95,6 +92,7 @@ step_known stage conn input sent (EndsInput mover) knows =
     (ap (λ (one : ℕ). (connection_at stage one).ended) same ∙ ended) knows.known))
     (λ same still. subst (λ (new : Fed). IsReady stage (ending old) new sent old.seat) (all same)
     (end_ready stage old input sent old.seat still (mine same)))
+    (settle_lemma stage (EndsInput mover) knows.settled)
 step_known stage conn input sent (Draws game word) knows =
     event_known stage conn input sent game (drawn (game_at stage game) word) knows
     (settle_lemma stage (Draws game word) knows.settled)
@@ -136,10 +134,10 @@ length_step : (stage : Stage) (instruction : Instruction) → length (step stage
     stage.connections
 length_step stage (Feeds conn bytes) =
     by_client (HasAsMany stage) stage conn (grown (connection_at stage conn) bytes) (connection_at stage conn).ended
-    refl (λ within. length-set stage.connections conn _)
+    (λ idle. refl) (λ within goes_on. length-set stage.connections conn _)
 length_step stage (EndsInput conn) =
-    by_client (HasAsMany stage) stage conn (ending (connection_at stage conn)) (connection_at stage conn).ended refl
-    (λ within. length-set stage.connections conn _)
+    by_client (HasAsMany stage) stage conn (ending (connection_at stage conn)) (connection_at stage conn).ended
+    (λ idle. refl) (λ within goes_on. length-set stage.connections conn _)
 length_step stage (Draws game word) = length_event stage game (drawn (game_at stage game) word)
 length_step stage (Delivers game agent) = length_event stage game (delivered (game_at stage game) agent)
 length_step stage (Closes game) = by_close (HasAsMany stage) stage game refl

@@ -139,8 +139,8 @@ client_of_match : (game : ℕ) (stage : Stage) (conn : ℕ) (connection : Connec
     IsOfMatch game stage (client_step stage conn connection ended)
 client_of_match game stage conn connection ended as_before here =
     let seated = seat_in game (connection_at stage conn) here in
-    by_client (IsOfMatch game stage) stage conn connection ended (nothing_of_match game stage)
-    (λ within. turn_of_match stage game conn seated.0 connection [] seated.1 (as_before ∙ seated.1))
+    by_client (IsOfMatch game stage) stage conn connection ended (λ idle. nothing_of_match game stage)
+    (λ within goes_on. turn_of_match stage game conn seated.0 connection [] seated.1 (as_before ∙ seated.1))
 
 -- ---- a draw, a delivery and a close
 

@@ -35,8 +35,8 @@ settled_but stage conn settled = record {
 client_settles : (stage : Stage) (conn : ℕ) (connection : Connection) (ended : Bool) → IsSettled stage
     → connection.seat ≡ (connection_at stage conn).seat → IsSettled (client_step stage conn connection ended).stage
 client_settles stage conn connection ended settled as_before =
-    by_client (λ (done : Stepped). IsSettled done.stage) stage conn connection ended settled
-    (λ within. turn_settles stage conn connection within (settled_but stage conn settled) as_before)
+    by_client (λ (done : Stepped). IsSettled done.stage) stage conn connection ended (λ idle. settled)
+    (λ within goes_on. turn_settles stage conn connection within (settled_but stage conn settled) as_before)
 
 -- ---- a draw
 

@@ -1,8 +1,8 @@
 -- What an instruction comes to: nothing, or the one thing that it does.
-use Rattle.std.proofs.Common.{ℕ, ◌<◌, ◌≡◌, ◌⊎◌, inl, inr, ◌==◌, Bool, true, false, cond, nat_lt, Option, Some, None}
+use Rattle.std.proofs.Common.{ℕ, ◌<◌, ◌≤◌, ◌≡◌, ◌⊎◌, inl, inr, ◌==◌, Bool, true, false, cond, nat_lt, Option, Some, None}
 use Rattle.std.proofs.Common.{◌++◌, length, sym, ap₂, subst, refl}
 use Rattle.std.specs.List.{position}
-use Rattle.std.proofs.lemmas.Bool.{and_parts, cond_both, eqb-true, ltb-true}
+use Rattle.std.proofs.lemmas.Bool.{and_parts, cond_both, eqb-true, ltb-true, ltb-false}
 use Rattle.std.proofs.lemmas.List.Quantifiers.{position-Some}
 use Rattle.bhs_model.specs.declared.events.Event.{Event}
 use Rattle.bhs_model.specs.declared.events.Event.TheVariants.{Tell, Deliver, Close}
@@ -22,17 +22,19 @@ client_step stage conn connection ended =
     cond (nat_lt conn (length stage.connections))
     (cond ended (nothing stage) (stepped conn (moves (with_connection stage conn connection) conn))) (nothing stage)
 
+-- it is not there, or its input has ended: then nothing comes of it
 pub by_client : (P : Stepped → Type 0) (stage : Stage) (conn : ℕ) (connection : Connection) (ended : Bool)
-    → P (nothing stage) →
-    (conn < length stage.connections → P (stepped conn (placed stage conn (turn_of stage conn connection)))) →
+    → ((length stage.connections ≤ conn) ⊎ (ended ≡ true) → P (nothing stage)) →
+    (conn < length stage.connections → ended ≡ false
+    → P (stepped conn (placed stage conn (turn_of stage conn connection)))) →
     P (client_step stage conn connection ended)
-by_client P stage conn connection ended none moved =
+by_client P stage conn connection ended idle moved =
     cond_both (nat_lt conn (length stage.connections)) _ _ P
-    (λ below. cond_both ended _ _ P (λ is. none) (λ goes_on.
+    (λ below. cond_both ended _ _ P (λ is. idle (inr is)) (λ goes_on.
     let within = ltb-true conn (length stage.connections) below in
     subst (λ (by_move : Moved). P (stepped conn by_move)) (sym (moves-placed stage conn connection within))
-    (moved within)))
-    (λ past. none)
+    (moved within goes_on)))
+    (λ past. idle (inl (ltb-false conn (length stage.connections) past)))
 
 -- who has a seat
 seat_is : (seat : ℕ × ℕ) (own : Option (ℕ × ℕ)) → has_seat seat (bare own) ≡ true → own ≡ Some seat
