@@ -41,7 +41,7 @@ accuse_fits : (is_port : Bool) → Fits (answered_by true (cond is_port replies.
 accuse_fits true = tt
 accuse_fits false = refl
 
-heard_fits : (limit : ℕ) (stands : Standing) (room : Bool) (ports : ℕ) (command : Command) (glance : Glance)
+pub heard_fits : (limit : ℕ) (stands : Standing) (room : Bool) (ports : ℕ) (command : Command) (glance : Glance)
     → takes_commands stands ≡ true → accepts stands room command ≡ true →
     Fits (answered_by true (answer limit stands ports command glance)) (standing_after stands ports command)
 heard_fits limit Present room ports (commands.Write expect put) (Saw (Seen count came last_write)) takes allowed =

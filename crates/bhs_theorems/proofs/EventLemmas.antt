@@ -10,7 +10,7 @@ use Rattle.bhs_model.specs.declared.setups.Setup.{Setup}
 use Rattle.bhs_model.specs.declared.replies.Reply.{Reply}
 use Rattle.bhs_model.specs.declared.replies.Reply.TheVariants as replies
 use Rattle.bhs_model.specs.declared.replies.Why.TheVariants as whys
-use Rattle.bhs_model.specs.Views.{View, Told, Glance, Nothing, Saw, Seen, Standing, Outside, Present, Away, Ended}
+use Rattle.bhs_model.specs.Views.{View, Told, Glance, Saw, Seen, Standing, Outside, Present, Away, Ended}
 use Rattle.bhs_model.specs.Views.{standing, standing_after, ports}
 use Rattle.bhs_model.specs.Replying.{answer, sight_answer, text, accepts, hears, rep}
 use Rattle.bhs_model.specs.Worlds.{World}
@@ -25,6 +25,10 @@ use Rattle.bhs_theorems.proofs.AwayLemmas.{state_of-played, setup-played}
 use Rattle.bhs_theorems.proofs.FitLemmas.{fits_here, here_stands}
 use Rattle.bhs_theorems.specs.Met.{Meeting, Hears, Refuses, past_after, command_in, answer_to, takes_commands, IsDue}
 use Rattle.bhs_model.proofs.LegalLemmas.{either}
+use Rattle.bhs_theorems.proofs.AnsweredLemmas.{Fits, heard_fits}
+use Rattle.bhs_session.specs.Phase.{Phase, Fresh, Ready, Awaits, Owes, Leaves, Finished, answered_by}
+use Rattle.bhs_session.specs.Machine.{is_finished}
+use Rattle.std.proofs.Common.{arith}
 
 -- a match that was set up so, with this agent in it
 pub record IsIn (setup : Setup) (agent : ℕ) (game : Game) : Type 0 where
@@ -101,19 +105,7 @@ sight_is_not_last : (limit : ℕ) (command : Command) (glance : Glance)
 sight_is_not_last limit (commands.Write expect put) (Saw (Seen ports came last_write)) =
     cond_last (nat_le (length put) limit) _ (replies.No whys.Long)
     (cond_last (bytes_eq (text limit last_write) expect) replies.Written _ refl refl) refl
-sight_is_not_last limit (commands.Write expect put) Nothing = refl
-sight_is_not_last limit commands.Enter (Saw (Seen ports came last_write)) = refl
-sight_is_not_last limit commands.Look (Saw (Seen ports came last_write)) = refl
-sight_is_not_last limit (commands.Depart port) (Saw (Seen ports came last_write)) = refl
-sight_is_not_last limit (commands.Accuse port) (Saw (Seen ports came last_write)) = refl
-sight_is_not_last limit commands.Leave (Saw (Seen ports came last_write)) = refl
-sight_is_not_last limit commands.Bad (Saw (Seen ports came last_write)) = refl
-sight_is_not_last limit commands.Enter Nothing = refl
-sight_is_not_last limit commands.Look Nothing = refl
-sight_is_not_last limit (commands.Depart port) Nothing = refl
-sight_is_not_last limit (commands.Accuse port) Nothing = refl
-sight_is_not_last limit commands.Leave Nothing = refl
-sight_is_not_last limit commands.Bad Nothing = refl
+sight_is_not_last limit command glance = grind arith
 
 never_last : {A : Type 0} (one : Bool) → one ≡ false → one ≡ true → A
 never_last one is_false is_true = absurd (cc)
@@ -125,13 +117,6 @@ last_ends : (limit : ℕ) (standing : Standing) (room : Bool) (ports : ℕ) (com
     → takes_commands (standing_after standing ports command) ≡ false
 last_ends limit Outside room ports commands.Enter glance takes allowed last =
     never_last _ (sight_is_not_last limit commands.Enter glance) last
-last_ends limit Outside room ports commands.Look glance takes allowed last = absurd (cc)
-last_ends limit Outside room ports (commands.Write expect put) glance takes allowed last = absurd (cc)
-last_ends limit Outside room ports (commands.Depart port) glance takes allowed last = absurd (cc)
-last_ends limit Outside room ports (commands.Accuse port) glance takes allowed last = absurd (cc)
-last_ends limit Outside room ports commands.Leave glance takes allowed last = absurd (cc)
-last_ends limit Outside room ports commands.Bad glance takes allowed last = absurd (cc)
-last_ends limit Present room ports commands.Enter glance takes allowed last = absurd (cc)
 last_ends limit Present room ports commands.Look glance takes allowed last =
     never_last _ (sight_is_not_last limit commands.Look glance) last
 last_ends limit Present room ports (commands.Write expect put) glance takes allowed last =
@@ -142,35 +127,22 @@ last_ends limit Present room ports (commands.Accuse port) glance takes allowed l
     by_bool (nat_lt port ports) (λ (is_port : Bool). is_last (cond is_port replies.Noted (replies.No whys.Port)) ≡ true
     → takes_commands (cond is_port Ended Present) ≡ false)
     (λ is_port noted. refl) (λ no_port noted. absurd (cc)) last
-last_ends limit Present room ports commands.Leave glance takes allowed last = refl
-last_ends limit Present room ports commands.Bad glance takes allowed last = absurd (cc)
-last_ends limit Away room ports command glance takes allowed last = absurd (cc)
-last_ends limit Ended room ports command glance takes allowed last = absurd (cc)
+last_ends limit stands room ports command glance takes allowed last = grind arith
 
 others_go_on : (limit : ℕ) (standing : Standing) (room : Bool) (ports : ℕ) (command : Command) (glance : Glance)
     → takes_commands standing ≡ true → accepts standing room command ≡ true →
     is_last (answer limit standing ports command glance) ≡ false → standing_after standing ports command ≢ Ended
-others_go_on limit Outside room ports commands.Enter glance takes allowed more ended = cc
-others_go_on limit Outside room ports commands.Look glance takes allowed more ended = cc
-others_go_on limit Outside room ports (commands.Write expect put) glance takes allowed more ended = cc
-others_go_on limit Outside room ports (commands.Depart port) glance takes allowed more ended = cc
-others_go_on limit Outside room ports (commands.Accuse port) glance takes allowed more ended = cc
-others_go_on limit Outside room ports commands.Leave glance takes allowed more ended = cc
-others_go_on limit Outside room ports commands.Bad glance takes allowed more ended = cc
-others_go_on limit Present room ports commands.Enter glance takes allowed more ended = cc
-others_go_on limit Present room ports commands.Look glance takes allowed more ended = cc
-others_go_on limit Present room ports (commands.Write expect put) glance takes allowed more ended = cc
-others_go_on limit Present room ports (commands.Depart port) glance takes allowed more ended =
-    by_bool (nat_lt port ports) (λ (is_port : Bool). (cond is_port Away Present) ≡ Ended → ⊥) (λ is_port is. cc)
-    (λ no_port is. cc) ended
-others_go_on limit Present room ports (commands.Accuse port) glance takes allowed more ended =
-    by_bool (nat_lt port ports) (λ (is_port : Bool). is_last (cond is_port replies.Noted (replies.No whys.Port)) ≡ false
-    → (cond is_port Ended Present) ≡ Ended → ⊥)
-    (λ is_port noted is. cc) (λ no_port noted is. cc) more ended
-others_go_on limit Present room ports commands.Leave glance takes allowed more ended = cc
-others_go_on limit Present room ports commands.Bad glance takes allowed more ended = cc
-others_go_on limit Away room ports command glance takes allowed more ended = cc
-others_go_on limit Ended room ports command glance takes allowed more ended = cc
+others_go_on limit stands room ports command glance takes allowed more =
+    go_on (answered_by true (answer limit stands ports command glance)) (standing_after stands ports command)
+    (heard_fits limit stands room ports command glance takes allowed) more
+  where
+    go_on : (phase : Phase) (stands : Standing) → Fits phase stands → is_finished phase ≡ false → stands ≢ Ended
+    go_on Fresh stands fits more ended = absurd fits
+    go_on Ready stands fits more ended = let none = ap takes_commands ended in cc
+    go_on Awaits stands fits more ended = cc
+    go_on (Owes text next) stands fits more ended = absurd fits
+    go_on (Leaves cause) stands fits more ended = absurd fits
+    go_on (Finished cause) stands fits more ended = cc
 
 module _ (setup : Setup) (game : Game) (agent : ℕ) (command : Command) (is : IsIn setup agent game)
     (at : is_away game agent ≡ false)
