@@ -81,7 +81,7 @@ cond_here true one two first second = first
 cond_here false one two first second = second
 
 -- where a command other than a departure leaves an agent that is at a node
-stays_here : (world : World) (limit : ℕ) (standing : Standing) (ports : ℕ) (glance : Glance) (position : Position)
+pub stays_here : (world : World) (limit : ℕ) (standing : Standing) (ports : ℕ) (glance : Glance) (position : Position)
     (command : Command) →
     is_last (answer limit standing ports command glance) ≡ true → is_bound position ≡ false
     → is_bound (position_after world position command) ≡ false
@@ -94,7 +94,7 @@ stays_here world limit standing ports glance (At node came) (commands.Accuse por
 stays_here world limit standing ports glance position command last at = at
 
 -- who is neither on a link nor at its end
-takes_here : (standing : Standing) → standing ≢ Away → standing ≢ Ended → takes_commands standing ≡ true
+pub takes_here : (standing : Standing) → standing ≢ Away → standing ≢ Ended → takes_commands standing ≡ true
 takes_here Outside on_no_link lives = refl
 takes_here Present on_no_link lives = refl
 takes_here Away on_no_link lives = absurd (on_no_link refl)
