@@ -12,7 +12,7 @@ use Rattle.bhs_model.specs.declared.replies.Why.TheVariants as whys
 use Rattle.bhs_model.specs.Views.{View, Sight, Seen, Standing, Ended, standing, ports, used}
 use Rattle.bhs_model.specs.Replying.{accepts, answer, here, rep, text, refusal, hears}
 use Rattle.bhs_model.specs.Worlds.{World}
-use Rattle.bhs_model.specs.Runs.{Position, Before, At, Bound, After, State, arrives, glance, position_after, heard}
+use Rattle.bhs_model.specs.Runs.{Position, State, arrives, glance, position_after, heard}
 use Rattle.bhs_model.specs.Runs.{is_bound, next}
 use Rattle.bhs_model.proofs.StepLemmas.{by_cases, changed_same, next_heard, next_unheard, answered_by_past}
 use Rattle.bhs_model.proofs.StepLemmas.{no_arrival_no_reply}
@@ -37,6 +37,8 @@ use Rattle.bhs_theorems.proofs.FitLemmas.{here_stands}
 use Rattle.bhs_theorems.specs.Met.{takes_commands}
 use Rattle.bhs_session.specs.Phase.{Fresh, Owes, Leaves, Finished}
 use Rattle.std.proofs.Common.{◌≢◌}
+use Rattle.bhs_theorems.proofs.FitLemmas.{away_stands}
+use Rattle.std.proofs.lemmas.Bool.{false_from_ne_true, true_from_ne_false}
 
 -- with a text before what the machine sends
 abbrev then_ran : List ℕ → Ran → Ran
@@ -51,17 +53,11 @@ waits_after reply = awaits (answered_by true reply)
 phase_ties : (phase : Phase) (world : World) (view : View) (position : Position) → Fits phase (standing view)
     → (is_finished phase ≡ true → is_bound position ≡ false) → FitsHere world view position →
     awaits phase ≡ is_bound position
-phase_ties Ready world view Before takes last fits = refl
-phase_ties Ready world view (At node came) takes last fits = refl
-phase_ties Ready world view (Bound node port) takes last fits = absurd (let none = ap takes_commands fits in cc)
-phase_ties Ready world view After takes last fits = refl
-phase_ties Awaits world view position away last fits = sym (bound_away position fits)
-  where
-    bound_away : (position : Position) → FitsHere world view position → is_bound position ≡ true
-    bound_away Before fits = absurd (cc)
-    bound_away (At node came) fits = absurd (let present = fits.0 in cc)
-    bound_away (Bound node port) fits = refl
-    bound_away After fits = absurd (cc)
+phase_ties Ready world view position takes last fits =
+    sym (false_from_ne_true (is_bound position) (λ bound.
+    let none = ap takes_commands (away_stands world view position fits bound) in cc))
+phase_ties Awaits world view position away last fits =
+    sym (true_from_ne_false (is_bound position) (λ stays. here_stands world view position fits stays away))
 phase_ties (Finished ended) world view position fits last fits_there = sym (last refl)
 phase_ties Fresh world view position fits last fits_there = absurd fits
 phase_ties (Owes text next) world view position fits last fits_there = absurd fits
