@@ -4,7 +4,7 @@ use Rattle.std.proofs.Common.{Option, Some, None, List, [], ◌++◌, refl}
 use Rattle.std.proofs.Common.{sym, subst, append-nil, arith}
 use Rattle.std.proofs.lemmas.Bool.{cond-true, cond-false}
 use Rattle.bhs_rehearsal.specs.Games.{state_of}
-use Rattle.bhs_rehearsal.specs.Connections.{Connection, unfed}
+use Rattle.bhs_rehearsal.specs.Connections.{Connection}
 use Rattle.bhs_rehearsal.specs.Stages.{Stage, game_at, connection_at}
 use Rattle.bhs_rehearsal.specs.Stages.{Stepped}
 use Rattle.bhs_theorems.specs.ScriptLaws.{IsSettled}
@@ -18,6 +18,8 @@ use Rattle.bhs_theorems.proofs.KnownLemmas.{met_unended, fed_if, Unseated, unsea
 use Rattle.bhs_theorems.proofs.KnownLemmas.{IsReady}
 use Rattle.bhs_theorems.proofs.MetMoveLemmas.{Knows, moved, same_bytes}
 use Rattle.bhs_theorems.proofs.StepCases.{client_step, by_client}
+use Rattle.std.proofs.Common.{subst₂, ◌==◌, cond}
+use Rattle.std.proofs.lemmas.Bool.{eq-eqb, ne_eqb}
 
 -- ---- a client
 
@@ -27,34 +29,45 @@ nothing_more stage conn input sent knows = same_bytes stage conn input input sen
     (sym (append-nil sent)) knows
 
 -- before a client's connection moves, it stands so; and its input is this then
-pub client : (stage : Stage) (mover conn : ℕ) (connection : Connection) (fed input : Fed) (sent : List ℕ)
-    (ended : Bool) → connection.seat ≡ (connection_at stage mover).seat → Knows stage conn input sent →
-    (conn ≢ mover → input ≡ fed) →
-    (conn ≡ mover → ended ≡ true → IsKnown stage (connection_at stage conn) fed sent (connection_at stage conn).seat) →
-    (conn ≡ mover → ended ≡ false → IsReady stage connection fed sent connection.seat) →
-    let after = client_step stage mover connection ended in
-    IsSettled after.stage → Knows after.stage conn fed (sent ++ bytes_among conn after.outs)
-client stage mover conn connection fed input sent ended as_before knows unfed unread ready =
+pub client : (stage : Stage) (mover conn : ℕ) (connection : Connection) (more input : Fed) (sent : List ℕ) →
+    let old = connection_at stage mover in
+    connection.seat ≡ old.seat → Knows stage conn input sent →
+    (old.ended ≡ true → IsKnown stage old input sent old.seat → IsKnown stage old more sent old.seat) →
+    (old.ended ≡ false → IsKnown stage old input sent old.seat → IsReady stage connection more sent connection.seat) →
+    let after = client_step stage mover connection old.ended in
+    IsSettled after.stage → Knows after.stage conn (cond (mover == conn) more input)
+    (sent ++ bytes_among conn after.outs)
+client stage mover conn connection more input sent as_before knows unread ready =
+    let old = connection_at stage mover in
+    let now : Fed = cond (mover == conn) more input in
+    let own : conn ≡ mover → more ≡ now = λ is. sym (cond-true _ _ _ (eq-eqb mover conn (sym is))) in
+    let others : conn ≢ mover → input ≡ now =
+    λ apart. sym (cond-false _ _ _ (ne_eqb mover conn (λ same. apart (sym same)))) in
+    let mine : conn ≡ mover → IsKnown stage old input sent old.seat =
+    λ is. subst (λ (one : ℕ). IsKnown stage (connection_at stage one) input sent (connection_at stage one).seat)
+    is knows.known in
     by_client (λ (after : Stepped). IsSettled after.stage
-    → Knows after.stage conn fed (sent ++ bytes_among conn after.outs)) stage mover connection ended
+    → Knows after.stage conn now (sent ++ bytes_among conn after.outs)) stage mover connection old.ended
     (λ idle settled. by_same conn mover
-    (λ is. nothing_more stage conn fed sent (record {
-      known = unread is (elim idle [
-        | inl past ↦ absurd (let there = knows.there in omega (arith, past, there, is))
-        | inr has_ended ↦ has_ended
-      ]);
+    (λ is. same_bytes stage conn more now (sent ++ []) (sent ++ []) (own is) refl
+    (nothing_more stage conn more sent (record {
+      known = subst (λ (one : ℕ). IsKnown stage (connection_at stage one) more sent (connection_at stage one).seat)
+          (sym is) (unread (elim idle [
+            | inl past ↦ absurd (let there = knows.there in omega (arith, past, there, is))
+            | inr has_ended ↦ has_ended
+          ]) (mine is));
       free = knows.free;
       settled = knows.settled;
       there = knows.there;
-    }))
-    (λ apart. same_bytes stage conn input fed (sent ++ []) (sent ++ []) (unfed apart) refl
+    })))
+    (λ apart. same_bytes stage conn input now (sent ++ []) (sent ++ []) (others apart) refl
     (nothing_more stage conn input sent knows)))
-    (λ within goes_on settled. moved stage mover connection within as_before knows.free settled conn [] fed sent
+    (λ within goes_on settled. moved stage mover connection within as_before knows.free settled conn [] now sent
     knows.there
     (λ apart. subst (λ (from : Fed). IsKnown stage (connection_at stage conn) from sent (connection_at stage conn).seat)
-    (unfed apart) knows.known)
-    (λ same. subst (λ (out : List ℕ). IsReady stage connection fed out connection.seat) (sym (append-nil sent))
-    (ready same goes_on)))
+    (others apart) knows.known)
+    (λ is. subst₂ (λ (from : Fed) (out : List ℕ). IsReady stage connection from out connection.seat) (own is)
+    (sym (append-nil sent)) (ready goes_on (mine is))))
 
 -- an ended connection, fed more, or ended again
 pub unread_known : (stage : Stage) (connection : Connection) (input : Fed) (sent fed : List ℕ) (own : Option (ℕ × ℕ))

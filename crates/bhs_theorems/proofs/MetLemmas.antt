@@ -1,8 +1,7 @@
 -- What is known of a connection, through each instruction.
 use Rattle.std.proofs.Common.{◌≡◌, ◌≢◌, ◌∙◌, ℕ, zero, suc, ◌<◌, inl, inr, Bool, true, false, cond}
-use Rattle.std.proofs.Common.{◌==◌, Option, Some, None, List, [], ◌∷◌, ◌++◌, length, replicate, refl}
+use Rattle.std.proofs.Common.{Option, Some, None, List, [], ◌∷◌, ◌++◌, length, replicate, refl}
 use Rattle.std.proofs.Common.{sym, ap, subst, append_assoc, append-nil, arith}
-use Rattle.std.proofs.lemmas.Bool.{cond-true, cond-false, eq-eqb, ne_eqb}
 use Rattle.std.proofs.lemmas.List.{length-set, length-map}
 use Rattle.bhs_model.specs.declared.events.Event.{Event}
 use Rattle.bhs_model.specs.declared.setups.Setup.{Setup}
@@ -32,7 +31,6 @@ use Rattle.bhs_theorems.proofs.TookLemmas.{lines_of}
 use Rattle.bhs_theorems.proofs.KnownLemmas.{MetBy}
 use Rattle.bhs_theorems.proofs.TurnLemmas.{ending}
 use Rattle.bhs_theorems.proofs.KnownLemmas.{fed_if, IsKnown}
-use Rattle.bhs_theorems.proofs.KnownLemmas.{IsReady}
 use Rattle.bhs_theorems.proofs.MetMoveLemmas.{Knows, same_bytes}
 use Rattle.bhs_theorems.proofs.MetClientLemmas.{client, end_ready, fed_ready, nothing_more, unended_known}
 use Rattle.bhs_theorems.proofs.MetClientLemmas.{unread_known}
@@ -63,35 +61,13 @@ step_known : (stage : Stage) (conn : ℕ) (input : Fed) (sent : List ℕ) (instr
     (sent ++ bytes_among conn (step stage instruction).outs)
 step_known stage conn input sent (Feeds mover fed) knows =
     let old = connection_at stage mover in
-    let mine : conn ≡ mover → IsKnown stage old input sent old.seat =
-    λ same. subst (λ (one : ℕ). IsKnown stage (connection_at stage one) input sent (connection_at stage one).seat)
-    same knows.known in
-    let all : conn ≡ mover → fed_if input fed ≡ fed_by conn input (Feeds mover fed) =
-    λ same. sym (cond-true (mover == conn) (fed_if input fed) input (eq-eqb mover conn (sym same))) in
-    client stage mover conn (grown old fed) (fed_by conn input (Feeds mover fed)) input sent old.ended refl knows
-    (λ apart. sym (cond-false (mover == conn) (fed_if input fed) input (ne_eqb mover conn (λ same. apart (sym same)))))
-    (λ same ended. subst (λ (new : Fed). IsKnown stage (connection_at stage conn) new sent
-    (connection_at stage conn).seat) (all same)
-    (unread_known stage (connection_at stage conn) input sent fed (connection_at stage conn).seat
-    (ap (λ (one : ℕ). (connection_at stage one).ended) same ∙ ended) knows.known))
-    (λ same still. subst (λ (new : Fed). IsReady stage (grown old fed) new sent old.seat) (all same)
-    (fed_ready stage old input sent fed old.seat still (mine same)))
+    client stage mover conn (grown old fed) (fed_if input fed) input sent refl knows
+    (unread_known stage old input sent fed old.seat) (fed_ready stage old input sent fed old.seat)
     (settle_lemma stage (Feeds mover fed) knows.settled)
 step_known stage conn input sent (EndsInput mover) knows =
     let old = connection_at stage mover in
-    let mine : conn ≡ mover → IsKnown stage old input sent old.seat =
-    λ same. subst (λ (one : ℕ). IsKnown stage (connection_at stage one) input sent (connection_at stage one).seat)
-    same knows.known in
-    let all : conn ≡ mover → at_end input ≡ fed_by conn input (EndsInput mover) =
-    λ same. sym (cond-true (mover == conn) (at_end input) input (eq-eqb mover conn (sym same))) in
-    client stage mover conn (ending old) (fed_by conn input (EndsInput mover)) input sent old.ended refl knows
-    (λ apart. sym (cond-false (mover == conn) (at_end input) input (ne_eqb mover conn (λ same. apart (sym same)))))
-    (λ same ended. subst (λ (new : Fed). IsKnown stage (connection_at stage conn) new sent
-    (connection_at stage conn).seat) (all same)
-    (unended_known stage (connection_at stage conn) input sent (connection_at stage conn).seat
-    (ap (λ (one : ℕ). (connection_at stage one).ended) same ∙ ended) knows.known))
-    (λ same still. subst (λ (new : Fed). IsReady stage (ending old) new sent old.seat) (all same)
-    (end_ready stage old input sent old.seat still (mine same)))
+    client stage mover conn (ending old) (at_end input) input sent refl knows
+    (unended_known stage old input sent old.seat) (end_ready stage old input sent old.seat)
     (settle_lemma stage (EndsInput mover) knows.settled)
 step_known stage conn input sent (Draws game word) knows =
     event_known stage conn input sent game (drawn (game_at stage game) word) knows
