@@ -2,8 +2,7 @@
 -- and so is who is heard: a connection that is heard is the same in both, and is sent the same.
 use Rattle.std.proofs.Common.{◌≡◌, ◌≢◌, ◌∙◌, ℕ, zero, suc, ◌+◌, ◌<◌, Bool, not, ◌&&◌, ◌||◌, cond, nat_lt}
 use Rattle.std.proofs.Common.{◌==◌, Option, Some, None, List, [], ◌∷◌, ◌++◌, length, map, set, get_or, refl, sym, ap}
-use Rattle.std.proofs.Common.{ap₂}
-use Rattle.std.proofs.Common.{subst, arith}
+use Rattle.std.proofs.Common.{ap₂, subst, subst₂, arith}
 use Rattle.std.specs.List.{list_any, prefix_len, position}
 use Rattle.std.proofs.lemmas.Bool.{ltb-true}
 use Rattle.std.proofs.lemmas.List.{get_or-set_same, length-set, length-map, map-set}
@@ -362,22 +361,6 @@ module _ (by : Difference) (one two : Stage) (are : StagesAlike by one two) wher
       (placed_alike conn old (text_of reply) within))
 
 module _ (by : Difference) (one two : Stage) (are : StagesAlike by one two) where
-  pub arrival_alike : (number agent : ℕ) (new other : Game) (reply : Option Reply)
-      → GamesAlike by number new other → by.Heard (Some (number, agent)) →
-      StepsAlike by
-      (tells_arrival (with_game one number new) reply (position (has_seat (number, agent)) one.connections))
-      (tells_arrival (with_game two number other) reply (position (has_seat (number, agent)) two.connections))
-  arrival_alike number agent new other reply alike heard =
-      let holder = position (has_seat (number, agent)) one.connections in
-      subst (λ (found : Option ℕ). StepsAlike by (tells_arrival (with_game one number new) reply holder)
-      (tells_arrival (with_game two number other) reply found))
-      (by_seats (position (has_seat (number, agent))) (position-bare (number, agent)) one.connections two.connections
-      are.seats)
-      (told_arrival by (with_game one number new) (with_game two number other)
-      (put_alike by one two are number new other alike) reply holder (λ conn is.
-      let found = position-Some (has_seat (number, agent)) one.connections conn unfed is in
-      (found.0, subst by.Heard (sym (seat-has_seat (number, agent) (connection_at one conn) found.1)) heard)))
-
   -- the same event, of another match or where it comes to the same in both
   pub delivers_alike : (number : ℕ) (event : Option Event) →
       ((agent : ℕ) → by.Heard (Some (number, agent))) →
@@ -392,11 +375,16 @@ module _ (by : Difference) (one two : Stage) (are : StagesAlike by one two) wher
       let old = game_at one number in
       let other = game_at two number in
       let both = alike agent refl in
-      subst (λ (reply : Option Reply). StepsAlike by (delivers one number (Some (Deliver agent)))
-      (tells_arrival (with_game two number (played other (Deliver agent))) reply
-      (position (has_seat (number, agent)) two.connections))) both.1
-      (arrival_alike number agent (played old (Deliver agent)) (played other (Deliver agent))
-      (reply_to old (Deliver agent)) both.0 (heard agent))
+      let first = with_game one number (played old (Deliver agent)) in
+      let second = with_game two number (played other (Deliver agent)) in
+      let holder = position (has_seat (number, agent)) in
+      subst₂ (λ (reply : Option Reply) (found : Option ℕ). StepsAlike by
+      (tells_arrival first (reply_to old (Deliver agent)) (holder one.connections)) (tells_arrival second reply found))
+      both.1 (by_seats holder (position-bare (number, agent)) one.connections two.connections are.seats)
+      (told_arrival by first second (put_alike by one two are number _ _ both.0) (reply_to old (Deliver agent))
+      (holder one.connections) (λ conn is.
+      let found = position-Some (has_seat (number, agent)) one.connections conn unfed is in
+      (found.0, subst by.Heard (sym (seat-has_seat (number, agent) (connection_at one conn) found.1)) (heard agent))))
 
   -- what is chosen in a match by how it stands
   pub events_alike : (chosen : Game → Option Event) (number : ℕ) →

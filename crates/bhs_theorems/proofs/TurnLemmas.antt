@@ -1,5 +1,5 @@
 -- What a move makes of one connection and of its match, and what it makes of them where more bytes were fed.
-use Rattle.std.proofs.Common.{◌≡◌, ◌∙◌, ℕ, zero, suc, ◌<◌, Bool, true, false, ◌||◌, cond, nat_lt, Option, Some, None}
+use Rattle.std.proofs.Common.{◌≡◌, ◌∙◌, ℕ, zero, suc, ◌<◌, Bool, true, false, ◌||◌, nat_lt, Option, Some, None}
 use Rattle.std.proofs.Common.{List, [], ◌∷◌, ◌++◌, length, map, set, refl, sym, ap, subst, if◌then◌else◌}
 use Rattle.std.specs.List.{list_any}
 use Rattle.std.proofs.lemmas.Bool.{ltb-true, ltb-false}
@@ -7,7 +7,6 @@ use Rattle.std.proofs.lemmas.List.{set-set, set-get_or, set_past, get_or_past, g
 use Rattle.bhs_wire.specs.Lines.{found_in, left_by, said_by}
 use Rattle.bhs_wire.specs.declared.commands.First.{First}
 use Rattle.bhs_wire.specs.declared.commands.First.TheVariants as firsts
-use Rattle.bhs_wire.specs.declared.denials.Denial.TheVariants as denials
 use Rattle.bhs_lineup.specs.KeyTable.{seat_at}
 use Rattle.bhs_session.specs.Texts.{denial_text}
 use Rattle.bhs_rehearsal.specs.Games.{Game}
@@ -17,6 +16,7 @@ use Rattle.bhs_rehearsal.specs.Stages.{Waits, Sits, IsDenied, Goes, let_in, entr
 use Rattle.bhs_rehearsal.specs.Stages.{enters, moves_in, moves}
 use Rattle.bhs_theorems.proofs.CuttingLemmas.{by_bool, and_then, taken-append, taken_nobody}
 use Rattle.bhs_model.proofs.LegalLemmas.{either}
+use Rattle.bhs_theorems.proofs.CuttingLemmas.{cond_alike}
 
 abbrev pub seat_of : Connection → Option (ℕ × ℕ)
 seat_of connection = connection.seat
@@ -252,15 +252,6 @@ enters_alike stage connections connection (IsDenied denial) = refl
 enters_alike stage connections connection Goes = refl
 
 module _ (stage : Stage) (conn : ℕ) (unfinished : Option (List ℕ)) (queue : List Item) (bytes : List ℕ) where
-  let_in_by : (below used : Bool) (seat : ℕ × ℕ) →
-      enters_turn stage (grown (open_one None unfinished queue) bytes)
-      (cond below (cond used (IsDenied denials.Taken) (Sits seat)) (IsDenied denials.Key))
-      ≡ then_fed stage conn (enters_turn stage (open_one None unfinished queue)
-      (cond below (cond used (IsDenied denials.Taken) (Sits seat)) (IsDenied denials.Key))) bytes
-  let_in_by false used seat = refl
-  let_in_by true true seat = refl
-  let_in_by true false seat = plays_grown stage conn seat None unfinished queue bytes
-
   let_in_grown : (seat : Option (ℕ × ℕ)) →
       enters_turn stage (grown (open_one None unfinished queue) bytes)
       (let_in (with_connection stage conn (grown (open_one None unfinished queue) bytes)) seat)
@@ -270,10 +261,13 @@ module _ (stage : Stage) (conn : ℕ) (unfinished : Option (List ℕ)) (queue : 
   let_in_grown (Some seat) =
       let below = nat_lt seat.0 (length stage.games) in
       let old_one = open_one None unfinished queue in
-      ap (λ (used : Bool). enters_turn stage (grown old_one bytes)
-      (cond below (cond used (IsDenied denials.Taken) (Sits seat)) (IsDenied denials.Key)))
-      (list_any-set_alike (has_seat seat) stage.connections conn (grown old_one bytes) old_one refl)
-      ∙ let_in_by below (list_any (has_seat seat) (set stage.connections conn old_one)) seat
+      let Grows : Entry → Entry → Type 0 = λ (how before : Entry).
+      enters_turn stage (grown old_one bytes) how ≡ then_fed stage conn (enters_turn stage old_one before) bytes in
+      cond_alike Grows below below _ _ _ _ refl
+      (λ is. cond_alike Grows _ _ _ _ _ _
+      (list_any-set_alike (has_seat seat) stage.connections conn (grown old_one bytes) old_one refl) (λ used. refl)
+      (λ unused. plays_grown stage conn seat None unfinished queue bytes))
+      (λ past. refl)
 
   entry_by_grown : (first : First) →
       enters_turn stage (grown (open_one None unfinished queue) bytes)
