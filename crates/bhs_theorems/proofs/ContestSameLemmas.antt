@@ -57,28 +57,10 @@ kinds_said limit view (Arrives sight ∷ met) said are = kinds_said limit (Arriv
 -- whether a command is heard, and why it is refused, goes by its kind
 accepts_kind : (stands : Standing) (room : Bool) (command : Command)
     → accepts stands room (kind_of command) ≡ accepts stands room command
-accepts_kind stands room commands.Enter = refl
-accepts_kind stands room commands.Look = refl
-accepts_kind Outside room (commands.Write expect put) = refl
-accepts_kind Present room (commands.Write expect put) = refl
-accepts_kind Away room (commands.Write expect put) = refl
-accepts_kind Ended room (commands.Write expect put) = refl
-accepts_kind stands room (commands.Depart port) = refl
-accepts_kind stands room (commands.Accuse port) = refl
-accepts_kind stands room commands.Leave = refl
-accepts_kind stands room commands.Bad = refl
+accepts_kind stands room command = grind arith
 
 refusal_kind : (stands : Standing) (command : Command) → refusal stands (kind_of command) ≡ refusal stands command
-refusal_kind stands commands.Enter = refl
-refusal_kind stands commands.Look = refl
-refusal_kind Outside (commands.Write expect put) = refl
-refusal_kind Present (commands.Write expect put) = refl
-refusal_kind Away (commands.Write expect put) = refl
-refusal_kind Ended (commands.Write expect put) = refl
-refusal_kind stands (commands.Depart port) = refl
-refusal_kind stands (commands.Accuse port) = refl
-refusal_kind stands commands.Leave = refl
-refusal_kind stands commands.Bad = refl
+refusal_kind stands command = grind arith
 
 same_hearing : (quota : ℕ) (view : View) (one two : Command) → kind_of one ≡ kind_of two
     → hears quota view one ≡ hears quota view two

@@ -9,7 +9,6 @@ use Rattle.bhs_model.specs.declared.commands.Command.{Command}
 use Rattle.bhs_model.specs.declared.commands.Command.TheVariants as commands
 use Rattle.bhs_model.specs.declared.replies.Reply.{Reply}
 use Rattle.bhs_model.specs.declared.replies.Reply.TheVariants.{No}
-use Rattle.bhs_model.specs.declared.replies.Reply.TheVariants as replies
 use Rattle.bhs_model.specs.declared.replies.Why.{Why}
 use Rattle.bhs_model.specs.Views.{View, Told, Arrived, Glance, Standing, Outside, Present, Away, Ended, standing}
 use Rattle.bhs_model.specs.Views.{standing_after, ports, used}
@@ -63,20 +62,10 @@ takes_there (Finished ended) stands takes sits = absurd takes
 
 fits_sits : (reply : Reply) (stands : Standing) → (is_end reply ≡ true → stands ≡ Ended)
     → Fits (answered_by true reply) stands → Sits (answered_by true reply) stands
-fits_sits (replies.Here count came board) stands ends fits = fits
-fits_sits replies.Written stands ends fits = fits
-fits_sits (replies.Changed board) stands ends fits = fits
-fits_sits replies.Gone stands ends fits = fits
-fits_sits replies.Noted stands ends fits = ends refl
-fits_sits replies.Bye stands ends fits = ends refl
-fits_sits replies.Over stands ends fits = tt
-fits_sits (replies.No why) stands ends fits = fits
+fits_sits reply stands ends fits = grind arith
 
 has_ended_is : (stands : Standing) → has_ended stands ≡ true → stands ≡ Ended
-has_ended_is Outside is = cc
-has_ended_is Present is = cc
-has_ended_is Away is = cc
-has_ended_is Ended is = refl
+has_ended_is stands is = grind arith
 
 or_true : (one : Bool) → (one || true) ≡ true
 or_true true = refl

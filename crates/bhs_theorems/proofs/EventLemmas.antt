@@ -1,6 +1,6 @@
 -- What one command makes of its agent and of the others.
-use Rattle.std.proofs.Common.{◌≡◌, ◌≢◌, ◌∙◌, ℕ, ◌<◌, Bool, true, false, cond, not, ◌&&◌, nat_lt, nat_le, bytes_eq}
-use Rattle.std.proofs.Common.{length, Option, Some, [], ◌∷◌, refl, sym, ap, subst}
+use Rattle.std.proofs.Common.{◌≡◌, ◌≢◌, ◌∙◌, ℕ, ◌<◌, Bool, true, false, cond, not, ◌&&◌, nat_lt}
+use Rattle.std.proofs.Common.{Option, Some, [], ◌∷◌, refl, sym, ap, subst}
 use Rattle.std.proofs.lemmas.Bool.{cond-true, lt-ltb}
 use Rattle.bhs_model.specs.declared.commands.Command.{Command}
 use Rattle.bhs_model.specs.declared.commands.Command.TheVariants as commands
@@ -9,12 +9,11 @@ use Rattle.bhs_model.specs.declared.events.Event.TheVariants.{Tell}
 use Rattle.bhs_model.specs.declared.setups.Setup.{Setup}
 use Rattle.bhs_model.specs.declared.replies.Reply.{Reply}
 use Rattle.bhs_model.specs.declared.replies.Reply.TheVariants as replies
-use Rattle.bhs_model.specs.declared.replies.Why.TheVariants as whys
-use Rattle.bhs_model.specs.Views.{View, Told, Glance, Saw, Seen, Standing, Outside, Present, Away, Ended}
+use Rattle.bhs_model.specs.Views.{View, Told, Glance, Standing, Away, Ended}
 use Rattle.bhs_model.specs.Views.{standing, standing_after, ports}
 use Rattle.bhs_model.specs.Replying.{answer, sight_answer, text, accepts, hears, rep}
 use Rattle.bhs_model.specs.Worlds.{World}
-use Rattle.bhs_model.specs.Runs.{State, Position, At, After, glance, is_bound, position_after, heard}
+use Rattle.bhs_model.specs.Runs.{State, Position, glance, is_bound, position_after, heard}
 use Rattle.bhs_model.specs.Runs.{told}
 use Rattle.bhs_model.proofs.StepLemmas.{changed_same, heard_by_past, refused_by_past, answered_by_past}
 use Rattle.bhs_model.proofs.StepLemmas.{next_heard, next_unheard}
@@ -70,10 +69,7 @@ cond_last false one two first second = second
 
 departs_on : (limit : ℕ) (standing : Standing) (ports port : ℕ) (glance : Glance)
     → is_last (answer limit standing ports (commands.Depart port) glance) ≡ false
-departs_on limit Outside ports port glance = cond_last (nat_lt port ports) replies.Gone _ refl refl
-departs_on limit Present ports port glance = cond_last (nat_lt port ports) replies.Gone _ refl refl
-departs_on limit Ended ports port glance = cond_last (nat_lt port ports) replies.Gone _ refl refl
-departs_on limit Away ports port glance = refl
+departs_on limit standing ports port glance = grind arith
 
 cond_here : (test : Bool) (one two : Position) → is_bound one ≡ false → is_bound two ≡ false
     → is_bound (cond test one two) ≡ false
@@ -85,26 +81,14 @@ pub stays_here : (world : World) (limit : ℕ) (standing : Standing) (ports : �
     (command : Command) →
     is_last (answer limit standing ports command glance) ≡ true → is_bound position ≡ false
     → is_bound (position_after world position command) ≡ false
-stays_here world limit standing ports glance position (commands.Depart port) last at =
-    absurd (let never = departs_on limit standing ports port glance in cc)
-stays_here world limit standing ports glance position commands.Enter last at = refl
-stays_here world limit standing ports glance position commands.Leave last at = refl
-stays_here world limit standing ports glance (At node came) (commands.Accuse port) last at =
-    cond_here (nat_lt port (world.net.degree node)) After (At node came) refl refl
-stays_here world limit standing ports glance position command last at = at
+stays_here world limit standing ports glance position command last at = grind arith
 
 -- who is neither on a link nor at its end
 pub takes_here : (standing : Standing) → standing ≢ Away → standing ≢ Ended → takes_commands standing ≡ true
-takes_here Outside on_no_link lives = refl
-takes_here Present on_no_link lives = refl
-takes_here Away on_no_link lives = absurd (on_no_link refl)
-takes_here Ended on_no_link lives = absurd (lives refl)
+takes_here standing on_no_link lives = grind arith
 
 sight_is_not_last : (limit : ℕ) (command : Command) (glance : Glance)
     → is_last (sight_answer limit command glance) ≡ false
-sight_is_not_last limit (commands.Write expect put) (Saw (Seen ports came last_write)) =
-    cond_last (nat_le (length put) limit) _ (replies.No whys.Long)
-    (cond_last (bytes_eq (text limit last_write) expect) replies.Written _ refl refl) refl
 sight_is_not_last limit command glance = grind arith
 
 never_last : {A : Type 0} (one : Bool) → one ≡ false → one ≡ true → A
@@ -115,19 +99,7 @@ last_ends : (limit : ℕ) (standing : Standing) (room : Bool) (ports : ℕ) (com
     → takes_commands standing ≡ true → accepts standing room command ≡ true →
     is_last (answer limit standing ports command glance) ≡ true
     → takes_commands (standing_after standing ports command) ≡ false
-last_ends limit Outside room ports commands.Enter glance takes allowed last =
-    never_last _ (sight_is_not_last limit commands.Enter glance) last
-last_ends limit Present room ports commands.Look glance takes allowed last =
-    never_last _ (sight_is_not_last limit commands.Look glance) last
-last_ends limit Present room ports (commands.Write expect put) glance takes allowed last =
-    never_last _ (sight_is_not_last limit (commands.Write expect put) glance) last
-last_ends limit Present room ports (commands.Depart port) glance takes allowed last =
-    never_last _ (departs_on limit Present ports port glance) last
-last_ends limit Present room ports (commands.Accuse port) glance takes allowed last =
-    by_bool (nat_lt port ports) (λ (is_port : Bool). is_last (cond is_port replies.Noted (replies.No whys.Port)) ≡ true
-    → takes_commands (cond is_port Ended Present) ≡ false)
-    (λ is_port noted. refl) (λ no_port noted. absurd (cc)) last
-last_ends limit stands room ports command glance takes allowed last = grind arith
+last_ends limit standing room ports command glance takes allowed last = grind arith
 
 others_go_on : (limit : ℕ) (standing : Standing) (room : Bool) (ports : ℕ) (command : Command) (glance : Glance)
     → takes_commands standing ≡ true → accepts standing room command ≡ true →

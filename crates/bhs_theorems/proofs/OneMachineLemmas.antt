@@ -39,6 +39,7 @@ use Rattle.bhs_session.specs.Phase.{Fresh, Owes, Leaves, Finished}
 use Rattle.std.proofs.Common.{◌≢◌}
 use Rattle.bhs_theorems.proofs.FitLemmas.{away_stands}
 use Rattle.std.proofs.lemmas.Bool.{false_from_ne_true, true_from_ne_false}
+use Rattle.std.proofs.Common.{arith}
 
 -- with a text before what the machine sends
 abbrev then_ran : List ℕ → Ran → Ran
@@ -139,10 +140,7 @@ waiting_plays (replies.No why) = inl refl
 
 -- such a phase is the one of its agent where it awaits what its agent does
 phase_is : (away : Bool) (phase : Phase) → Plays phase → awaits phase ≡ away → phase ≡ (cond away Awaits Ready)
-phase_is true phase (inl is) waits = absurd (let never = ap awaits is in cc)
-phase_is true phase (inr is) waits = is
-phase_is false phase (inl is) waits = is
-phase_is false phase (inr is) waits = absurd (let never = ap awaits is in cc)
+phase_is away phase plays waits = grind arith
 
 abbrev TakesAlike : Game → (agent : ℕ) → List Item → Phase → Type 0
 TakesAlike game agent items phase = Plays phase → awaits phase ≡ is_away game agent
