@@ -33,6 +33,7 @@ use Rattle.bhs_server.proofs.ServedLemmas.{of_given}
 use Rattle.bhs_theorems.proofs.ContestStepsLemmas.{steps_of}
 use Rattle.bhs_theorems.proofs.ContestWalkLemmas.{Sits, takes_there, entries_in, Walked, walk, ended_still, kept_leave}
 use Rattle.bhs_theorems.proofs.ContestWalkLemmas.{left_ended}
+use Rattle.std.proofs.Common.{arith}
 
 -- ---- what a settlement says of one pass
 
@@ -180,15 +181,7 @@ all_written endings.Memory phase stands parting left last unwritten whole ends l
 -- the line behind it
 last_of : (ended : Ending) (phase : Phase) (parting : Option Receipt) (left : List Command) (last : List ℕ)
     → MayBeOver last → Ends ended phase parting left last → IsLastOf ended last
-last_of endings.Bye phase parting left last may ends = ends.3
-last_of endings.Noted phase parting left last may ends = ends.3
-last_of endings.Over phase parting left last may ends = ends.1
-last_of endings.Denied phase parting left last may ends = ends
-last_of endings.InputEnded phase parting left last may ends = ends.2
-last_of endings.ReadFault phase parting left last may ends = ends.2
-last_of endings.Turns phase parting left last may ends = ends.2
-last_of endings.WriteFault phase parting left last may ends = may
-last_of endings.Memory phase parting left last may ends = may
+last_of ended phase parting left last may ends = grind arith
 
 -- ---- the law
 

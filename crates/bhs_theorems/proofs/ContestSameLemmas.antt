@@ -1,5 +1,5 @@
 -- A past and the commands say what was written.
-use Rattle.std.proofs.Common.{suc, ◌≡◌, ◌∙◌, ℕ, ◌⊎◌, inl, inr, Bool, true, false, cond, List, [], ◌∷◌}
+use Rattle.std.proofs.Common.{suc, ◌≡◌, ◌∙◌, ℕ, ◌⊎◌, inl, inr, Bool, true, List, [], ◌∷◌}
 use Rattle.std.proofs.Common.{◌++◌, map, length}
 use Rattle.std.proofs.Common.{refl, sym, ap, ap₂, subst, arith, append-nil, append_assoc, length-append}
 use Rattle.std.proofs.lemmas.List.{map-append}
@@ -8,7 +8,7 @@ use Rattle.bhs_model.specs.declared.commands.Command.TheVariants as commands
 use Rattle.bhs_model.specs.declared.replies.Reply.{Reply}
 use Rattle.bhs_model.specs.declared.replies.Reply.TheVariants as replies
 use Rattle.bhs_model.specs.declared.replies.Why.{Why}
-use Rattle.bhs_model.specs.Views.{View, Start, Told, Arrived, Nothing, Standing, Outside, Present, Away, Ended}
+use Rattle.bhs_model.specs.Views.{View, Start, Told, Arrived, Nothing, Standing, Ended}
 use Rattle.bhs_model.specs.Views.{standing, standing_after, ports}
 use Rattle.bhs_model.specs.Replying.{accepts, hears, refusal}
 use Rattle.bhs_lock.specs.Passes.{kind_of, kept_command}
@@ -24,19 +24,7 @@ use Rattle.bhs_theorems.proofs.ContestMetLemmas.{sent_as_met_lemma}
 -- ---- the kinds of commands
 
 kind_kept : (command : Command) (reply : Reply) → kind_of (kept_command command reply) ≡ kind_of command
-kind_kept commands.Enter reply = refl
-kind_kept commands.Look reply = refl
-kind_kept (commands.Write expect put) reply = by_shown _
-  where
-    by_shown : (shown : Bool)
-        → kind_of (cond shown (commands.Write expect put) (commands.Write [] []))
-        ≡ commands.Write [] []
-    by_shown true = refl
-    by_shown false = refl
-kind_kept (commands.Depart port) reply = refl
-kind_kept (commands.Accuse port) reply = refl
-kind_kept commands.Leave reply = refl
-kind_kept commands.Bad reply = refl
+kind_kept command reply = grind arith
 
 kinds_said : (limit : ℕ) (view : View) (met : List Meeting) (said : List Command) → AreSaid limit view met said
     → kinds kind_of met ≡ map kind_of said
@@ -157,10 +145,7 @@ never_alone quota limit met other over due other_due is leave said =
     absurd (omega (arith, counts, longer_by, shorter, shorter_by))
   where
     no_more : (stands : Standing) (count : ℕ) → takes_commands (standing_after stands count commands.Leave) ≡ true → ⊥
-    no_more Outside count takes = cc
-    no_more Present count takes = cc
-    no_more Away count takes = cc
-    no_more Ended count takes = cc
+    no_more stands count takes = grind arith
 
 -- ---- the headline
 

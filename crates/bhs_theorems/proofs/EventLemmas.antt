@@ -1,9 +1,8 @@
 -- What one command makes of its agent and of the others.
-use Rattle.std.proofs.Common.{◌≡◌, ◌≢◌, ◌∙◌, ℕ, ◌<◌, Bool, true, false, cond, not, ◌&&◌, nat_lt}
+use Rattle.std.proofs.Common.{◌≡◌, ◌≢◌, ◌∙◌, ℕ, ◌<◌, Bool, true, false, not, ◌&&◌, nat_lt}
 use Rattle.std.proofs.Common.{Option, Some, [], ◌∷◌, refl, sym, ap, subst}
 use Rattle.std.proofs.lemmas.Bool.{cond-true, lt-ltb}
 use Rattle.bhs_model.specs.declared.commands.Command.{Command}
-use Rattle.bhs_model.specs.declared.commands.Command.TheVariants as commands
 use Rattle.bhs_model.specs.declared.events.Event.{Event}
 use Rattle.bhs_model.specs.declared.events.Event.TheVariants.{Tell}
 use Rattle.bhs_model.specs.declared.setups.Setup.{Setup}
@@ -11,7 +10,7 @@ use Rattle.bhs_model.specs.declared.replies.Reply.{Reply}
 use Rattle.bhs_model.specs.declared.replies.Reply.TheVariants as replies
 use Rattle.bhs_model.specs.Views.{View, Told, Glance, Standing, Away, Ended}
 use Rattle.bhs_model.specs.Views.{standing, standing_after, ports}
-use Rattle.bhs_model.specs.Replying.{answer, sight_answer, text, accepts, hears, rep}
+use Rattle.bhs_model.specs.Replying.{answer, accepts, hears, rep}
 use Rattle.bhs_model.specs.Worlds.{World}
 use Rattle.bhs_model.specs.Runs.{State, Position, glance, is_bound, position_after, heard}
 use Rattle.bhs_model.specs.Runs.{told}
@@ -24,9 +23,6 @@ use Rattle.bhs_theorems.proofs.AwayLemmas.{state_of-played, setup-played}
 use Rattle.bhs_theorems.proofs.FitLemmas.{fits_here, here_stands}
 use Rattle.bhs_theorems.specs.Met.{Meeting, Hears, Refuses, past_after, command_in, answer_to, takes_commands, IsDue}
 use Rattle.bhs_model.proofs.LegalLemmas.{either}
-use Rattle.bhs_theorems.proofs.AnsweredLemmas.{Fits, heard_fits}
-use Rattle.bhs_session.specs.Phase.{Phase, Fresh, Ready, Awaits, Owes, Leaves, Finished, answered_by}
-use Rattle.bhs_session.specs.Machine.{is_finished}
 use Rattle.std.proofs.Common.{arith}
 
 -- a match that was set up so, with this agent in it
@@ -62,20 +58,6 @@ pub record Answered (setup : Setup) (view new : View) (command : Command) (repli
   pub ends_it : is_last (answer_to setup.board view meeting) ≡ true → takes_commands (standing new) ≡ false
   pub goes_on : is_last (answer_to setup.board view meeting) ≡ false → standing new ≢ Ended
 
-cond_last : (test : Bool) (one two : Reply) → is_last one ≡ false → is_last two ≡ false
-    → is_last (cond test one two) ≡ false
-cond_last true one two first second = first
-cond_last false one two first second = second
-
-departs_on : (limit : ℕ) (standing : Standing) (ports port : ℕ) (glance : Glance)
-    → is_last (answer limit standing ports (commands.Depart port) glance) ≡ false
-departs_on limit standing ports port glance = grind arith
-
-cond_here : (test : Bool) (one two : Position) → is_bound one ≡ false → is_bound two ≡ false
-    → is_bound (cond test one two) ≡ false
-cond_here true one two first second = first
-cond_here false one two first second = second
-
 -- where a command other than a departure leaves an agent that is at a node
 pub stays_here : (world : World) (limit : ℕ) (standing : Standing) (ports : ℕ) (glance : Glance) (position : Position)
     (command : Command) →
@@ -87,13 +69,6 @@ stays_here world limit standing ports glance position command last at = grind ar
 pub takes_here : (standing : Standing) → standing ≢ Away → standing ≢ Ended → takes_commands standing ≡ true
 takes_here standing on_no_link lives = grind arith
 
-sight_is_not_last : (limit : ℕ) (command : Command) (glance : Glance)
-    → is_last (sight_answer limit command glance) ≡ false
-sight_is_not_last limit command glance = grind arith
-
-never_last : {A : Type 0} (one : Bool) → one ≡ false → one ≡ true → A
-never_last one is_false is_true = absurd (cc)
-
 -- a last answer to a heard command leaves an agent that has ended, and any other does not
 last_ends : (limit : ℕ) (standing : Standing) (room : Bool) (ports : ℕ) (command : Command) (glance : Glance)
     → takes_commands standing ≡ true → accepts standing room command ≡ true →
@@ -104,17 +79,7 @@ last_ends limit standing room ports command glance takes allowed last = grind ar
 others_go_on : (limit : ℕ) (standing : Standing) (room : Bool) (ports : ℕ) (command : Command) (glance : Glance)
     → takes_commands standing ≡ true → accepts standing room command ≡ true →
     is_last (answer limit standing ports command glance) ≡ false → standing_after standing ports command ≢ Ended
-others_go_on limit stands room ports command glance takes allowed more =
-    go_on (answered_by true (answer limit stands ports command glance)) (standing_after stands ports command)
-    (heard_fits limit stands room ports command glance takes allowed) more
-  where
-    go_on : (phase : Phase) (stands : Standing) → Fits phase stands → is_finished phase ≡ false → stands ≢ Ended
-    go_on Fresh stands fits more ended = absurd fits
-    go_on Ready stands fits more ended = let none = ap takes_commands ended in cc
-    go_on Awaits stands fits more ended = cc
-    go_on (Owes text next) stands fits more ended = absurd fits
-    go_on (Leaves cause) stands fits more ended = absurd fits
-    go_on (Finished cause) stands fits more ended = cc
+others_go_on limit standing room ports command glance takes allowed more ended = grind arith
 
 module _ (setup : Setup) (game : Game) (agent : ℕ) (command : Command) (is : IsIn setup agent game)
     (at : is_away game agent ≡ false)

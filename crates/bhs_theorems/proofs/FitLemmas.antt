@@ -15,10 +15,7 @@ FitsHere world view After = standing view ≡ Ended
 
 legal_fits : (world : World) (view : View) (position : Position) → IsLegal world view position
     → FitsHere world view position
-legal_fits world view Before legal = legal.standing
-legal_fits world view (At node came) legal = (legal.standing, legal.ports)
-legal_fits world view (Bound node port) legal = legal.standing
-legal_fits world view After legal = legal.standing
+legal_fits world view position legal = grind arith
 
 pub fits_here : (game : Game) (agent : ℕ) → FitsHere (world_in game) ((state_of game).past agent)
     ((state_of game).position agent)

@@ -102,10 +102,7 @@ told_other false agent other times apart = stepped_other agent other times apart
 
 -- an agent is away exactly if it is on a link
 away_at : (position : Position) → is_away (standing_at position) ≡ is_bound position
-away_at Before = refl
-away_at (At node came) = refl
-away_at (Bound node port) = refl
-away_at After = refl
+away_at position = grind arith
 
 -- ---- a match and a timed execution that stand alike
 
@@ -250,10 +247,7 @@ module _ (first : Play) (held : Held) (schedule : Schedule) (timed : TimedState)
 
 arrived_turn : (world : World) (timed : TimedState) (agent : ℕ) (position : Position) →
     (arrived_then world timed agent position).turn ≡ timed.turn
-arrived_turn world timed agent Before = refl
-arrived_turn world timed agent (At node came) = refl
-arrived_turn world timed agent (Bound node port) = refl
-arrived_turn world timed agent After = refl
+arrived_turn world timed agent position = grind arith
 
 happened_turn : (world : World) (timed : TimedState) (event : Option Event) →
     (happened_if world timed event).turn ≡ timed.turn

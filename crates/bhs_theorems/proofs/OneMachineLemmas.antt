@@ -129,14 +129,7 @@ abbrev Plays : Phase → Type 0
 Plays phase = (phase ≡ Ready) ⊎ (phase ≡ Awaits)
 
 waiting_plays : (reply : Reply) → Plays (waiting true reply)
-waiting_plays replies.Gone = inr refl
-waiting_plays replies.Bye = inl refl
-waiting_plays replies.Noted = inl refl
-waiting_plays replies.Over = inl refl
-waiting_plays (replies.Here ports came board) = inl refl
-waiting_plays replies.Written = inl refl
-waiting_plays (replies.Changed board) = inl refl
-waiting_plays (replies.No why) = inl refl
+waiting_plays reply = grind arith
 
 -- such a phase is the one of its agent where it awaits what its agent does
 phase_is : (away : Bool) (phase : Phase) → Plays phase → awaits phase ≡ away → phase ≡ (cond away Awaits Ready)

@@ -27,6 +27,7 @@ use Rattle.bhs_theorems.specs.ScriptLaws.{IsSlowFor, slow_of, SlowMatchesBegin}
 use Rattle.bhs_theorems.proofs.CuttingLemmas.{cond_alike}
 use Rattle.bhs_theorems.proofs.TwinLogLemmas.{keeps_alike, twins-both, twins-one}
 use Rattle.bhs_model.proofs.AddLemmas.{run-append}
+use Rattle.std.proofs.Common.{arith}
 
 -- ---- who is on a link is on a port
 
@@ -157,10 +158,7 @@ module _ (game slow : Game) (is : IsSlowFor game slow) where
 
   held_alike : (position : Position) → IsOnPort (world_in game) position → is_held held_or_doomed position ≡ is_held
       (held_in slow.held) position
-  held_alike (Bound node port) on = sym (is.held_too node port on)
-  held_alike Before on = refl
-  held_alike (At node came) on = refl
-  held_alike After on = refl
+  held_alike position on = grind arith
 
   let_go_same : (picked : Option ℕ) → delivery_to held_or_doomed (state_of game) picked ≡ delivery_to
       (held_in slow.held) (state_of game) picked
