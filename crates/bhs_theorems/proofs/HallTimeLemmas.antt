@@ -251,15 +251,7 @@ arrived_turn world timed agent position = grind arith
 
 happened_turn : (world : World) (timed : TimedState) (event : Option Event) →
     (happened_if world timed event).turn ≡ timed.turn
-happened_turn world timed None = refl
-happened_turn world timed (Some (Tell agent command)) =
-    cond_both (heard world timed.state agent command) (told_then world timed agent command) timed
-    (λ (there : TimedState). there.turn ≡ timed.turn) (λ yes. refl) (λ no. refl)
-happened_turn world timed (Some (Deliver agent)) =
-    cond_both (arrives world timed.state agent) (arrived_then world timed agent (timed.state.position agent)) timed
-    (λ (there : TimedState). there.turn ≡ timed.turn)
-    (λ yes. arrived_turn world timed agent (timed.state.position agent)) (λ no. refl)
-happened_turn world timed (Some Close) = refl
+happened_turn world timed event = grind (arith, arrived_turn)
 
 -- what a turn makes of the timed views, and the agent that is seen to arrive: nobody, or the one that is picked
 abbrev Comes : TimedState → (who : ℕ) → TimedState → Drawn → Type 0

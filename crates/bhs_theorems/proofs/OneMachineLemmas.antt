@@ -34,11 +34,7 @@ use Rattle.bhs_theorems.proofs.MetDrawLemmas.{arrival, away_arrives, arrived_her
 use Rattle.bhs_theorems.proofs.AnsweredLemmas.{Fits, heard_fits}
 use Rattle.bhs_theorems.proofs.EventLemmas.{takes_here, stays_here}
 use Rattle.bhs_theorems.proofs.FitLemmas.{here_stands}
-use Rattle.bhs_theorems.specs.Met.{takes_commands}
-use Rattle.bhs_session.specs.Phase.{Fresh, Owes, Leaves, Finished}
 use Rattle.std.proofs.Common.{◌≢◌}
-use Rattle.bhs_theorems.proofs.FitLemmas.{away_stands}
-use Rattle.std.proofs.lemmas.Bool.{false_from_ne_true, true_from_ne_false}
 use Rattle.std.proofs.Common.{arith}
 
 -- with a text before what the machine sends
@@ -54,15 +50,7 @@ waits_after reply = awaits (answered_by true reply)
 phase_ties : (phase : Phase) (world : World) (view : View) (position : Position) → Fits phase (standing view)
     → (is_finished phase ≡ true → is_bound position ≡ false) → FitsHere world view position →
     awaits phase ≡ is_bound position
-phase_ties Ready world view position takes last fits =
-    sym (false_from_ne_true (is_bound position) (λ bound.
-    let none = ap takes_commands (away_stands world view position fits bound) in cc))
-phase_ties Awaits world view position away last fits =
-    sym (true_from_ne_false (is_bound position) (λ stays. here_stands world view position fits stays away))
-phase_ties (Finished ended) world view position fits last fits_there = sym (last refl)
-phase_ties Fresh world view position fits last fits_there = absurd fits
-phase_ties (Owes text next) world view position fits last fits_there = absurd fits
-phase_ties (Leaves ended) world view position fits last fits_there = absurd fits
+phase_ties phase world view position fits last fits_there = grind arith
 
 -- a command of an agent that is on no link: it is answered, and it is on a link then exactly if the phase awaits
 pub record Ties (game : Game) (agent : ℕ) (command : Command) : Type 0 where

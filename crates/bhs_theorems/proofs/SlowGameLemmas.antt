@@ -1,9 +1,9 @@
 -- A match and one that is slow for it, through an event and through items.
-use Rattle.std.proofs.Common.{◌≡◌, ◌∙◌, ℕ, ◌<◌, Bool, true, false, ◌||◌, cond, nat_lt, ◌==◌, not, Option, Some, None}
+use Rattle.std.proofs.Common.{◌≡◌, ◌∙◌, ℕ, ◌<◌, Bool, true, false, ◌||◌, cond, ◌==◌, not, Option, Some, None}
 use Rattle.std.proofs.Common.{List, [], ◌∷◌, ◌++◌, refl, sym, ap, subst}
-use Rattle.std.proofs.lemmas.Bool.{and_right, cond_both, ltb-true}
+use Rattle.std.proofs.lemmas.Bool.{and_right}
 use Rattle.bhs_model.specs.declared.commands.Command.{Command}
-use Rattle.bhs_model.specs.declared.commands.Command.TheVariants.{Enter, Depart, Accuse, Leave}
+use Rattle.bhs_model.specs.declared.commands.Command.TheVariants.{Leave}
 use Rattle.bhs_model.specs.declared.events.Event.{Event}
 use Rattle.bhs_model.specs.declared.events.Event.TheVariants.{Tell, Deliver, Close}
 use Rattle.bhs_model.specs.declared.replies.Reply.{Reply}
@@ -39,14 +39,7 @@ IsOnPort world After = Unit {0}
 
 told_on_port : (world : World) (position : Position) (command : Command) → IsOnPort world position
     → IsOnPort world (position_after world position command)
-told_on_port world position Enter on = tt
-told_on_port world position Leave on = tt
-told_on_port world (At node came) (Depart port) on =
-    cond_both (nat_lt port (world.net.degree node)) (Bound node port) (At node came) (IsOnPort world)
-    (ltb-true port (world.net.degree node)) (λ past. tt)
-told_on_port world (At node came) (Accuse port) on =
-    either (IsOnPort world) (nat_lt port (world.net.degree node)) After (At node came) tt tt
-told_on_port world position command on = on
+told_on_port world position command on = grind arith
 
 abbrev AllOnPorts : World → State → Type 0
 AllOnPorts world state = (agent : ℕ) → IsOnPort world (state.position agent)

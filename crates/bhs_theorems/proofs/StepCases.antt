@@ -1,8 +1,8 @@
 -- What an instruction comes to: nothing, or the one thing that it does.
-use Rattle.std.proofs.Common.{ℕ, ◌<◌, ◌≤◌, ◌≡◌, ◌⊎◌, inl, inr, ◌==◌, Bool, true, false, cond, nat_lt, Option, Some, None}
-use Rattle.std.proofs.Common.{◌++◌, length, sym, ap₂, subst, refl}
+use Rattle.std.proofs.Common.{ℕ, ◌<◌, ◌≤◌, ◌≡◌, ◌⊎◌, inl, inr, Bool, true, false, cond, nat_lt, Option, Some, None}
+use Rattle.std.proofs.Common.{◌++◌, length, sym, subst, refl}
 use Rattle.std.specs.List.{position}
-use Rattle.std.proofs.lemmas.Bool.{and_parts, cond_both, eqb-true, ltb-true, ltb-false}
+use Rattle.std.proofs.lemmas.Bool.{cond_both, ltb-true, ltb-false}
 use Rattle.std.proofs.lemmas.List.Quantifiers.{position-Some}
 use Rattle.bhs_model.specs.declared.events.Event.{Event}
 use Rattle.bhs_model.specs.declared.events.Event.TheVariants.{Tell, Deliver, Close}
@@ -15,6 +15,8 @@ use Rattle.bhs_rehearsal.specs.Stages.{moves}
 use Rattle.bhs_rehearsal.specs.Stages.{Closes, Stepped, sent_to, stepped, nothing, tells_arrival, delivers, shut_in}
 use Rattle.bhs_rehearsal.specs.Stages.{told_over, step}
 use Rattle.bhs_theorems.proofs.TurnLemmas.{placed, turn_of, moves-placed, moves_itself, bare}
+use Rattle.std.proofs.Common.{arith}
+use Rattle.std.proofs.lemmas.Bool.Decides.{nat_tests}
 
 -- a client's connection then stands so, and moves
 abbrev pub client_step : Stage → (conn : ℕ) → Connection → (ended : Bool) → Stepped
@@ -38,10 +40,7 @@ by_client P stage conn connection ended idle moved =
 
 -- who has a seat
 seat_is : (seat : ℕ × ℕ) (own : Option (ℕ × ℕ)) → has_seat seat (bare own) ≡ true → own ≡ Some seat
-seat_is seat None has = absurd (cc)
-seat_is seat (Some own) has =
-    let parts = and_parts (own.0 == seat.0) (own.1 == seat.1) has in
-    ap₂ (λ (game agent : ℕ). Some (game, agent)) (eqb-true own.0 seat.0 parts.0) (eqb-true own.1 seat.1 parts.1)
+seat_is seat own has = grind (arith, nat_tests)
 
 pub seat-has_seat : (seat : ℕ × ℕ) (connection : Connection) → has_seat seat connection ≡ true
     → connection.seat ≡ Some seat
