@@ -232,14 +232,7 @@ leaves_without written taken more now pass few a =
 
 pub behind_heard : (reply : Reply) → is_unheard reply ≡ false
     → Behind (answered_by true reply) (answered_by true reply) None [] []
-behind_heard (replies.Here ports came board) heard = (refl, refl, refl, refl)
-behind_heard replies.Written heard = (refl, refl, refl, refl)
-behind_heard (replies.Changed board) heard = (refl, refl, refl, refl)
-behind_heard replies.Gone heard = (refl, refl, refl, refl)
-behind_heard replies.Noted heard = (refl, refl, refl, refl)
-behind_heard replies.Bye heard = (refl, refl, refl, refl)
-behind_heard replies.Over heard = absurd (cc)
-behind_heard (replies.No why) heard = (refl, refl, refl, refl)
+behind_heard reply heard = grind arith
 
 -- why a command was not heard
 pub by_refusal : (written : List ℕ) (taken : List Line) (line : Line) (now : Phase) (pass : Passed) (reply : Reply)
@@ -290,14 +283,7 @@ PassNews pass said pass' = ⊥
 
 of_news : (given : Given) (pass pass' : Passed) (reply : Reply) → IsNews given pass reply pass' →
     PassNews pass reply pass'
-of_news given pass pass' (replies.Here ports came board) is = is
-of_news given pass pass' replies.Over is = is.0
-of_news given pass pass' replies.Written is = absurd is
-of_news given pass pass' (replies.Changed board) is = absurd is
-of_news given pass pass' replies.Gone is = absurd is
-of_news given pass pass' replies.Noted is = absurd is
-of_news given pass pass' replies.Bye is = absurd is
-of_news given pass pass' (replies.No why) is = absurd is
+of_news given pass pass' reply is = grind arith
 
 pub pass_news : (cells : List Given) (game : ℕ) (pass pass' : Passed) (reply : Reply)
     → IsNewsIn cells game pass reply pass' → PassNews pass reply pass'

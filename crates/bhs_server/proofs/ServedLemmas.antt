@@ -6,7 +6,6 @@ use Rattle.std.specs.Prelude.{slice_get}
 use Rattle.bhs_model.specs.declared.commands.Command.{Command}
 use Rattle.bhs_model.specs.declared.commands.Command.TheVariants as commands
 use Rattle.bhs_model.specs.declared.replies.Reply.{Reply}
-use Rattle.bhs_model.specs.declared.replies.Reply.TheVariants as replies
 use Rattle.bhs_wire.specs.declared.commands.First.{First}
 use Rattle.bhs_wire.specs.declared.commands.First.TheVariants as firsts
 use Rattle.bhs_wire.specs.declared.denials.Denial.{Denial}
@@ -148,15 +147,7 @@ module _ (written : List ℕ) (taken : List Line) (keys : List Seat) (cells : Li
   -- a Leave that an ending tells
   leave_ends : (ended : Ending) (now : Phase) (parting : Option Receipt) (left : List Command) (last : List ℕ)
       → MayLeave ended → Ends ended now None left last → Ends ended now parting left last
-  leave_ends endings.Bye now parting left last leave ends = absurd leave
-  leave_ends endings.Noted now parting left last leave ends = absurd leave
-  leave_ends endings.Over now parting left last leave ends = absurd leave
-  leave_ends endings.Denied now parting left last leave ends = absurd leave
-  leave_ends endings.InputEnded now parting left last leave ends = ends
-  leave_ends endings.ReadFault now parting left last leave ends = ends
-  leave_ends endings.WriteFault now parting left last leave ends = tt
-  leave_ends endings.Memory now parting left last leave ends = tt
-  leave_ends endings.Turns now parting left last leave ends = ends
+  leave_ends ended now parting left last leave ends = grind arith
 
   with_parting : (ended : Ending) (pass pass' : Passed) (parting : Option Receipt)
       → (k : Talks written taken (Leaves ended) pass) → pass'.quota ≡ pass.quota →
@@ -313,14 +304,7 @@ quota_told pass pass' command reply (Some place) is = ap (λ (one : Passed). one
 quota_told pass pass' command reply None is = ap (λ (one : Passed). one.quota) is.same
 
 quota_news : (pass pass' : Passed) (reply : Reply) → PassNews pass reply pass' → pass'.quota ≡ pass.quota
-quota_news pass pass' (replies.Here ports came board) is = ap (λ (one : Passed). one.quota) is.gains
-quota_news pass pass' replies.Over is = ap (λ (one : Passed). one.quota) is
-quota_news pass pass' replies.Written is = absurd is
-quota_news pass pass' (replies.Changed board) is = absurd is
-quota_news pass pass' replies.Gone is = absurd is
-quota_news pass pass' replies.Noted is = absurd is
-quota_news pass pass' replies.Bye is = absurd is
-quota_news pass pass' (replies.No why) is = absurd is
+quota_news pass pass' reply is = grind arith
 
 -- by what the list of matches has there
 of_none : (cells : List Given) (game : ℕ) (pass : Passed) → slice_get cells game ≡ None → IsOfCell cells game pass → ⊥
