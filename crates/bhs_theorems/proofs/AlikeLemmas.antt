@@ -20,9 +20,8 @@ use Rattle.bhs_session.specs.Texts.{text_of, denial_text}
 use Rattle.bhs_rehearsal.specs.Games.{Game, state_of, played, reply_to, is_away}
 use Rattle.bhs_rehearsal.specs.Connections.{Item, Says, Ends, Connection, unfed, shut, Taken, taken}
 use Rattle.bhs_rehearsal.specs.Stages.{Stage, game_at, connection_at, with_game, with_connection, has_seat, Entry}
-use Rattle.bhs_rehearsal.specs.Stages.{Waits}
-use Rattle.bhs_rehearsal.specs.Stages.{Sits, IsDenied, Goes, let_in, entry_by, entry, Moved, moves, Closes, Stepped}
-use Rattle.bhs_rehearsal.specs.Stages.{sent_to, stepped, nothing, tells_arrival, delivers, waits_in, told_over}
+use Rattle.bhs_rehearsal.specs.Stages.{Waits, Sits, IsDenied, Goes, let_in, entry_by, entry, Moved, moves, Closes}
+use Rattle.bhs_rehearsal.specs.Stages.{Stepped, sent_to, stepped, nothing, tells_arrival, delivers, waits_in, told_over}
 use Rattle.bhs_rehearsal.specs.Stages.{step}
 use Rattle.bhs_theorems.specs.ScriptLaws.{seats_of}
 use Rattle.bhs_theorems.specs.Clients.{bytes_among}

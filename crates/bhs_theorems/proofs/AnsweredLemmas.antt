@@ -2,8 +2,7 @@
 use Rattle.std.proofs.Common.{arith, ◌≡◌, ℕ, Bool, true, false, nat_lt, [], ◌∷◌}
 use Rattle.std.specs.Prelude.{⊤}
 use Rattle.bhs_model.specs.declared.commands.Command.{Command}
-use Rattle.bhs_model.specs.Views.{View, Glance, Standing}
-use Rattle.bhs_model.specs.Views.{Away, standing, standing_after, ports, used}
+use Rattle.bhs_model.specs.Views.{View, Glance, Standing, Away, standing, standing_after, ports, used}
 use Rattle.bhs_model.specs.Replying.{accepts, answer, hears, text}
 use Rattle.bhs_session.specs.Phase.{Phase, Fresh, Ready, Awaits, Owes, Leaves, Finished, answered_by}
 use Rattle.bhs_theorems.specs.Met.{Meeting, Hears, Refuses, Arrives, past_after, commands as commands_of}

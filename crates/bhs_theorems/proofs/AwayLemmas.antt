@@ -8,7 +8,7 @@ use Rattle.bhs_model.specs.declared.events.Event.{Event}
 use Rattle.bhs_model.specs.declared.events.Event.TheVariants.{Tell, Deliver, Close}
 use Rattle.bhs_model.specs.declared.replies.Reply.{Reply}
 use Rattle.bhs_model.specs.Replying.{rep}
-use Rattle.bhs_model.specs.Views.{Arrived}
+use Rattle.bhs_model.specs.Views.{Arrived, Sight, Away}
 use Rattle.bhs_model.specs.Worlds.{World}
 use Rattle.bhs_model.specs.Runs.{State, initial, Position, Before, At, Bound, After, is_bound, is_let_through, sight_at}
 use Rattle.bhs_model.specs.Runs.{heard, arrives, delivered, next, reply}
@@ -21,7 +21,6 @@ use Rattle.bhs_wire.specs.Lines.{said_by}
 use Rattle.bhs_session.specs.Texts.{command_by}
 use Rattle.bhs_rehearsal.specs.Games.{Game, world_in, state_of, played, reply_to, is_away}
 use Rattle.bhs_rehearsal.specs.Connections.{Item, Says, Ends, Taken, is_last, leaves, answers, taken}
-use Rattle.bhs_model.specs.Views.{Sight, Away}
 use Rattle.bhs_model.specs.Standings.{standing_at}
 
 -- ---- one event

@@ -1,15 +1,13 @@
 -- What a session wrote is the bytes of what its agent met.
-use Rattle.std.proofs.Common.{◌≡◌, ◌≢◌, ◌∙◌, ℕ, zero, suc, ◌⊎◌, inl, inr, true, Option, Some, None}
-use Rattle.std.proofs.Common.{List, [], ◌∷◌, ◌++◌, map, take, drop, length, refl, sym, ap, ap₂, subst}
-use Rattle.std.proofs.Common.{option_to_list}
+use Rattle.std.proofs.Common.{◌≡◌, ◌≢◌, ◌∙◌, ℕ, zero, suc, ◌⊎◌, inl, inr, true, Option, Some, None, List, [], ◌∷◌, ◌++◌}
+use Rattle.std.proofs.Common.{map, take, drop, length, refl, sym, ap, ap₂, subst, option_to_list, arith}
 use Rattle.std.specs.Prelude.{slice_get}
 use Rattle.std.specs.List.{AllByRecursion}
 use Rattle.bhs_model.specs.declared.commands.Command.{Command}
 use Rattle.bhs_model.specs.declared.commands.Command.TheVariants as commands
 use Rattle.bhs_model.specs.declared.replies.Reply.{Reply}
 use Rattle.bhs_model.specs.declared.setups.Setup.{Setup}
-use Rattle.bhs_model.specs.Views.{View, Start, Told, Arrived, Glance, Nothing, Standing, Present, Away, Ended}
-use Rattle.bhs_model.specs.Views.{standing}
+use Rattle.bhs_model.specs.Views.{View, Start, Told, Arrived, Glance, Nothing, Standing, Present, Away, Ended, standing}
 use Rattle.bhs_model.specs.Runs.{initial}
 use Rattle.bhs_model.specs.Kept.{nobody}
 use Rattle.bhs_match.specs.Matches.{Play, world_in, state_of, arrivals}
@@ -33,7 +31,6 @@ use Rattle.bhs_server.proofs.ServedLemmas.{of_given}
 use Rattle.bhs_theorems.proofs.ContestStepsLemmas.{steps_of}
 use Rattle.bhs_theorems.proofs.ContestWalkLemmas.{Sits, takes_there, entries_in, Walked, walk, ended_still, kept_leave}
 use Rattle.bhs_theorems.proofs.ContestWalkLemmas.{left_ended}
-use Rattle.std.proofs.Common.{arith}
 
 -- ---- what a settlement says of one pass
 

@@ -1,15 +1,13 @@
 -- A past and the commands say what was written.
-use Rattle.std.proofs.Common.{suc, ◌≡◌, ◌∙◌, ℕ, ◌⊎◌, inl, inr, Bool, true, List, [], ◌∷◌}
-use Rattle.std.proofs.Common.{◌++◌, map, length}
-use Rattle.std.proofs.Common.{refl, sym, ap, ap₂, subst, arith, append-nil, append_assoc, length-append}
+use Rattle.std.proofs.Common.{suc, ◌≡◌, ◌∙◌, ℕ, ◌⊎◌, inl, inr, Bool, true, List, [], ◌∷◌, ◌++◌, map, length, refl, sym}
+use Rattle.std.proofs.Common.{ap, ap₂, subst, arith, append-nil, append_assoc, length-append}
 use Rattle.std.proofs.lemmas.List.{map-append}
 use Rattle.bhs_model.specs.declared.commands.Command.{Command}
 use Rattle.bhs_model.specs.declared.commands.Command.TheVariants as commands
 use Rattle.bhs_model.specs.declared.replies.Reply.{Reply}
 use Rattle.bhs_model.specs.declared.replies.Reply.TheVariants as replies
 use Rattle.bhs_model.specs.declared.replies.Why.{Why}
-use Rattle.bhs_model.specs.Views.{View, Start, Told, Arrived, Nothing, Standing, Ended}
-use Rattle.bhs_model.specs.Views.{standing, standing_after, ports}
+use Rattle.bhs_model.specs.Views.{View, Start, Told, Arrived, Nothing, Standing, Ended, standing, standing_after, ports}
 use Rattle.bhs_model.specs.Replying.{accepts, hears, refusal}
 use Rattle.bhs_lock.specs.Passes.{kind_of, kept_command}
 use Rattle.bhs_session.specs.Texts.{text_of}

@@ -3,7 +3,7 @@ use Rattle.std.proofs.Common.{◌≡◌, ◌∙◌, ℕ, ◌+◌, Bool, true, fa
 use Rattle.std.proofs.Common.{List, [], ◌∷◌, ◌++◌, map, length, refl, sym, ap, ap₂, subst, append_assoc, arith}
 use Rattle.std.proofs.Common.{if◌then◌else◌, length-append, nat_lt}
 use Rattle.std.specs.Prelude.{option_map, option_and_then, slice_get}
-use Rattle.std.proofs.lemmas.Bool.{eq-eqb, eqb-true, and_parts}
+use Rattle.std.proofs.lemmas.Bool.{eq-eqb, eqb-true, and_parts, eqb-false}
 use Rattle.bhs_model.specs.declared.commands.Command.{Command}
 use Rattle.bhs_model.specs.declared.commands.Command.TheVariants.{Leave}
 use Rattle.bhs_model.specs.declared.events.Event.{Event}
@@ -14,8 +14,7 @@ use Rattle.bhs_model.specs.declared.replies.Reply.{Reply}
 use Rattle.bhs_model.specs.Views.{View, Told, Arrived, Nothing, Sight, standing, ports}
 use Rattle.bhs_model.specs.Replying.{rep, answer, here}
 use Rattle.bhs_model.specs.Worlds.{World}
-use Rattle.bhs_model.specs.Runs.{State, initial, Position, glance, heard, told, arrives}
-use Rattle.bhs_model.specs.Runs.{next, run, run_from, reply}
+use Rattle.bhs_model.specs.Runs.{State, initial, Position, glance, heard, told, arrives, next, run, run_from, reply}
 use Rattle.bhs_model.specs.InOrder.{replies_from}
 use Rattle.bhs_model.specs.Kept.{lost_after, keeps, kept_from}
 use Rattle.bhs_model.specs.Marks.{events_of, read, read_if}
@@ -31,7 +30,6 @@ use Rattle.bhs_lock.specs.Comparing.{Heard, kept_if, entry_first, heard_from}
 use Rattle.bhs_theorems.specs.ContestSteps.{Step, Spoke, Arrives, heard_of, arrivals_of, view_along}
 use Rattle.bhs_theorems.specs.ContestSteps.{AreSteps, StandInOrder}
 use Rattle.bhs_theorems.proofs.AwayLemmas.{told_others, delivered_others, arriving}
-use Rattle.std.proofs.lemmas.Bool.{eqb-false}
 
 leave_shows : (world : World) (state : State) (position : Position) → glance world state position Leave ≡ Nothing
 leave_shows world state position = refl

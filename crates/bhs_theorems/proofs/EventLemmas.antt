@@ -1,6 +1,6 @@
 -- What one command makes of its agent and of the others.
-use Rattle.std.proofs.Common.{◌≡◌, ◌≢◌, ◌∙◌, ℕ, ◌<◌, Bool, true, false, not, ◌&&◌, nat_lt}
-use Rattle.std.proofs.Common.{Option, Some, [], ◌∷◌, refl, sym, ap, subst}
+use Rattle.std.proofs.Common.{◌≡◌, ◌≢◌, ◌∙◌, ℕ, ◌<◌, Bool, true, false, not, ◌&&◌, nat_lt, Option, Some, [], ◌∷◌, refl}
+use Rattle.std.proofs.Common.{sym, ap, subst, arith}
 use Rattle.std.proofs.lemmas.Bool.{cond-true, lt-ltb}
 use Rattle.bhs_model.specs.declared.commands.Command.{Command}
 use Rattle.bhs_model.specs.declared.events.Event.{Event}
@@ -8,12 +8,10 @@ use Rattle.bhs_model.specs.declared.events.Event.TheVariants.{Tell}
 use Rattle.bhs_model.specs.declared.setups.Setup.{Setup}
 use Rattle.bhs_model.specs.declared.replies.Reply.{Reply}
 use Rattle.bhs_model.specs.declared.replies.Reply.TheVariants as replies
-use Rattle.bhs_model.specs.Views.{View, Told, Glance, Standing, Away, Ended}
-use Rattle.bhs_model.specs.Views.{standing, standing_after, ports}
+use Rattle.bhs_model.specs.Views.{View, Told, Glance, Standing, Away, Ended, standing, standing_after, ports}
 use Rattle.bhs_model.specs.Replying.{answer, accepts, hears, rep}
 use Rattle.bhs_model.specs.Worlds.{World}
-use Rattle.bhs_model.specs.Runs.{State, Position, glance, is_bound, position_after, heard}
-use Rattle.bhs_model.specs.Runs.{told}
+use Rattle.bhs_model.specs.Runs.{State, Position, glance, is_bound, position_after, heard, told}
 use Rattle.bhs_model.proofs.StepLemmas.{changed_same, heard_by_past, refused_by_past, answered_by_past}
 use Rattle.bhs_model.proofs.StepLemmas.{next_heard, next_unheard}
 use Rattle.bhs_rehearsal.specs.Games.{Game, world_in, state_of, played, reply_to, is_away}
@@ -23,7 +21,6 @@ use Rattle.bhs_theorems.proofs.AwayLemmas.{state_of-played, setup-played}
 use Rattle.bhs_theorems.proofs.FitLemmas.{fits_here, here_stands}
 use Rattle.bhs_theorems.specs.Met.{Meeting, Hears, Refuses, past_after, command_in, answer_to, takes_commands, IsDue}
 use Rattle.bhs_model.proofs.LegalLemmas.{either}
-use Rattle.std.proofs.Common.{arith}
 
 -- a match that was set up so, with this agent in it
 pub record IsIn (setup : Setup) (agent : ℕ) (game : Game) : Type 0 where

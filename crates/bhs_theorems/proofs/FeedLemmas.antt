@@ -1,7 +1,7 @@
 -- Scripts that do alike, and bytes that are cut otherwise.
 use Rattle.std.proofs.Common.{◌≡◌, ◌∙◌, ℕ, ◌<◌, Bool, true, false, cond, nat_lt, ◌==◌, Option, List, [], ◌∷◌, ◌++◌}
-use Rattle.std.proofs.Common.{length, map, refl, sym, ap, ap₂, subst, append_assoc, append-nil}
-use Rattle.std.proofs.lemmas.Bool.{cond-true, cond-false, ltb-true, lt-ltb}
+use Rattle.std.proofs.Common.{length, map, refl, sym, ap, ap₂, subst, append_assoc, append-nil, subst₂}
+use Rattle.std.proofs.lemmas.Bool.{cond-true, cond-false, ltb-true, lt-ltb, cond_both}
 use Rattle.std.proofs.lemmas.List.{set-set, get_or-set_same, length-set, map-append}
 use Rattle.bhs_wire.specs.Lines.{Line, found_in, left_by}
 use Rattle.bhs_wire.proofs.StreamLaws.{found_in-append, left_by-append}
@@ -10,11 +10,8 @@ use Rattle.bhs_rehearsal.specs.Stages.{Stage, connection_at, with_connection, In
 use Rattle.bhs_rehearsal.specs.Stages.{sent_to, stepped, nothing, feeds, step, stands_after, sends}
 use Rattle.bhs_theorems.specs.ScriptLaws.{DoAlike, joined, fed, TwoPiecesDoAlike, CutsDoAlike}
 use Rattle.bhs_theorems.specs.Clients.{bytes_among, bytes_to}
-use Rattle.bhs_theorems.proofs.TurnLemmas.{Turn, placed, turn_of, moves-placed, grown, turn_of-grown}
-use Rattle.std.proofs.lemmas.Bool.{cond_both}
-use Rattle.std.proofs.Common.{subst₂}
+use Rattle.bhs_theorems.proofs.TurnLemmas.{Turn, placed, turn_of, moves-placed, grown, turn_of-grown, then_fed}
 use Rattle.bhs_theorems.proofs.CuttingLemmas.{cond_alike}
-use Rattle.bhs_theorems.proofs.TurnLemmas.{then_fed}
 
 -- ---- what is sent
 

@@ -1,11 +1,10 @@
 -- The past of an agent says where it is.
-use Rattle.std.proofs.Common.{◌≡◌, ◌≢◌, ℕ, true, false}
+use Rattle.std.proofs.Common.{◌≡◌, ◌≢◌, ℕ, true, false, arith}
 use Rattle.bhs_model.specs.Views.{View, Outside, Present, Away, Ended, standing, ports}
 use Rattle.bhs_model.specs.Worlds.{World}
 use Rattle.bhs_model.specs.Runs.{Position, Before, At, Bound, After, is_bound}
 use Rattle.bhs_model.proofs.LegalLemmas.{IsLegal, all_run}
 use Rattle.bhs_rehearsal.specs.Games.{Game, world_in, state_of}
-use Rattle.std.proofs.Common.{arith}
 
 abbrev pub FitsHere : World → View → Position → Type 0
 FitsHere world view Before = standing view ≡ Outside

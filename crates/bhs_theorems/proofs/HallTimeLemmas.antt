@@ -1,13 +1,11 @@
 -- What stands under the lock of a match is a timed execution.
-use Rattle.std.proofs.Common.{arith, ℕ, zero, suc, ◌≡◌, ◌<◌, ◌≤◌, ◌+◌, ◌-◌, ◌^◌, ◌%◌, min, Bool, true, false, ◌==◌}
-use Rattle.std.proofs.Common.{◌⊎◌, Option, Some, None}
-use Rattle.std.proofs.Common.{List, [], ◌∷◌, ◌++◌, length, nat_lt, refl, sym, ap, ap₂, ◌∙◌, subst, if◌then◌else◌, inl}
-use Rattle.std.proofs.Common.{inr}
-use Rattle.std.proofs.Common.{slice_set}
+use Rattle.std.proofs.Common.{arith, ℕ, zero, suc, ◌≡◌, ◌<◌, ◌≤◌, ◌+◌, ◌-◌, ◌^◌, ◌%◌, min, Bool, true, false, ◌==◌, ◌⊎◌}
+use Rattle.std.proofs.Common.{Option, Some, None, List, [], ◌∷◌, ◌++◌, length, nat_lt, refl, sym, ap, ap₂, ◌∙◌, subst}
+use Rattle.std.proofs.Common.{if◌then◌else◌, inl, inr, slice_set, cond}
 use Rattle.std.proofs.Math.ListN.{length-replicate}
 use Rattle.rand_chacha.specs.ChaCha.{ChaCha}
 use Rattle.std.specs.Prelude.{is_some, replicate}
-use Rattle.std.proofs.lemmas.Bool.{cond-true, cond_both, lt-ltb, eq-eqb}
+use Rattle.std.proofs.lemmas.Bool.{cond-true, cond_both, lt-ltb, eq-eqb, ne_eqb}
 use Rattle.std.proofs.lemmas.Bool.Decides.{eqb_tells}
 use Rattle.std.proofs.lemmas.List.{get_or-set_same, get_or-set_other}
 use Rattle.bhs_net.specs.Network.{Network}
@@ -32,10 +30,8 @@ use Rattle.bhs_model.proofs.LegalLemmas.{AllLegal, all_run}
 use Rattle.bhs_time.specs.TimedViews.{ToldAt, ArrivedAt, bare, is_away, departed_at}
 use Rattle.bhs_time.specs.Schedules.{Schedule}
 use Rattle.bhs_time.specs.TimedRuns.{TimedState, TimedAct, Says, Passes, Ends, glance_then, told_then, arrived_then}
-use Rattle.bhs_time.specs.TimedRuns.{happened}
-use Rattle.bhs_time.specs.TimedRuns.{happened_if, timed_next, timed_initial, timed_run, timed_run_from, delivery_now}
-use Rattle.bhs_time.specs.TimedRuns.{delivery_in}
-use Rattle.bhs_time.specs.TimedRuns.{delivery_if}
+use Rattle.bhs_time.specs.TimedRuns.{happened, happened_if, timed_next, timed_initial, timed_run, timed_run_from}
+use Rattle.bhs_time.specs.TimedRuns.{delivery_now, delivery_in, delivery_if}
 use Rattle.bhs_time.proofs.StampLemmas.{IsStamped, happened_state, next_stamped, initial_stamped}
 use Rattle.bhs_time.proofs.StampLemmas.{clocks_only_stamp_lemma}
 use Rattle.bhs_time.proofs.WaitLemmas.{equal_waits_lemma}
@@ -56,9 +52,7 @@ use Rattle.bhs_theorems.specs.Timely.{HallsAreTimedExecutions, EqualWaitsUnderLo
 use Rattle.bhs_lock.proofs.ToldLemmas.{same_play}
 use Rattle.bhs_lock.proofs.DrawLemmas.{length_told, length_turned}
 use Rattle.bhs_lock.proofs.TallyLemmas.{has_agreed, is_some_if}
-use Rattle.std.proofs.lemmas.Bool.{ne_eqb}
 use Rattle.bhs_theorems.proofs.CuttingLemmas.{cond_alike}
-use Rattle.std.proofs.Common.{cond}
 
 -- ---- the state after an event
 

@@ -1,9 +1,9 @@
 -- What is known of a connection: what its agent met, what was taken of it and what it was sent; and how a move keeps
 -- it.
-use Rattle.std.proofs.Common.{◌≡◌, ◌≢◌, ◌∙◌, ℕ, suc, ◌<◌, ◌⊎◌, inl, inr, Bool, true, false, cond, Option, Some}
-use Rattle.std.proofs.Common.{None, List, [], ◌∷◌, ◌++◌, map, refl, sym, ap, ap₂, subst, append_assoc, append-nil}
-use Rattle.std.proofs.Common.{arith}
-use Rattle.std.proofs.lemmas.Bool.{cond-true}
+use Rattle.std.proofs.Common.{◌≡◌, ◌≢◌, ◌∙◌, ℕ, suc, ◌<◌, ◌⊎◌, inl, inr, Bool, true, false, cond, Option, Some, None}
+use Rattle.std.proofs.Common.{List, [], ◌∷◌, ◌++◌, map, refl, sym, ap, ap₂, subst, append_assoc, append-nil, arith}
+use Rattle.std.proofs.Common.{subst₂}
+use Rattle.std.proofs.lemmas.Bool.{cond-true, cond_both}
 use Rattle.std.proofs.lemmas.List.{map-append, get_or-set_other}
 use Rattle.bhs_model.specs.declared.commands.Command.{Command}
 use Rattle.bhs_model.specs.declared.setups.Setup.{Setup}
@@ -18,18 +18,14 @@ use Rattle.bhs_rehearsal.specs.Stages.{IsDenied, Goes, entry}
 use Rattle.bhs_theorems.proofs.MeetingLemmas.{view_from-append, bytes_from-append, commands-append, due-append}
 use Rattle.bhs_theorems.proofs.CuttingLemmas.{by_same}
 use Rattle.bhs_theorems.proofs.TurnLemmas.{Turn, by_turn, placed, plays_turn, enters_turn, turn_in, played_at, grown}
-use Rattle.bhs_theorems.proofs.TurnLemmas.{ending}
-use Rattle.bhs_theorems.proofs.TurnLemmas.{seat_after}
+use Rattle.bhs_theorems.proofs.TurnLemmas.{ending, seat_after}
 use Rattle.bhs_theorems.specs.Met.{Meeting, view_from, view_of, commands, bytes_from, bytes, takes_commands, AreDue}
 use Rattle.bhs_theorems.specs.Clients.{Fed, fed_more, at_end}
 use Rattle.bhs_theorems.specs.SentAsMet.{IsDenial, IsPastOf, over_text}
 use Rattle.bhs_theorems.proofs.OverLemmas.{EndsLast, has_end, last_says, last_end, over_same, nothing_first}
-use Rattle.bhs_theorems.proofs.AwayLemmas.{Alike, alike_itself}
+use Rattle.bhs_theorems.proofs.AwayLemmas.{Alike, alike_itself, taken_alike}
 use Rattle.bhs_theorems.proofs.TookLemmas.{lines_of, lines_of-append, lines_of-says, has_end-says}
 use Rattle.bhs_theorems.proofs.TookLemmas.{has_end-end, IsQuiet, IsOpen, Took, took}
-use Rattle.bhs_theorems.proofs.AwayLemmas.{taken_alike}
-use Rattle.std.proofs.Common.{subst₂}
-use Rattle.std.proofs.lemmas.Bool.{cond_both}
 
 -- ---- what is known of a connection that plays
 

@@ -1,25 +1,18 @@
 -- What is known of a connection, where a client is fed or ends.
-use Rattle.std.proofs.Common.{◌≡◌, ◌≢◌, ◌∙◌, ℕ, inl, inr, Bool, true, false}
-use Rattle.std.proofs.Common.{Option, Some, None, List, [], ◌++◌, refl}
-use Rattle.std.proofs.Common.{sym, subst, append-nil, arith}
-use Rattle.std.proofs.lemmas.Bool.{cond-true, cond-false}
+use Rattle.std.proofs.Common.{◌≡◌, ◌≢◌, ◌∙◌, ℕ, inl, inr, Bool, true, false, Option, Some, None, List, [], ◌++◌, refl}
+use Rattle.std.proofs.Common.{sym, subst, append-nil, arith, subst₂, ◌==◌, cond}
+use Rattle.std.proofs.lemmas.Bool.{cond-true, cond-false, eq-eqb, ne_eqb}
 use Rattle.bhs_rehearsal.specs.Games.{state_of}
 use Rattle.bhs_rehearsal.specs.Connections.{Connection}
-use Rattle.bhs_rehearsal.specs.Stages.{Stage, game_at, connection_at}
-use Rattle.bhs_rehearsal.specs.Stages.{Stepped}
+use Rattle.bhs_rehearsal.specs.Stages.{Stage, game_at, connection_at, Stepped}
 use Rattle.bhs_theorems.specs.ScriptLaws.{IsSettled}
-use Rattle.bhs_theorems.specs.Clients.{bytes_among}
+use Rattle.bhs_theorems.specs.Clients.{bytes_among, Fed, at_end}
 use Rattle.bhs_theorems.proofs.CuttingLemmas.{by_same}
-use Rattle.bhs_theorems.proofs.TurnLemmas.{grown}
-use Rattle.bhs_theorems.specs.Clients.{Fed, at_end}
-use Rattle.bhs_theorems.proofs.KnownLemmas.{Going, going_fed, going_ends, met_unread}
-use Rattle.bhs_theorems.proofs.TurnLemmas.{ending}
-use Rattle.bhs_theorems.proofs.KnownLemmas.{met_unended, fed_if, Unseated, unseated_fed, unseated_ends, IsKnown}
-use Rattle.bhs_theorems.proofs.KnownLemmas.{IsReady}
+use Rattle.bhs_theorems.proofs.TurnLemmas.{grown, ending}
+use Rattle.bhs_theorems.proofs.KnownLemmas.{Going, going_fed, going_ends, met_unread, met_unended, fed_if, Unseated}
+use Rattle.bhs_theorems.proofs.KnownLemmas.{unseated_fed, unseated_ends, IsKnown, IsReady}
 use Rattle.bhs_theorems.proofs.MetMoveLemmas.{Knows, moved, same_bytes}
 use Rattle.bhs_theorems.proofs.StepCases.{client_step, by_client}
-use Rattle.std.proofs.Common.{subst₂, ◌==◌, cond}
-use Rattle.std.proofs.lemmas.Bool.{eq-eqb, ne_eqb}
 
 -- ---- a client
 

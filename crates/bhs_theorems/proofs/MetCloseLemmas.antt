@@ -1,7 +1,6 @@
 -- What is known of a connection, through a close.
-use Rattle.std.proofs.Common.{◌≡◌, ◌≢◌, ◌∙◌, ℕ, ◌+◌, ◌<◌, inl, inr, Bool, true, false, cond, ◌&&◌}
-use Rattle.std.proofs.Common.{◌==◌, Option, Some, None, List, [], ◌++◌, length, refl}
-use Rattle.std.proofs.Common.{sym, ap, ap₂, subst, append-nil, arith}
+use Rattle.std.proofs.Common.{◌≡◌, ◌≢◌, ◌∙◌, ℕ, ◌+◌, ◌<◌, inl, inr, Bool, true, false, cond, ◌&&◌, ◌==◌, Option, Some}
+use Rattle.std.proofs.Common.{None, List, [], ◌++◌, length, refl, sym, ap, ap₂, subst, append-nil, arith}
 use Rattle.std.proofs.lemmas.Bool.{eq-eqb, ne_eqb}
 use Rattle.std.proofs.lemmas.List.{get_or-set_same, get_or-set_other, length-map}
 use Rattle.bhs_model.specs.declared.events.Event.TheVariants.{Close}
@@ -13,25 +12,20 @@ use Rattle.bhs_model.specs.Runs.{State, is_bound}
 use Rattle.bhs_session.specs.Texts.{text_of}
 use Rattle.bhs_rehearsal.specs.Games.{Game, state_of, played, is_away, world_in}
 use Rattle.bhs_rehearsal.specs.Connections.{Item, Connection, shut}
-use Rattle.bhs_rehearsal.specs.Stages.{Stage, game_at, connection_at, with_game}
-use Rattle.bhs_rehearsal.specs.Stages.{waits_in, shut_in, told_over}
+use Rattle.bhs_rehearsal.specs.Stages.{Stage, game_at, connection_at, with_game, waits_in, shut_in, told_over}
 use Rattle.bhs_theorems.specs.ScriptLaws.{IsSettled}
-use Rattle.bhs_theorems.specs.Clients.{bytes_among}
+use Rattle.bhs_theorems.specs.Clients.{bytes_among, Fed}
 use Rattle.bhs_theorems.proofs.CuttingLemmas.{by_same}
 use Rattle.bhs_theorems.proofs.ApartLemmas.{shut_if, seat-shut_if, shut_at, told_at}
-use Rattle.bhs_theorems.proofs.AwayLemmas.{state_of-played}
-use Rattle.bhs_theorems.specs.Clients.{Fed}
+use Rattle.bhs_theorems.proofs.AwayLemmas.{state_of-played, setup-played}
 use Rattle.bhs_theorems.specs.Met.{view_of, bytes, takes_commands}
 use Rattle.bhs_theorems.specs.SentAsMet.{IsDenial, over_text}
 use Rattle.bhs_theorems.proofs.FitLemmas.{fits_here, away_stands}
 use Rattle.bhs_theorems.proofs.OverLemmas.{over_away}
-use Rattle.bhs_theorems.proofs.AwayLemmas.{setup-played}
 use Rattle.bhs_theorems.proofs.TookLemmas.{lines_of}
-use Rattle.bhs_theorems.proofs.KnownLemmas.{MetBy, MetIn}
-use Rattle.bhs_theorems.proofs.KnownLemmas.{IsKnown}
-use Rattle.bhs_theorems.proofs.KnownLemmas.{Untouched, FreeAreUntouched}
+use Rattle.bhs_theorems.proofs.KnownLemmas.{MetBy, MetIn, IsKnown, Untouched, FreeAreUntouched, Going, Unseated}
+use Rattle.bhs_theorems.proofs.KnownLemmas.{met_from}
 use Rattle.bhs_theorems.proofs.MetMoveLemmas.{Knows, same_bytes}
-use Rattle.bhs_theorems.proofs.KnownLemmas.{Going, Unseated, met_from}
 
 -- ---- a close
 

@@ -1,8 +1,7 @@
 -- What is known of a connection, through a draw.
-use Rattle.std.proofs.Common.{◌≡◌, ◌≢◌, ◌∙◌, ℕ, ◌<◌, inl, inr, Bool, true, false, not}
-use Rattle.std.proofs.Common.{Option, Some, List, [], ◌∷◌, ◌++◌, length, refl}
-use Rattle.std.proofs.Common.{sym, ap, ap₂, subst, append-nil}
-use Rattle.std.proofs.lemmas.Bool.{and_parts}
+use Rattle.std.proofs.Common.{◌≡◌, ◌≢◌, ◌∙◌, ℕ, ◌<◌, inl, inr, Bool, true, false, not, Option, Some, List, [], ◌∷◌}
+use Rattle.std.proofs.Common.{◌++◌, length, refl, sym, ap, ap₂, subst, append-nil}
+use Rattle.std.proofs.lemmas.Bool.{and_parts, false_from_ne_true, true_from_ne_false}
 use Rattle.std.proofs.lemmas.List.{get_or-set_same, get_or-set_other}
 use Rattle.bhs_model.specs.declared.events.Event.TheVariants.{Deliver}
 use Rattle.bhs_model.specs.declared.setups.Setup.{Setup}
@@ -10,34 +9,27 @@ use Rattle.bhs_model.specs.declared.replies.Reply.{Reply}
 use Rattle.bhs_model.specs.Replying.{rep, here}
 use Rattle.bhs_model.specs.Views.{View, Start, Arrived, Sight, Away, standing}
 use Rattle.bhs_model.specs.Worlds.{World}
-use Rattle.bhs_model.specs.Runs.{State, is_bound, arrives}
-use Rattle.bhs_model.specs.Runs.{is_let_through}
+use Rattle.bhs_model.specs.Runs.{State, is_bound, arrives, is_let_through}
 use Rattle.bhs_model.proofs.StepLemmas.{arrival_by_past, no_arrival_no_reply, next_arrived}
 use Rattle.bhs_session.specs.Texts.{text_of}
 use Rattle.bhs_rehearsal.specs.Games.{Game, world_in, state_of, played, reply_to, is_away}
 use Rattle.bhs_rehearsal.specs.Connections.{Connection}
-use Rattle.bhs_rehearsal.specs.Stages.{Stage, game_at, connection_at, with_game}
-use Rattle.bhs_rehearsal.specs.Stages.{sent_to}
+use Rattle.bhs_rehearsal.specs.Stages.{Stage, game_at, connection_at, with_game, sent_to}
 use Rattle.bhs_theorems.specs.ScriptLaws.{IsSettled}
-use Rattle.bhs_theorems.specs.Clients.{bytes_among}
+use Rattle.bhs_theorems.specs.Clients.{bytes_among, Fed}
 use Rattle.bhs_theorems.proofs.CuttingLemmas.{by_same}
 use Rattle.bhs_theorems.proofs.SettlingLemmas.{nobody_plays}
-use Rattle.bhs_theorems.proofs.AwayLemmas.{state_of-played}
+use Rattle.bhs_theorems.proofs.AwayLemmas.{state_of-played, Alike, alike_itself, alike-delivered, alike-no_arrival}
+use Rattle.bhs_theorems.proofs.AwayLemmas.{setup-played, unanswered, arriving}
 use Rattle.bhs_theorems.specs.Met.{Arrives}
-use Rattle.bhs_theorems.specs.Clients.{Fed}
-use Rattle.bhs_theorems.proofs.AwayLemmas.{Alike, alike_itself, alike-delivered, alike-no_arrival, setup-played}
 use Rattle.bhs_theorems.proofs.FitLemmas.{fits_here, away_stands}
 use Rattle.bhs_theorems.proofs.MeetingLemmas.{view_from-append, bytes_from-append, commands-append, due-append}
-use Rattle.bhs_theorems.proofs.KnownLemmas.{Going, GoesOn}
-use Rattle.bhs_theorems.proofs.KnownLemmas.{IsKnown}
-use Rattle.bhs_theorems.proofs.KnownLemmas.{IsReady, untouched_alike, FreeAreUntouched, known_alike}
+use Rattle.bhs_theorems.proofs.KnownLemmas.{Going, GoesOn, IsKnown, IsReady, untouched_alike, FreeAreUntouched}
+use Rattle.bhs_theorems.proofs.KnownLemmas.{known_alike}
 use Rattle.bhs_theorems.proofs.MetMoveLemmas.{Knows, moved}
 use Rattle.bhs_theorems.proofs.MetClientLemmas.{nothing_more}
 use Rattle.bhs_theorems.proofs.StepCases.{IsUntold, arrival_step}
-use Rattle.bhs_theorems.proofs.AwayLemmas.{unanswered}
 use Rattle.bhs_theorems.proofs.TurnLemmas.{placed, turn_of}
-use Rattle.std.proofs.lemmas.Bool.{false_from_ne_true, true_from_ne_false}
-use Rattle.bhs_theorems.proofs.AwayLemmas.{arriving}
 
 -- ---- a draw
 

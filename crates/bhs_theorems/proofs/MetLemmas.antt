@@ -6,39 +6,30 @@ use Rattle.std.proofs.lemmas.List.{length-set, length-map}
 use Rattle.bhs_model.specs.declared.events.Event.{Event}
 use Rattle.bhs_model.specs.declared.setups.Setup.{Setup}
 use Rattle.bhs_model.specs.Views.{View, Away, standing}
-use Rattle.bhs_model.specs.Runs.{initial, is_bound}
-use Rattle.bhs_model.specs.Runs.{run_from}
+use Rattle.bhs_model.specs.Runs.{initial, is_bound, run_from}
 use Rattle.bhs_lineup.specs.KeyTable.{Seat}
 use Rattle.bhs_rehearsal.specs.Games.{Game, world_in, state_of, is_away, drawn, delivered}
 use Rattle.bhs_rehearsal.specs.Connections.{Connection, Item, unfed, shut}
-use Rattle.bhs_rehearsal.specs.Stages.{Stage, game_at, connection_at}
-use Rattle.bhs_rehearsal.specs.Stages.{Instruction}
-use Rattle.bhs_rehearsal.specs.Stages.{Feeds, EndsInput, Draws, Delivers, Closes, Stepped}
-use Rattle.bhs_rehearsal.specs.Stages.{waits_in, step, begun}
-use Rattle.bhs_rehearsal.specs.Stages.{stands_after, sends}
+use Rattle.bhs_rehearsal.specs.Stages.{Stage, game_at, connection_at, Instruction, Feeds, EndsInput, Draws, Delivers}
+use Rattle.bhs_rehearsal.specs.Stages.{Closes, Stepped, waits_in, step, begun, stands_after, sends}
 use Rattle.bhs_theorems.specs.ScriptLaws.{awaits_arrival, IsSettled}
-use Rattle.bhs_theorems.specs.Clients.{bytes_among, bytes_to}
+use Rattle.bhs_theorems.specs.Clients.{bytes_among, bytes_to, Fed, nothing_fed, at_end, fed_by, fed_to}
 use Rattle.bhs_theorems.proofs.CuttingLemmas.{by_bool}
-use Rattle.bhs_theorems.proofs.TurnLemmas.{grown}
+use Rattle.bhs_theorems.proofs.TurnLemmas.{grown, ending, bare}
 use Rattle.bhs_theorems.proofs.SettlingLemmas.{settle_lemma, scripts_lemma, fresh_at}
 use Rattle.bhs_theorems.specs.Met.{view_of, bytes, takes_commands}
-use Rattle.bhs_theorems.specs.Clients.{Fed, nothing_fed, at_end, fed_by, fed_to}
 use Rattle.bhs_theorems.specs.ScriptHeadline.{beginning, outcome, sent_in, match_of, past_of}
 use Rattle.bhs_theorems.specs.SentAsMet.{IsDenial, OthersAreDenied, over_text, IsSentAsMet, SentAsMet}
 use Rattle.bhs_theorems.proofs.OverLemmas.{over_none}
 use Rattle.bhs_theorems.proofs.FitLemmas.{fits_here, away_stands, here_stands}
 use Rattle.bhs_theorems.proofs.TookLemmas.{lines_of}
-use Rattle.bhs_theorems.proofs.KnownLemmas.{MetBy}
-use Rattle.bhs_theorems.proofs.TurnLemmas.{ending}
-use Rattle.bhs_theorems.proofs.KnownLemmas.{fed_if, IsKnown}
+use Rattle.bhs_theorems.proofs.KnownLemmas.{MetBy, fed_if, IsKnown}
 use Rattle.bhs_theorems.proofs.MetMoveLemmas.{Knows, same_bytes}
-use Rattle.bhs_theorems.proofs.MetClientLemmas.{client, end_ready, fed_ready, nothing_more, unended_known}
-use Rattle.bhs_theorems.proofs.MetClientLemmas.{unread_known}
+use Rattle.bhs_theorems.proofs.MetClientLemmas.{client, end_ready, fed_ready, nothing_more, unended_known, unread_known}
 use Rattle.bhs_theorems.proofs.MetDrawLemmas.{draw_untold, draw_told}
 use Rattle.bhs_theorems.proofs.MetCloseLemmas.{close_known}
 use Rattle.bhs_theorems.proofs.StepCases.{by_client, event_step, by_event, by_close}
 use Rattle.bhs_theorems.proofs.SettledLemmas.{seat_within}
-use Rattle.bhs_theorems.proofs.TurnLemmas.{bare}
 
 -- ---- every instruction
 

@@ -1,22 +1,18 @@
 -- What is known of a connection, where the instruction moves another or itself.
-use Rattle.std.proofs.Common.{◌≡◌, ◌≢◌, ◌∙◌, ℕ, ◌<◌}
-use Rattle.std.proofs.Common.{Option, Some, None, List, ◌++◌, length, refl}
-use Rattle.std.proofs.Common.{sym, ap, subst, append_assoc, append-nil}
+use Rattle.std.proofs.Common.{◌≡◌, ◌≢◌, ◌∙◌, ℕ, ◌<◌, Option, Some, None, List, ◌++◌, length, refl, sym, ap, subst}
+use Rattle.std.proofs.Common.{append_assoc, append-nil}
 use Rattle.std.proofs.lemmas.Bool.{cond-true, eq-eqb}
 use Rattle.std.proofs.lemmas.List.{get_or-set_same, get_or-set_other, length-set}
 use Rattle.bhs_rehearsal.specs.Connections.{Connection, unfed, taken}
-use Rattle.bhs_rehearsal.specs.Stages.{Stage, game_at, connection_at}
-use Rattle.bhs_rehearsal.specs.Stages.{sent_to}
+use Rattle.bhs_rehearsal.specs.Stages.{Stage, game_at, connection_at, sent_to}
 use Rattle.bhs_theorems.specs.ScriptLaws.{IsSettled}
-use Rattle.bhs_theorems.specs.Clients.{bytes_among}
+use Rattle.bhs_theorems.specs.Clients.{bytes_among, Fed}
 use Rattle.bhs_theorems.proofs.CuttingLemmas.{by_same}
 use Rattle.bhs_theorems.proofs.TurnLemmas.{Turn, placed, turn_in, turn_of, seat_after}
 use Rattle.bhs_theorems.proofs.FeedLemmas.{bytes_among-sent_to}
 use Rattle.bhs_theorems.proofs.ApartLemmas.{sent_elsewhere}
-use Rattle.bhs_theorems.specs.Clients.{Fed}
-use Rattle.bhs_theorems.proofs.KnownLemmas.{IsKnown}
-use Rattle.bhs_theorems.proofs.KnownLemmas.{IsReady, Untouched, untouched_alike, IsFree, FreeAreUntouched, known_alike}
-use Rattle.bhs_theorems.proofs.KnownLemmas.{others_turn, own_turn}
+use Rattle.bhs_theorems.proofs.KnownLemmas.{IsKnown, IsReady, Untouched, untouched_alike, IsFree, FreeAreUntouched}
+use Rattle.bhs_theorems.proofs.KnownLemmas.{known_alike, others_turn, own_turn}
 
 pub record Knows (stage : Stage) (conn : ℕ) (input : Fed) (sent : List ℕ) : Type 0 where
   pub known : IsKnown stage (connection_at stage conn) input sent (connection_at stage conn).seat

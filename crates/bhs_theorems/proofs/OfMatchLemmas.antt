@@ -9,17 +9,15 @@ use Rattle.bhs_model.specs.declared.events.Event.TheVariants.{Close}
 use Rattle.bhs_session.specs.Texts.{text_of}
 use Rattle.bhs_rehearsal.specs.Games.{Game, played, drawn, delivered}
 use Rattle.bhs_rehearsal.specs.Connections.{Connection, unfed, taken}
-use Rattle.bhs_rehearsal.specs.Stages.{Stage, game_at, connection_at, with_game}
-use Rattle.bhs_rehearsal.specs.Stages.{Instruction, Feeds, EndsInput, Draws, Delivers, Closes, Stepped}
-use Rattle.bhs_rehearsal.specs.Stages.{sent_to, nothing, step, stands_after}
+use Rattle.bhs_rehearsal.specs.Stages.{Stage, game_at, connection_at, with_game, Instruction, Feeds, EndsInput, Draws}
+use Rattle.bhs_rehearsal.specs.Stages.{Delivers, Closes, Stepped, sent_to, nothing, step, stands_after}
 use Rattle.bhs_theorems.specs.ScriptLaws.{plays_in, seats_of, IsOfConnection, IsOfGame, SameBut, is_of_match}
 use Rattle.bhs_theorems.specs.ScriptLaws.{MatchesKeepToThemselves}
 use Rattle.bhs_theorems.specs.Clients.{bytes_among}
 use Rattle.bhs_theorems.proofs.CuttingLemmas.{by_bool, by_same}
 use Rattle.bhs_theorems.proofs.TurnLemmas.{placed, plays_turn, turn_in, turn_of, grown}
 use Rattle.bhs_theorems.proofs.TurnLemmas.{ending, bare, seat_of, seat_after}
-use Rattle.bhs_theorems.proofs.ApartLemmas.{sent_elsewhere, not_shut, seats_shut, told_elsewhere}
-use Rattle.bhs_theorems.proofs.ApartLemmas.{clients_lemma}
+use Rattle.bhs_theorems.proofs.ApartLemmas.{sent_elsewhere, not_shut, seats_shut, told_elsewhere, clients_lemma}
 use Rattle.bhs_theorems.proofs.StepCases.{client_step, by_client, event_step, drawn_in, by_event, by_close}
 
 -- ---- stages that are the same but for a match

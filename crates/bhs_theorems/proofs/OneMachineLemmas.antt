@@ -1,7 +1,7 @@
 -- A phase awaits news exactly if the agent is on a link, and so the machine of a session takes what a rehearsal
 -- takes.
-use Rattle.std.proofs.Common.{◌≡◌, ◌∙◌, ℕ, ◌⊎◌, inl, inr, Bool, true, false, cond, not, ◌&&◌, nat_lt}
-use Rattle.std.proofs.Common.{Option, Some, None, List, [], ◌∷◌, ◌++◌, refl, sym, ap, subst, append-nil}
+use Rattle.std.proofs.Common.{◌≡◌, ◌∙◌, ℕ, ◌⊎◌, inl, inr, Bool, true, false, cond, not, ◌&&◌, nat_lt, Option, Some}
+use Rattle.std.proofs.Common.{None, List, [], ◌∷◌, ◌++◌, refl, sym, ap, subst, append-nil, ◌≢◌, arith}
 use Rattle.std.proofs.lemmas.Bool.{and_parts}
 use Rattle.bhs_model.specs.declared.commands.Command.{Command}
 use Rattle.bhs_model.specs.declared.events.Event.TheVariants.{Tell}
@@ -12,8 +12,7 @@ use Rattle.bhs_model.specs.declared.replies.Why.TheVariants as whys
 use Rattle.bhs_model.specs.Views.{View, Sight, Seen, Standing, Ended, standing, ports, used}
 use Rattle.bhs_model.specs.Replying.{accepts, answer, here, rep, text, refusal, hears}
 use Rattle.bhs_model.specs.Worlds.{World}
-use Rattle.bhs_model.specs.Runs.{Position, State, arrives, glance, position_after, heard}
-use Rattle.bhs_model.specs.Runs.{is_bound, next}
+use Rattle.bhs_model.specs.Runs.{Position, State, arrives, glance, position_after, heard, is_bound, next}
 use Rattle.bhs_model.proofs.StepLemmas.{by_cases, changed_same, next_heard, next_unheard, answered_by_past}
 use Rattle.bhs_model.proofs.StepLemmas.{no_arrival_no_reply}
 use Rattle.bhs_wire.specs.Lines.{Line, said_by}
@@ -29,13 +28,10 @@ use Rattle.bhs_theorems.specs.OneMachine.{IsNews, ArrivalsAreNews, HeardFirst}
 use Rattle.bhs_theorems.proofs.CuttingLemmas.{behind}
 use Rattle.bhs_rehearsal.proofs.TakeLemmas.{takes_line, takes_end, takes_none}
 use Rattle.bhs_theorems.proofs.AwayLemmas.{state_of-played}
-use Rattle.bhs_theorems.proofs.FitLemmas.{FitsHere, fits_here}
+use Rattle.bhs_theorems.proofs.FitLemmas.{FitsHere, fits_here, here_stands}
 use Rattle.bhs_theorems.proofs.MetDrawLemmas.{arrival, away_arrives, arrived_here}
 use Rattle.bhs_theorems.proofs.AnsweredLemmas.{Fits, heard_fits}
 use Rattle.bhs_theorems.proofs.EventLemmas.{takes_here, stays_here}
-use Rattle.bhs_theorems.proofs.FitLemmas.{here_stands}
-use Rattle.std.proofs.Common.{◌≢◌}
-use Rattle.std.proofs.Common.{arith}
 
 -- with a text before what the machine sends
 abbrev then_ran : List ℕ → Ran → Ran

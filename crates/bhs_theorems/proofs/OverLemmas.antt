@@ -1,5 +1,5 @@
 -- What is sent of the close.
-use Rattle.std.proofs.Common.{◌≡◌, ◌≢◌, Bool, true, false, List, [], ◌∷◌, ◌++◌, map, refl, ap}
+use Rattle.std.proofs.Common.{◌≡◌, ◌≢◌, Bool, true, false, List, [], ◌∷◌, ◌++◌, map, refl, ap, arith}
 use Rattle.bhs_model.specs.declared.replies.Reply.TheVariants.{Over}
 use Rattle.bhs_model.specs.Views.{Standing, Away, Ended}
 use Rattle.bhs_wire.specs.Lines.{Line}
@@ -7,7 +7,6 @@ use Rattle.bhs_session.specs.Texts.{text_of}
 use Rattle.bhs_theorems.specs.Met.{takes_commands}
 use Rattle.bhs_rehearsal.specs.Connections.{Item, Says, Ends}
 use Rattle.bhs_theorems.specs.SentAsMet.{over_text}
-use Rattle.std.proofs.Common.{arith}
 
 -- an agent on a link is told at once
 pub over_away : (stands : Standing) (untaken : List Line) → stands ≡ Away

@@ -8,9 +8,7 @@ use Rattle.bhs_model.specs.Views.{View, Start, standing}
 use Rattle.bhs_model.specs.Replying.{hears}
 use Rattle.bhs_wire.specs.Lines.{lines}
 use Rattle.bhs_session.specs.Texts.{command_of}
-use Rattle.bhs_theorems.specs.Met.{Meeting, Hears, Refuses, Arrives, view_of, commands}
-use Rattle.bhs_theorems.specs.Met.{bytes, takes_commands}
-use Rattle.bhs_theorems.specs.Met.{AreDue}
+use Rattle.bhs_theorems.specs.Met.{Meeting, Hears, Refuses, Arrives, view_of, commands, bytes, takes_commands, AreDue}
 use Rattle.bhs_theorems.proofs.PastLemmas.{kinds, kinded, met_alike}
 use Rattle.bhs_theorems.specs.Clients.{Fed, nothing_fed, fed_to}
 use Rattle.bhs_theorems.specs.ScriptHeadline.{Rehearsed, sent_in, match_of, past_of, Plays, EqualPastsAreSentEqualBytes}

@@ -1,7 +1,6 @@
 -- Scripts on stages that are the same but for a match, and with and without what they have for it.
 use Rattle.std.proofs.Common.{◌≡◌, ◌≢◌, ◌∙◌, ◌==◌, ℕ, Bool, true, false, cond, Option, List, [], ◌∷◌, ◌++◌, length}
-use Rattle.std.proofs.Common.{refl}
-use Rattle.std.proofs.Common.{sym, ap, ap₂}
+use Rattle.std.proofs.Common.{refl, sym, ap, ap₂}
 use Rattle.std.proofs.lemmas.Bool.{eqb-false, eq-eqb, ne_eqb}
 use Rattle.bhs_model.specs.declared.events.Event.{Event}
 use Rattle.bhs_rehearsal.specs.Games.{Game, drawn, delivered}

@@ -2,7 +2,7 @@
 use Rattle.std.proofs.Common.{inl, inr, ◌≡◌, ◌≢◌, ◌∙◌, ℕ, ◌<◌, Bool, true, false, ◌&&◌, nat_lt, Option, Some, None}
 use Rattle.std.proofs.Common.{List, [], ◌∷◌, length, set, get_or, refl, sym, ap, ap₂, subst}
 use Rattle.std.specs.List.{list_any}
-use Rattle.std.proofs.lemmas.Bool.{cond_both, eq-eqb}
+use Rattle.std.proofs.lemmas.Bool.{cond_both, eq-eqb, cases_lt}
 use Rattle.std.proofs.lemmas.List.{set-get_or, get_or_past, get_or-set_same, get_or-set_other}
 use Rattle.std.proofs.lemmas.List.Folds.{list_any_at}
 use Rattle.bhs_wire.specs.Lines.{said_by}
@@ -21,7 +21,6 @@ use Rattle.bhs_theorems.proofs.TurnLemmas.{Turn, placed, plays_turn, enters_turn
 use Rattle.bhs_theorems.proofs.TurnLemmas.{bare, seat_after}
 use Rattle.bhs_theorems.proofs.AwayLemmas.{taken_alike, taken_up, taken_rests}
 use Rattle.bhs_model.proofs.LegalLemmas.{either}
-use Rattle.std.proofs.lemmas.Bool.{cases_lt}
 
 -- ---- who awaits an arrival
 

@@ -1,7 +1,6 @@
 -- Each instruction settles a settled stage.
 use Rattle.std.proofs.Common.{inl, inr, ◌≡◌, ◌∙◌, ℕ, zero, suc, ◌<◌, ◌≤◌, Bool, true, false, cond, nat_lt, Option, Some}
-use Rattle.std.proofs.Common.{None}
-use Rattle.std.proofs.Common.{List, [], ◌∷◌, ◌++◌, length, replicate, get_or, refl, sym, ap, subst, arith}
+use Rattle.std.proofs.Common.{None, List, [], ◌∷◌, ◌++◌, length, replicate, get_or, refl, sym, ap, subst, arith}
 use Rattle.std.specs.List.{position, position_or_len}
 use Rattle.std.proofs.lemmas.Bool.{ltb-false}
 use Rattle.std.proofs.lemmas.List.{get_or-set_same}
@@ -11,10 +10,9 @@ use Rattle.bhs_model.specs.declared.events.Event.TheVariants.{Deliver, Close}
 use Rattle.bhs_lineup.specs.KeyTable.{Seat}
 use Rattle.bhs_rehearsal.specs.Games.{Game, played, is_away, drawn, delivered}
 use Rattle.bhs_rehearsal.specs.Connections.{Connection, unfed}
-use Rattle.bhs_rehearsal.specs.Stages.{Stage, game_at, connection_at, with_game, has_seat, Moved}
-use Rattle.bhs_rehearsal.specs.Stages.{sent_to, Instruction, Feeds, EndsInput, Draws, Delivers, Closes, Stepped}
-use Rattle.bhs_rehearsal.specs.Stages.{nothing, waits_in, shut_in, step}
-use Rattle.bhs_rehearsal.specs.Stages.{begun, stands_after}
+use Rattle.bhs_rehearsal.specs.Stages.{Stage, game_at, connection_at, with_game, has_seat, Moved, sent_to, Instruction}
+use Rattle.bhs_rehearsal.specs.Stages.{Feeds, EndsInput, Draws, Delivers, Closes, Stepped, nothing, waits_in, shut_in}
+use Rattle.bhs_rehearsal.specs.Stages.{step, begun, stands_after}
 use Rattle.bhs_theorems.specs.ScriptLaws.{awaits_arrival, IsSettled, SettledStagesSettle, ScriptsSettle, moves_in_turn}
 use Rattle.bhs_theorems.specs.ScriptLaws.{AllItemsAreTaken}
 use Rattle.bhs_theorems.proofs.TurnLemmas.{grown, ending}

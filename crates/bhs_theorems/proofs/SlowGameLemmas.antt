@@ -1,6 +1,6 @@
 -- A match and one that is slow for it, through an event and through items.
-use Rattle.std.proofs.Common.{◌≡◌, ◌∙◌, ℕ, ◌<◌, Bool, true, false, ◌||◌, cond, ◌==◌, not, Option, Some, None}
-use Rattle.std.proofs.Common.{List, [], ◌∷◌, ◌++◌, refl, sym, ap, subst}
+use Rattle.std.proofs.Common.{◌≡◌, ◌∙◌, ℕ, ◌<◌, Bool, true, false, ◌||◌, cond, ◌==◌, not, Option, Some, None, List, []}
+use Rattle.std.proofs.Common.{◌∷◌, ◌++◌, refl, sym, ap, subst, arith}
 use Rattle.std.proofs.lemmas.Bool.{and_right}
 use Rattle.bhs_model.specs.declared.commands.Command.{Command}
 use Rattle.bhs_model.specs.declared.commands.Command.TheVariants.{Leave}
@@ -27,7 +27,6 @@ use Rattle.bhs_theorems.specs.ScriptLaws.{IsSlowFor, slow_of, SlowMatchesBegin}
 use Rattle.bhs_theorems.proofs.CuttingLemmas.{cond_alike}
 use Rattle.bhs_theorems.proofs.TwinLogLemmas.{keeps_alike, twins-both, twins-one}
 use Rattle.bhs_model.proofs.AddLemmas.{run-append}
-use Rattle.std.proofs.Common.{arith}
 
 -- ---- who is on a link is on a port
 

@@ -1,6 +1,6 @@
 -- What an instruction comes to: nothing, or the one thing that it does.
 use Rattle.std.proofs.Common.{ℕ, ◌<◌, ◌≤◌, ◌≡◌, ◌⊎◌, inl, inr, Bool, true, false, cond, nat_lt, Option, Some, None}
-use Rattle.std.proofs.Common.{◌++◌, length, sym, subst, refl}
+use Rattle.std.proofs.Common.{◌++◌, length, sym, subst, refl, arith}
 use Rattle.std.specs.List.{position}
 use Rattle.std.proofs.lemmas.Bool.{cond_both, ltb-true, ltb-false}
 use Rattle.std.proofs.lemmas.List.Quantifiers.{position-Some}
@@ -11,11 +11,9 @@ use Rattle.bhs_session.specs.Texts.{text_of}
 use Rattle.bhs_rehearsal.specs.Games.{state_of, played, reply_to}
 use Rattle.bhs_rehearsal.specs.Connections.{Connection, unfed}
 use Rattle.bhs_rehearsal.specs.Stages.{Stage, game_at, connection_at, with_game, with_connection, has_seat, Moved}
-use Rattle.bhs_rehearsal.specs.Stages.{moves}
-use Rattle.bhs_rehearsal.specs.Stages.{Closes, Stepped, sent_to, stepped, nothing, tells_arrival, delivers, shut_in}
-use Rattle.bhs_rehearsal.specs.Stages.{told_over, step}
+use Rattle.bhs_rehearsal.specs.Stages.{moves, Closes, Stepped, sent_to, stepped, nothing, tells_arrival, delivers}
+use Rattle.bhs_rehearsal.specs.Stages.{shut_in, told_over, step}
 use Rattle.bhs_theorems.proofs.TurnLemmas.{placed, turn_of, moves-placed, moves_itself, bare}
-use Rattle.std.proofs.Common.{arith}
 use Rattle.std.proofs.lemmas.Bool.Decides.{nat_tests}
 
 -- a client's connection then stands so, and moves

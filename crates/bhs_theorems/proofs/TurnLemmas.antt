@@ -14,9 +14,8 @@ use Rattle.bhs_rehearsal.specs.Connections.{Item, Says, Ends, Connection, unfed,
 use Rattle.bhs_rehearsal.specs.Stages.{Stage, game_at, connection_at, with_game, with_connection, has_seat, Entry}
 use Rattle.bhs_rehearsal.specs.Stages.{Waits, Sits, IsDenied, Goes, let_in, entry_by, entry, Moved, plays, shuts}
 use Rattle.bhs_rehearsal.specs.Stages.{enters, moves_in, moves}
-use Rattle.bhs_theorems.proofs.CuttingLemmas.{by_bool, and_then, taken-append, taken_nobody}
+use Rattle.bhs_theorems.proofs.CuttingLemmas.{by_bool, and_then, taken-append, taken_nobody, cond_alike}
 use Rattle.bhs_model.proofs.LegalLemmas.{either}
-use Rattle.bhs_theorems.proofs.CuttingLemmas.{cond_alike}
 
 abbrev pub seat_of : Connection → Option (ℕ × ℕ)
 seat_of connection = connection.seat
