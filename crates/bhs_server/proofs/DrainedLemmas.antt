@@ -2,14 +2,12 @@
 use Rattle.std.proofs.Common.{◌≡◌, ℕ, Bool, true, false, List, [], ◌∷◌, ◌++◌, length, refl, sym, ap, subst, arith}
 use Rattle.std.proofs.Common.{length-append}
 use Rattle.bhs_model.specs.declared.replies.Reply.{Reply}
-use Rattle.bhs_model.specs.declared.replies.Reply.TheVariants as replies
 use Rattle.bhs_wire.specs.declared.commands.First.{First}
 use Rattle.bhs_wire.specs.Lines.{Line, lines, said_by}
 use Rattle.bhs_stream.specs.Streams.{Chunk, Bytes, End, Fails, Taken}
 use Rattle.bhs_session.specs.declared.endings.Ended.{Ended as Ending}
 use Rattle.bhs_session.specs.declared.endings.Ended.TheVariants as endings
-use Rattle.bhs_session.specs.declared.port.Entered.TheVariants as entered
-use Rattle.bhs_session.specs.Port.{Asked, Heard, LetIn, Answers, NoMemory}
+use Rattle.bhs_session.specs.Port.{Asked, Heard}
 use Rattle.bhs_session.specs.Phase.{Phase, Fresh, Ready, Awaits, Owes, Leaves, Finished, answered_by, stopped}
 use Rattle.bhs_session.specs.Phase.{Sends, all as goes_out, part as is_cut, none as is_kept_back}
 use Rattle.bhs_session.specs.Machine.{Asks, ask, hear}
@@ -31,43 +29,17 @@ Drained (Finished ended) read taken = is_between ended ≡ true → taken ≡ li
 Drained phase read taken = Unit {0}
 
 plain_drained : (phase : Phase) (read : List ℕ) (taken : List Line) → IsPlain phase → Drained phase read taken
-plain_drained Fresh read taken plain = tt
-plain_drained Ready read taken plain = tt
-plain_drained Awaits read taken plain = tt
-plain_drained (Owes text next) read taken plain = absurd plain
-plain_drained (Leaves ended) read taken plain = λ between. absurd (cc)
-plain_drained (Finished ended) read taken plain = λ between. absurd (cc)
+plain_drained phase read taken plain = grind arith
 
 plain_answer : (waits : Bool) (reply : Reply) → IsPlain (answered_by waits reply)
-plain_answer waits (replies.Here ports came board) = tt
-plain_answer waits replies.Written = tt
-plain_answer waits (replies.Changed board) = tt
-plain_answer true replies.Gone = tt
-plain_answer false replies.Gone = tt
-plain_answer waits replies.Noted = refl
-plain_answer waits replies.Bye = refl
-plain_answer waits replies.Over = refl
-plain_answer waits (replies.No why) = tt
+plain_answer waits reply = grind arith
 
 heard_drained : (phase : Phase) (heard : Heard) (first : First) (asked : Asked) (read : List ℕ) (taken : List Line)
     → ask phase first ≡ Asks asked → Drained (hear phase heard) read taken
-heard_drained Fresh (LetIn entered.Key) first asked read taken is = refl
-heard_drained Fresh (LetIn entered.Taken) first asked read taken is = refl
-heard_drained Fresh (LetIn (entered.In reply)) first asked read taken is = plain_answer true reply
-heard_drained Fresh NoMemory first asked read taken is = λ between. absurd (cc)
-heard_drained Fresh (Answers reply) first asked read taken is = λ between. absurd (cc)
-heard_drained Ready (LetIn answer) first asked read taken is = λ between. absurd (cc)
-heard_drained Ready NoMemory first asked read taken is = λ between. absurd (cc)
-heard_drained Ready (Answers reply) first asked read taken is = plain_answer true reply
-heard_drained Awaits heard first asked read taken is = absurd (cc)
-heard_drained (Owes text next) heard first asked read taken is = absurd (cc)
-heard_drained (Leaves ended) heard first asked read taken is = absurd (cc)
-heard_drained (Finished ended) heard first asked read taken is = absurd (cc)
+heard_drained phase heard first asked read taken is = grind (arith, plain_answer)
 
 news_drained : (heard : Heard) (read : List ℕ) (taken : List Line) → Drained (hear Awaits heard) read taken
-news_drained (Answers reply) read taken = plain_answer false reply
-news_drained NoMemory read taken = λ between. absurd (cc)
-news_drained (LetIn answer) read taken = λ between. absurd (cc)
+news_drained heard read taken = grind (arith, plain_answer)
 
 -- a session is stopped otherwise
 plain_stop : (phase : Phase) (cause : Ending) (read : List ℕ) (taken : List Line) → is_between cause ≡ false
@@ -83,20 +55,10 @@ plain_stop (Finished ended) cause read taken plain drained = λ between. absurd 
 -- or between two lines, where each was taken
 line_stop : (phase : Phase) (cause : Ending) (read : List ℕ) (taken : List Line) → TakesLines phase
     → taken ≡ lines read → Drained (stopped phase cause) read taken
-line_stop Fresh cause read taken takes every = λ between. every
-line_stop Ready cause read taken takes every = λ between. every
-line_stop Awaits cause read taken takes every = absurd takes
-line_stop (Owes text next) cause read taken takes every = absurd takes
-line_stop (Leaves ended) cause read taken takes every = absurd takes
-line_stop (Finished ended) cause read taken takes every = absurd takes
+line_stop phase cause read taken takes every = grind arith
 
 lines_drained : (phase : Phase) (read : List ℕ) (taken : List Line) → TakesLines phase → Drained phase read taken
-lines_drained Fresh read taken takes = tt
-lines_drained Ready read taken takes = tt
-lines_drained Awaits read taken takes = absurd takes
-lines_drained (Owes text next) read taken takes = absurd takes
-lines_drained (Leaves ended) read taken takes = absurd takes
-lines_drained (Finished ended) read taken takes = absurd takes
+lines_drained phase read taken takes = grind arith
 
 sent_drained : {O : Type 0} (takes : O → List ℕ → Taken → O → Type 0) (old new : O) (phase next : Phase)
     (some read : List ℕ) (taken : List Line) → Sends takes old phase some new next → Drained phase read taken

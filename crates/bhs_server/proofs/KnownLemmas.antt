@@ -72,6 +72,29 @@ pub record Talks (written : List ℕ) (taken : List Line) (phase : Phase) (pass 
   pub is_unwritten : IsUnwritten phase unwritten
   pub stands : Behind (behind_text phase) (phase_from Fresh all) parting left last
 
+-- the same session, with another text written of what it said, in another phase
+pub talks_on : (written written' : List ℕ) (taken : List Line) (phase phase' : Phase) (pass : Passed)
+    (k : Talks written taken phase pass) (unwritten : List ℕ) →
+    written' ++ unwritten ≡ session_text pass.quota k.all ++ k.last → IsUnwritten phase' unwritten →
+    Behind (behind_text phase') (phase_from Fresh k.all) k.parting k.left k.last → Talks written' taken phase' pass
+talks_on written written' taken phase phase' pass k unwritten heard is stands = record {
+  all = k.all;
+  in_turn = k.in_turn;
+  parting = k.parting;
+  receipts = k.receipts;
+  kept = k.kept;
+  arrivals = k.arrivals;
+  left = k.left;
+  few = k.few;
+  said = k.said;
+  last = k.last;
+  is_last = k.is_last;
+  unwritten = unwritten;
+  heard = heard;
+  is_unwritten = is;
+  stands = stands;
+}
+
 abbrev pub StandsOutside : Phase → (last : List ℕ) → List Line → Type 0
 StandsOutside Fresh last taken = (last ≡ []) × (taken ≡ [])
 StandsOutside (Finished ended) last taken = Unit {0}
@@ -169,35 +192,12 @@ more_said written taken more now pass pass' one reply next a quota receipts kept
 pub few_lines : (line : Line) → IsFew (map command_of (line ∷ []))
 few_lines line = inr (command_of line, refl)
 
--- that the match is over
-pub ends_over : (written : List ℕ) (taken more : List Line) (now : Phase) (pass pass' : Passed)
-    → IsFew (map command_of more) → pass' ≡ pass → Answered written taken now pass →
-    Talks written (taken ++ more) (Owes (text_of replies.Over) (Finished endings.Over)) pass'
-ends_over written taken more now pass pass' few same a =
-    subst (Talks written (taken ++ more) (Owes (text_of replies.Over) (Finished endings.Over))) (sym same) (record {
-      all = a.all;
-      in_turn = a.in_turn;
-      parting = None;
-      receipts = a.receipts ∙ sym (append-nil (receipts_in a.all));
-      kept = a.kept ∙ sym (append-nil (kept_in a.all));
-      arrivals = a.arrivals;
-      left = map command_of more;
-      few = few;
-      said = map-append command_of taken more
-          ∙ ap (λ (some : List Command). some ++ map command_of more) a.said;
-      last = text_of replies.Over;
-      is_last = inr refl;
-      unwritten = text_of replies.Over;
-      heard = ap (λ (some : List ℕ). some ++ text_of replies.Over) a.heard;
-      is_unwritten = refl;
-      stands = (refl, refl);
-    })
-
--- no answer, for want of memory
-pub leaves_without : (written : List ℕ) (taken more : List Line) (now : Phase) (pass : Passed)
-    → IsFew (map command_of more) → Answered written taken now pass
-    → Talks written (taken ++ more) (Leaves endings.Memory) pass
-leaves_without written taken more now pass few a = record {
+-- nothing is said of what is left, and this is owed
+left_unsaid : (written : List ℕ) (taken more : List Line) (now phase : Phase) (pass : Passed) (last : List ℕ)
+    → IsFew (map command_of more) → Answered written taken now pass → MayBeOver last → IsUnwritten phase last →
+    ((now : Phase) → Behind (behind_text phase) now None (map command_of more) last)
+    → Talks written (taken ++ more) phase pass
+left_unsaid written taken more now phase pass last few a may is stands = record {
   all = a.all;
   in_turn = a.in_turn;
   parting = None;
@@ -207,24 +207,32 @@ leaves_without written taken more now pass few a = record {
   left = map command_of more;
   few = few;
   said = map-append command_of taken more ∙ ap (λ (some : List Command). some ++ map command_of more) a.said;
-  last = [];
-  is_last = inl refl;
-  unwritten = [];
-  heard = append-nil written ∙ a.heard ∙ sym (append-nil (session_text pass.quota a.all));
-  is_unwritten = tt;
-  stands = (tt, refl, tt);
+  last = last;
+  is_last = may;
+  unwritten = last;
+  heard = ap (λ (some : List ℕ). some ++ last) a.heard;
+  is_unwritten = is;
+  stands = stands (phase_from Fresh a.all);
 }
+
+-- that the match is over
+pub ends_over : (written : List ℕ) (taken more : List Line) (now : Phase) (pass pass' : Passed)
+    → IsFew (map command_of more) → pass' ≡ pass → Answered written taken now pass →
+    Talks written (taken ++ more) (Owes (text_of replies.Over) (Finished endings.Over)) pass'
+ends_over written taken more now pass pass' few same a =
+    subst (Talks written (taken ++ more) (Owes (text_of replies.Over) (Finished endings.Over))) (sym same)
+    (left_unsaid written taken more now _ pass (text_of replies.Over) few a (inr refl) refl (λ now. (refl, refl)))
+
+-- no answer, for want of memory
+pub leaves_without : (written : List ℕ) (taken more : List Line) (now : Phase) (pass : Passed)
+    → IsFew (map command_of more) → Answered written taken now pass
+    → Talks written (taken ++ more) (Leaves endings.Memory) pass
+leaves_without written taken more now pass few a =
+    left_unsaid written taken more now _ pass [] few a (inl refl) tt (λ now. (tt, refl, tt))
 
 pub behind_heard : (reply : Reply) → is_unheard reply ≡ false
     → Behind (answered_by true reply) (answered_by true reply) None [] []
-behind_heard (replies.Here ports came board) heard = (refl, refl, refl, refl)
-behind_heard replies.Written heard = (refl, refl, refl, refl)
-behind_heard (replies.Changed board) heard = (refl, refl, refl, refl)
-behind_heard replies.Gone heard = (refl, refl, refl, refl)
-behind_heard replies.Noted heard = (refl, refl, refl, refl)
-behind_heard replies.Bye heard = (refl, refl, refl, refl)
-behind_heard replies.Over heard = absurd (cc)
-behind_heard (replies.No why) heard = (refl, refl, refl, refl)
+behind_heard reply heard = grind arith
 
 -- why a command was not heard
 pub by_refusal : (written : List ℕ) (taken : List Line) (line : Line) (now : Phase) (pass : Passed) (reply : Reply)
@@ -275,14 +283,7 @@ PassNews pass said pass' = ⊥
 
 of_news : (given : Given) (pass pass' : Passed) (reply : Reply) → IsNews given pass reply pass' →
     PassNews pass reply pass'
-of_news given pass pass' (replies.Here ports came board) is = is
-of_news given pass pass' replies.Over is = is.0
-of_news given pass pass' replies.Written is = absurd is
-of_news given pass pass' (replies.Changed board) is = absurd is
-of_news given pass pass' replies.Gone is = absurd is
-of_news given pass pass' replies.Noted is = absurd is
-of_news given pass pass' replies.Bye is = absurd is
-of_news given pass pass' (replies.No why) is = absurd is
+of_news given pass pass' reply is = grind arith
 
 pub pass_news : (cells : List Given) (game : ℕ) (pass pass' : Passed) (reply : Reply)
     → IsNewsIn cells game pass reply pass' → PassNews pass reply pass'
@@ -352,29 +353,15 @@ stopped_known written taken Fresh None cause leave ends takes k = record {
 }
 stopped_known written taken Fresh (Some played) cause leave ends takes k = absurd k.stands
 stopped_known written taken Ready None cause leave ends takes k = absurd k.stands
-stopped_known written taken Ready (Some played) cause leave ends takes k = record {
-  all = k.all;
-  in_turn = k.in_turn;
-  parting = k.parting;
-  receipts = k.receipts;
-  kept = k.kept;
-  arrivals = k.arrivals;
-  left = k.left;
-  few = k.few;
-  said = k.said;
-  last = k.last;
-  is_last = k.is_last;
-  unwritten = k.unwritten;
-  heard = k.heard;
-  is_unwritten = subst (MayLack cause) (sym k.is_unwritten) (lacks_none cause);
-  stands = (
-    leave,
-    k.stands.1,
-    subst (λ (left : List Command). Ends cause (phase_from Fresh k.all) None left k.last) (sym k.stands.2)
-        (subst (λ (last : List ℕ). Ends cause (phase_from Fresh k.all) None [] last) (sym k.stands.3)
-        (ends (phase_from Fresh k.all) (subst TakesLines (sym k.stands.0) tt))),
-  );
-}
+stopped_known written taken Ready (Some played) cause leave ends takes k =
+    talks_on written written taken Ready (Leaves cause) played.pass k k.unwritten k.heard
+    (subst (MayLack cause) (sym k.is_unwritten) (lacks_none cause)) (
+      leave,
+      k.stands.1,
+      subst (λ (left : List Command). Ends cause (phase_from Fresh k.all) None left k.last) (sym k.stands.2)
+          (subst (λ (last : List ℕ). Ends cause (phase_from Fresh k.all) None [] last) (sym k.stands.3)
+          (ends (phase_from Fresh k.all) (subst TakesLines (sym k.stands.0) tt))),
+    )
 stopped_known written taken Awaits played cause leave ends takes k = absurd takes
 stopped_known written taken (Owes text next) played cause leave ends takes k = absurd takes
 stopped_known written taken (Leaves ended) played cause leave ends takes k = absurd takes
@@ -395,24 +382,10 @@ module _ (written some rest text : List ℕ) (taken : List Line) (cause : Ending
       with_phase : (phase : Phase) → IsUnwritten phase rest →
           Behind (behind_text phase) (phase_from Fresh k.all) k.parting k.left k.last
           → Talks (written ++ some) taken phase pass
-      with_phase phase is stands = record {
-        all = k.all;
-        in_turn = k.in_turn;
-        parting = k.parting;
-        receipts = k.receipts;
-        kept = k.kept;
-        arrivals = k.arrivals;
-        left = k.left;
-        few = k.few;
-        said = k.said;
-        last = k.last;
-        is_last = k.is_last;
-        unwritten = rest;
-        heard = append_assoc written some rest
-            ∙ ap (λ (all : List ℕ). written ++ all) (split ∙ sym k.is_unwritten) ∙ k.heard;
-        is_unwritten = is;
-        stands = stands;
-      }
+      with_phase phase =
+          talks_on written (written ++ some) taken (Owes text next) phase pass k rest
+          (append_assoc written some rest
+          ∙ ap (λ (all : List ℕ). written ++ all) (split ∙ sym k.is_unwritten) ∙ k.heard)
 
       go : (next : Phase) → Behind next (phase_from Fresh k.all) k.parting k.left k.last
           → Talks (written ++ some) taken (stopped next cause) pass
@@ -456,23 +429,9 @@ module _ (written text : List ℕ) (taken : List Line) where
       with_phase : (phase : Phase) → IsUnwritten phase [] →
           Behind (behind_text phase) (phase_from Fresh k.all) k.parting k.left k.last
           → Talks (written ++ text) taken phase pass
-      with_phase phase is stands = record {
-        all = k.all;
-        in_turn = k.in_turn;
-        parting = k.parting;
-        receipts = k.receipts;
-        kept = k.kept;
-        arrivals = k.arrivals;
-        left = k.left;
-        few = k.few;
-        said = k.said;
-        last = k.last;
-        is_last = k.is_last;
-        unwritten = [];
-        heard = append-nil (written ++ text) ∙ ap (λ (all : List ℕ). written ++ all) (sym k.is_unwritten) ∙ k.heard;
-        is_unwritten = is;
-        stands = stands;
-      }
+      with_phase phase =
+          talks_on written (written ++ text) taken (Owes text next) phase pass k []
+          (append-nil (written ++ text) ∙ ap (λ (all : List ℕ). written ++ all) (sym k.is_unwritten) ∙ k.heard)
 
       go : (next : Phase) → Behind next (phase_from Fresh k.all) k.parting k.left k.last
           → Talks (written ++ text) taken next pass

@@ -6,7 +6,6 @@ use Rattle.std.specs.Prelude.{slice_get}
 use Rattle.bhs_model.specs.declared.commands.Command.{Command}
 use Rattle.bhs_model.specs.declared.commands.Command.TheVariants as commands
 use Rattle.bhs_model.specs.declared.replies.Reply.{Reply}
-use Rattle.bhs_model.specs.declared.replies.Reply.TheVariants as replies
 use Rattle.bhs_wire.specs.declared.commands.First.{First}
 use Rattle.bhs_wire.specs.declared.commands.First.TheVariants as firsts
 use Rattle.bhs_wire.specs.declared.denials.Denial.{Denial}
@@ -36,7 +35,7 @@ use Rattle.bhs_server.specs.Exchanges.{phase_from, AreInTurn}
 use Rattle.bhs_server.specs.Written.{Ends, IsWrittenFor, IsAttended}
 use Rattle.bhs_server.proofs.DrainedLemmas.{session_drained, none_more}
 use Rattle.bhs_server.proofs.KnownLemmas.{MayLeave, Talks, Alone, Known, IsPlayedOn, Answered}
-use Rattle.bhs_server.proofs.KnownLemmas.{answered_all, few_lines, leaves_without}
+use Rattle.bhs_server.proofs.KnownLemmas.{talks_on, answered_all, few_lines, leaves_without}
 use Rattle.bhs_server.proofs.KnownLemmas.{line_answered, PassNews, pass_news, news_answered, stopped_known, sent_known}
 
 -- ---- the port
@@ -79,23 +78,8 @@ finished_without : (written : List ℕ) (taken : List Line) (line : Line) (pass 
     → Answered written taken Fresh pass → Talks written (taken ++ line ∷ []) (Finished endings.Memory) pass
 finished_without written taken line pass a =
     let k = leaves_without written taken (line ∷ []) Fresh pass (few_lines line) a in
-    record {
-      all = k.all;
-      in_turn = k.in_turn;
-      parting = k.parting;
-      receipts = k.receipts;
-      kept = k.kept;
-      arrivals = k.arrivals;
-      left = k.left;
-      few = k.few;
-      said = k.said;
-      last = k.last;
-      is_last = k.is_last;
-      unwritten = k.unwritten;
-      heard = k.heard;
-      is_unwritten = tt;
-      stands = tt;
-    }
+    talks_on written written (taken ++ line ∷ []) (Leaves endings.Memory) (Finished endings.Memory) pass k k.unwritten
+    k.heard tt tt
 
 -- a port by its parts
 abbrev seated : List Seat → List Given → Option Played → Seated
@@ -163,15 +147,7 @@ module _ (written : List ℕ) (taken : List Line) (keys : List Seat) (cells : Li
   -- a Leave that an ending tells
   leave_ends : (ended : Ending) (now : Phase) (parting : Option Receipt) (left : List Command) (last : List ℕ)
       → MayLeave ended → Ends ended now None left last → Ends ended now parting left last
-  leave_ends endings.Bye now parting left last leave ends = absurd leave
-  leave_ends endings.Noted now parting left last leave ends = absurd leave
-  leave_ends endings.Over now parting left last leave ends = absurd leave
-  leave_ends endings.Denied now parting left last leave ends = absurd leave
-  leave_ends endings.InputEnded now parting left last leave ends = ends
-  leave_ends endings.ReadFault now parting left last leave ends = ends
-  leave_ends endings.WriteFault now parting left last leave ends = tt
-  leave_ends endings.Memory now parting left last leave ends = tt
-  leave_ends endings.Turns now parting left last leave ends = ends
+  leave_ends ended now parting left last leave ends = grind arith
 
   with_parting : (ended : Ending) (pass pass' : Passed) (parting : Option Receipt)
       → (k : Talks written taken (Leaves ended) pass) → pass'.quota ≡ pass.quota →
@@ -328,14 +304,7 @@ quota_told pass pass' command reply (Some place) is = ap (λ (one : Passed). one
 quota_told pass pass' command reply None is = ap (λ (one : Passed). one.quota) is.same
 
 quota_news : (pass pass' : Passed) (reply : Reply) → PassNews pass reply pass' → pass'.quota ≡ pass.quota
-quota_news pass pass' (replies.Here ports came board) is = ap (λ (one : Passed). one.quota) is.gains
-quota_news pass pass' replies.Over is = ap (λ (one : Passed). one.quota) is
-quota_news pass pass' replies.Written is = absurd is
-quota_news pass pass' (replies.Changed board) is = absurd is
-quota_news pass pass' replies.Gone is = absurd is
-quota_news pass pass' replies.Noted is = absurd is
-quota_news pass pass' replies.Bye is = absurd is
-quota_news pass pass' (replies.No why) is = absurd is
+quota_news pass pass' reply is = grind arith
 
 -- by what the list of matches has there
 of_none : (cells : List Given) (game : ℕ) (pass : Passed) → slice_get cells game ≡ None → IsOfCell cells game pass → ⊥

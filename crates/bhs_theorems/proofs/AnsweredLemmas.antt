@@ -1,13 +1,8 @@
 -- Where an answer leads a session.
-use Rattle.std.proofs.Common.{arith, ◌≡◌, ℕ, Bool, true, false, cond, nat_lt, nat_le, bytes_eq, length, List, [], ◌∷◌}
-use Rattle.std.proofs.Common.{refl}
+use Rattle.std.proofs.Common.{arith, ◌≡◌, ℕ, Bool, true, false, nat_lt, [], ◌∷◌}
 use Rattle.std.specs.Prelude.{⊤}
 use Rattle.bhs_model.specs.declared.commands.Command.{Command}
-use Rattle.bhs_model.specs.declared.commands.Command.TheVariants as commands
-use Rattle.bhs_model.specs.declared.replies.Reply.TheVariants as replies
-use Rattle.bhs_model.specs.declared.replies.Why.TheVariants as whys
-use Rattle.bhs_model.specs.Views.{View, Glance, Saw, Seen, Standing, Present}
-use Rattle.bhs_model.specs.Views.{Away, Ended, standing, standing_after, ports, used}
+use Rattle.bhs_model.specs.Views.{View, Glance, Standing, Away, standing, standing_after, ports, used}
 use Rattle.bhs_model.specs.Replying.{accepts, answer, hears, text}
 use Rattle.bhs_session.specs.Phase.{Phase, Fresh, Ready, Awaits, Owes, Leaves, Finished, answered_by}
 use Rattle.bhs_theorems.specs.Met.{Meeting, Hears, Refuses, Arrives, past_after, commands as commands_of}
@@ -24,30 +19,9 @@ Fits (Owes text next) stands = ⊥
 Fits (Leaves ended) stands = ⊥
 Fits (Finished ended) stands = Unit {0}
 
-write_fits : (fits same : Bool) (shown : List ℕ)
-    → Fits (answered_by true (cond fits (cond same replies.Written (replies.Changed shown)) (replies.No whys.Long)))
-    Present
-write_fits true true shown = refl
-write_fits true false shown = refl
-write_fits false same shown = refl
-
-depart_fits : (is_port : Bool) → Fits (answered_by true (cond is_port replies.Gone (replies.No whys.Port)))
-    (cond is_port Away Present)
-depart_fits true = refl
-depart_fits false = refl
-
-accuse_fits : (is_port : Bool) → Fits (answered_by true (cond is_port replies.Noted (replies.No whys.Port)))
-    (cond is_port Ended Present)
-accuse_fits true = tt
-accuse_fits false = refl
-
-heard_fits : (limit : ℕ) (stands : Standing) (room : Bool) (ports : ℕ) (command : Command) (glance : Glance)
+pub heard_fits : (limit : ℕ) (stands : Standing) (room : Bool) (ports : ℕ) (command : Command) (glance : Glance)
     → takes_commands stands ≡ true → accepts stands room command ≡ true →
     Fits (answered_by true (answer limit stands ports command glance)) (standing_after stands ports command)
-heard_fits limit Present room ports (commands.Write expect put) (Saw (Seen count came last_write)) takes allowed =
-    write_fits (nat_le (length put) limit) (bytes_eq (text limit last_write) expect) (text limit last_write)
-heard_fits limit Present room ports (commands.Depart port) glance takes allowed = depart_fits (nat_lt port ports)
-heard_fits limit Present room ports (commands.Accuse port) glance takes allowed = accuse_fits (nat_lt port ports)
 heard_fits limit stands room ports command glance takes allowed = grind arith
 
 -- a command is heard exactly if the past and the quota allow it

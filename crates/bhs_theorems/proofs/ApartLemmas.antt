@@ -1,30 +1,23 @@
 -- What an instruction leaves alone.
 use Rattle.std.proofs.Common.{◌≡◌, ◌≢◌, ◌∙◌, ℕ, zero, suc, ◌+◌, ◌<◌, Bool, true, false, cond, ◌==◌, Option}
-use Rattle.std.proofs.Common.{Some, None, List, [], ◌∷◌, ◌++◌, length, set, get_or, refl, sym, ap, ap₂, subst}
-use Rattle.std.proofs.Common.{append_assoc, arith}
-use Rattle.std.specs.List.{position}
-use Rattle.std.proofs.lemmas.Bool.{cond-false, eqb-true, eqb-false, eq-eqb, and_parts, ne_eqb}
-use Rattle.std.proofs.lemmas.List.{set-get_or, get_or-set_same, get_or-set_other}
-use Rattle.std.proofs.lemmas.List.Quantifiers.{position-Some}
-use Rattle.bhs_model.specs.declared.events.Event.{Event}
-use Rattle.bhs_model.specs.declared.events.Event.TheVariants.{Tell, Deliver, Close}
-use Rattle.bhs_model.specs.declared.replies.Reply.{Reply}
+use Rattle.std.proofs.Common.{Some, None, List, [], ◌∷◌, ◌++◌, length, map, get_or, refl, sym, ap, ap₂}
+use Rattle.std.proofs.Common.{append_assoc, append-nil, arith}
+use Rattle.std.proofs.lemmas.Bool.{cond-true, cond-false, eqb-false, eq-eqb, ne_eqb}
+use Rattle.std.proofs.Math.ListN.{get_or-map}
+use Rattle.std.proofs.lemmas.List.{get_or-set_same, get_or-set_other}
 use Rattle.bhs_model.specs.declared.replies.Reply.TheVariants.{Over}
 use Rattle.bhs_session.specs.Texts.{text_of}
-use Rattle.bhs_rehearsal.specs.Games.{Game, played, reply_to, is_away, drawn, delivered}
-use Rattle.bhs_rehearsal.specs.Connections.{Item, Ends, Connection, unfed, shut, Taken, taken, after}
-use Rattle.bhs_rehearsal.specs.Stages.{Stage, game_at, connection_at, with_game, with_connection, has_seat, Entry}
-use Rattle.bhs_rehearsal.specs.Stages.{Waits, Sits, IsDenied, Goes, entry, Moved, moves, Draws, Delivers, Closes}
-use Rattle.bhs_rehearsal.specs.Stages.{sent_to, stepped, nothing, tells_arrival, delivers, waits_in, shut_in, told_over}
-use Rattle.bhs_rehearsal.specs.Stages.{step}
-use Rattle.bhs_theorems.specs.ScriptLaws.{plays_in, IsOfConnection, IsOfGame, ClientsKeepToThemselves}
-use Rattle.bhs_theorems.specs.ScriptLaws.{MatchesKeepToThemselves}
+use Rattle.bhs_rehearsal.specs.Games.{Game, is_away}
+use Rattle.bhs_rehearsal.specs.Connections.{Connection, unfed, shut, taken}
+use Rattle.bhs_rehearsal.specs.Stages.{Stage, game_at, connection_at}
+use Rattle.bhs_rehearsal.specs.Stages.{sent_to, stepped, nothing, waits_in, shut_in, told_over}
+use Rattle.bhs_theorems.specs.ScriptLaws.{plays_in, IsOfConnection, ClientsKeepToThemselves}
 use Rattle.bhs_theorems.specs.Clients.{bytes_among}
 use Rattle.bhs_theorems.proofs.CuttingLemmas.{by_bool, and_false}
-use Rattle.bhs_theorems.proofs.TurnLemmas.{Turn, placed, plays_turn, enters_turn, turn_in, turn_of, moves-placed}
-use Rattle.bhs_theorems.proofs.TurnLemmas.{grown}
+use Rattle.bhs_theorems.proofs.TurnLemmas.{Turn, by_turn, placed, plays_turn, turn_of}
+use Rattle.bhs_theorems.proofs.TurnLemmas.{grown, ending, bare, seat_of, seat_after}
 use Rattle.bhs_theorems.proofs.FeedLemmas.{bytes_among-sent_to}
-use Rattle.bhs_theorems.proofs.StepCases.{client_step, by_client, event_step, by_event, by_close}
+use Rattle.bhs_theorems.proofs.StepCases.{client_step, by_client}
 
 -- ---- what is sent
 
@@ -54,38 +47,13 @@ abbrev KeepsGames : Stage → Turn → Type 0
 KeepsGames stage turn = (game : ℕ) → plays_in game turn.connection ≡ false
     → game_at (record stage { games = turn.games }) game ≡ game_at stage game
 
-keeps_by : (stage : Stage) (seat : ℕ × ℕ) (connection : Connection) (game : Game) (is_done : Bool) (left : List Item)
-    (text : List ℕ) →
-    let done : Taken = record { game = game; is_done = is_done; left = left; text = text } in
-    KeepsGames stage (record {
-      games = set stage.games seat.0 game;
-      connection = after
-          (record connection { seat = Some seat }) done;
-      text = text;
-    })
-keeps_by stage seat connection new true left text game elsewhere =
-    get_or-set_other stage.games seat.0 game new _ (λ same. eqb-false seat.0 game elsewhere (sym same))
-keeps_by stage seat connection new false left text game elsewhere =
-    get_or-set_other stage.games seat.0 game new _ (λ same. eqb-false seat.0 game elsewhere (sym same))
-
 keeps_playing : (stage : Stage) (seat : ℕ × ℕ) (connection : Connection)
     → KeepsGames stage (plays_turn stage seat connection)
-keeps_playing stage seat connection =
+keeps_playing stage seat connection game elsewhere =
     let done = taken (game_at stage seat.0) seat.1 connection.queue in
-    keeps_by stage seat connection done.game done.is_done done.left done.text
-
-keeps_entering : (stage : Stage) (connection : Connection) (entry : Entry)
-    → KeepsGames stage (enters_turn stage connection entry)
-keeps_entering stage connection Waits game elsewhere = refl
-keeps_entering stage connection (Sits seat) game elsewhere = keeps_playing stage seat connection game elsewhere
-keeps_entering stage connection (IsDenied denial) game elsewhere = refl
-keeps_entering stage connection Goes game elsewhere = refl
-
-keeps_in : (stage : Stage) (conn : ℕ) (connection : Connection) (seat : Option (ℕ × ℕ))
-    → KeepsGames stage (turn_in stage conn connection seat)
-keeps_in stage conn connection None = keeps_entering stage connection
-    (entry (with_connection stage conn connection) connection.queue)
-keeps_in stage conn connection (Some seat) = keeps_playing stage seat connection
+    let there : (seat.0 == game) ≡ false =
+    sym (ap (λ (own : Option (ℕ × ℕ)). plays_in game (bare own)) (seat_after connection seat done)) ∙ elsewhere in
+    get_or-set_other stage.games seat.0 game done.game _ (λ same. eqb-false seat.0 game there (sym same))
 
 turn_of_connection : (stage : Stage) (conn : ℕ) (connection : Connection) → conn < length stage.connections →
     IsOfConnection stage conn (stepped conn (placed stage conn (turn_of stage conn connection)))
@@ -94,7 +62,8 @@ turn_of_connection stage conn connection within =
     record {
       connections = λ other. λ apart. get_or-set_other stage.connections conn other turn.connection _ apart;
       games = λ game. λ elsewhere.
-          keeps_in stage conn connection connection.seat game
+          by_turn (KeepsGames stage) stage conn connection (λ new text other away. refl)
+          (λ seat. keeps_playing stage seat connection) connection.seat game
           (ap (plays_in game) (sym (get_or-set_same stage.connections conn turn.connection unfed within)) ∙ elsewhere);
       keys = refl;
       outs = λ other. λ apart. sent_elsewhere other conn turn.text apart;
@@ -103,151 +72,59 @@ turn_of_connection stage conn connection within =
 client_of_connection : (stage : Stage) (conn : ℕ) (connection : Connection) (ended : Bool)
     → IsOfConnection stage conn (client_step stage conn connection ended)
 client_of_connection stage conn connection ended = by_client (IsOfConnection stage conn) stage conn connection ended
-    (nothing_of_connection stage conn) (turn_of_connection stage conn connection)
+    (λ idle. nothing_of_connection stage conn) (λ within goes_on. turn_of_connection stage conn connection within)
 
 pub clients_lemma : ClientsKeepToThemselves
 clients_lemma stage conn bytes =
-    let old = connection_at stage conn in
-    let ending : Connection = record old { unfinished = Some []; queue = old.queue ++ Ends ∷ []; ended = true } in (
+    let old = connection_at stage conn in (
       client_of_connection stage conn (grown old bytes) old.ended,
-      client_of_connection stage conn ending old.ended,
+      client_of_connection stage conn (ending old) old.ended,
     )
-
--- ---- a draw
-
--- who has a seat
-pub seat_is : (seat : ℕ × ℕ) (own : Option (ℕ × ℕ)) (unfinished : Option (List ℕ)) (queue : List Item) (ended : Bool) →
-    has_seat seat (record { seat = own; unfinished = unfinished; queue = queue; ended = ended }) ≡ true
-    → own ≡ Some seat
-seat_is seat None unfinished queue ended has = absurd (cc)
-seat_is seat (Some own) unfinished queue ended has =
-    let parts = and_parts (own.0 == seat.0) (own.1 == seat.1) has in
-    ap₂ (λ (game agent : ℕ). Some (game, agent)) (eqb-true own.0 seat.0 parts.0) (eqb-true own.1 seat.1 parts.1)
-
-pub seat-has_seat : (seat : ℕ × ℕ) (connection : Connection) → has_seat seat connection ≡ true
-    → connection.seat ≡ Some seat
-seat-has_seat seat connection has = seat_is seat connection.seat connection.unfinished connection.queue
-    connection.ended has
-
--- one match was changed, and nothing was sent
-game_alone : (stage : Stage) (game : ℕ) (new : Game) → IsOfGame stage game (nothing (with_game stage game new))
-game_alone stage game new = record {
-  games = λ other. λ apart. get_or-set_other stage.games game other new _ apart;
-  connections = λ conn. λ elsewhere. refl;
-  keys = refl;
-  outs = λ conn. λ elsewhere. refl;
-}
-
-nothing_of_game : (stage : Stage) (game : ℕ) → IsOfGame stage game (nothing stage)
-nothing_of_game stage game = record {
-  games = λ other. λ apart. refl;
-  connections = λ conn. λ elsewhere. refl;
-  keys = refl;
-  outs = λ conn. λ elsewhere. refl;
-}
-
--- who plays elsewhere is not the one that plays here
-pub plays_elsewhere : (stage : Stage) (game conn other : ℕ) (agent : ℕ)
-    → (connection_at stage conn).seat ≡ Some (game, agent) →
-    plays_in game (connection_at stage other) ≡ false → other ≢ conn
-plays_elsewhere stage game conn other agent seated elsewhere same = absurd (
-    let here : plays_in game (connection_at stage conn) ≡ true =
-    ap (λ (seat : Option (ℕ × ℕ)). plays_in game (record (connection_at stage conn) { seat = seat })) seated
-    ∙ eq-eqb game game refl in
-    let there : plays_in game (connection_at stage conn) ≡ false =
-    ap (λ (one : ℕ). plays_in game (connection_at stage one)) (sym same) ∙ elsewhere in
-    cc
-    )
-
--- the holder of a seat in the match moves
-moves_of_game : (stage : Stage) (game : ℕ) (new : Game) (conn agent : ℕ) (before : List ℕ)
-    → conn < length stage.connections →
-    (connection_at stage conn).seat ≡ Some (game, agent) →
-    let moved = moves (with_game stage game new) conn in
-    IsOfGame stage game (record { stage = moved.stage; outs = sent_to conn (before ++ moved.text) })
-moves_of_game stage game new conn agent before within seated =
-    let between = with_game stage game new in
-    let old = connection_at stage conn in
-    let turn = plays_turn between (game, agent) old in
-    let is_turn : moves between conn ≡ placed between conn turn =
-    ap (λ (connections : List Connection). moves (record between { connections = connections }) conn)
-    (sym (set-get_or stage.connections conn unfed))
-    ∙ moves-placed between conn old within
-    ∙ ap (λ (seat : Option (ℕ × ℕ)). placed between conn (turn_in between conn old seat)) seated in
-    subst (λ (moved : Moved). IsOfGame stage game
-    (record { stage = moved.stage; outs = sent_to conn (before ++ moved.text) })) (sym is_turn) (record {
-      games = λ other. λ apart.
-          get_or-set_other (set stage.games game new) game other
-          (taken (game_at between game) agent old.queue).game _ apart
-          ∙ get_or-set_other stage.games game other new _ apart;
-      connections = λ other. λ elsewhere.
-          get_or-set_other stage.connections conn other turn.connection unfed
-          (plays_elsewhere stage game conn other agent seated elsewhere);
-      keys = refl;
-      outs = λ other. λ elsewhere. sent_elsewhere other conn (before ++ turn.text)
-          (plays_elsewhere stage game conn other agent seated elsewhere);
-    })
-
-arrivals_of_game : (stage : Stage) (game agent : ℕ) (new : Game) (reply : Option Reply) (holder : Option ℕ) →
-    position (has_seat (game, agent)) stage.connections ≡ holder →
-    IsOfGame stage game (tells_arrival (with_game stage game new) reply holder)
-arrivals_of_game stage game agent new None holder is = game_alone stage game new
-arrivals_of_game stage game agent new (Some reply) None is = game_alone stage game new
-arrivals_of_game stage game agent new (Some reply) (Some conn) is =
-    let found = position-Some (has_seat (game, agent)) stage.connections conn unfed is in
-    moves_of_game stage game new conn agent (text_of reply) found.0
-    (seat-has_seat (game, agent) (connection_at stage conn) found.1)
-
-delivers_of_game : (stage : Stage) (game : ℕ) (event : Option Event) → IsOfGame stage game (delivers stage game event)
-delivers_of_game stage game None = nothing_of_game stage game
-delivers_of_game stage game (Some (Tell agent command)) = nothing_of_game stage game
-delivers_of_game stage game (Some Close) = nothing_of_game stage game
-delivers_of_game stage game (Some (Deliver agent)) =
-    arrivals_of_game stage game agent (played (game_at stage game) (Deliver agent))
-    (reply_to (game_at stage game) (Deliver agent))
-    (position (has_seat (game, agent)) stage.connections) refl
-
-event_of_game : (stage : Stage) (game : ℕ) (event : Option Event)
-    → IsOfGame stage game (event_step stage game event)
-event_of_game stage game event = by_event (IsOfGame stage game) stage game event (nothing_of_game stage game)
-    (λ below. delivers_of_game stage game event)
-
-draws_of_game : (stage : Stage) (game word : ℕ) → IsOfGame stage game (step stage (Draws game word))
-draws_of_game stage game word = event_of_game stage game (drawn (game_at stage game) word)
-
-deliveries_of_game : (stage : Stage) (game agent : ℕ) → IsOfGame stage game (step stage (Delivers game agent))
-deliveries_of_game stage game agent = event_of_game stage game (delivered (game_at stage game) agent)
 
 -- ---- a close
 
 -- who plays elsewhere doesn't wait here
-waits_by : (number : ℕ) (game : Game) (own : Option (ℕ × ℕ)) (unfinished : Option (List ℕ)) (queue : List Item)
-    (ended : Bool) →
-    let connection : Connection = record { seat = own; unfinished = unfinished; queue = queue; ended = ended } in
-    plays_in number connection ≡ false → waits_in number game connection ≡ false
-waits_by number game None unfinished queue ended elsewhere = refl
-waits_by number game (Some seat) unfinished queue ended elsewhere =
-    and_false (seat.0 == number) (is_away game seat.1) elsewhere
+waits_by : (number : ℕ) (game : Game) (own : Option (ℕ × ℕ)) → plays_in number (bare own) ≡ false
+    → waits_in number game (bare own) ≡ false
+waits_by number game None elsewhere = refl
+waits_by number game (Some seat) elsewhere = and_false (seat.0 == number) (is_away game seat.1) elsewhere
 
 waits_elsewhere : (number : ℕ) (game : Game) (connection : Connection) → plays_in number connection ≡ false
     → waits_in number game connection ≡ false
-waits_elsewhere number game connection elsewhere =
-    waits_by number game connection.seat connection.unfinished connection.queue connection.ended elsewhere
+waits_elsewhere number game connection elsewhere = waits_by number game connection.seat elsewhere
 
 abbrev pub shut_if : (number : ℕ) → Game → Connection → Connection
 shut_if number game connection = cond (waits_in number game connection) (shut connection) connection
 
+pub seat-shut_if : (number : ℕ) (game : Game) (connection : Connection)
+    → (shut_if number game connection).seat ≡ connection.seat
+seat-shut_if number game connection =
+    by_bool (waits_in number game connection)
+    (λ (waits : Bool). (cond waits (shut connection) connection).seat ≡ connection.seat)
+    (λ waits. refl) (λ stays. refl)
+
+pub seats_shut : (number : ℕ) (game : Game) (connections : List Connection)
+    → map seat_of connections ≡ map seat_of (shut_in number game connections)
+seats_shut number game [] = refl
+seats_shut number game (connection ∷ connections) =
+    ap₂ (λ (own : Option (ℕ × ℕ)) (others : List (Option (ℕ × ℕ))). own ∷ others)
+    (sym (seat-shut_if number game connection)) (seats_shut number game connections)
+
+pub shut_at : (number : ℕ) (game : Game) (connections : List Connection) (conn : ℕ) →
+    get_or (shut_in number game connections) conn unfed ≡ shut_if number game (get_or connections conn unfed)
+shut_at number game connections conn = get_or-map (shut_if number game) connections conn unfed
+
 pub not_shut : (number : ℕ) (game : Game) (connections : List Connection) (conn : ℕ)
     → plays_in number (get_or connections conn unfed) ≡ false →
     get_or (shut_in number game connections) conn unfed ≡ get_or connections conn unfed
-not_shut number game [] conn elsewhere = refl
-not_shut number game (connection ∷ connections) zero elsewhere =
-    cond-false (waits_in number game connection) (shut connection) connection
+not_shut number game connections conn elsewhere =
+    let connection = get_or connections conn unfed in
+    shut_at number game connections conn
+    ∙ cond-false (waits_in number game connection) (shut connection) connection
     (waits_elsewhere number game connection elsewhere)
-not_shut number game (connection ∷ connections) (suc conn) elsewhere = not_shut number game connections conn elsewhere
 
 -- a connection that is told so has its number or a later one
-pub told_later : (number : ℕ) (game : Game) (connections : List Connection) (first conn : ℕ) → conn < first
+told_later : (number : ℕ) (game : Game) (connections : List Connection) (first conn : ℕ) → conn < first
     → bytes_among conn (told_over number game first connections) ≡ []
 told_later number game [] first conn earlier = refl
 told_later number game (connection ∷ connections) first conn earlier =
@@ -260,52 +137,38 @@ told_later number game (connection ∷ connections) first conn earlier =
     (λ waits. sent_elsewhere conn first (text_of Over) apart) (λ stays. refl))
     (told_later number game connections (first + 1) conn (omega arith))
 
-told_here : (number : ℕ) (game : Game) (connections : List Connection) (first conn : ℕ)
-    → plays_in number (get_or connections conn unfed) ≡ false →
-    bytes_among (first + conn) (told_over number game first connections) ≡ []
-told_here number game [] first conn elsewhere = refl
-told_here number game (connection ∷ connections) first zero elsewhere =
-    ap (λ (waits : Bool). bytes_among (first + 0)
-    (cond waits (sent_to first (text_of Over)) [] ++ told_over number game (first + 1) connections))
-    (waits_elsewhere number game connection elsewhere)
-    ∙ told_later number game connections (first + 1) (first + 0) (omega arith)
-told_here number game (connection ∷ connections) first (suc conn) elsewhere =
+-- who waits is told that it is over, and nobody else
+pub told_at : (number : ℕ) (game : Game) (connections : List Connection) (first conn : ℕ) →
+    bytes_among (first + conn) (told_over number game first connections) ≡ cond
+    (waits_in number game (get_or connections conn unfed)) (text_of Over) []
+told_at number game [] first conn = refl
+told_at number game (connection ∷ connections) first zero =
+    let same : (first == first + 0) ≡ true = eq-eqb first (first + 0) (omega arith) in
+    bytes_among-append (first + 0) (cond (waits_in number game connection) (sent_to first (text_of Over)) [])
+    (told_over number game (first + 1) connections)
+    ∙ ap₂ (λ (one two : List ℕ). one ++ two)
+    (by_bool (waits_in number game connection)
+    (λ (waits : Bool). bytes_among (first + 0) (cond waits (sent_to first (text_of Over)) []) ≡ cond waits
+    (text_of Over) [])
+    (λ waits. bytes_among-sent_to (first + 0) first (text_of Over) ∙ cond-true _ _ _ same) (λ stays. refl))
+    (told_later number game connections (first + 1) (first + 0) (omega arith))
+    ∙ append-nil _
+told_at number game (connection ∷ connections) first (suc conn) =
     let apart : first + suc conn ≢ first = λ same. absurd (omega (arith, same)) in
     let later : (first + 1) + conn ≡ first + suc conn = omega arith in
-    bytes_among-append (first + suc conn) (cond (waits_in number game connection) (sent_to first (text_of Over)) [])
-    (told_over number game (first + 1) connections)
+    bytes_among-append (first + suc conn) (cond (waits_in number game connection) (sent_to first (text_of Over))
+    []) (told_over number game (first + 1) connections)
     ∙ ap₂ (λ (one two : List ℕ). one ++ two)
     (by_bool (waits_in number game connection)
     (λ (waits : Bool). bytes_among (first + suc conn) (cond waits (sent_to first (text_of Over)) []) ≡ [])
     (λ waits. sent_elsewhere (first + suc conn) first (text_of Over) apart) (λ stays. refl))
     (ap (λ (number_of : ℕ). bytes_among number_of (told_over number game (first + 1) connections)) (sym later)
-    ∙ told_here number game connections (first + 1) conn elsewhere)
+    ∙ told_at number game connections (first + 1) conn)
 
 pub told_elsewhere : (number : ℕ) (game : Game) (connections : List Connection) (conn : ℕ)
     → plays_in number (get_or connections conn unfed) ≡ false →
     bytes_among conn (told_over number game 0 connections) ≡ []
 told_elsewhere number game connections conn elsewhere =
-    let same : 0 + conn ≡ conn = omega arith in
-    ap (λ (other : ℕ). bytes_among other (told_over number game 0 connections)) (sym same)
-    ∙ told_here number game connections 0 conn elsewhere
-
-close_of_game : (stage : Stage) (game : ℕ) (new : Game) →
-    let old = game_at stage game in
-    IsOfGame stage game (record {
-      stage = record (with_game stage game new) { connections = shut_in game old stage.connections };
-      outs = told_over game old 0 stage.connections;
-    })
-close_of_game stage game new = record {
-  games = λ other. λ apart. get_or-set_other stage.games game other new _ apart;
-  connections = λ conn. λ elsewhere. not_shut game (game_at stage game) stage.connections conn elsewhere;
-  keys = refl;
-  outs = λ conn. λ elsewhere. told_elsewhere game (game_at stage game) stage.connections conn elsewhere;
-}
-
-closes_of_game : (stage : Stage) (game : ℕ) → IsOfGame stage game (step stage (Closes game))
-closes_of_game stage game = by_close (IsOfGame stage game) stage game (nothing_of_game stage game)
-    (λ below open_match. close_of_game stage game (played (game_at stage game) Close))
-
-pub matches_lemma : MatchesKeepToThemselves
-matches_lemma stage game word agent =
-    (draws_of_game stage game word, closes_of_game stage game, deliveries_of_game stage game agent)
+    ap (λ (other : ℕ). bytes_among other (told_over number game 0 connections)) (omega arith)
+    ∙ told_at number game connections 0 conn
+    ∙ cond-false _ _ _ (waits_elsewhere number game (get_or connections conn unfed) elsewhere)

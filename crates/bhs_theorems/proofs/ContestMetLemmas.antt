@@ -1,15 +1,13 @@
 -- What a session wrote is the bytes of what its agent met.
-use Rattle.std.proofs.Common.{◌≡◌, ◌≢◌, ◌∙◌, ℕ, zero, suc, ◌⊎◌, inl, inr, true, Option, Some, None}
-use Rattle.std.proofs.Common.{List, [], ◌∷◌, ◌++◌, map, take, drop, length, refl, sym, ap, ap₂, subst}
-use Rattle.std.proofs.Common.{option_to_list}
+use Rattle.std.proofs.Common.{◌≡◌, ◌≢◌, ◌∙◌, ℕ, zero, suc, ◌⊎◌, inl, inr, true, Option, Some, None, List, [], ◌∷◌, ◌++◌}
+use Rattle.std.proofs.Common.{map, take, drop, length, refl, sym, ap, ap₂, subst, option_to_list, arith}
 use Rattle.std.specs.Prelude.{slice_get}
 use Rattle.std.specs.List.{AllByRecursion}
 use Rattle.bhs_model.specs.declared.commands.Command.{Command}
 use Rattle.bhs_model.specs.declared.commands.Command.TheVariants as commands
 use Rattle.bhs_model.specs.declared.replies.Reply.{Reply}
 use Rattle.bhs_model.specs.declared.setups.Setup.{Setup}
-use Rattle.bhs_model.specs.Views.{View, Start, Told, Arrived, Glance, Nothing, Standing, Present, Away, Ended}
-use Rattle.bhs_model.specs.Views.{standing}
+use Rattle.bhs_model.specs.Views.{View, Start, Told, Arrived, Glance, Nothing, Standing, Present, Away, Ended, standing}
 use Rattle.bhs_model.specs.Runs.{initial}
 use Rattle.bhs_model.specs.Kept.{nobody}
 use Rattle.bhs_match.specs.Matches.{Play, world_in, state_of, arrivals}
@@ -180,15 +178,7 @@ all_written endings.Memory phase stands parting left last unwritten whole ends l
 -- the line behind it
 last_of : (ended : Ending) (phase : Phase) (parting : Option Receipt) (left : List Command) (last : List ℕ)
     → MayBeOver last → Ends ended phase parting left last → IsLastOf ended last
-last_of endings.Bye phase parting left last may ends = ends.3
-last_of endings.Noted phase parting left last may ends = ends.3
-last_of endings.Over phase parting left last may ends = ends.1
-last_of endings.Denied phase parting left last may ends = ends
-last_of endings.InputEnded phase parting left last may ends = ends.2
-last_of endings.ReadFault phase parting left last may ends = ends.2
-last_of endings.Turns phase parting left last may ends = ends.2
-last_of endings.WriteFault phase parting left last may ends = may
-last_of endings.Memory phase parting left last may ends = may
+last_of ended phase parting left last may ends = grind arith
 
 -- ---- the law
 

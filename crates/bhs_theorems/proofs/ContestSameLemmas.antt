@@ -1,51 +1,31 @@
 -- A past and the commands say what was written.
-use Rattle.std.proofs.Common.{◌≡◌, ◌∙◌, ℕ, ◌⊎◌, inl, inr, Bool, true, false, cond, List, [], ◌∷◌}
-use Rattle.std.proofs.Common.{◌++◌, map, length}
-use Rattle.std.proofs.Common.{refl, sym, ap, ap₂, subst, arith, append-nil, append_assoc, length-append}
+use Rattle.std.proofs.Common.{suc, ◌≡◌, ◌∙◌, ℕ, ◌⊎◌, inl, inr, Bool, true, List, [], ◌∷◌, ◌++◌, map, length, refl, sym}
+use Rattle.std.proofs.Common.{ap, ap₂, subst, arith, append-nil, append_assoc, length-append}
 use Rattle.std.proofs.lemmas.List.{map-append}
 use Rattle.bhs_model.specs.declared.commands.Command.{Command}
 use Rattle.bhs_model.specs.declared.commands.Command.TheVariants as commands
 use Rattle.bhs_model.specs.declared.replies.Reply.{Reply}
 use Rattle.bhs_model.specs.declared.replies.Reply.TheVariants as replies
 use Rattle.bhs_model.specs.declared.replies.Why.{Why}
-use Rattle.bhs_model.specs.Views.{View, Start, Told, Arrived, Nothing, Standing, Outside, Present, Away, Ended}
-use Rattle.bhs_model.specs.Views.{standing, standing_after, ports}
+use Rattle.bhs_model.specs.Views.{View, Start, Told, Arrived, Nothing, Standing, Ended, standing, standing_after, ports}
 use Rattle.bhs_model.specs.Replying.{accepts, hears, refusal}
 use Rattle.bhs_lock.specs.Passes.{kind_of, kept_command}
 use Rattle.bhs_session.specs.Texts.{text_of}
 use Rattle.bhs_theorems.specs.Met.{Meeting, Hears, Refuses, Arrives, view_from, view_of, answer_to, bytes_from, bytes}
 use Rattle.bhs_theorems.specs.Met.{takes_commands, IsDue, AreDue}
 use Rattle.bhs_theorems.proofs.MeetingLemmas.{view_from-append, due-append}
-use Rattle.bhs_theorems.proofs.PastLemmas.{same_start, no_circle}
+use Rattle.bhs_theorems.proofs.PastLemmas.{kinds, kinded, met_alike}
 use Rattle.bhs_theorems.specs.ContestMet.{Attended, fed, TookPart, AreSaid, IsLeftAs, is_whole, IsSentAsMet}
 use Rattle.bhs_theorems.specs.ContestMet.{EqualPastsAreSentEqualBytes}
 use Rattle.bhs_theorems.proofs.ContestMetLemmas.{sent_as_met_lemma}
 
 -- ---- the kinds of commands
 
-abbrev kinds : List Meeting → List Command
-kinds [] = []
-kinds (Hears command glance ∷ met) = kind_of command ∷ kinds met
-kinds (Refuses command ∷ met) = kind_of command ∷ kinds met
-kinds (Arrives sight ∷ met) = kinds met
-
 kind_kept : (command : Command) (reply : Reply) → kind_of (kept_command command reply) ≡ kind_of command
-kind_kept commands.Enter reply = refl
-kind_kept commands.Look reply = refl
-kind_kept (commands.Write expect put) reply = by_shown _
-  where
-    by_shown : (shown : Bool)
-        → kind_of (cond shown (commands.Write expect put) (commands.Write [] []))
-        ≡ commands.Write [] []
-    by_shown true = refl
-    by_shown false = refl
-kind_kept (commands.Depart port) reply = refl
-kind_kept (commands.Accuse port) reply = refl
-kind_kept commands.Leave reply = refl
-kind_kept commands.Bad reply = refl
+kind_kept command reply = grind arith
 
 kinds_said : (limit : ℕ) (view : View) (met : List Meeting) (said : List Command) → AreSaid limit view met said
-    → kinds met ≡ map kind_of said
+    → kinds kind_of met ≡ map kind_of said
 kinds_said limit view [] [] are = refl
 kinds_said limit view [] (own ∷ said) are = absurd are
 kinds_said limit view (Hears command glance ∷ met) [] are = absurd are
@@ -63,32 +43,10 @@ kinds_said limit view (Arrives sight ∷ met) said are = kinds_said limit (Arriv
 -- whether a command is heard, and why it is refused, goes by its kind
 accepts_kind : (stands : Standing) (room : Bool) (command : Command)
     → accepts stands room (kind_of command) ≡ accepts stands room command
-accepts_kind stands room commands.Enter = refl
-accepts_kind stands room commands.Look = refl
-accepts_kind Outside room (commands.Write expect put) = refl
-accepts_kind Present room (commands.Write expect put) = refl
-accepts_kind Away room (commands.Write expect put) = refl
-accepts_kind Ended room (commands.Write expect put) = refl
-accepts_kind stands room (commands.Depart port) = refl
-accepts_kind stands room (commands.Accuse port) = refl
-accepts_kind stands room commands.Leave = refl
-accepts_kind stands room commands.Bad = refl
+accepts_kind stands room command = grind arith
 
 refusal_kind : (stands : Standing) (command : Command) → refusal stands (kind_of command) ≡ refusal stands command
-refusal_kind stands commands.Enter = refl
-refusal_kind stands commands.Look = refl
-refusal_kind Outside (commands.Write expect put) = refl
-refusal_kind Present (commands.Write expect put) = refl
-refusal_kind Away (commands.Write expect put) = refl
-refusal_kind Ended (commands.Write expect put) = refl
-refusal_kind stands (commands.Depart port) = refl
-refusal_kind stands (commands.Accuse port) = refl
-refusal_kind stands commands.Leave = refl
-refusal_kind stands commands.Bad = refl
-
-same_refusal : (stands : Standing) (one two : Command) → kind_of one ≡ kind_of two
-    → refusal stands one ≡ refusal stands two
-same_refusal stands one two same = sym (refusal_kind stands one) ∙ ap (refusal stands) same ∙ refusal_kind stands two
+refusal_kind stands command = grind arith
 
 same_hearing : (quota : ℕ) (view : View) (one two : Command) → kind_of one ≡ kind_of two
     → hears quota view one ≡ hears quota view two
@@ -98,91 +56,37 @@ same_hearing quota view one two same =
 
 -- ---- equal pasts
 
--- equal bytes, of commands of the same kinds
-pub record IsSame (limit : ℕ) (view : View) (met other : List Meeting) : Type 0 where
-  pub same : bytes_from limit view met ≡ bytes_from limit view other
-  pub said : kinds met ≡ kinds other
+bytes_kinded : (limit : ℕ) (view : View) (met : List Meeting)
+    → bytes_from limit view (map (kinded kind_of) met) ≡ bytes_from limit view met
+bytes_kinded limit view [] = refl
+bytes_kinded limit view (Hears command glance ∷ met) =
+    ap (λ (rest : List ℕ). text_of (answer_to limit view (Hears command glance)) ++ rest)
+    (bytes_kinded limit (Told view command glance) met)
+bytes_kinded limit view (Refuses command ∷ met) =
+    ap₂ (λ (why : Why) (rest : List ℕ). text_of (replies.No why) ++ rest) (refusal_kind (standing view) command)
+    (bytes_kinded limit view met)
+bytes_kinded limit view (Arrives sight ∷ met) =
+    ap (λ (rest : List ℕ). text_of (answer_to limit view (Arrives sight)) ++ rest)
+    (bytes_kinded limit (Arrived view sight) met)
 
--- Pasts that are met with commands of the same kinds first were met alike, where commands are left over only of an
--- agent of which none is taken.
-same_met : (quota limit : ℕ) (view : View) (met other : List Meeting) (over more : List Command)
-    → AreDue quota view met → AreDue quota view other →
-    view_from view met ≡ view_from view other → kinds met ++ over ≡ kinds other ++ more →
-    (takes_commands (standing (view_from view met)) ≡ true → over ≡ [])
-    → (takes_commands (standing (view_from view other)) ≡ true → more ≡ []) → IsSame limit view met other
-same_met quota limit view [] [] over more due other_due same said rest rest2 = record { same = refl; said = refl }
-same_met quota limit view [] (Hears command glance ∷ other) over more due other_due same said rest rest2 =
-    absurd (no_circle view (Told view command glance) other refl same)
-same_met quota limit view [] (Refuses command ∷ other) over more due other_due same said rest rest2 =
-    absurd (let none = rest other_due.0.0 in cc)
-same_met quota limit view [] (Arrives sight ∷ other) over more due other_due same said rest rest2 =
-    absurd (no_circle view (Arrived view sight) other refl same)
-same_met quota limit view (Hears command glance ∷ met) [] over more due other_due same said rest rest2 =
-    absurd (no_circle view (Told view command glance) met refl (sym same))
-same_met quota limit view (Refuses command ∷ met) [] over more due other_due same said rest rest2 =
-    absurd (let none = rest2 due.0.0 in cc)
-same_met quota limit view (Arrives sight ∷ met) [] over more due other_due same said rest rest2 =
-    absurd (no_circle view (Arrived view sight) met refl (sym same))
-same_met quota limit view (Hears command glance ∷ met) (Hears command2 glance2 ∷ other) over more due other_due same
-    said rest rest2 =
-    let start : ◌≡◌ {A = View} (Told view command glance) (Told view command2 glance2) =
-    same_start (Told view command glance) (Told view command2 glance2) met other refl same in
-    let first : ◌≡◌ {A = Meeting} (Hears command glance) (Hears command2 glance2) = cc in
-    let said_more : kinds met ++ over ≡ kinds other ++ more = cc in
-    let back : view_from (Told view command2 glance2) other ≡ view_from (Told view command glance) other =
-    ap (λ (now : View). view_from now other) (sym start) in
-    let is = same_met quota limit (Told view command glance) met other over more due.1
-    (subst (λ (now : View). AreDue quota now other) (sym start) other_due.1)
-    (same ∙ back) said_more rest (λ takes. rest2 (ap (λ (now : View). takes_commands (standing now)) back ∙ takes)) in
-    record {
-      same = ap (λ (rest : List ℕ). text_of (answer_to limit view (Hears command glance)) ++ rest) is.same
-          ∙ ap (λ (one : Meeting). bytes_from limit view (one ∷ other)) first;
-      said = ap (λ (rest : List Command). kind_of command ∷ rest) is.said
-          ∙ ap (λ (one : Meeting). kinds (one ∷ other)) first;
-    }
-same_met quota limit view (Hears command glance ∷ met) (Refuses command2 ∷ other) over more due other_due same
-    said rest rest2 =
-    absurd (let one = due.0.1 in let two = other_due.0.1 in let is : kind_of command ≡ kind_of command2 = cc in
-    let again = same_hearing quota view command command2 is in cc)
-same_met quota limit view (Hears command glance ∷ met) (Arrives sight ∷ other) over more due other_due same said rest
-    rest2 =
-    absurd (let takes = due.0.0 in let away = ap takes_commands other_due.0 in cc)
-same_met quota limit view (Refuses command ∷ met) (Hears command2 glance2 ∷ other) over more due other_due same
-    said rest rest2 =
-    absurd (let one = due.0.1 in let two = other_due.0.1 in let is : kind_of command ≡ kind_of command2 = cc in
-    let again = same_hearing quota view command command2 is in cc)
-same_met quota limit view (Refuses command ∷ met) (Refuses command2 ∷ other) over more due other_due same said rest
-    rest2 =
-    let is : kind_of command ≡ kind_of command2 = cc in
-    let said_more : kinds met ++ over ≡ kinds other ++ more = cc in
-    let others = same_met quota limit view met other over more due.1 other_due.1 same said_more rest rest2 in
-    record {
-      same = ap₂ (λ (why : Why) (rest : List ℕ). text_of (replies.No why) ++ rest)
-          (same_refusal (standing view) command command2 is) others.same;
-      said = ap₂ (λ (one : Command) (rest : List Command). one ∷ rest) is others.said;
-    }
-same_met quota limit view (Refuses command ∷ met) (Arrives sight ∷ other) over more due other_due same said rest rest2 =
-    absurd (let takes = due.0.0 in let away = ap takes_commands other_due.0 in cc)
-same_met quota limit view (Arrives sight ∷ met) (Hears command2 glance2 ∷ other) over more due other_due same
-    said rest rest2 =
-    absurd (let takes = other_due.0.0 in let away = ap takes_commands due.0 in cc)
-same_met quota limit view (Arrives sight ∷ met) (Refuses command2 ∷ other) over more due other_due same
-    said rest rest2 =
-    absurd (let takes = other_due.0.0 in let away = ap takes_commands due.0 in cc)
-same_met quota limit view (Arrives sight ∷ met) (Arrives sight2 ∷ other) over more due other_due same said rest rest2 =
-    let start : ◌≡◌ {A = View} (Arrived view sight) (Arrived view sight2) =
-    same_start (Arrived view sight) (Arrived view sight2) met other refl same in
-    let first : ◌≡◌ {A = Meeting} (Arrives sight) (Arrives sight2) = cc in
-    let back : view_from (Arrived view sight2) other ≡ view_from (Arrived view sight) other =
-    ap (λ (now : View). view_from now other) (sym start) in
-    let is = same_met quota limit (Arrived view sight) met other over more due.1
-    (subst (λ (now : View). AreDue quota now other) (sym start) other_due.1)
-    (same ∙ back) said rest (λ takes. rest2 (ap (λ (now : View). takes_commands (standing now)) back ∙ takes)) in
-    record {
-      same = ap (λ (rest : List ℕ). text_of (answer_to limit view (Arrives sight)) ++ rest) is.same
-          ∙ ap (λ (one : Meeting). bytes_from limit view (one ∷ other)) first;
-      said = is.said;
-    }
+length_kinded : (met : List Meeting) → length (kinds kind_of (map (kinded kind_of) met)) ≡ length (kinds kind_of met)
+length_kinded [] = refl
+length_kinded (Hears command glance ∷ met) = ap suc (length_kinded met)
+length_kinded (Refuses command ∷ met) = ap suc (length_kinded met)
+length_kinded (Arrives sight ∷ met) = length_kinded met
+
+same_met : (quota : ℕ) (met other : List Meeting) (over more : List Command) → AreDue quota Start met
+    → AreDue quota Start other → view_of met ≡ view_of other
+    → kinds kind_of met ++ over ≡ kinds kind_of other ++ more →
+    (takes_commands (standing (view_of met)) ≡ true → over ≡ [])
+    → (takes_commands (standing (view_of other)) ≡ true → more ≡ [])
+    → map (kinded kind_of) met ≡ map (kinded kind_of) other
+same_met quota = met_alike kind_of quota (same_hearing quota) Start
+
+same_bytes : (limit : ℕ) (met other : List Meeting) → map (kinded kind_of) met ≡ map (kinded kind_of) other
+    → bytes limit met ≡ bytes limit other
+same_bytes limit met other same =
+    sym (bytes_kinded limit Start met) ∙ ap (bytes limit) same ∙ bytes_kinded limit Start other
 
 -- ---- a Leave that an ending told
 
@@ -207,7 +111,7 @@ last_due quota view last (Arrives sight ∷ met) due is =
       | inr later ↦ inr later
     ]
 
-kinds-append : (met more : List Meeting) → kinds (met ++ more) ≡ kinds met ++ kinds more
+kinds-append : (met more : List Meeting) → kinds kind_of (met ++ more) ≡ kinds kind_of met ++ kinds kind_of more
 kinds-append [] more = refl
 kinds-append (Hears command glance ∷ met) more =
     ap (λ (rest : List Command). kind_of command ∷ rest) (kinds-append met more)
@@ -219,29 +123,27 @@ kinds-append (Arrives sight ∷ met) more = kinds-append met more
 -- alone
 never_alone : (quota limit : ℕ) (met other : List Meeting) (over : List Command) → AreDue quota Start met
     → AreDue quota Start other → view_of met ≡ Told (view_of other) commands.Leave Nothing →
-    IsDue quota (view_of other) (Hears commands.Leave Nothing) → kinds met ++ over ≡ kinds other → ⊥
+    IsDue quota (view_of other) (Hears commands.Leave Nothing) → kinds kind_of met ++ over ≡ kinds kind_of other → ⊥
 never_alone quota limit met other over due other_due is leave said =
     let longer : List Meeting = other ++ Hears commands.Leave Nothing ∷ [] in
-    let same = same_met quota limit Start met longer (over ++ commands.Leave ∷ []) [] due
+    let same = same_met quota met longer (over ++ commands.Leave ∷ []) [] due
     (due-append quota Start other (Hears commands.Leave Nothing ∷ []) other_due (leave, tt))
     (is ∙ sym (view_from-append Start other (Hears commands.Leave Nothing ∷ [])))
-    (sym (append_assoc (kinds met) over (commands.Leave ∷ []))
+    (sym (append_assoc (kinds kind_of met) over (commands.Leave ∷ []))
     ∙ ap (λ (first : List Command). first ++ commands.Leave ∷ []) said
-    ∙ sym (kinds-append other (Hears commands.Leave Nothing ∷ [])) ∙ sym (append-nil (kinds longer)))
+    ∙ sym (kinds-append other (Hears commands.Leave Nothing ∷ [])) ∙ sym (append-nil (kinds kind_of longer)))
     (λ takes. absurd (let ended = ap (λ (view : View). takes_commands (standing view)) is in
     no_more (standing (view_of other)) (ports (view_of other)) (sym ended ∙ takes)))
     (λ takes. refl) in
-    let counts = ap length (same.said ∙ kinds-append other (Hears commands.Leave Nothing ∷ [])) in
-    let longer_by = length-append (kinds other) (commands.Leave ∷ []) in
+    let counts = sym (length_kinded met) ∙ ap (λ (all : List Meeting). length (kinds kind_of all)) same
+    ∙ length_kinded longer ∙ ap length (kinds-append other (Hears commands.Leave Nothing ∷ [])) in
+    let longer_by = length-append (kinds kind_of other) (commands.Leave ∷ []) in
     let shorter = ap length said in
-    let shorter_by = length-append (kinds met) over in
+    let shorter_by = length-append (kinds kind_of met) over in
     absurd (omega (arith, counts, longer_by, shorter, shorter_by))
   where
     no_more : (stands : Standing) (count : ℕ) → takes_commands (standing_after stands count commands.Leave) ≡ true → ⊥
-    no_more Outside count takes = cc
-    no_more Present count takes = cc
-    no_more Away count takes = cc
-    no_more Ended count takes = cc
+    no_more stands count takes = grind arith
 
 -- ---- the headline
 
@@ -256,22 +158,23 @@ takes_none view more (inr ended) takes = absurd (let never = ap takes_commands e
 -- one that was made to leave alone
 left_alone : (quota limit : ℕ) (met other : List Meeting) (over more : List Command) → AreDue quota Start met
     → AreDue quota Start other → view_of met ≡ Told (view_of other) commands.Leave Nothing →
-    IsDone (view_of other) more → kinds met ++ over ≡ kinds other ++ more → ⊥
+    IsDone (view_of other) more → kinds kind_of met ++ over ≡ kinds kind_of other ++ more → ⊥
 left_alone quota limit met other over more due other_due is done said =
     elim (last_due quota Start (view_of other) met due is) [
       | inl never ↦ absurd (cc)
       | inr leave ↦ never_alone quota limit met other over due other_due is leave
-          (said ∙ ap (λ (rest : List Command). kinds other ++ rest) (takes_none (view_of other) more done leave.0)
-          ∙ append-nil (kinds other))
+          (said
+          ∙ ap (λ (rest : List Command). kinds kind_of other ++ rest) (takes_none (view_of other) more done leave.0)
+          ∙ append-nil (kinds kind_of other))
     ]
 
 same_sent : (quota limit : ℕ) (met other : List Meeting) (over more : List Command) (past : View)
     → AreDue quota Start met → AreDue quota Start other → IsLeftAs (view_of met) past → IsLeftAs (view_of other) past
     → IsDone (view_of met) over → IsDone (view_of other) more →
-    kinds met ++ over ≡ kinds other ++ more → bytes limit met ≡ bytes limit other
+    kinds kind_of met ++ over ≡ kinds kind_of other ++ more → bytes limit met ≡ bytes limit other
 same_sent quota limit met other over more past due other_due (inl one) (inl two) done done2 said =
-    (same_met quota limit Start met other over more due other_due (sym one ∙ two) said
-    (takes_none (view_of met) over done) (takes_none (view_of other) more done2)).same
+    same_bytes limit met other (same_met quota met other over more due other_due (sym one ∙ two) said
+    (takes_none (view_of met) over done) (takes_none (view_of other) more done2))
 same_sent quota limit met other over more past due other_due (inl one) (inr two) done done2 said =
     absurd (left_alone quota limit met other over more due other_due (sym one ∙ two) done2 said)
 same_sent quota limit met other over more past due other_due (inr one) (inl two) done done2 said =
@@ -280,8 +183,8 @@ same_sent quota limit met other over more past due other_due (inr one) (inr two)
     let told : ◌≡◌ {A = View} (Told (view_of met) commands.Leave Nothing)
     (Told (view_of other) commands.Leave Nothing) = sym one ∙ two in
     let same : view_of met ≡ view_of other = cc in
-    (same_met quota limit Start met other over more due other_due same said
-    (takes_none (view_of met) over done) (takes_none (view_of other) more done2)).same
+    same_bytes limit met other (same_met quota met other over more due other_due same said
+    (takes_none (view_of met) over done) (takes_none (view_of other) more done2))
 
 -- all that was written, where nothing is left
 all_sent : (one : Attended) (is : IsSentAsMet one) → is_whole one.ended ≡ true
@@ -293,7 +196,8 @@ all_sent one is whole =
     ∙ append-nil (bytes one.play.setup.board is.met)
 
 -- and all commands that were taken
-all_said : (one : Attended) (is : IsSentAsMet one) → is_whole one.ended ≡ true → kinds is.met ≡ map kind_of one.said
+all_said : (one : Attended) (is : IsSentAsMet one) → is_whole one.ended ≡ true
+    → kinds kind_of is.met ≡ map kind_of one.said
 all_said one is whole =
     let none = is.whole whole in
     kinds_said one.play.setup.board Start is.met is.heard is.are_said
@@ -302,7 +206,7 @@ all_said one is whole =
 
 -- what was fed
 all_fed : (one : Attended) (is : IsSentAsMet one) → is_whole one.ended ≡ true
-    → kinds is.met ++ map kind_of one.more ≡ map kind_of (fed one)
+    → kinds kind_of is.met ++ map kind_of one.more ≡ map kind_of (fed one)
 all_fed one is whole =
     ap (λ (first : List Command). first ++ map kind_of one.more) (all_said one is whole)
     ∙ sym (map-append kind_of one.said one.more)

@@ -1,9 +1,9 @@
 -- The steps of an agent in a log that is a legal history.
-use Rattle.std.proofs.Common.{◌≡◌, ◌∙◌, ℕ, ◌+◌, Bool, true, false, cond, not, ◌==◌, Option, Some, None}
+use Rattle.std.proofs.Common.{◌≡◌, ◌∙◌, ℕ, ◌+◌, Bool, true, false, not, ◌==◌, Option, Some, None}
 use Rattle.std.proofs.Common.{List, [], ◌∷◌, ◌++◌, map, length, refl, sym, ap, ap₂, subst, append_assoc, arith}
 use Rattle.std.proofs.Common.{if◌then◌else◌, length-append, nat_lt}
 use Rattle.std.specs.Prelude.{option_map, option_and_then, slice_get}
-use Rattle.std.proofs.lemmas.Bool.{eq-eqb, eqb-true, and_parts}
+use Rattle.std.proofs.lemmas.Bool.{eq-eqb, eqb-true, and_parts, eqb-false}
 use Rattle.bhs_model.specs.declared.commands.Command.{Command}
 use Rattle.bhs_model.specs.declared.commands.Command.TheVariants.{Leave}
 use Rattle.bhs_model.specs.declared.events.Event.{Event}
@@ -11,19 +11,17 @@ use Rattle.bhs_model.specs.declared.events.Event.TheVariants.{Tell, Deliver, Clo
 use Rattle.bhs_model.specs.declared.marks.Mark.{Mark}
 use Rattle.bhs_model.specs.declared.marks.Kept.{Kept}
 use Rattle.bhs_model.specs.declared.replies.Reply.{Reply}
-use Rattle.bhs_model.specs.Views.{View, Told, Arrived, Nothing, Sight, Away, standing, ports}
+use Rattle.bhs_model.specs.Views.{View, Told, Arrived, Nothing, Sight, standing, ports}
 use Rattle.bhs_model.specs.Replying.{rep, answer, here}
 use Rattle.bhs_model.specs.Worlds.{World}
-use Rattle.bhs_model.specs.Runs.{State, initial, Position, Before, At, Bound, After, glance, heard, told, arrives}
-use Rattle.bhs_model.specs.Runs.{delivered, is_let_through, sight_at, next, run, run_from, reply}
+use Rattle.bhs_model.specs.Runs.{State, initial, Position, glance, heard, told, arrives, next, run, run_from, reply}
 use Rattle.bhs_model.specs.InOrder.{replies_from}
 use Rattle.bhs_model.specs.Kept.{lost_after, keeps, kept_from}
 use Rattle.bhs_model.specs.Marks.{events_of, read, read_if}
-use Rattle.bhs_model.specs.Standings.{standing_at}
 use Rattle.bhs_model.proofs.KeptLemmas.{first_kept}
 use Rattle.bhs_model.proofs.AddLemmas.{run-append}
 use Rattle.bhs_model.proofs.LegalLemmas.{AllLegal, all_run}
-use Rattle.bhs_model.proofs.StepLemmas.{by_cases, changed_same, changed_other, answered_by_past, arrival_by_past}
+use Rattle.bhs_model.proofs.StepLemmas.{by_cases, changed_same, answered_by_past, arrival_by_past}
 use Rattle.bhs_model.proofs.StepLemmas.{no_arrival_no_reply, next_heard, next_arrived, next_no_arrival}
 use Rattle.bhs_match.specs.Matches.{is_arrival, arrivals_from}
 use Rattle.bhs_lock.specs.declared.model.Receipt.{Receipt}
@@ -31,46 +29,7 @@ use Rattle.bhs_lock.specs.Arrivals.{arrival_mark, receipt_at}
 use Rattle.bhs_lock.specs.Comparing.{Heard, kept_if, entry_first, heard_from}
 use Rattle.bhs_theorems.specs.ContestSteps.{Step, Spoke, Arrives, heard_of, arrivals_of, view_along}
 use Rattle.bhs_theorems.specs.ContestSteps.{AreSteps, StandInOrder}
-
--- ---- what others do
-
-told_other : (world : World) (state : State) (other : ℕ) (command : Command) (agent : ℕ) (is_heard : Bool)
-    → (agent == other) ≡ false → (cond is_heard (told world state other command) state).past agent ≡ state.past agent
-told_other world state other command agent true apart = changed_other state.past other agent _ apart
-told_other world state other command agent false apart = refl
-
-delivered_other : (world : World) (state : State) (other agent : ℕ) (position : Position) → (agent == other) ≡ false
-    → (delivered world state other position).past agent ≡ state.past agent
-delivered_other world state other agent (Bound node port) apart = changed_other state.past other agent _ apart
-delivered_other world state other agent Before apart = refl
-delivered_other world state other agent (At node came) apart = refl
-delivered_other world state other agent After apart = refl
-
-arrived_other : (world : World) (state : State) (other agent : ℕ) (comes : Bool) → (agent == other) ≡ false →
-    (cond comes (delivered world state other (state.position other)) state).past agent ≡ state.past agent
-arrived_other world state other agent true apart = delivered_other world state other agent (state.position other) apart
-arrived_other world state other agent false apart = refl
-
--- ---- an arrival
-
--- where an agent arrives
-pub record Arriving (world : World) (state : State) (agent : ℕ) (position : Position) : Type 0 where
-  pub sight : Sight
-  pub past_is : (delivered world state agent position).past agent ≡ Arrived (state.past agent) sight
-  pub away : standing_at position ≡ Away
-
-arriving : (world : World) (state : State) (agent : ℕ) (position : Position) → is_let_through world position ≡ true →
-    Arriving world state agent position
-arriving world state agent (Bound node port) through =
-    let far = world.net.far node port in
-    record {
-      sight = sight_at world state far.0 (Some far.1);
-      past_is = changed_same state.past agent _;
-      away = refl;
-    }
-arriving world state agent Before through = absurd (cc)
-arriving world state agent (At node came) through = absurd (cc)
-arriving world state agent After through = absurd (cc)
+use Rattle.bhs_theorems.proofs.AwayLemmas.{told_others, delivered_others, arriving}
 
 leave_shows : (world : World) (state : State) (position : Position) → glance world state position Leave ≡ Nothing
 leave_shows world state position = refl
@@ -125,7 +84,7 @@ module _ (world : World) (state : State) (agent : ℕ) (whole : List Kept) (plac
       Then (Tell other command) → Now (Tell other command) mark
   tell_other other command mark apart rest =
       own_not (Tell other command) mark
-      (told_other world state other command agent (heard world state other command) apart)
+      (told_others world state other command agent (eqb-false agent other apart)).past
       (ap (λ (own : Bool). entry_first whole place (if own then Some command else None) mark
       (heard_from whole agent (place + 1) log)) apart) refl rest
 
@@ -192,11 +151,11 @@ module _ (world : World) (state : State) (agent : ℕ) (whole : List Kept) (plac
       slice_get whole place ≡ Some (kept_as (Deliver agent) mark) →
       Then (Deliver agent) → Now (Deliver agent) mark
   deliver_own None legal comes answered there rest =
-      let at = arriving world state agent (state.position agent) (and_parts (not state.closed) _ comes).1 in
+      let at = arriving world state agent comes in
       absurd (let said = answered ∙ arrival_by_past world state agent comes ∙ ap (rep world.board) at.past_is in cc)
   deliver_own (Some mark) legal comes answered there rest =
       let view = state.past agent in
-      let at = arriving world state agent (state.position agent) (and_parts (not state.closed) _ comes).1 in
+      let at = arriving world state agent comes in
       let said = here world.board at.sight in
       let grown : (next world state (Deliver agent)).past agent ≡ Arrived view at.sight =
       ap (λ (after : State). after.past agent) (next_arrived world state agent comes) ∙ at.past_is in
@@ -244,7 +203,7 @@ module _ (world : World) (state : State) (agent : ℕ) (whole : List Kept) (plac
       (ap (λ (after : State). after.past agent) (next_no_arrival world state agent stays)) rest))
       answered there rest)
       (λ apart. arrives_not other mark (other_not other mark apart)
-      (arrived_other world state other agent (arrives world state other) apart) rest)
+      (delivered_others world state other agent (eqb-false agent other apart)).past rest)
     where
       silent : (mark : Option Mark) → read_if whole mark ≡ None → is_arrival agent (Deliver agent) mark ≡ false
       silent None none = refl

@@ -1,7 +1,6 @@
 -- What a session said and was answered, beside its agent's own steps in the log.
-use Rattle.std.proofs.Common.{◌≡◌, ◌∙◌, ℕ, ◌+◌, ◌-◌, ◌≤◌, Bool, true, false, ◌||◌, nat_lt}
-use Rattle.std.proofs.Common.{Option, Some, None, List, [], ◌∷◌, ◌++◌, length, refl, sym, ap, ap₂, subst, arith}
-use Rattle.std.proofs.Common.{if◌then◌else◌, length-append}
+use Rattle.std.proofs.Common.{◌≡◌, ◌∙◌, ℕ, ◌+◌, ◌-◌, ◌≤◌, Bool, true, false, ◌||◌, nat_lt, Option, Some, None, List, []}
+use Rattle.std.proofs.Common.{◌∷◌, ◌++◌, length, refl, sym, ap, ap₂, subst, arith, length-append}
 use Rattle.std.specs.Prelude.{option_map, slice_get}
 use Rattle.std.specs.List.{list_any, AllByRecursion}
 use Rattle.std.proofs.lemmas.Bool.{le-ltb}
@@ -9,9 +8,8 @@ use Rattle.bhs_model.specs.declared.commands.Command.{Command}
 use Rattle.bhs_model.specs.declared.commands.Command.TheVariants as commands
 use Rattle.bhs_model.specs.declared.replies.Reply.{Reply}
 use Rattle.bhs_model.specs.declared.replies.Reply.TheVariants.{No}
-use Rattle.bhs_model.specs.declared.replies.Reply.TheVariants as replies
 use Rattle.bhs_model.specs.declared.replies.Why.{Why}
-use Rattle.bhs_model.specs.Views.{View, Told, Arrived, Glance, Standing, Outside, Present, Away, Ended, standing}
+use Rattle.bhs_model.specs.Views.{View, Told, Arrived, Glance, Standing, Outside, Away, Ended, standing}
 use Rattle.bhs_model.specs.Views.{standing_after, ports, used}
 use Rattle.bhs_model.specs.Replying.{accepts, hears, answer, refusal}
 use Rattle.bhs_model.proofs.StepLemmas.{by_cases}
@@ -54,29 +52,14 @@ Sits (Finished ended) stands = Unit {0}
 
 pub takes_there : (phase : Phase) (stands : Standing) → TakesLines phase → Sits phase stands
     → takes_commands stands ≡ true
-takes_there Fresh stands takes sits = ap takes_commands sits
-takes_there Ready stands takes sits = sits
-takes_there Awaits stands takes sits = absurd takes
-takes_there (Owes text next) stands takes sits = absurd takes
-takes_there (Leaves ended) stands takes sits = absurd takes
-takes_there (Finished ended) stands takes sits = absurd takes
+takes_there phase stands takes sits = grind arith
 
 fits_sits : (reply : Reply) (stands : Standing) → (is_end reply ≡ true → stands ≡ Ended)
     → Fits (answered_by true reply) stands → Sits (answered_by true reply) stands
-fits_sits (replies.Here count came board) stands ends fits = fits
-fits_sits replies.Written stands ends fits = fits
-fits_sits (replies.Changed board) stands ends fits = fits
-fits_sits replies.Gone stands ends fits = fits
-fits_sits replies.Noted stands ends fits = ends refl
-fits_sits replies.Bye stands ends fits = ends refl
-fits_sits replies.Over stands ends fits = tt
-fits_sits (replies.No why) stands ends fits = fits
+fits_sits reply stands ends fits = grind arith
 
 has_ended_is : (stands : Standing) → has_ended stands ≡ true → stands ≡ Ended
-has_ended_is Outside is = cc
-has_ended_is Present is = cc
-has_ended_is Away is = cc
-has_ended_is Ended is = refl
+has_ended_is stands is = grind arith
 
 or_true : (one : Bool) → (one || true) ≡ true
 or_true true = refl
@@ -177,17 +160,7 @@ ended_still quota limit view (Arrives place sight reply ∷ steps) ended are = a
 -- what is kept of no other command is a Leave
 pub kept_leave : (command : Command) (reply : Reply) → kept_command command reply ≡ commands.Leave
     → command ≡ commands.Leave
-kept_leave commands.Enter reply is = is
-kept_leave commands.Look reply is = is
-kept_leave (commands.Write expect put) reply is = absurd (never _ is)
-  where
-    never : (shown : Bool) → (if shown then commands.Write expect put else commands.Write [] []) ≡ commands.Leave → ⊥
-    never true e = cc
-    never false e = cc
-kept_leave (commands.Depart port) reply is = is
-kept_leave (commands.Accuse port) reply is = is
-kept_leave commands.Leave reply is = is
-kept_leave commands.Bad reply is = is
+kept_leave command reply is = grind arith
 
 pub left_ended : (view : View) (command : Command) (glance : Glance) → command ≡ commands.Leave
     → standing (Told view command glance) ≡ Ended
@@ -195,10 +168,7 @@ left_ended view command glance is = ap (λ (one : Command). standing_after (stan
     ∙ leave_ends (standing view)
   where
     leave_ends : (stands : Standing) → standing_after stands (ports view) commands.Leave ≡ Ended
-    leave_ends Outside = refl
-    leave_ends Present = refl
-    leave_ends Away = refl
-    leave_ends Ended = refl
+    leave_ends stands = grind arith
 
 -- ---- what comes after an arrival
 

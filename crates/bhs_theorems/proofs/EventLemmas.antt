@@ -1,129 +1,35 @@
 -- What one command makes of its agent and of the others.
-use Rattle.std.proofs.Common.{◌≡◌, ◌≢◌, ◌∙◌, ℕ, ◌<◌, Bool, true, false, cond, not, ◌&&◌, nat_lt, nat_le, bytes_eq}
-use Rattle.std.proofs.Common.{length, Option, Some, [], ◌∷◌, ◌++◌, refl, sym, ap, subst}
-use Rattle.std.proofs.lemmas.Bool.{cond-true, lt-ltb, ne_eqb}
+use Rattle.std.proofs.Common.{◌≡◌, ◌≢◌, ◌∙◌, ℕ, ◌<◌, Bool, true, false, not, ◌&&◌, nat_lt, Option, Some, [], ◌∷◌, refl}
+use Rattle.std.proofs.Common.{sym, ap, subst, arith}
+use Rattle.std.proofs.lemmas.Bool.{cond-true, lt-ltb}
 use Rattle.bhs_model.specs.declared.commands.Command.{Command}
-use Rattle.bhs_model.specs.declared.commands.Command.TheVariants as commands
 use Rattle.bhs_model.specs.declared.events.Event.{Event}
-use Rattle.bhs_model.specs.declared.events.Event.TheVariants.{Tell, Deliver}
+use Rattle.bhs_model.specs.declared.events.Event.TheVariants.{Tell}
 use Rattle.bhs_model.specs.declared.setups.Setup.{Setup}
 use Rattle.bhs_model.specs.declared.replies.Reply.{Reply}
 use Rattle.bhs_model.specs.declared.replies.Reply.TheVariants as replies
-use Rattle.bhs_model.specs.declared.replies.Why.TheVariants as whys
-use Rattle.bhs_model.specs.Views.{View, Told, Glance, Nothing, Saw, Seen, Standing, Outside, Present, Away, Ended}
-use Rattle.bhs_model.specs.Views.{standing, standing_after, ports}
-use Rattle.bhs_model.specs.Replying.{answer, sight_answer, text, accepts, hears, rep}
+use Rattle.bhs_model.specs.Views.{View, Told, Glance, Standing, Away, Ended, standing, standing_after, ports}
+use Rattle.bhs_model.specs.Replying.{answer, accepts, hears, rep}
 use Rattle.bhs_model.specs.Worlds.{World}
-use Rattle.bhs_model.specs.Runs.{State, Position, Before, At, Bound, After, glance, is_bound, position_after, heard}
-use Rattle.bhs_model.specs.Runs.{told, arrives, delivered, next}
-use Rattle.bhs_model.specs.Kept.{keeps, lost}
-use Rattle.bhs_model.proofs.StepLemmas.{changed_same, changed_other, heard_by_past, refused_by_past, answered_by_past}
-use Rattle.bhs_model.proofs.StepLemmas.{next_heard, next_unheard, next_no_arrival}
+use Rattle.bhs_model.specs.Runs.{State, Position, glance, is_bound, position_after, heard, told}
+use Rattle.bhs_model.proofs.StepLemmas.{changed_same, heard_by_past, refused_by_past, answered_by_past}
+use Rattle.bhs_model.proofs.StepLemmas.{next_heard, next_unheard}
 use Rattle.bhs_rehearsal.specs.Games.{Game, world_in, state_of, played, reply_to, is_away}
 use Rattle.bhs_rehearsal.specs.Connections.{is_last}
 use Rattle.bhs_theorems.proofs.CuttingLemmas.{by_bool}
-use Rattle.bhs_theorems.proofs.SlowGameLemmas.{state_of-played}
+use Rattle.bhs_theorems.proofs.AwayLemmas.{state_of-played, setup-played}
 use Rattle.bhs_theorems.proofs.FitLemmas.{fits_here, here_stands}
 use Rattle.bhs_theorems.specs.Met.{Meeting, Hears, Refuses, past_after, command_in, answer_to, takes_commands, IsDue}
+use Rattle.bhs_model.proofs.LegalLemmas.{either}
 
 -- a match that was set up so, with this agent in it
 pub record IsIn (setup : Setup) (agent : ℕ) (game : Game) : Type 0 where
   pub setup_is : game.setup ≡ setup
   pub within : agent < setup.agents
 
-pub setup-played : (game : Game) (event : Event) → (played game event).setup ≡ game.setup
-setup-played game event =
-    by_bool (keeps (world_in game) (state_of game) (lost (world_in game) game.log) event)
-    (λ (kept : Bool). (cond kept (record game { log = game.log ++ event ∷ [] }) game).setup ≡ game.setup) (λ kept. refl)
-    (λ unkept. refl)
-
 pub played_in : (setup : Setup) (agent : ℕ) (game : Game) (event : Event) → IsIn setup agent game
     → IsIn setup agent (played game event)
 played_in setup agent game event is = record { setup_is = setup-played game event ∙ is.setup_is; within = is.within }
-
--- ---- nothing changes for an agent
-
-pub record Alike (agent : ℕ) (game new : Game) : Type 0 where
-  pub setup_is : new.setup ≡ game.setup
-  pub past : (state_of new).past agent ≡ (state_of game).past agent
-  pub away : is_away new agent ≡ is_away game agent
-  pub closed : (state_of new).closed ≡ (state_of game).closed
-
-pub alike_itself : (agent : ℕ) (game : Game) → Alike agent game game
-alike_itself agent game = record { setup_is = refl; past = refl; away = refl; closed = refl }
-
-pub alike_through : (agent : ℕ) (game new newest : Game) → Alike agent game new → Alike agent new newest
-    → Alike agent game newest
-alike_through agent game new newest one two = record {
-  setup_is = two.setup_is ∙ one.setup_is;
-  past = two.past ∙ one.past;
-  away = two.away ∙ one.away;
-  closed = two.closed ∙ one.closed;
-}
-
--- two states that are the same for an agent
-record SameFor (agent : ℕ) (state new : State) : Type 0 where
-  past : new.past agent ≡ state.past agent
-  away : is_bound (new.position agent) ≡ is_bound (state.position agent)
-  closed : new.closed ≡ state.closed
-
-same_for : (agent : ℕ) (state : State) → SameFor agent state state
-same_for agent state = record { past = refl; away = refl; closed = refl }
-
-alike_by : (agent : ℕ) (game : Game) (event : Event)
-    → SameFor agent (state_of game) (next (world_in game) (state_of game) event) → Alike agent game (played game event)
-alike_by agent game event same =
-    let is = state_of-played game event in
-    record {
-      setup_is = setup-played game event;
-      past = ap (λ (state : State). state.past agent) is ∙ same.past;
-      away = ap (λ (state : State). is_bound (state.position agent)) is ∙ same.away;
-      closed = ap (λ (state : State). state.closed) is ∙ same.closed;
-    }
-
-told_others : (world : World) (state : State) (agent : ℕ) (command : Command) (other : ℕ) → other ≢ agent
-    → SameFor other state (next world state (Tell agent command))
-told_others world state agent command other apart =
-    by_bool (heard world state agent command)
-    (λ (is : Bool). SameFor other state (cond is (told world state agent command) state))
-    (λ is. record {
-      past = changed_other state.past agent other _ (ne_eqb other agent apart);
-      away = ap is_bound (changed_other state.position agent other _ (ne_eqb other agent apart));
-      closed = refl;
-    }) (λ unheard. same_for other state)
-
-arrived_others : (world : World) (state : State) (agent : ℕ) (position : Position) (other : ℕ) → other ≢ agent
-    → SameFor other state (delivered world state agent position)
-arrived_others world state agent (Bound node port) other apart = record {
-  past = changed_other state.past agent other _ (ne_eqb other agent apart);
-  away = ap is_bound (changed_other state.position agent other _ (ne_eqb other agent apart));
-  closed = refl;
-}
-arrived_others world state agent Before other apart = same_for other state
-arrived_others world state agent (At node came) other apart = same_for other state
-arrived_others world state agent After other apart = same_for other state
-
-delivered_others : (world : World) (state : State) (agent other : ℕ) → other ≢ agent
-    → SameFor other state (next world state (Deliver agent))
-delivered_others world state agent other apart =
-    by_bool (arrives world state agent) (λ (is : Bool). SameFor other state
-    (cond is (delivered world state agent (state.position agent)) state))
-    (λ is. arrived_others world state agent (state.position agent) other apart) (λ stays. same_for other state)
-
-pub alike-told : (game : Game) (agent : ℕ) (command : Command) (other : ℕ) → other ≢ agent
-    → Alike other game (played game (Tell agent command))
-alike-told game agent command other apart = alike_by other game (Tell agent command)
-    (told_others (world_in game) (state_of game) agent command other apart)
-
-pub alike-delivered : (game : Game) (agent other : ℕ) → other ≢ agent → Alike other game (played game (Deliver agent))
-alike-delivered game agent other apart = alike_by other game (Deliver agent)
-    (delivered_others (world_in game) (state_of game) agent other apart)
-
-pub alike-no_arrival : (game : Game) (agent other : ℕ) → arrives (world_in game) (state_of game) agent ≡ false
-    → Alike other game (played game (Deliver agent))
-alike-no_arrival game agent other none =
-    alike_by other game (Deliver agent) (subst (λ (state : State). SameFor other (state_of game) state)
-    (sym (next_no_arrival (world_in game) (state_of game) agent none)) (same_for other (state_of game)))
 
 -- ---- one command
 
@@ -132,9 +38,8 @@ pub closed-told : (game : Game) (agent : ℕ) (command : Command)
     → (state_of (played game (Tell agent command))).closed ≡ (state_of game).closed
 closed-told game agent command =
     ap (λ (state : State). state.closed) (state_of-played game (Tell agent command))
-    ∙ by_bool (heard (world_in game) (state_of game) agent command)
-    (λ (is : Bool). (cond is (told (world_in game) (state_of game) agent command) (state_of game)).closed ≡ (state_of
-    game).closed) (λ is. refl) (λ unheard. refl)
+    ∙ either (λ (state : State). state.closed ≡ (state_of game).closed)
+    (heard (world_in game) (state_of game) agent command) _ (state_of game) refl refl
 
 -- what a command comes to before the close
 pub record Answered (setup : Setup) (view new : View) (command : Command) (replied : Option Reply)
@@ -150,118 +55,28 @@ pub record Answered (setup : Setup) (view new : View) (command : Command) (repli
   pub ends_it : is_last (answer_to setup.board view meeting) ≡ true → takes_commands (standing new) ≡ false
   pub goes_on : is_last (answer_to setup.board view meeting) ≡ false → standing new ≢ Ended
 
-cond_last : (test : Bool) (one two : Reply) → is_last one ≡ false → is_last two ≡ false
-    → is_last (cond test one two) ≡ false
-cond_last true one two first second = first
-cond_last false one two first second = second
-
-departs_on : (limit : ℕ) (standing : Standing) (ports port : ℕ) (glance : Glance)
-    → is_last (answer limit standing ports (commands.Depart port) glance) ≡ false
-departs_on limit Outside ports port glance = cond_last (nat_lt port ports) replies.Gone _ refl refl
-departs_on limit Present ports port glance = cond_last (nat_lt port ports) replies.Gone _ refl refl
-departs_on limit Ended ports port glance = cond_last (nat_lt port ports) replies.Gone _ refl refl
-departs_on limit Away ports port glance = refl
-
-cond_here : (test : Bool) (one two : Position) → is_bound one ≡ false → is_bound two ≡ false
-    → is_bound (cond test one two) ≡ false
-cond_here true one two first second = first
-cond_here false one two first second = second
-
 -- where a command other than a departure leaves an agent that is at a node
-stays_here : (world : World) (limit : ℕ) (standing : Standing) (ports : ℕ) (glance : Glance) (position : Position)
+pub stays_here : (world : World) (limit : ℕ) (standing : Standing) (ports : ℕ) (glance : Glance) (position : Position)
     (command : Command) →
     is_last (answer limit standing ports command glance) ≡ true → is_bound position ≡ false
     → is_bound (position_after world position command) ≡ false
-stays_here world limit standing ports glance position (commands.Depart port) last at =
-    absurd (let never = departs_on limit standing ports port glance in cc)
-stays_here world limit standing ports glance position commands.Enter last at = refl
-stays_here world limit standing ports glance position commands.Leave last at = refl
-stays_here world limit standing ports glance (At node came) (commands.Accuse port) last at =
-    cond_here (nat_lt port (world.net.degree node)) After (At node came) refl refl
-stays_here world limit standing ports glance position command last at = at
+stays_here world limit standing ports glance position command last at = grind arith
 
 -- who is neither on a link nor at its end
-takes_here : (standing : Standing) → standing ≢ Away → standing ≢ Ended → takes_commands standing ≡ true
-takes_here Outside on_no_link lives = refl
-takes_here Present on_no_link lives = refl
-takes_here Away on_no_link lives = absurd (on_no_link refl)
-takes_here Ended on_no_link lives = absurd (lives refl)
-
-sight_is_not_last : (limit : ℕ) (command : Command) (glance : Glance)
-    → is_last (sight_answer limit command glance) ≡ false
-sight_is_not_last limit (commands.Write expect put) (Saw (Seen ports came last_write)) =
-    cond_last (nat_le (length put) limit) _ (replies.No whys.Long)
-    (cond_last (bytes_eq (text limit last_write) expect) replies.Written _ refl refl) refl
-sight_is_not_last limit (commands.Write expect put) Nothing = refl
-sight_is_not_last limit commands.Enter (Saw (Seen ports came last_write)) = refl
-sight_is_not_last limit commands.Look (Saw (Seen ports came last_write)) = refl
-sight_is_not_last limit (commands.Depart port) (Saw (Seen ports came last_write)) = refl
-sight_is_not_last limit (commands.Accuse port) (Saw (Seen ports came last_write)) = refl
-sight_is_not_last limit commands.Leave (Saw (Seen ports came last_write)) = refl
-sight_is_not_last limit commands.Bad (Saw (Seen ports came last_write)) = refl
-sight_is_not_last limit commands.Enter Nothing = refl
-sight_is_not_last limit commands.Look Nothing = refl
-sight_is_not_last limit (commands.Depart port) Nothing = refl
-sight_is_not_last limit (commands.Accuse port) Nothing = refl
-sight_is_not_last limit commands.Leave Nothing = refl
-sight_is_not_last limit commands.Bad Nothing = refl
-
-never_last : {A : Type 0} (one : Bool) → one ≡ false → one ≡ true → A
-never_last one is_false is_true = absurd (cc)
+pub takes_here : (standing : Standing) → standing ≢ Away → standing ≢ Ended → takes_commands standing ≡ true
+takes_here standing on_no_link lives = grind arith
 
 -- a last answer to a heard command leaves an agent that has ended, and any other does not
 last_ends : (limit : ℕ) (standing : Standing) (room : Bool) (ports : ℕ) (command : Command) (glance : Glance)
     → takes_commands standing ≡ true → accepts standing room command ≡ true →
     is_last (answer limit standing ports command glance) ≡ true
     → takes_commands (standing_after standing ports command) ≡ false
-last_ends limit Outside room ports commands.Enter glance takes allowed last =
-    never_last _ (sight_is_not_last limit commands.Enter glance) last
-last_ends limit Outside room ports commands.Look glance takes allowed last = absurd (cc)
-last_ends limit Outside room ports (commands.Write expect put) glance takes allowed last = absurd (cc)
-last_ends limit Outside room ports (commands.Depart port) glance takes allowed last = absurd (cc)
-last_ends limit Outside room ports (commands.Accuse port) glance takes allowed last = absurd (cc)
-last_ends limit Outside room ports commands.Leave glance takes allowed last = absurd (cc)
-last_ends limit Outside room ports commands.Bad glance takes allowed last = absurd (cc)
-last_ends limit Present room ports commands.Enter glance takes allowed last = absurd (cc)
-last_ends limit Present room ports commands.Look glance takes allowed last =
-    never_last _ (sight_is_not_last limit commands.Look glance) last
-last_ends limit Present room ports (commands.Write expect put) glance takes allowed last =
-    never_last _ (sight_is_not_last limit (commands.Write expect put) glance) last
-last_ends limit Present room ports (commands.Depart port) glance takes allowed last =
-    never_last _ (departs_on limit Present ports port glance) last
-last_ends limit Present room ports (commands.Accuse port) glance takes allowed last =
-    by_bool (nat_lt port ports) (λ (is_port : Bool). is_last (cond is_port replies.Noted (replies.No whys.Port)) ≡ true
-    → takes_commands (cond is_port Ended Present) ≡ false)
-    (λ is_port noted. refl) (λ no_port noted. absurd (cc)) last
-last_ends limit Present room ports commands.Leave glance takes allowed last = refl
-last_ends limit Present room ports commands.Bad glance takes allowed last = absurd (cc)
-last_ends limit Away room ports command glance takes allowed last = absurd (cc)
-last_ends limit Ended room ports command glance takes allowed last = absurd (cc)
+last_ends limit standing room ports command glance takes allowed last = grind arith
 
 others_go_on : (limit : ℕ) (standing : Standing) (room : Bool) (ports : ℕ) (command : Command) (glance : Glance)
     → takes_commands standing ≡ true → accepts standing room command ≡ true →
     is_last (answer limit standing ports command glance) ≡ false → standing_after standing ports command ≢ Ended
-others_go_on limit Outside room ports commands.Enter glance takes allowed more ended = cc
-others_go_on limit Outside room ports commands.Look glance takes allowed more ended = cc
-others_go_on limit Outside room ports (commands.Write expect put) glance takes allowed more ended = cc
-others_go_on limit Outside room ports (commands.Depart port) glance takes allowed more ended = cc
-others_go_on limit Outside room ports (commands.Accuse port) glance takes allowed more ended = cc
-others_go_on limit Outside room ports commands.Leave glance takes allowed more ended = cc
-others_go_on limit Outside room ports commands.Bad glance takes allowed more ended = cc
-others_go_on limit Present room ports commands.Enter glance takes allowed more ended = cc
-others_go_on limit Present room ports commands.Look glance takes allowed more ended = cc
-others_go_on limit Present room ports (commands.Write expect put) glance takes allowed more ended = cc
-others_go_on limit Present room ports (commands.Depart port) glance takes allowed more ended =
-    by_bool (nat_lt port ports) (λ (is_port : Bool). (cond is_port Away Present) ≡ Ended → ⊥) (λ is_port is. cc)
-    (λ no_port is. cc) ended
-others_go_on limit Present room ports (commands.Accuse port) glance takes allowed more ended =
-    by_bool (nat_lt port ports) (λ (is_port : Bool). is_last (cond is_port replies.Noted (replies.No whys.Port)) ≡ false
-    → (cond is_port Ended Present) ≡ Ended → ⊥)
-    (λ is_port noted is. cc) (λ no_port noted is. cc) more ended
-others_go_on limit Present room ports commands.Leave glance takes allowed more ended = cc
-others_go_on limit Present room ports commands.Bad glance takes allowed more ended = cc
-others_go_on limit Away room ports command glance takes allowed more ended = cc
-others_go_on limit Ended room ports command glance takes allowed more ended = cc
+others_go_on limit standing room ports command glance takes allowed more ended = grind arith
 
 module _ (setup : Setup) (game : Game) (agent : ℕ) (command : Command) (is : IsIn setup agent game)
     (at : is_away game agent ≡ false)
@@ -343,10 +158,10 @@ module _ (setup : Setup) (game : Game) (agent : ℕ) (command : Command) (is : I
       (reply_to game (Tell agent command)) (not (is_away (played game (Tell agent command)) agent)))
       is.setup_is
       (by_bool (hears game.setup.quota view command)
-      (λ (accepts : Bool). hears game.setup.quota view command ≡ accepts →
+      (λ (accepts : Bool).
       Answered game.setup view ((state_of (played game (Tell agent command))).past agent) command
       (reply_to game (Tell agent command)) (not (is_away (played game (Tell agent command)) agent)))
-      (λ first allowed. answered_heard still allowed) (λ first refused. answered_refused still refused) refl)
+      (answered_heard still) (answered_refused still))
 
   -- after the close everything is answered so
   pub answered-closed : state.closed ≡ true → reply_to game (Tell agent command) ≡ Some replies.Over

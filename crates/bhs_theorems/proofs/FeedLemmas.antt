@@ -1,7 +1,7 @@
 -- Scripts that do alike, and bytes that are cut otherwise.
 use Rattle.std.proofs.Common.{◌≡◌, ◌∙◌, ℕ, ◌<◌, Bool, true, false, cond, nat_lt, ◌==◌, Option, List, [], ◌∷◌, ◌++◌}
-use Rattle.std.proofs.Common.{length, map, refl, sym, ap, ap₂, subst, append_assoc, append-nil}
-use Rattle.std.proofs.lemmas.Bool.{cond-true, cond-false, ltb-true, lt-ltb}
+use Rattle.std.proofs.Common.{length, map, refl, sym, ap, ap₂, subst, append_assoc, append-nil, subst₂}
+use Rattle.std.proofs.lemmas.Bool.{cond-true, cond-false, ltb-true, lt-ltb, cond_both}
 use Rattle.std.proofs.lemmas.List.{set-set, get_or-set_same, length-set, map-append}
 use Rattle.bhs_wire.specs.Lines.{Line, found_in, left_by}
 use Rattle.bhs_wire.proofs.StreamLaws.{found_in-append, left_by-append}
@@ -10,7 +10,8 @@ use Rattle.bhs_rehearsal.specs.Stages.{Stage, connection_at, with_connection, In
 use Rattle.bhs_rehearsal.specs.Stages.{sent_to, stepped, nothing, feeds, step, stands_after, sends}
 use Rattle.bhs_theorems.specs.ScriptLaws.{DoAlike, joined, fed, TwoPiecesDoAlike, CutsDoAlike}
 use Rattle.bhs_theorems.specs.Clients.{bytes_among, bytes_to}
-use Rattle.bhs_theorems.proofs.TurnLemmas.{Turn, placed, turn_of, moves-placed, grown, sent_behind, turn_of-grown}
+use Rattle.bhs_theorems.proofs.TurnLemmas.{Turn, placed, turn_of, moves-placed, grown, turn_of-grown, then_fed}
+use Rattle.bhs_theorems.proofs.CuttingLemmas.{cond_alike}
 
 -- ---- what is sent
 
@@ -98,25 +99,20 @@ alike_behind stage earlier one two alike = record {
       ∙ sym (sent_in_both conn stage earlier two);
 }
 
--- ---- one instruction in place of two
+-- ---- one step in place of two
 
-one_for_two : (stage : Stage) (whole one two : Instruction) (all first second : Stepped) →
-    step stage whole ≡ all → step stage one ≡ first → step first.stage two ≡ second → all.stage ≡ second.stage →
-    ((conn : ℕ) → bytes_among conn all.outs ≡ bytes_among conn first.outs ++ bytes_among conn second.outs) →
-    DoAlike stage (whole ∷ []) (one ∷ two ∷ [])
-one_for_two stage whole one two all first second is_all is_first is_second stands sends =
-    let both : (step (step stage one).stage two) ≡ second =
-    ap (λ (done : Stepped). step done.stage two) is_first ∙ is_second in
-    record {
-      stands = ap (λ (done : Stepped). done.stage) is_all ∙ stands ∙ sym (ap (λ (done : Stepped). done.stage) both);
-      sends = λ conn.
-          append-nil (bytes_among conn (step stage whole).outs)
-          ∙ ap (λ (done : Stepped). bytes_among conn done.outs) is_all
-          ∙ sends conn
-          ∙ sym (ap₂ (λ (done more : Stepped). bytes_among conn done.outs ++ bytes_among conn more.outs) is_first both)
-          ∙ ap (λ (sent : List ℕ). bytes_among conn (step stage one).outs ++ sent)
-          (sym (append-nil (bytes_among conn (step (step stage one).stage two).outs)));
-    }
+-- one step comes to what another does with more bytes fed behind it
+record ComesToBoth (conn : ℕ) (more : List ℕ) (whole first : Stepped) : Type 0 where
+  stands : whole.stage ≡ (step first.stage (Feeds conn more)).stage
+  sends : (other : ℕ) → bytes_among other whole.outs
+      ≡ bytes_among other first.outs ++ bytes_among other (step first.stage (Feeds conn more)).outs
+
+nothing_both : (stage : Stage) (conn : ℕ) (more : List ℕ) → step stage (Feeds conn more) ≡ nothing stage
+    → ComesToBoth conn more (nothing stage) (nothing stage)
+nothing_both stage conn more none = record {
+  stands = sym (ap (λ (done : Stepped). done.stage) none);
+  sends = λ other. sym (ap (λ (done : Stepped). bytes_among other done.outs) none);
+}
 
 -- ---- a feed
 
@@ -185,65 +181,56 @@ module _ (stage : Stage) (conn : ℕ) (turn : Turn) (more : List ℕ) (within : 
       ∙ ap (λ (connection : Connection). stepped conn
       (placed between conn (turn_of between conn (grown connection more)))) found_there
 
-  second_piece : (ended : Bool) → turn.connection.ended ≡ ended → (whole one : Instruction) →
-      step stage whole ≡ stepped conn (placed stage conn (cond ended turn (sent_behind turn.text second_turn))) →
-      step stage one ≡ stepped conn (placed stage conn turn) →
-      DoAlike stage (whole ∷ []) (one ∷ Feeds conn more ∷ [])
-  second_piece true ended whole one is_all is_first =
-      one_for_two stage whole one (Feeds conn more) (stepped conn (placed stage conn turn))
-      (stepped conn (placed stage conn turn)) (nothing between)
-      is_all is_first (second_ended ended) refl (λ other. sym (append-nil (bytes_among other (sent_to conn turn.text))))
-  second_piece false still whole one is_all is_first =
-      one_for_two stage whole one (Feeds conn more)
-      (stepped conn (placed stage conn (sent_behind turn.text second_turn))) (stepped conn (placed stage conn turn))
-      (stepped conn (placed between conn second_turn))
-      is_all is_first (second_open still)
-      (ap (λ (connections : List Connection). record stage { games = second_turn.games; connections = connections })
-      (sym (set-set stage.connections conn turn.connection second_turn.connection)))
-      (λ other. bytes_among-sent_more other conn turn.text second_turn.text)
+  second_piece : ComesToBoth conn more (stepped conn (placed stage conn (then_fed stage conn turn more)))
+      (stepped conn (placed stage conn turn))
+  second_piece =
+      let behind : (other : ℕ) → Stepped → List ℕ = λ (other : ℕ) (done : Stepped).
+      bytes_among other (sent_to conn turn.text) ++ bytes_among other done.outs in
+      cond_both turn.connection.ended _ _ (λ (whole : Turn). ComesToBoth conn more
+      (stepped conn (placed stage conn whole)) (stepped conn (placed stage conn turn)))
+      (λ ended. record {
+        stands = sym (ap (λ (done : Stepped). done.stage) (second_ended ended));
+        sends = λ other. sym (append-nil (bytes_among other (sent_to conn turn.text)))
+            ∙ ap (behind other) (sym (second_ended ended));
+      })
+      (λ still. record {
+        stands = ap (λ (connections : List Connection). record stage
+            { games = second_turn.games; connections = connections })
+            (sym (set-set stage.connections conn turn.connection second_turn.connection))
+            ∙ sym (ap (λ (done : Stepped). done.stage) (second_open still));
+        sends = λ other. bytes_among-sent_more other conn turn.text second_turn.text
+            ∙ ap (behind other) (sym (second_open still));
+      })
 
-nothing_thrice : (stage : Stage) (whole one two : Instruction) → step stage whole ≡ nothing stage
-    → step stage one ≡ nothing stage → step stage two ≡ nothing stage →
-    DoAlike stage (whole ∷ []) (one ∷ two ∷ [])
-nothing_thrice stage whole one two is_all is_first is_second =
-    one_for_two stage whole one two (nothing stage) (nothing stage) (nothing stage) is_all is_first is_second
-    refl (λ other. refl)
-
-two_open : (stage : Stage) (conn : ℕ) (bytes more : List ℕ) → conn < length stage.connections
-    → (connection_at stage conn).ended ≡ false →
-    DoAlike stage (Feeds conn (bytes ++ more) ∷ []) (Feeds conn bytes ∷ Feeds conn more ∷ [])
-two_open stage conn bytes more within still =
+two_pieces : (stage : Stage) (conn : ℕ) (bytes more : List ℕ)
+    → ComesToBoth conn more (step stage (Feeds conn (bytes ++ more))) (step stage (Feeds conn bytes))
+two_pieces stage conn bytes more =
+    let below = nat_lt conn (length stage.connections) in
     let old = connection_at stage conn in
-    let turn = turn_of stage conn (grown old bytes) in
-    second_piece stage conn turn more within turn.connection.ended refl (Feeds conn (bytes ++ more)) (Feeds conn bytes)
-    (feed_open stage conn (bytes ++ more) within still
-    ∙ ap (λ (connection : Connection). stepped conn (placed stage conn (turn_of stage conn connection)))
-    (grown-append old bytes more)
-    ∙ ap (λ (done : Turn). stepped conn (placed stage conn done))
-    (turn_of-grown stage conn (grown old bytes) more still))
-    (feed_open stage conn bytes within still)
-
-two_within : (stage : Stage) (conn : ℕ) (bytes more : List ℕ) → conn < length stage.connections → (ended : Bool)
-    → (connection_at stage conn).ended ≡ ended →
-    DoAlike stage (Feeds conn (bytes ++ more) ∷ []) (Feeds conn bytes ∷ Feeds conn more ∷ [])
-two_within stage conn bytes more within true ended =
-    nothing_thrice stage (Feeds conn (bytes ++ more)) (Feeds conn bytes) (Feeds conn more)
-    (feed_ended stage conn (bytes ++ more) within ended) (feed_ended stage conn bytes within ended)
-    (feed_ended stage conn more within ended)
-two_within stage conn bytes more within false still = two_open stage conn bytes more within still
-
-two_below : (stage : Stage) (conn : ℕ) (bytes more : List ℕ) (below : Bool)
-    → nat_lt conn (length stage.connections) ≡ below →
-    DoAlike stage (Feeds conn (bytes ++ more) ∷ []) (Feeds conn bytes ∷ Feeds conn more ∷ [])
-two_below stage conn bytes more true below =
-    two_within stage conn bytes more (ltb-true conn (length stage.connections) below)
-    (connection_at stage conn).ended refl
-two_below stage conn bytes more false past =
-    nothing_thrice stage (Feeds conn (bytes ++ more)) (Feeds conn bytes) (Feeds conn more)
-    (feed_nobody stage conn (bytes ++ more) past) (feed_nobody stage conn bytes past) (feed_nobody stage conn more past)
+    cond_alike (ComesToBoth conn more) below below _ _ _ _ refl
+    (λ is.
+    let within = ltb-true conn (length stage.connections) is in
+    cond_alike (ComesToBoth conn more) old.ended old.ended _ _ _ _ refl
+    (λ ended. nothing_both stage conn more (feed_ended stage conn more within ended))
+    (λ still. subst₂ (ComesToBoth conn more)
+    (ap (stepped conn) (sym (moves-placed stage conn (grown old (bytes ++ more)) within
+    ∙ ap (λ (connection : Connection). placed stage conn (turn_of stage conn connection)) (grown-append old bytes more)
+    ∙ ap (placed stage conn) (turn_of-grown stage conn (grown old bytes) more still))))
+    (ap (stepped conn) (sym (moves-placed stage conn (grown old bytes) within)))
+    (second_piece stage conn (turn_of stage conn (grown old bytes)) more within)))
+    (λ past. nothing_both stage conn more (feed_nobody stage conn more past))
 
 pub two_pieces_lemma : TwoPiecesDoAlike
-two_pieces_lemma stage conn bytes more = two_below stage conn bytes more (nat_lt conn (length stage.connections)) refl
+two_pieces_lemma stage conn bytes more =
+    let comes = two_pieces stage conn bytes more in
+    record {
+      stands = comes.stands;
+      sends = λ other.
+          append-nil (bytes_among other (step stage (Feeds conn (bytes ++ more))).outs) ∙ comes.sends other
+          ∙ ap (λ (sent : List ℕ). bytes_among other (step stage (Feeds conn bytes)).outs ++ sent)
+          (sym (append-nil
+          (bytes_among other (step (step stage (Feeds conn bytes)).stage (Feeds conn more)).outs)));
+    }
 
 -- ---- many pieces
 

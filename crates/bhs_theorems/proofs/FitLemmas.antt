@@ -1,5 +1,5 @@
 -- The past of an agent says where it is.
-use Rattle.std.proofs.Common.{◌≡◌, ◌≢◌, ℕ, true, false, sym}
+use Rattle.std.proofs.Common.{◌≡◌, ◌≢◌, ℕ, true, false, arith}
 use Rattle.bhs_model.specs.Views.{View, Outside, Present, Away, Ended, standing, ports}
 use Rattle.bhs_model.specs.Worlds.{World}
 use Rattle.bhs_model.specs.Runs.{Position, Before, At, Bound, After, is_bound}
@@ -14,10 +14,7 @@ FitsHere world view After = standing view ≡ Ended
 
 legal_fits : (world : World) (view : View) (position : Position) → IsLegal world view position
     → FitsHere world view position
-legal_fits world view Before legal = legal.standing
-legal_fits world view (At node came) legal = (legal.standing, legal.ports)
-legal_fits world view (Bound node port) legal = legal.standing
-legal_fits world view After legal = legal.standing
+legal_fits world view position legal = grind arith
 
 pub fits_here : (game : Game) (agent : ℕ) → FitsHere (world_in game) ((state_of game).past agent)
     ((state_of game).position agent)
@@ -26,14 +23,8 @@ fits_here game agent = legal_fits (world_in game) _ _ (all_run (world_in game) g
 -- who is on no link is not away, and who is on one is
 pub here_stands : (world : World) (view : View) (position : Position) → FitsHere world view position
     → is_bound position ≡ false → standing view ≢ Away
-here_stands world view Before fits at away = let never = sym fits in cc
-here_stands world view (At node came) fits at away = let present = fits.0 in cc
-here_stands world view (Bound node port) fits at away = cc
-here_stands world view After fits at away = cc
+here_stands world view position fits at = grind arith
 
 pub away_stands : (world : World) (view : View) (position : Position) → FitsHere world view position
     → is_bound position ≡ true → standing view ≡ Away
-away_stands world view Before fits at = absurd (cc)
-away_stands world view (At node came) fits at = absurd (cc)
-away_stands world view (Bound node port) fits at = fits
-away_stands world view After fits at = absurd (cc)
+away_stands world view position fits at = grind arith

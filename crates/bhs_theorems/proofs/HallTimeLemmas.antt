@@ -1,13 +1,11 @@
 -- What stands under the lock of a match is a timed execution.
-use Rattle.std.proofs.Common.{arith, ℕ, zero, suc, ◌≡◌, ◌<◌, ◌≤◌, ◌+◌, ◌-◌, ◌^◌, ◌%◌, min, Bool, true, false, ◌==◌}
-use Rattle.std.proofs.Common.{◌⊎◌, Option, Some, None}
-use Rattle.std.proofs.Common.{List, [], ◌∷◌, ◌++◌, length, nat_lt, refl, sym, ap, ap₂, ◌∙◌, subst, if◌then◌else◌, inl}
-use Rattle.std.proofs.Common.{inr}
-use Rattle.std.proofs.Common.{slice_set}
+use Rattle.std.proofs.Common.{arith, ℕ, zero, suc, ◌≡◌, ◌<◌, ◌≤◌, ◌+◌, ◌-◌, ◌^◌, ◌%◌, min, Bool, true, false, ◌==◌, ◌⊎◌}
+use Rattle.std.proofs.Common.{Option, Some, None, List, [], ◌∷◌, ◌++◌, length, nat_lt, refl, sym, ap, ap₂, ◌∙◌, subst}
+use Rattle.std.proofs.Common.{if◌then◌else◌, inl, inr, slice_set, cond}
 use Rattle.std.proofs.Math.ListN.{length-replicate}
 use Rattle.rand_chacha.specs.ChaCha.{ChaCha}
 use Rattle.std.specs.Prelude.{is_some, replicate}
-use Rattle.std.proofs.lemmas.Bool.{cond-true, cond-false, cond_both, lt-ltb, eq-eqb}
+use Rattle.std.proofs.lemmas.Bool.{cond-true, cond_both, lt-ltb, eq-eqb, ne_eqb}
 use Rattle.std.proofs.lemmas.Bool.Decides.{eqb_tells}
 use Rattle.std.proofs.lemmas.List.{get_or-set_same, get_or-set_other}
 use Rattle.bhs_net.specs.Network.{Network}
@@ -26,17 +24,14 @@ use Rattle.bhs_model.specs.Runs.{Position, Before, At, Bound, After, State, init
 use Rattle.bhs_model.specs.Runs.{next, run}
 use Rattle.bhs_model.specs.Draws.{Held, is_held}
 use Rattle.bhs_model.specs.Kept.{lost}
-use Rattle.bhs_model.proofs.StepLemmas.{by_cases}
 use Rattle.bhs_model.proofs.AddLemmas.{run-append}
 use Rattle.bhs_model.proofs.KeptLemmas.{unkept_state}
 use Rattle.bhs_model.proofs.LegalLemmas.{AllLegal, all_run}
 use Rattle.bhs_time.specs.TimedViews.{ToldAt, ArrivedAt, bare, is_away, departed_at}
 use Rattle.bhs_time.specs.Schedules.{Schedule}
 use Rattle.bhs_time.specs.TimedRuns.{TimedState, TimedAct, Says, Passes, Ends, glance_then, told_then, arrived_then}
-use Rattle.bhs_time.specs.TimedRuns.{happened}
-use Rattle.bhs_time.specs.TimedRuns.{happened_if, timed_next, timed_initial, timed_run, timed_run_from, delivery_now}
-use Rattle.bhs_time.specs.TimedRuns.{delivery_in}
-use Rattle.bhs_time.specs.TimedRuns.{delivery_if}
+use Rattle.bhs_time.specs.TimedRuns.{happened, happened_if, timed_next, timed_initial, timed_run, timed_run_from}
+use Rattle.bhs_time.specs.TimedRuns.{delivery_now, delivery_in, delivery_if}
 use Rattle.bhs_time.proofs.StampLemmas.{IsStamped, happened_state, next_stamped, initial_stamped}
 use Rattle.bhs_time.proofs.StampLemmas.{clocks_only_stamp_lemma}
 use Rattle.bhs_time.proofs.WaitLemmas.{equal_waits_lemma}
@@ -57,6 +52,7 @@ use Rattle.bhs_theorems.specs.Timely.{HallsAreTimedExecutions, EqualWaitsUnderLo
 use Rattle.bhs_lock.proofs.ToldLemmas.{same_play}
 use Rattle.bhs_lock.proofs.DrawLemmas.{length_told, length_turned}
 use Rattle.bhs_lock.proofs.TallyLemmas.{has_agreed, is_some_if}
+use Rattle.bhs_theorems.proofs.CuttingLemmas.{cond_alike}
 
 -- ---- the state after an event
 
@@ -100,10 +96,7 @@ told_other false agent other times apart = stepped_other agent other times apart
 
 -- an agent is away exactly if it is on a link
 away_at : (position : Position) → is_away (standing_at position) ≡ is_bound position
-away_at Before = refl
-away_at (At node came) = refl
-away_at (Bound node port) = refl
-away_at After = refl
+away_at position = grind arith
 
 -- ---- a match and a timed execution that stand alike
 
@@ -192,6 +185,12 @@ module _ (first : Play) (held : Held) (schedule : Schedule) (timed : TimedState)
         ∙ is.departed other below)
   ]
 
+  -- times that stand as a timed execution does
+  abbrev TimesAre : Timed → TimedState → Type 0
+  TimesAre times after = (times.turn ≡ after.turn)
+      × ((other : ℕ) → other < first.setup.agents → departed_in times.departed other ≡ departed_at (after.pasts other))
+      × (length times.departed ≡ first.setup.agents)
+
   told_by : (hall' : Housed) (pass pass' : Passed) (command : Command) (answer : Answer) → agrees hall pass ≡ true →
       IsHeardBy hall pass command answer hall' pass' →
       Alike first (timed_next (world_in first) held schedule timed (Says pass.agent command)) hall'
@@ -209,40 +208,27 @@ module _ (first : Play) (held : Held) (schedule : Schedule) (timed : TimedState)
       by.times
       ∙ ap₂ (λ (some away : Bool). if some then told_at away agent hall.times else hall.times) is_heard
       (away_by first timed hall is agent) in
-      by_cases (heard (world_in first) timed.state agent command) _
-      (λ (yes : heard (world_in first) timed.state agent command ≡ true).
-      let later : hall'.times ≡ told_at (is_away (standing (bare (timed.pasts agent)))) agent hall.times =
-      times ∙ cond-true _ _ _ yes in
-      let after : happened (world_in first) timed (Tell agent command) ≡ told_then
-      (world_in first) timed agent command =
-      cond-true _ _ _ yes in
+      let told : TimesAre (cond (heard (world_in first) timed.state agent command)
+      (told_at (is_away (standing (bare (timed.pasts agent)))) agent hall.times) hall.times)
+      (happened (world_in first) timed (Tell agent command)) =
+      cond_alike TimesAre (heard (world_in first) timed.state agent command)
+      (heard (world_in first) timed.state agent command) _ _ _ _ refl
+      (λ yes. (
+        told_turn _ agent hall.times ∙ is.turn,
+        told_departed agent command within,
+        length_told _ agent hall.times ∙ is.long,
+      ))
+      (λ no. (is.turn, is.departed, is.long)) in
       record {
         net = ap (λ (play : Play). play.net) by.told.grown ∙ is.net;
         setup = ap (λ (play : Play). play.setup) by.told.grown ∙ is.setup;
         state = state_after first timed hall is (Tell agent command) _ hall'.play by.told.grown;
-        turn = ap (λ (some : Timed). some.turn) later ∙ told_turn _ agent hall.times ∙ is.turn
-            ∙ sym (ap (λ (there : TimedState). there.turn) after);
+        turn = ap (λ (some : Timed). some.turn) times ∙ told.0;
         departed = λ other below.
-            ap (λ (some : Timed). departed_in some.departed other) later
-            ∙ told_departed agent command within other below
-            ∙ sym (ap (λ (there : TimedState). departed_at (there.pasts other)) after);
-        long = ap (λ (some : Timed). length some.departed) later ∙ length_told _ agent hall.times ∙ is.long;
+            ap (λ (some : Timed). departed_in some.departed other) times ∙ told.1 other below;
+        long = ap (λ (some : Timed). length some.departed) times ∙ told.2;
         stamped = next_stamped (world_in first) held schedule timed (Says agent command) is.stamped;
-      })
-      (λ (no : heard (world_in first) timed.state agent command ≡ false).
-      let later : hall'.times ≡ hall.times = times ∙ cond-false _ _ _ no in
-      let after : happened (world_in first) timed (Tell agent command) ≡ timed = cond-false _ _ _ no in
-      record {
-        net = ap (λ (play : Play). play.net) by.told.grown ∙ is.net;
-        setup = ap (λ (play : Play). play.setup) by.told.grown ∙ is.setup;
-        state = state_after first timed hall is (Tell agent command) _ hall'.play by.told.grown;
-        turn = ap (λ (some : Timed). some.turn) later ∙ is.turn ∙ sym (ap (λ (there : TimedState). there.turn) after);
-        departed = λ other below.
-            ap (λ (some : Timed). departed_in some.departed other) later ∙ is.departed other below
-            ∙ sym (ap (λ (there : TimedState). departed_at (there.pasts other)) after);
-        long = ap (λ (some : Timed). length some.departed) later ∙ is.long;
-        stamped = next_stamped (world_in first) held schedule timed (Says agent command) is.stamped;
-      })
+      }
 
   told_alike : (hall' : Housed) (agent : ℕ) (command : Command) → IsToldCall hall agent command hall' →
       Alike first (timed_next (world_in first) held schedule timed (Says agent command)) hall'
@@ -255,22 +241,11 @@ module _ (first : Play) (held : Held) (schedule : Schedule) (timed : TimedState)
 
 arrived_turn : (world : World) (timed : TimedState) (agent : ℕ) (position : Position) →
     (arrived_then world timed agent position).turn ≡ timed.turn
-arrived_turn world timed agent Before = refl
-arrived_turn world timed agent (At node came) = refl
-arrived_turn world timed agent (Bound node port) = refl
-arrived_turn world timed agent After = refl
+arrived_turn world timed agent position = grind arith
 
 happened_turn : (world : World) (timed : TimedState) (event : Option Event) →
     (happened_if world timed event).turn ≡ timed.turn
-happened_turn world timed None = refl
-happened_turn world timed (Some (Tell agent command)) =
-    cond_both (heard world timed.state agent command) (told_then world timed agent command) timed
-    (λ (there : TimedState). there.turn ≡ timed.turn) (λ yes. refl) (λ no. refl)
-happened_turn world timed (Some (Deliver agent)) =
-    cond_both (arrives world timed.state agent) (arrived_then world timed agent (timed.state.position agent)) timed
-    (λ (there : TimedState). there.turn ≡ timed.turn)
-    (λ yes. arrived_turn world timed agent (timed.state.position agent)) (λ no. refl)
-happened_turn world timed (Some Close) = refl
+happened_turn world timed event = grind (arith, arrived_turn)
 
 -- what a turn makes of the timed views, and the agent that is seen to arrive: nobody, or the one that is picked
 abbrev Comes : TimedState → (who : ℕ) → TimedState → Drawn → Type 0
@@ -279,18 +254,12 @@ Comes timed who after drawn =
     ⊎ ((arrived_by after.state drawn ≡ Some who) × ((departed_at (after.pasts who) ≡ timed.turn)
     × ((other : ℕ) → (other ≡ who → ⊥) → after.pasts other ≡ timed.pasts other)))
 
-unequal : (one two : ℕ) → (one ≡ two → ⊥) → (one == two) ≡ false
-unequal one two apart = elim (eqb_tells one two) [
-  | inl h ↦ absurd (apart h.1)
-  | inr h ↦ h.0
-]
-
 module _ (world : World) (held : Held) (timed : TimedState) (who : ℕ) where
   come_by : (position : Position) →
       Comes timed who (arrived_then world timed who position) (if is_bound position then Delivered who else Nobody)
   come_by (Bound node port) =
       let own : (who == who) ≡ true = eq-eqb who who refl in
-      inr (rw own refl, (rw own refl, λ other apart. rw (unequal other who apart) refl))
+      inr (rw own refl, (rw own refl, λ other apart. rw (ne_eqb other who apart) refl))
   come_by Before = inl (refl, λ other. refl)
   come_by (At node came) = inl (refl, λ other. refl)
   come_by After = inl (refl, λ other. refl)

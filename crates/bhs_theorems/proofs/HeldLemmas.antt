@@ -1,8 +1,7 @@
 -- The links into the black hole can be held.
-use Rattle.std.proofs.Common.{◌≡◌, ◌∙◌, ℕ, zero, suc, ◌<◌, Bool, true, ◌&&◌, ◌||◌, cond, ◌==◌, nat_lt, List, []}
+use Rattle.std.proofs.Common.{◌≡◌, ◌∙◌, ℕ, zero, suc, ◌<◌, Bool, true, ◌&&◌, ◌||◌, cond, ◌==◌, List, []}
 use Rattle.std.proofs.Common.{◌∷◌, ◌++◌, length, inl, inr, refl, sym, ap, ap₂, arith}
-use Rattle.std.proofs.lemmas.Bool.{eqb-true, eqb-false, eq-eqb, and_parts, or_cases, or_left, or_right, ltb-true}
-use Rattle.std.proofs.lemmas.Bool.{ltb-false}
+use Rattle.std.proofs.lemmas.Bool.{eqb-true, eq-eqb, and_parts, or_cases, or_left, or_right, cases_lt, cond_both}
 use Rattle.std.proofs.lemmas.List.{get_or_past}
 use Rattle.std.proofs.lemmas.List.Folds.{list_any-append}
 use Rattle.bhs_net.specs.Network.{degree_of}
@@ -10,8 +9,9 @@ use Rattle.bhs_model.specs.Worlds.{World, doomed}
 use Rattle.bhs_deal.specs.Links.{names, held_in}
 use Rattle.bhs_rehearsal.specs.Games.{Game, world_in}
 use Rattle.bhs_theorems.specs.ScriptLaws.{LinksCanBeHeld}
-use Rattle.bhs_theorems.proofs.CuttingLemmas.{by_bool}
+use Rattle.bhs_theorems.proofs.CuttingLemmas.{by_same}
 use Rattle.bhs_model.proofs.SameDoomLemmas.{iff_same}
+use Rattle.bhs_model.proofs.LegalLemmas.{either}
 
 -- the ports of a node below a number, and the nodes below a number, whose links destroy
 abbrev doomed_ports : World → (node count : ℕ) → List (ℕ × ℕ)
@@ -29,19 +29,16 @@ module _ (world : World) (at_node at_port : ℕ) where
       → doomed world at_node at_port ≡ true
   ports_doomed node zero held = absurd (cc)
   ports_doomed node (suc port) held =
-      by_bool (doomed world node port)
-      (λ (is : Bool). doomed world node port ≡ is
-      → held_in (cond is ((node, port) ∷ doomed_ports world node port) (doomed_ports world node port)) at_node
-      at_port ≡ true → doomed world at_node at_port ≡ true)
-      (λ first is some. elim (or_cases (names at_node at_port (node, port))
+      cond_both (doomed world node port) _ _
+      (λ (links : List (ℕ × ℕ)). held_in links at_node at_port ≡ true → doomed world at_node at_port ≡ true)
+      (λ is some. elim (or_cases (names at_node at_port (node, port))
       (held_in (doomed_ports world node port) at_node at_port) some) [
         | inl here ↦ let parts = and_parts (node == at_node) (port == at_port) here in
             sym (ap₂ (λ (a b : ℕ). doomed world a b) (eqb-true node at_node parts.0) (eqb-true port at_port parts.1))
             ∙ is
         | inr later ↦ ports_doomed node port later
       ])
-      (λ first is some. ports_doomed node port some)
-      refl held
+      (λ is some. ports_doomed node port some) held
 
   links_doomed : (count : ℕ) → held_in (doomed_links world count) at_node at_port ≡ true
       → doomed world at_node at_port ≡ true
@@ -61,21 +58,17 @@ module _ (world : World) (at_node at_port : ℕ) where
   ports_held zero below is = absurd (omega arith)
   ports_held (suc port) below is =
       let rest = doomed_ports world at_node port in
-      by_bool (port == at_port) (λ (same : Bool). (port == at_port) ≡ same
-      → held_in (doomed_ports world at_node (suc port)) at_node at_port ≡ true)
-      (λ first same.
-      let here : doomed world at_node port ≡ true = ap (doomed world at_node) (eqb-true port at_port same) ∙ is in
+      by_same port at_port
+      (λ same.
       let named : names at_node at_port (at_node, port) ≡ true =
-      ap₂ (λ (a b : Bool). a && b) (eq-eqb at_node at_node refl) same in
-      ap (λ (d : Bool). held_in (cond d ((at_node, port) ∷ rest) rest) at_node at_port) here
+      ap₂ (λ (a b : Bool). a && b) (eq-eqb at_node at_node refl) (eq-eqb port at_port same) in
+      ap (λ (d : Bool). held_in (cond d ((at_node, port) ∷ rest) rest) at_node at_port)
+      (ap (doomed world at_node) same ∙ is)
       ∙ or_left (names at_node at_port (at_node, port)) (held_in rest at_node at_port) named)
-      (λ first differs.
-      let apart : port ≡ at_port → ⊥ = eqb-false port at_port differs in
+      (λ apart.
       let later : held_in rest at_node at_port ≡ true = ports_held port (omega (arith, apart)) is in
-      by_bool (doomed world at_node port) (λ (d : Bool). held_in (cond d ((at_node, port) ∷ rest) rest)
-      at_node at_port ≡ true)
-      (λ d. or_right (names at_node at_port (at_node, port)) (held_in rest at_node at_port) later) (λ d. later))
-      refl
+      either (λ (links : List (ℕ × ℕ)). held_in links at_node at_port ≡ true) (doomed world at_node port) _ rest
+      (or_right (names at_node at_port (at_node, port)) (held_in rest at_node at_port) later) later)
 
   links_held : (count : ℕ) → at_node < count → at_port < world.net.degree at_node → doomed world at_node at_port ≡ true
       → held_in (doomed_links world count) at_node at_port ≡ true
@@ -83,31 +76,23 @@ module _ (world : World) (at_node at_port : ℕ) where
   links_held (suc node) below on is =
       let ports = doomed_ports world node (world.net.degree node) in
       list_any-append (names at_node at_port) ports (doomed_links world node)
-      ∙ by_bool (node == at_node)
-      (λ (same : Bool). (node == at_node) ≡ same
-      → (held_in ports at_node at_port || held_in (doomed_links world node) at_node at_port) ≡ true)
-      (λ first same.
+      ∙ by_same node at_node
+      (λ same.
       let here : held_in ports at_node at_port ≡ true =
       ap (λ (one : ℕ). held_in (doomed_ports world one (world.net.degree one)) at_node at_port)
-      (eqb-true node at_node same) ∙ ports_held (world.net.degree at_node) on is in
+      same ∙ ports_held (world.net.degree at_node) on is in
       or_left (held_in ports at_node at_port) (held_in (doomed_links world node) at_node at_port) here)
-      (λ first differs.
-      let apart : node ≡ at_node → ⊥ = eqb-false node at_node differs in
+      (λ apart.
       or_right (held_in ports at_node at_port) (held_in (doomed_links world node) at_node at_port)
       (links_held node (omega (arith, apart)) on is))
-      refl
 
 -- who has a port is a node
 node_within : (game : Game) (node port : ℕ) → port < degree_of game.net node → node < length game.net
-node_within game node port on =
-    by_bool (nat_lt node (length game.net)) (λ (below : Bool). nat_lt node (length game.net) ≡ below
-    → node < length game.net)
-    (λ first below. ltb-true node (length game.net) below)
-    (λ first past.
-    let none : degree_of game.net node ≡ 0 = ap length
-    (get_or_past game.net node [] (ltb-false node (length game.net) past)) in
-    absurd (omega (arith, none, on)))
-    refl
+node_within game node port on = elim (cases_lt node (length game.net)) [
+  | inl below ↦ below
+  | inr past ↦ let none : degree_of game.net node ≡ 0 = ap length (get_or_past game.net node [] past) in
+      absurd (omega (arith, none, on))
+]
 
 pub held_lemma : LinksCanBeHeld
 held_lemma game =

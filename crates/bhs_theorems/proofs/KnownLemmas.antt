@@ -1,9 +1,9 @@
 -- What is known of a connection: what its agent met, what was taken of it and what it was sent; and how a move keeps
 -- it.
-use Rattle.std.proofs.Common.{◌≡◌, ◌≢◌, ◌∙◌, ℕ, suc, ◌<◌, ◌⊎◌, inl, inr, Bool, true, false, cond, ◌==◌, Option, Some}
-use Rattle.std.proofs.Common.{None, List, [], ◌∷◌, ◌++◌, map, refl, sym, ap, ap₂, subst, append_assoc, append-nil}
-use Rattle.std.proofs.Common.{arith}
-use Rattle.std.proofs.lemmas.Bool.{cond-true, eqb-true, eqb-false}
+use Rattle.std.proofs.Common.{◌≡◌, ◌≢◌, ◌∙◌, ℕ, suc, ◌<◌, ◌⊎◌, inl, inr, Bool, true, false, cond, Option, Some, None}
+use Rattle.std.proofs.Common.{List, [], ◌∷◌, ◌++◌, map, refl, sym, ap, ap₂, subst, append_assoc, append-nil, arith}
+use Rattle.std.proofs.Common.{subst₂}
+use Rattle.std.proofs.lemmas.Bool.{cond-true, cond_both}
 use Rattle.std.proofs.lemmas.List.{map-append, get_or-set_other}
 use Rattle.bhs_model.specs.declared.commands.Command.{Command}
 use Rattle.bhs_model.specs.declared.setups.Setup.{Setup}
@@ -16,32 +16,36 @@ use Rattle.bhs_rehearsal.specs.Connections.{Item, Says, Ends, Connection, shut, 
 use Rattle.bhs_rehearsal.specs.Stages.{Stage, game_at, connection_at, with_game, with_connection, Entry, Waits, Sits}
 use Rattle.bhs_rehearsal.specs.Stages.{IsDenied, Goes, entry}
 use Rattle.bhs_theorems.proofs.MeetingLemmas.{view_from-append, bytes_from-append, commands-append, due-append}
-use Rattle.bhs_theorems.proofs.CuttingLemmas.{by_bool}
-use Rattle.bhs_theorems.proofs.TurnLemmas.{placed, plays_turn, enters_turn, turn_in, played_at, grown}
-use Rattle.bhs_theorems.proofs.SettledLemmas.{seat_after}
+use Rattle.bhs_theorems.proofs.CuttingLemmas.{by_same}
+use Rattle.bhs_theorems.proofs.TurnLemmas.{Turn, by_turn, placed, plays_turn, enters_turn, turn_in, played_at, grown}
+use Rattle.bhs_theorems.proofs.TurnLemmas.{ending, seat_after}
 use Rattle.bhs_theorems.specs.Met.{Meeting, view_from, view_of, commands, bytes_from, bytes, takes_commands, AreDue}
 use Rattle.bhs_theorems.specs.Clients.{Fed, fed_more, at_end}
 use Rattle.bhs_theorems.specs.SentAsMet.{IsDenial, IsPastOf, over_text}
 use Rattle.bhs_theorems.proofs.OverLemmas.{EndsLast, has_end, last_says, last_end, over_same, nothing_first}
-use Rattle.bhs_theorems.proofs.EventLemmas.{Alike, alike_itself}
+use Rattle.bhs_theorems.proofs.AwayLemmas.{Alike, alike_itself, taken_alike}
 use Rattle.bhs_theorems.proofs.TookLemmas.{lines_of, lines_of-append, lines_of-says, has_end-says}
-use Rattle.bhs_theorems.proofs.TookLemmas.{has_end-end, IsQuiet, IsOpen, Took, took, taken_alike}
+use Rattle.bhs_theorems.proofs.TookLemmas.{has_end-end, IsQuiet, IsOpen, Took, took}
 
 -- ---- what is known of a connection that plays
+
+-- what it was fed, where these lines were taken and the others wait
+pub record Reads (connection : Connection) (input : Fed) (taken : List Line) : Type 0 where
+  pub split : lines input.bytes ≡ taken ++ lines_of connection.queue
+  pub still : connection.ended ≡ false → connection.unfinished ≡ held_of input.bytes
+  pub ends : connection.ended ≡ input.has_ended
+  pub end_waits : has_end connection.queue ≡ input.has_ended
+  pub last : EndsLast connection.queue
 
 -- it goes on
 pub record Going (setup : Setup) (past : View) (connection : Connection) (input : Fed) (sent : List ℕ) : Type 0 where
   pub met : List Meeting
   pub taken : List Line
-  pub split : lines input.bytes ≡ taken ++ lines_of connection.queue
+  pub reads : Reads connection input taken
   pub said : commands met ≡ map command_of taken
   pub due : AreDue setup.quota Start met
   pub lived : past ≡ view_of met
   pub heard : sent ≡ bytes setup.board met
-  pub still : connection.ended ≡ false → connection.unfinished ≡ held_of input.bytes
-  pub ends : connection.ended ≡ input.has_ended
-  pub end_waits : has_end connection.queue ≡ input.has_ended
-  pub last : EndsLast connection.queue
   pub lives : standing past ≢ Ended
 
 -- it is done
@@ -74,26 +78,27 @@ abbrev pub MetIn : Game → (agent : ℕ) → Connection → (input : Fed) (sent
 MetIn game agent connection input sent = MetBy game.setup ((state_of game).past agent) (state_of game).closed
     (is_away game agent) connection input sent
 
+-- of an agent that has this past, and so on
+pub met_from : {setup : Setup} {past : View} {closed away : Bool} (game : Game) (agent : ℕ) (connection : Connection)
+    (input : Fed) (sent : List ℕ) → game.setup ≡ setup → (state_of game).past agent ≡ past
+    → (state_of game).closed ≡ closed → is_away game agent ≡ away →
+    MetBy setup past closed away connection input sent → MetIn game agent connection input sent
+met_from {closed = closed} {away = away} game agent connection input sent setup_is past_is closed_is away_is met =
+    subst₂ (λ (one other : Bool). MetBy game.setup ((state_of game).past agent) one other connection input sent)
+    (sym closed_is) (sym away_is)
+    (subst₂ (λ (setup : Setup) (past : View). MetBy setup past closed away connection input sent) (sym setup_is)
+    (sym past_is) met)
+
 pub met_alike : (game new : Game) (agent : ℕ) (connection : Connection) (input : Fed) (sent : List ℕ)
     → Alike agent game new → MetIn game agent connection input sent → MetIn new agent connection input sent
 met_alike game new agent connection input sent same met =
-    subst (λ (setup : Setup). MetBy setup ((state_of new).past agent) (state_of new).closed (is_away new agent)
-    connection input sent) (sym same.setup_is)
-    (subst (λ (past : View). MetBy game.setup past (state_of new).closed (is_away new agent) connection input sent)
-    (sym same.past)
-    (subst (λ (closed : Bool). MetBy game.setup ((state_of game).past agent) closed (is_away new agent) connection input
-    sent) (sym same.closed)
-    (subst (λ (away : Bool). MetBy game.setup ((state_of game).past agent) (state_of game).closed away connection input
-    sent) (sym same.away) met)))
+    met_from new agent connection input sent same.setup_is same.past same.closed same.away met
 
 -- ---- it plays
 
 module _ (setup : Setup) (past : View) (connection : Connection) (input : Fed) (sent : List ℕ)
     (going : Going setup past connection input sent) (closed was_away : Bool) (open_yet : IsOpen closed was_away)
     (agent : ℕ) (seat : ℕ × ℕ) where
-  abbrev all_met : List Meeting → List Meeting
-  all_met more = going.met ++ more
-
   bytes_joined : (more : List Meeting) → sent ++ bytes_from setup.board past more ≡ bytes setup.board
       (going.met ++ more)
   bytes_joined more =
@@ -116,7 +121,8 @@ module _ (setup : Setup) (past : View) (connection : Connection) (input : Fed) (
   split_joined : (found over : List Line) → lines_of connection.queue ≡ found ++ over
       → lines input.bytes ≡ (going.taken ++ found) ++ over
   split_joined found over is =
-      going.split ∙ ap (λ (queued : List Line). going.taken ++ queued) is ∙ sym (append_assoc going.taken found over)
+      going.reads.split ∙ ap (λ (queued : List Line). going.taken ++ queued) is
+      ∙ sym (append_assoc going.taken found over)
 
   met_more : (game : Game) (is_done : Bool) (left : List Item) (text : List ℕ) →
       let done : Taken = record { game = game; is_done = is_done; left = left; text = text } in
@@ -127,16 +133,18 @@ module _ (setup : Setup) (past : View) (connection : Connection) (input : Fed) (
     (record {
       met = going.met ++ t.met;
       taken = going.taken ++ t.lines;
-      split = split_joined t.lines t.over t.split
-          ∙ ap (λ (over : List Line). (going.taken ++ t.lines) ++ over) (t.left refl);
+      reads = record {
+        split = split_joined t.lines t.over t.split
+            ∙ ap (λ (over : List Line). (going.taken ++ t.lines) ++ over) (t.left refl);
+        still = going.reads.still;
+        ends = going.reads.ends;
+        end_waits = sym (t.end_left refl) ∙ going.reads.end_waits;
+        last = t.last_left refl going.reads.last;
+      };
       said = said_joined t.met t.lines t.said;
       due = due_joined t.met t.due;
       lived = t.lived refl ∙ view_joined t.met;
       heard = ap (λ (more : List ℕ). sent ++ more) (t.heard refl) ∙ bytes_joined t.met;
-      still = going.still;
-      ends = going.ends;
-      end_waits = sym (t.end_left refl) ∙ going.end_waits;
-      last = t.last_left refl going.last;
       lives = t.lives refl;
     }),
     t.open_left refl open_yet,
@@ -150,7 +158,7 @@ module _ (setup : Setup) (past : View) (connection : Connection) (input : Fed) (
     due = due_joined t.met t.due;
     lived = subst (λ (view : View). IsPastOf input.has_ended view ((state_of game).past agent)) (view_joined t.met)
         (subst (λ (at : Bool). IsPastOf at (view_from past t.met) ((state_of game).past agent))
-        going.end_waits (t.died refl));
+        going.reads.end_waits (t.died refl));
     heard = ap (λ (more : List ℕ). sent ++ more) (t.last refl)
         ∙ sym (append_assoc sent (bytes_from setup.board past t.met)
         (over_text closed (standing (view_from past t.met)) t.over))
@@ -158,12 +166,12 @@ module _ (setup : Setup) (past : View) (connection : Connection) (input : Fed) (
         (ap (λ (view : View). over_text closed (standing view) t.over) (view_joined t.met));
     mute = λ still. ap (λ (view : View). over_text true (standing view) t.over) (sym (view_joined t.met))
         ∙ t.mute refl still;
-    by_end = λ none takes. sym going.end_waits ∙ t.by_end refl none
+    by_end = λ none takes. sym going.reads.end_waits ∙ t.by_end refl none
         (ap (λ (view : View). takes_commands (standing view)) (view_joined t.met) ∙ takes);
     quiet = t.quiet refl;
     ended = refl;
     done_by = λ still unended. ap (λ (view : View). takes_commands (standing view)) (sym (view_joined t.met))
-        ∙ t.done_by refl still (going.end_waits ∙ unended);
+        ∙ t.done_by refl still (going.reads.end_waits ∙ unended);
   })
 
 -- its items are taken
@@ -177,16 +185,12 @@ met_taken game agent seat connection input sent within (going, open_yet) =
     let t : Took game.setup (state_of game).closed (is_away game agent) ((state_of game).past agent) connection.queue
     done agent =
     took game.setup (state_of game).closed game agent connection.queue (record { setup_is = refl; within = within })
-    going.lives refl going.last in
-    subst (λ (setup : Setup). MetBy setup ((state_of done.game).past agent) (state_of done.game).closed
-    (is_away done.game agent) (after (record connection { seat = Some seat }) done) input (sent ++ done.text))
-    (sym t.is_in.setup_is)
-    (subst (λ (closed : Bool). MetBy game.setup ((state_of done.game).past agent) closed (is_away done.game agent)
-    (after (record connection { seat = Some seat }) done) input (sent ++ done.text))
-    (sym t.closed_is)
+    going.lives refl going.reads.last in
+    met_from done.game agent (after (record connection { seat = Some seat }) done) input (sent ++ done.text)
+    t.is_in.setup_is refl t.closed_is refl
     (met_more game.setup ((state_of game).past agent) connection input sent going (state_of game).closed
     (is_away game agent) open_yet agent seat
-    done.game done.is_done done.left done.text t))
+    done.game done.is_done done.left done.text t)
 
 -- ---- it is fed
 
@@ -203,48 +207,57 @@ found_more connection input fed taken split still =
     (ap (λ (last : List Line). lines_of connection.queue ++ last) (sym (lines_of-says found))
     ∙ sym (lines_of-append connection.queue (map Says found)))
 
-pub going_fed : (setup : Setup) (past : View) (connection : Connection) (input : Fed) (sent fed : List ℕ)
-    → connection.ended ≡ false →
-    Going setup past connection input sent → Going setup past (grown connection fed) (fed_more input fed) sent
-going_fed setup past connection input sent fed open_yet going = record {
-  met = going.met;
-  taken = going.taken;
-  split = found_more connection input fed going.taken going.split (going.still open_yet);
-  said = going.said;
-  due = going.due;
-  lived = going.lived;
-  heard = going.heard;
-  still = λ again. ap (λ (held : Option (List ℕ)). left_by held fed) (going.still open_yet)
+reads_fed : (connection : Connection) (input : Fed) (fed : List ℕ) (taken : List Line) → connection.ended ≡ false
+    → Reads connection input taken → Reads (grown connection fed) (fed_more input fed) taken
+reads_fed connection input fed taken open_yet is = record {
+  split = found_more connection input fed taken is.split (is.still open_yet);
+  still = λ again. ap (λ (held : Option (List ℕ)). left_by held fed) (is.still open_yet)
       ∙ sym (held_of-append input.bytes fed);
-  ends = going.ends;
-  end_waits = has_end-says connection.queue (found_in connection.unfinished fed) ∙ going.end_waits;
-  last = last_says connection.queue (found_in connection.unfinished fed) (going.end_waits ∙ sym going.ends ∙ open_yet);
-  lives = going.lives;
+  ends = is.ends;
+  end_waits = has_end-says connection.queue (found_in connection.unfinished fed) ∙ is.end_waits;
+  last = last_says connection.queue (found_in connection.unfinished fed) (is.end_waits ∙ sym is.ends ∙ open_yet);
 }
-
-abbrev pub ending : Connection → Connection
-ending connection = record connection { unfinished = Some []; queue = connection.queue ++ Ends ∷ []; ended = true }
 
 lines_of-end : (items : List Item) → lines_of (items ++ Ends ∷ []) ≡ lines_of items
 lines_of-end items = lines_of-append items (Ends ∷ []) ∙ append-nil (lines_of items)
 
-pub going_ends : (setup : Setup) (past : View) (connection : Connection) (input : Fed) (sent : List ℕ)
-    → connection.ended ≡ false →
-    Going setup past connection input sent → Going setup past (ending connection) (at_end input) sent
-going_ends setup past connection input sent open_yet going = record {
+reads_ends : (connection : Connection) (input : Fed) (taken : List Line) → connection.ended ≡ false
+    → Reads connection input taken → Reads (ending connection) (at_end input) taken
+reads_ends connection input taken open_yet is = record {
+  split = is.split ∙ ap (λ (queued : List Line). taken ++ queued) (sym (lines_of-end connection.queue));
+  still = λ again. absurd (cc);
+  ends = refl;
+  end_waits = has_end-end connection.queue;
+  last = last_end connection.queue (is.end_waits ∙ sym is.ends ∙ open_yet);
+}
+
+-- of another connection and input, of which as much was taken
+going_reads : (setup : Setup) (past : View) (connection new : Connection) (input more : Fed) (sent : List ℕ)
+    (going : Going setup past connection input sent) → Reads new more going.taken → Going setup past new more sent
+going_reads setup past connection new input more sent going reads = record {
   met = going.met;
   taken = going.taken;
-  split = going.split ∙ ap (λ (queued : List Line). going.taken ++ queued) (sym (lines_of-end connection.queue));
+  reads = reads;
   said = going.said;
   due = going.due;
   lived = going.lived;
   heard = going.heard;
-  still = λ again. absurd (cc);
-  ends = refl;
-  end_waits = has_end-end connection.queue;
-  last = last_end connection.queue (going.end_waits ∙ sym going.ends ∙ open_yet);
   lives = going.lives;
 }
+
+pub going_fed : (setup : Setup) (past : View) (connection : Connection) (input : Fed) (sent fed : List ℕ)
+    → connection.ended ≡ false →
+    Going setup past connection input sent → Going setup past (grown connection fed) (fed_more input fed) sent
+going_fed setup past connection input sent fed open_yet going =
+    going_reads setup past connection (grown connection fed) input (fed_more input fed) sent going
+    (reads_fed connection input fed going.taken open_yet going.reads)
+
+pub going_ends : (setup : Setup) (past : View) (connection : Connection) (input : Fed) (sent : List ℕ)
+    → connection.ended ≡ false →
+    Going setup past connection input sent → Going setup past (ending connection) (at_end input) sent
+going_ends setup past connection input sent open_yet going =
+    going_reads setup past connection (ending connection) input (at_end input) sent going
+    (reads_ends connection input going.taken open_yet going.reads)
 
 -- what comes behind the end is not looked at
 abbrev pub fed_if : Fed → List ℕ → Fed
@@ -255,10 +268,9 @@ pub met_unread : (setup : Setup) (past : View) (closed away : Bool) (connection 
     MetBy setup past closed away connection input sent → MetBy setup past closed away connection (fed_if input fed) sent
 met_unread setup past closed away connection input sent fed ended (inl going) =
     subst (λ (new : Fed). MetBy setup past closed away connection new sent)
-    (sym (cond-true _ _ _ (sym going.0.ends ∙ ended))) (inl going)
+    (sym (cond-true _ _ _ (sym going.0.reads.ends ∙ ended))) (inl going)
 met_unread setup past closed away connection input sent fed ended (inr done) =
-    by_bool input.has_ended (λ (has : Bool). MetBy setup past closed away connection
-    (cond has input (fed_more input fed)) sent)
+    cond_both input.has_ended _ _ (λ (new : Fed). MetBy setup past closed away connection new sent)
     (λ has. inr done)
     (λ not_yet.
     let awaited : done.over ≡ [] → takes_commands (standing (view_of done.met)) ≡ true → ⊥ =
@@ -288,7 +300,7 @@ pub met_unended : (setup : Setup) (past : View) (closed away : Bool) (connection
     MetBy setup past closed away connection input sent → MetBy setup past closed away connection (at_end input) sent
 met_unended setup past closed away connection input sent ended (inl going) =
     subst (λ (has : Bool). MetBy setup past closed away connection (record input { has_ended = has }) sent)
-    (sym going.0.ends ∙ ended) (inl going)
+    (sym going.0.reads.ends ∙ ended) (inl going)
 met_unended setup past closed away connection input sent ended (inr done) = inr (record {
   met = done.met;
   taken = done.taken;
@@ -309,11 +321,7 @@ met_unended setup past closed away connection input sent ended (inr done) = inr 
 
 pub record Unseated (connection : Connection) (input : Fed) (sent : List ℕ) : Type 0 where
   pub heard : sent ≡ []
-  pub split : lines input.bytes ≡ lines_of connection.queue
-  pub still : connection.ended ≡ false → connection.unfinished ≡ held_of input.bytes
-  pub ends : connection.ended ≡ input.has_ended
-  pub end_waits : has_end connection.queue ≡ input.has_ended
-  pub last : EndsLast connection.queue
+  pub reads : Reads connection input []
 
 abbrev pub IsKnown : Stage → Connection → (input : Fed) (sent : List ℕ) → Option (ℕ × ℕ) → Type 0
 IsKnown stage connection input sent None = Unseated connection input sent ⊎ ((connection.ended ≡ true) × IsDenial sent)
@@ -331,26 +339,13 @@ IsReady stage connection input sent (Some seat) =
 pub unseated_fed : (connection : Connection) (input : Fed) (sent fed : List ℕ) → connection.ended ≡ false
     → Unseated connection input sent →
     Unseated (grown connection fed) (fed_more input fed) sent
-unseated_fed connection input sent fed open_yet is = record {
-  heard = is.heard;
-  split = found_more connection input fed [] is.split (is.still open_yet);
-  still = λ again. ap (λ (held : Option (List ℕ)). left_by held fed) (is.still open_yet)
-      ∙ sym (held_of-append input.bytes fed);
-  ends = is.ends;
-  end_waits = has_end-says connection.queue (found_in connection.unfinished fed) ∙ is.end_waits;
-  last = last_says connection.queue (found_in connection.unfinished fed) (is.end_waits ∙ sym is.ends ∙ open_yet);
-}
+unseated_fed connection input sent fed open_yet is =
+    record { heard = is.heard; reads = reads_fed connection input fed [] open_yet is.reads }
 
 pub unseated_ends : (connection : Connection) (input : Fed) (sent : List ℕ) → connection.ended ≡ false
     → Unseated connection input sent → Unseated (ending connection) (at_end input) sent
-unseated_ends connection input sent open_yet is = record {
-  heard = is.heard;
-  split = is.split ∙ sym (lines_of-end connection.queue);
-  still = λ again. absurd (cc);
-  ends = refl;
-  end_waits = has_end-end connection.queue;
-  last = last_end connection.queue (is.end_waits ∙ sym is.ends ∙ open_yet);
-}
+unseated_ends connection input sent open_yet is =
+    record { heard = is.heard; reads = reads_ends connection input [] open_yet is.reads }
 
 -- who is not played has met nothing
 pub record Untouched (game : Game) (agent : ℕ) : Type 0 where
@@ -387,39 +382,27 @@ module _ (stage : Stage) (conn : ℕ) (connection : Connection) where
       Alike agent (game_at stage game) (game_at (placed stage conn (plays_turn stage seat connection)).stage game)
   others_play seat game agent apart =
       let done = taken (game_at stage seat.0) seat.1 connection.queue in
-      by_bool (seat.0 == game) (λ (is : Bool). (seat.0 == game) ≡ is
-      → Alike agent (game_at stage game) (game_at (with_game stage seat.0 done.game) game))
-      (λ first here.
-      let is : seat.0 ≡ game = eqb-true seat.0 game here in
+      by_same seat.0 game
+      (λ is.
       subst (λ (number : ℕ). Alike agent (game_at stage number) (game_at (with_game stage seat.0 done.game) number)) is
       (subst (λ (one : Game). Alike agent (game_at stage seat.0) one) (sym (played_at stage seat connection.queue))
       (taken_alike (game_at stage seat.0) seat.1 connection.queue agent
       (λ same. apart (ap₂ (λ (a b : ℕ). Some (a, b)) is (sym same))))))
-      (λ first elsewhere.
+      (λ elsewhere.
       subst (λ (one : Game). Alike agent (game_at stage game) one)
-      (sym (get_or-set_other stage.games seat.0 game done.game _ (λ same. eqb-false seat.0 game elsewhere (sym same))))
+      (sym (get_or-set_other stage.games seat.0 game done.game _ (λ same. elsewhere (sym same))))
       (alike_itself agent (game_at stage game)))
-      refl
-
-  others_enter : (how : Entry) (game agent : ℕ)
-      → ((enters_turn stage connection how).connection.seat ≡ Some (game, agent) → ⊥) →
-      Alike agent (game_at stage game) (game_at (placed stage conn (enters_turn stage connection how)).stage game)
-  others_enter Waits game agent apart = alike_itself agent (game_at stage game)
-  others_enter (Sits seat) game agent apart =
-      others_play seat game agent (λ same. apart
-      (seat_after connection seat (taken (game_at stage seat.0) seat.1 connection.queue) ∙ same))
-  others_enter (IsDenied denial) game agent apart = alike_itself agent (game_at stage game)
-  others_enter Goes game agent apart = alike_itself agent (game_at stage game)
 
   -- a move changes nothing for who is not played by it
   pub others_turn : (own : Option (ℕ × ℕ)) (game agent : ℕ)
       → ((turn_in stage conn connection own).connection.seat ≡ Some (game, agent) → ⊥) →
       Alike agent (game_at stage game) (game_at (placed stage conn (turn_in stage conn connection own)).stage game)
-  others_turn None game agent apart = others_enter (entry (with_connection stage conn connection) connection.queue)
-      game agent apart
-  others_turn (Some seat) game agent apart =
-      others_play seat game agent (λ same. apart
-      (seat_after connection seat (taken (game_at stage seat.0) seat.1 connection.queue) ∙ same))
+  others_turn own game agent =
+      by_turn (λ (turn : Turn). (turn.connection.seat ≡ Some (game, agent) → ⊥)
+      → Alike agent (game_at stage game) (game_at (placed stage conn turn).stage game)) stage conn connection
+      (λ new text apart. alike_itself agent (game_at stage game))
+      (λ seat apart. others_play seat game agent (λ same. apart
+      (seat_after connection seat (taken (game_at stage seat.0) seat.1 connection.queue) ∙ same))) own
 
   module _ (input : Fed) (sent : List ℕ) where
     own_play : (seat : ℕ × ℕ) → IsReady stage connection input sent (Some seat) →
@@ -445,15 +428,11 @@ module _ (stage : Stage) (conn : ℕ) (connection : Connection) where
       record {
         met = [];
         taken = [];
-        split = ready.split;
+        reads = ready.reads;
         said = refl;
         due = tt;
         lived = untouched.past;
         heard = ready.heard;
-        still = ready.still;
-        ends = ready.ends;
-        end_waits = ready.end_waits;
-        last = ready.last;
         lives = λ ended. let is = ap standing untouched.past in cc;
       },
       inr untouched.at,
@@ -467,14 +446,7 @@ module _ (stage : Stage) (conn : ℕ) (connection : Connection) where
         IsKnown (placed stage conn turn).stage turn.connection input (sent ++ turn.text) turn.connection.seat
     own_enter Waits outside untouched ready =
         subst (λ (own : Option (ℕ × ℕ)). IsKnown stage connection input (sent ++ []) own) (sym outside)
-        (inl (record {
-          heard = append-nil sent ∙ ready.heard;
-          split = ready.split;
-          still = ready.still;
-          ends = ready.ends;
-          end_waits = ready.end_waits;
-          last = ready.last;
-        }))
+        (inl (subst (Unseated connection input) (sym (append-nil sent)) ready))
     own_enter (Sits seat) outside untouched ready =
         own_play seat (begins seat (untouched seat
         (seat_after connection seat (taken (game_at stage seat.0) seat.1 connection.queue))) ready)

@@ -1,3 +1,4 @@
+pub mod AlikeLemmas
 pub mod AnsweredLemmas
 pub mod ApartLemmas
 pub mod AwayLemmas
@@ -13,7 +14,6 @@ pub mod FeedLemmas
 pub mod FitLemmas
 pub mod HallTimeLemmas
 pub mod HeldLemmas
-pub mod IsolationLemmas
 pub mod KnownLemmas
 pub mod MeetingLemmas
 pub mod MetClientLemmas

@@ -1,22 +1,18 @@
 -- What is known of a connection, where a client is fed or ends.
-use Rattle.std.proofs.Common.{◌≡◌, ◌≢◌, ◌∙◌, ℕ, inl, inr, Bool, true, false, cond}
-use Rattle.std.proofs.Common.{nat_lt, ◌==◌, Option, Some, None, List, [], ◌++◌, length, refl}
-use Rattle.std.proofs.Common.{sym, subst, append-nil, arith}
-use Rattle.std.proofs.lemmas.Bool.{cond-true, cond-false, ltb-true, ltb-false, eqb-true, eqb-false}
+use Rattle.std.proofs.Common.{◌≡◌, ◌≢◌, ◌∙◌, ℕ, inl, inr, Bool, true, false, Option, Some, None, List, [], ◌++◌, refl}
+use Rattle.std.proofs.Common.{sym, subst, append-nil, arith, subst₂, ◌==◌, cond}
+use Rattle.std.proofs.lemmas.Bool.{cond-true, cond-false, eq-eqb, ne_eqb}
 use Rattle.bhs_rehearsal.specs.Games.{state_of}
-use Rattle.bhs_rehearsal.specs.Connections.{Connection, unfed}
-use Rattle.bhs_rehearsal.specs.Stages.{Stage, game_at, connection_at, with_connection}
-use Rattle.bhs_rehearsal.specs.Stages.{Moved, moves}
-use Rattle.bhs_rehearsal.specs.Stages.{Stepped, sent_to, stepped, nothing}
+use Rattle.bhs_rehearsal.specs.Connections.{Connection}
+use Rattle.bhs_rehearsal.specs.Stages.{Stage, game_at, connection_at, Stepped}
 use Rattle.bhs_theorems.specs.ScriptLaws.{IsSettled}
-use Rattle.bhs_theorems.specs.Clients.{bytes_among}
-use Rattle.bhs_theorems.proofs.CuttingLemmas.{by_bool}
-use Rattle.bhs_theorems.proofs.TurnLemmas.{placed, turn_of, moves-placed, grown}
-use Rattle.bhs_theorems.specs.Clients.{Fed, at_end}
-use Rattle.bhs_theorems.proofs.KnownLemmas.{Going, going_fed, going_ends, ending, met_unread}
-use Rattle.bhs_theorems.proofs.KnownLemmas.{met_unended, fed_if, Unseated, unseated_fed, unseated_ends, IsKnown}
-use Rattle.bhs_theorems.proofs.KnownLemmas.{IsReady}
+use Rattle.bhs_theorems.specs.Clients.{bytes_among, Fed, at_end}
+use Rattle.bhs_theorems.proofs.CuttingLemmas.{by_same}
+use Rattle.bhs_theorems.proofs.TurnLemmas.{grown, ending}
+use Rattle.bhs_theorems.proofs.KnownLemmas.{Going, going_fed, going_ends, met_unread, met_unended, fed_if, Unseated}
+use Rattle.bhs_theorems.proofs.KnownLemmas.{unseated_fed, unseated_ends, IsKnown, IsReady}
 use Rattle.bhs_theorems.proofs.MetMoveLemmas.{Knows, moved, same_bytes}
+use Rattle.bhs_theorems.proofs.StepCases.{client_step, by_client}
 
 -- ---- a client
 
@@ -26,45 +22,45 @@ nothing_more stage conn input sent knows = same_bytes stage conn input input sen
     (sym (append-nil sent)) knows
 
 -- before a client's connection moves, it stands so; and its input is this then
-pub client : (stage : Stage) (mover conn : ℕ) (connection : Connection) (fed input : Fed) (sent : List ℕ)
-    (below ended : Bool) → nat_lt mover (length stage.connections) ≡ below →
-    connection.seat ≡ (connection_at stage mover).seat →
-    let after : Stepped = cond below (cond ended (nothing stage)
-    (stepped mover (moves (with_connection stage mover connection) mover))) (nothing stage) in
-    IsSettled after.stage → Knows stage conn input sent →
-    (conn ≢ mover → input ≡ fed) →
-    (conn ≡ mover → ended ≡ true → IsKnown stage (connection_at stage conn) fed sent (connection_at stage conn).seat) →
-    (conn ≡ mover → ended ≡ false → IsReady stage connection fed sent connection.seat) →
-    Knows after.stage conn fed (sent ++ bytes_among conn after.outs)
-client stage mover conn connection fed input sent false ended below as_before settled knows unfed unread ready =
-    let apart : conn ≢ mover = λ same. absurd (let past = ltb-false mover (length stage.connections) below in
-    let there = knows.there in omega (arith, past, there, same)) in
-    same_bytes stage conn input fed (sent ++ []) (sent ++ []) (unfed apart) refl
-    (nothing_more stage conn input sent knows)
-client stage mover conn connection fed input sent true true below as_before settled knows unfed unread ready =
-    by_bool (conn == mover) (λ (is : Bool). (conn == mover) ≡ is → Knows stage conn fed (sent ++ []))
-    (λ first same. nothing_more stage conn fed sent
-    (record {
-      known = unread (eqb-true conn mover same) refl;
+pub client : (stage : Stage) (mover conn : ℕ) (connection : Connection) (more input : Fed) (sent : List ℕ) →
+    let old = connection_at stage mover in
+    connection.seat ≡ old.seat → Knows stage conn input sent →
+    (old.ended ≡ true → IsKnown stage old input sent old.seat → IsKnown stage old more sent old.seat) →
+    (old.ended ≡ false → IsKnown stage old input sent old.seat → IsReady stage connection more sent connection.seat) →
+    let after = client_step stage mover connection old.ended in
+    IsSettled after.stage → Knows after.stage conn (cond (mover == conn) more input)
+    (sent ++ bytes_among conn after.outs)
+client stage mover conn connection more input sent as_before knows unread ready =
+    let old = connection_at stage mover in
+    let now : Fed = cond (mover == conn) more input in
+    let own : conn ≡ mover → more ≡ now = λ is. sym (cond-true _ _ _ (eq-eqb mover conn (sym is))) in
+    let others : conn ≢ mover → input ≡ now =
+    λ apart. sym (cond-false _ _ _ (ne_eqb mover conn (λ same. apart (sym same)))) in
+    let mine : conn ≡ mover → IsKnown stage old input sent old.seat =
+    λ is. subst (λ (one : ℕ). IsKnown stage (connection_at stage one) input sent (connection_at stage one).seat)
+    is knows.known in
+    by_client (λ (after : Stepped). IsSettled after.stage
+    → Knows after.stage conn now (sent ++ bytes_among conn after.outs)) stage mover connection old.ended
+    (λ idle settled. by_same conn mover
+    (λ is. same_bytes stage conn more now (sent ++ []) (sent ++ []) (own is) refl
+    (nothing_more stage conn more sent (record {
+      known = subst (λ (one : ℕ). IsKnown stage (connection_at stage one) more sent (connection_at stage one).seat)
+          (sym is) (unread (elim idle [
+            | inl past ↦ absurd (let there = knows.there in omega (arith, past, there, is))
+            | inr has_ended ↦ has_ended
+          ]) (mine is));
       free = knows.free;
       settled = knows.settled;
       there = knows.there;
-    }))
-    (λ first differs.
-    same_bytes stage conn input fed (sent ++ []) (sent ++ []) (unfed (eqb-false conn mover differs)) refl
-    (nothing_more stage conn input sent knows))
-    refl
-client stage mover conn connection fed input sent true false below as_before settled knows unfed unread ready =
-    let within = ltb-true mover (length stage.connections) below in
-    let is_placed = moves-placed stage mover connection within in
-    let settled_placed : IsSettled (placed stage mover (turn_of stage mover connection)).stage =
-    subst (λ (m : Moved). IsSettled m.stage) is_placed settled in
-    subst (λ (m : Moved). Knows m.stage conn fed (sent ++ bytes_among conn (sent_to mover m.text))) (sym is_placed)
-    (moved stage mover connection within as_before knows.free settled_placed conn [] fed sent knows.there
+    })))
+    (λ apart. same_bytes stage conn input now (sent ++ []) (sent ++ []) (others apart) refl
+    (nothing_more stage conn input sent knows)))
+    (λ within goes_on settled. moved stage mover connection within as_before knows.free settled conn [] now sent
+    knows.there
     (λ apart. subst (λ (from : Fed). IsKnown stage (connection_at stage conn) from sent (connection_at stage conn).seat)
-    (unfed apart) knows.known)
-    (λ same. subst (λ (out : List ℕ). IsReady stage connection fed out connection.seat) (sym (append-nil sent))
-    (ready same refl)))
+    (others apart) knows.known)
+    (λ is. subst₂ (λ (from : Fed) (out : List ℕ). IsReady stage connection from out connection.seat) (own is)
+    (sym (append-nil sent)) (ready goes_on (mine is))))
 
 -- an ended connection, fed more, or ended again
 pub unread_known : (stage : Stage) (connection : Connection) (input : Fed) (sent fed : List ℕ) (own : Option (ℕ × ℕ))
@@ -72,7 +68,7 @@ pub unread_known : (stage : Stage) (connection : Connection) (input : Fed) (sent
     IsKnown stage connection input sent own → IsKnown stage connection (fed_if input fed) sent own
 unread_known stage connection input sent fed None ended (inl known) =
     subst (λ (new : Fed). IsKnown stage connection new sent None)
-    (sym (cond-true _ _ _ (sym known.ends ∙ ended))) (inl known)
+    (sym (cond-true _ _ _ (sym known.reads.ends ∙ ended))) (inl known)
 unread_known stage connection input sent fed None ended (inr known) = inr known
 unread_known stage connection input sent fed (Some seat) ended known =
     λ within. met_unread _ _ _ _ connection input sent fed ended (known within)
@@ -82,7 +78,7 @@ pub unended_known : (stage : Stage) (connection : Connection) (input : Fed) (sen
     IsKnown stage connection input sent own → IsKnown stage connection (at_end input) sent own
 unended_known stage connection input sent None ended (inl known) =
     subst (λ (has : Bool). IsKnown stage connection (record input { has_ended = has }) sent None)
-    (sym known.ends ∙ ended) (inl known)
+    (sym known.reads.ends ∙ ended) (inl known)
 unended_known stage connection input sent None ended (inr known) = inr known
 unended_known stage connection input sent (Some seat) ended known =
     λ within. met_unended _ _ _ _ connection input sent ended (known within)
@@ -92,7 +88,8 @@ pub fed_ready : (stage : Stage) (connection : Connection) (input : Fed) (sent fe
     → connection.ended ≡ false →
     IsKnown stage connection input sent own → IsReady stage (grown connection fed) (fed_if input fed) sent own
 fed_ready stage connection input sent fed None still (inl known) =
-    subst (λ (new : Fed). Unseated (grown connection fed) new sent) (sym (cond-false _ _ _ (sym known.ends ∙ still)))
+    subst (λ (new : Fed). Unseated (grown connection fed) new sent)
+    (sym (cond-false _ _ _ (sym known.reads.ends ∙ still)))
     (unseated_fed connection input sent fed still known)
 fed_ready stage connection input sent fed None still (inr known) = absurd (let ended = known.0 in cc)
 fed_ready stage connection input sent fed (Some seat) still known =
@@ -100,7 +97,8 @@ fed_ready stage connection input sent fed (Some seat) still known =
       | inl (going, open_yet) ↦ (
         subst (λ (new : Fed). Going (game_at stage seat.0).setup
             ((state_of (game_at stage seat.0)).past seat.1) (grown connection fed) new sent)
-            (sym (cond-false _ _ _ (sym going.ends ∙ still))) (going_fed _ _ connection input sent fed still going),
+            (sym (cond-false _ _ _ (sym going.reads.ends ∙ still)))
+            (going_fed _ _ connection input sent fed still going),
         open_yet,
       )
       | inr done ↦ absurd (let ended = done.ended in cc)

@@ -1,69 +1,33 @@
 -- What is known of a connection, through a close.
-use Rattle.std.proofs.Common.{◌≡◌, ◌≢◌, ◌∙◌, ℕ, zero, suc, ◌+◌, ◌<◌, inl, inr, Bool, true, false, cond, ◌&&◌}
-use Rattle.std.proofs.Common.{◌==◌, Option, Some, None, List, [], ◌∷◌, ◌++◌, length, get_or, refl}
-use Rattle.std.proofs.Common.{sym, ap, ap₂, subst, append-nil, arith}
-use Rattle.std.proofs.lemmas.Bool.{cond-true, eqb-true, eqb-false, eq-eqb}
+use Rattle.std.proofs.Common.{◌≡◌, ◌≢◌, ◌∙◌, ℕ, ◌+◌, ◌<◌, inl, inr, Bool, true, false, cond, ◌&&◌, ◌==◌, Option, Some}
+use Rattle.std.proofs.Common.{None, List, [], ◌++◌, length, refl, sym, ap, ap₂, subst, append-nil, arith}
+use Rattle.std.proofs.lemmas.Bool.{eq-eqb, ne_eqb}
 use Rattle.std.proofs.lemmas.List.{get_or-set_same, get_or-set_other, length-map}
 use Rattle.bhs_model.specs.declared.events.Event.TheVariants.{Close}
 use Rattle.bhs_model.specs.declared.setups.Setup.{Setup}
 use Rattle.bhs_model.specs.declared.replies.Reply.TheVariants as replies
 use Rattle.bhs_model.specs.Replying.{here}
-use Rattle.bhs_model.specs.Views.{View, Away, standing}
+use Rattle.bhs_model.specs.Views.{Away, standing}
 use Rattle.bhs_model.specs.Runs.{State, is_bound}
 use Rattle.bhs_session.specs.Texts.{text_of}
 use Rattle.bhs_rehearsal.specs.Games.{Game, state_of, played, is_away, world_in}
-use Rattle.bhs_rehearsal.specs.Connections.{Item, Connection, unfed, shut}
-use Rattle.bhs_rehearsal.specs.Stages.{Stage, game_at, connection_at, with_game}
-use Rattle.bhs_rehearsal.specs.Stages.{sent_to}
-use Rattle.bhs_rehearsal.specs.Stages.{waits_in, shut_in, told_over}
+use Rattle.bhs_rehearsal.specs.Connections.{Item, Connection, shut}
+use Rattle.bhs_rehearsal.specs.Stages.{Stage, game_at, connection_at, with_game, waits_in, shut_in, told_over}
 use Rattle.bhs_theorems.specs.ScriptLaws.{IsSettled}
-use Rattle.bhs_theorems.specs.Clients.{bytes_among}
-use Rattle.bhs_theorems.proofs.CuttingLemmas.{by_bool}
-use Rattle.bhs_theorems.proofs.FeedLemmas.{bytes_among-sent_to}
-use Rattle.bhs_theorems.proofs.ApartLemmas.{sent_elsewhere, bytes_among-append, shut_if, told_later}
-use Rattle.bhs_theorems.proofs.SettlingLemmas.{seat-shut_if, shut_at}
-use Rattle.bhs_theorems.proofs.SlowGameLemmas.{state_of-played}
-use Rattle.bhs_theorems.specs.Clients.{Fed}
+use Rattle.bhs_theorems.specs.Clients.{bytes_among, Fed}
+use Rattle.bhs_theorems.proofs.CuttingLemmas.{by_same}
+use Rattle.bhs_theorems.proofs.ApartLemmas.{shut_if, seat-shut_if, shut_at, told_at}
+use Rattle.bhs_theorems.proofs.AwayLemmas.{state_of-played, setup-played}
 use Rattle.bhs_theorems.specs.Met.{view_of, bytes, takes_commands}
 use Rattle.bhs_theorems.specs.SentAsMet.{IsDenial, over_text}
 use Rattle.bhs_theorems.proofs.FitLemmas.{fits_here, away_stands}
 use Rattle.bhs_theorems.proofs.OverLemmas.{over_away}
-use Rattle.bhs_theorems.proofs.EventLemmas.{setup-played}
 use Rattle.bhs_theorems.proofs.TookLemmas.{lines_of}
-use Rattle.bhs_theorems.proofs.KnownLemmas.{MetBy, MetIn}
-use Rattle.bhs_theorems.proofs.KnownLemmas.{IsKnown}
-use Rattle.bhs_theorems.proofs.KnownLemmas.{Untouched, FreeAreUntouched}
+use Rattle.bhs_theorems.proofs.KnownLemmas.{MetBy, MetIn, IsKnown, Untouched, FreeAreUntouched, Going, Unseated}
+use Rattle.bhs_theorems.proofs.KnownLemmas.{met_from}
 use Rattle.bhs_theorems.proofs.MetMoveLemmas.{Knows, same_bytes}
 
 -- ---- a close
-
--- who waits is told that it is over, and nobody else
-told_at : (number : ℕ) (game : Game) (connections : List Connection) (first conn : ℕ) →
-    bytes_among (first + conn) (told_over number game first connections) ≡ cond
-    (waits_in number game (get_or connections conn unfed)) (text_of replies.Over) []
-told_at number game [] first conn = refl
-told_at number game (connection ∷ connections) first zero =
-    let same : (first == first + 0) ≡ true = eq-eqb first (first + 0) (omega arith) in
-    bytes_among-append (first + 0) (cond (waits_in number game connection) (sent_to first (text_of replies.Over)) [])
-    (told_over number game (first + 1) connections)
-    ∙ ap₂ (λ (one two : List ℕ). one ++ two)
-    (by_bool (waits_in number game connection)
-    (λ (waits : Bool). bytes_among (first + 0) (cond waits (sent_to first (text_of replies.Over)) []) ≡ cond waits
-    (text_of replies.Over) [])
-    (λ waits. bytes_among-sent_to (first + 0) first (text_of replies.Over) ∙ cond-true _ _ _ same) (λ stays. refl))
-    (told_later number game connections (first + 1) (first + 0) (omega arith))
-    ∙ append-nil _
-told_at number game (connection ∷ connections) first (suc conn) =
-    let apart : first + suc conn ≢ first = λ same. absurd (omega (arith, same)) in
-    let later : (first + 1) + conn ≡ first + suc conn = omega arith in
-    bytes_among-append (first + suc conn) (cond (waits_in number game connection) (sent_to first (text_of replies.Over))
-    []) (told_over number game (first + 1) connections)
-    ∙ ap₂ (λ (one two : List ℕ). one ++ two)
-    (by_bool (waits_in number game connection)
-    (λ (waits : Bool). bytes_among (first + suc conn) (cond waits (sent_to first (text_of replies.Over)) []) ≡ [])
-    (λ waits. sent_elsewhere (first + suc conn) first (text_of replies.Over) apart) (λ stays. refl))
-    (ap (λ (number_of : ℕ). bytes_among number_of (told_over number game (first + 1) connections)) (sym later)
-    ∙ told_at number game connections (first + 1) conn)
 
 -- a match that is closed
 record ClosedOf (game new : Game) (agent : ℕ) : Type 0 where
@@ -97,17 +61,10 @@ met_closed : (game : Game) (agent : ℕ) (connection : Connection) (input : Fed)
     (sent ++ cond waits (text_of replies.Over) [])
 met_closed game agent connection input sent waits was_open is met =
     let c = closed_of game agent in
-    let new = played game Close in
-    subst (λ (setup : Setup). MetBy setup ((state_of new).past agent) (state_of new).closed (is_away new agent)
-    (cond waits (shut connection) connection) input (sent ++ cond waits (text_of replies.Over) [])) (sym c.setup_is)
-    (subst (λ (past : View). MetBy game.setup past (state_of new).closed (is_away new agent)
-    (cond waits (shut connection) connection) input (sent ++ cond waits (text_of replies.Over) [])) (sym c.past)
-    (subst (λ (closed : Bool). MetBy game.setup ((state_of game).past agent) closed (is_away new agent)
-    (cond waits (shut connection) connection) input (sent ++ cond waits (text_of replies.Over) [])) (sym c.closed)
-    (subst (λ (away : Bool). MetBy game.setup ((state_of game).past agent) true away
-    (cond waits (shut connection) connection) input (sent ++ cond waits (text_of replies.Over) [])) (sym c.away)
+    met_from (played game Close) agent (cond waits (shut connection) connection) input
+    (sent ++ cond waits (text_of replies.Over) []) c.setup_is c.past c.closed c.away
     (by_waits (is_away game agent) waits is (away_stands (world_in game) ((state_of game).past agent)
-    ((state_of game).position agent) (fits_here game agent)) met)))) where
+    ((state_of game).position agent) (fits_here game agent)) met) where
       by_waits : (away waits : Bool) → waits ≡ away → (away ≡ true → standing ((state_of game).past agent) ≡ Away)
           → MetBy game.setup ((state_of game).past agent)
           (state_of game).closed away connection input sent →
@@ -119,7 +76,7 @@ met_closed game agent connection input sent waits was_open is met =
             met = g.met;
             taken = g.taken;
             over = lines_of connection.queue;
-            split = g.split;
+            split = g.reads.split;
             said = g.said;
             due = g.due;
             lived = inl g.lived;
@@ -132,23 +89,11 @@ met_closed game agent connection input sent waits was_open is met =
             done_by = λ still unended. absurd (cc);
           })
       by_waits away true is stands (inr d) = absurd (elim d.quiet [ inl closed ↦ cc | inr here ↦ cc ])
-      by_waits away false is stands (inl (g, open_yet)) = inl (
-        record {
-          met = g.met;
-          taken = g.taken;
-          split = g.split;
-          said = g.said;
-          due = g.due;
-          lived = g.lived;
-          heard = append-nil sent ∙ g.heard;
-          still = g.still;
-          ends = g.ends;
-          end_waits = g.end_waits;
-          last = g.last;
-          lives = g.lives;
-        },
-        inr (sym is),
-      )
+      by_waits away false is stands (inl (g, open_yet)) =
+          inl (
+            subst (Going game.setup ((state_of game).past agent) connection input) (sym (append-nil sent)) g,
+            inr (sym is),
+          )
       by_waits away false is stands (inr d) = inr (record {
         met = d.met;
         taken = d.taken;
@@ -189,14 +134,11 @@ module _ (stage : Stage) (game conn : ℕ) (input : Fed) (sent : List ℕ) (with
       let before = knows.free number agent (λ other theirs. free other
       (ap (λ (one : Connection). one.seat) (shut_at game closing stage.connections other)
       ∙ seat-shut_if game closing (connection_at stage other) ∙ theirs)) in
-      by_bool (number == game) (λ (is : Bool). (number == game) ≡ is → Untouched (game_at after_close number) agent)
-      (λ first same.
-      let is : number ≡ game = eqb-true number game same in
+      by_same number game
+      (λ is.
       subst (λ (one : Game). Untouched one agent) (sym (ap (λ (place : ℕ). game_at after_close place) is ∙ closed_here))
       (untouched_closed closing agent (subst (λ (place : ℕ). Untouched (game_at stage place) agent) is before)))
-      (λ first differs. subst (λ (one : Game). Untouched one agent)
-      (sym (same_elsewhere number (eqb-false number game differs))) before)
-      refl
+      (λ apart. subst (λ (one : Game). Untouched one agent) (sym (same_elsewhere number apart)) before)
 
   abbrev over_if : (waits : Bool) → List ℕ
   over_if waits = cond waits (text_of replies.Over) []
@@ -206,12 +148,10 @@ module _ (stage : Stage) (game conn : ℕ) (input : Fed) (sent : List ℕ) (with
       IsKnown stage connection input sent (Some seat) → IsKnown after_close (cond waits (shut connection) connection)
       input (sent ++ over_if waits) (Some seat)
   close_seated seat connection waits is_wait known =
-      by_bool (seat.0 == game)
-      (λ (is : Bool). (seat.0 == game) ≡ is → IsKnown after_close (cond waits (shut connection) connection) input
-      (sent ++ over_if waits) (Some seat))
-      (λ first same.
-      let is : seat.0 ≡ game = eqb-true seat.0 game same in
-      let here : waits ≡ is_away closing seat.1 = is_wait ∙ ap (λ (it : Bool). it && is_away closing seat.1) same in
+      by_same seat.0 game
+      (λ is.
+      let here : waits ≡ is_away closing seat.1 =
+      is_wait ∙ ap (λ (it : Bool). it && is_away closing seat.1) (eq-eqb seat.0 game is) in
       let before : seat.1 < closing.setup.agents → MetIn closing seat.1 connection input sent =
       subst (λ (place : ℕ). seat.1 < (game_at stage place).setup.agents → MetIn (game_at stage place) seat.1 connection
       input sent) is known in
@@ -220,29 +160,23 @@ module _ (stage : Stage) (game conn : ℕ) (input : Fed) (sent : List ℕ) (with
       (sym (ap (λ (place : ℕ). game_at after_close place) is ∙ closed_here))
       (λ inside. met_closed closing seat.1 connection input sent waits open_match here
       (before (subst (λ (setup : Setup). seat.1 < setup.agents) (setup-played closing Close) inside))))
-      (λ first differs.
-      let stays : waits ≡ false = is_wait ∙ ap (λ (it : Bool). it && is_away closing seat.1) differs in
+      (λ apart.
+      let stays : waits ≡ false =
+      is_wait ∙ ap (λ (it : Bool). it && is_away closing seat.1) (ne_eqb seat.0 game apart) in
       subst (λ (it : Bool). IsKnown after_close (cond it (shut connection) connection) input (sent ++ over_if it)
       (Some seat)) (sym stays)
       (subst (λ (one : Game). seat.1 < one.setup.agents → MetIn one seat.1 connection input (sent ++ []))
-      (sym (same_elsewhere seat.0 (eqb-false seat.0 game differs)))
+      (sym (same_elsewhere seat.0 apart))
       (subst (λ (out : List ℕ). seat.1 < (game_at stage seat.0).setup.agents
       → MetIn (game_at stage seat.0) seat.1 connection input out) (sym (append-nil sent)) known)))
-      refl
 
   close_by : (own : Option (ℕ × ℕ)) (unfinished : Option (List ℕ)) (queue : List Item) (ended : Bool) →
       let connection : Connection = record { seat = own; unfinished = unfinished; queue = queue; ended = ended } in
       IsKnown stage connection input sent own → IsKnown after_close (shut_if game closing connection) input
       (sent ++ over_if (waits_in game closing connection)) own
   close_by None unfinished queue ended (inl k) =
-      inl (record {
-        heard = append-nil sent ∙ k.heard;
-        split = k.split;
-        still = k.still;
-        ends = k.ends;
-        end_waits = k.end_waits;
-        last = k.last;
-      })
+      inl (subst (Unseated (record { seat = None; unfinished = unfinished; queue = queue; ended = ended }) input)
+      (sym (append-nil sent)) k)
   close_by None unfinished queue ended (inr k) = inr (k.0, subst IsDenial (sym (append-nil sent)) k.1)
   close_by (Some seat) unfinished queue ended known =
       close_seated seat (record { seat = Some seat; unfinished = unfinished; queue = queue; ended = ended })

@@ -1,45 +1,35 @@
 -- What is known of a connection, through a draw.
-use Rattle.std.proofs.Common.{◌≡◌, ◌≢◌, ◌∙◌, ℕ, ◌<◌, inl, inr, Bool, true, false, not}
-use Rattle.std.proofs.Common.{◌==◌, Option, Some, None, List, [], ◌∷◌, ◌++◌, length, refl}
-use Rattle.std.proofs.Common.{sym, ap, ap₂, subst, append-nil}
-use Rattle.std.specs.List.{position}
-use Rattle.std.proofs.lemmas.Bool.{eqb-true, eqb-false, and_parts}
-use Rattle.std.proofs.lemmas.List.{set-get_or, get_or-set_same, get_or-set_other}
-use Rattle.std.proofs.lemmas.List.Quantifiers.{position-Some}
-use Rattle.bhs_model.specs.declared.events.Event.{Event}
-use Rattle.bhs_model.specs.declared.events.Event.TheVariants.{Tell, Deliver, Close}
+use Rattle.std.proofs.Common.{◌≡◌, ◌≢◌, ◌∙◌, ℕ, ◌<◌, inl, inr, Bool, true, false, not, Option, Some, List, [], ◌∷◌}
+use Rattle.std.proofs.Common.{◌++◌, length, refl, sym, ap, ap₂, subst, append-nil}
+use Rattle.std.proofs.lemmas.Bool.{and_parts, false_from_ne_true, true_from_ne_false}
+use Rattle.std.proofs.lemmas.List.{get_or-set_same, get_or-set_other}
+use Rattle.bhs_model.specs.declared.events.Event.TheVariants.{Deliver}
 use Rattle.bhs_model.specs.declared.setups.Setup.{Setup}
 use Rattle.bhs_model.specs.declared.replies.Reply.{Reply}
 use Rattle.bhs_model.specs.Replying.{rep, here}
 use Rattle.bhs_model.specs.Views.{View, Start, Arrived, Sight, Away, standing}
 use Rattle.bhs_model.specs.Worlds.{World}
-use Rattle.bhs_model.specs.Runs.{State, Position, Before, At, Bound, After, is_bound, sight_at, arrives}
-use Rattle.bhs_model.specs.Runs.{is_let_through, delivered}
-use Rattle.bhs_model.proofs.StepLemmas.{changed_same, arrival_by_past, no_arrival_no_reply, next_arrived}
+use Rattle.bhs_model.specs.Runs.{State, is_bound, arrives, is_let_through}
+use Rattle.bhs_model.proofs.StepLemmas.{arrival_by_past, no_arrival_no_reply, next_arrived}
 use Rattle.bhs_session.specs.Texts.{text_of}
 use Rattle.bhs_rehearsal.specs.Games.{Game, world_in, state_of, played, reply_to, is_away}
-use Rattle.bhs_rehearsal.specs.Connections.{Connection, unfed}
-use Rattle.bhs_rehearsal.specs.Stages.{Stage, game_at, connection_at, with_game, has_seat}
-use Rattle.bhs_rehearsal.specs.Stages.{Moved, moves}
-use Rattle.bhs_rehearsal.specs.Stages.{sent_to}
-use Rattle.bhs_rehearsal.specs.Stages.{tells_arrival, delivers}
+use Rattle.bhs_rehearsal.specs.Connections.{Connection}
+use Rattle.bhs_rehearsal.specs.Stages.{Stage, game_at, connection_at, with_game, sent_to}
 use Rattle.bhs_theorems.specs.ScriptLaws.{IsSettled}
-use Rattle.bhs_theorems.specs.Clients.{bytes_among}
-use Rattle.bhs_theorems.proofs.CuttingLemmas.{by_bool}
-use Rattle.bhs_theorems.proofs.TurnLemmas.{placed, turn_of, moves-placed}
-use Rattle.bhs_theorems.proofs.ApartLemmas.{seat-has_seat}
+use Rattle.bhs_theorems.specs.Clients.{bytes_among, Fed}
+use Rattle.bhs_theorems.proofs.CuttingLemmas.{by_same}
 use Rattle.bhs_theorems.proofs.SettlingLemmas.{nobody_plays}
-use Rattle.bhs_theorems.proofs.SlowGameLemmas.{state_of-played}
+use Rattle.bhs_theorems.proofs.AwayLemmas.{state_of-played, Alike, alike_itself, alike-delivered, alike-no_arrival}
+use Rattle.bhs_theorems.proofs.AwayLemmas.{setup-played, unanswered, arriving}
 use Rattle.bhs_theorems.specs.Met.{Arrives}
-use Rattle.bhs_theorems.specs.Clients.{Fed}
-use Rattle.bhs_theorems.proofs.EventLemmas.{Alike, alike_itself, alike-delivered, alike-no_arrival, setup-played}
 use Rattle.bhs_theorems.proofs.FitLemmas.{fits_here, away_stands}
 use Rattle.bhs_theorems.proofs.MeetingLemmas.{view_from-append, bytes_from-append, commands-append, due-append}
-use Rattle.bhs_theorems.proofs.KnownLemmas.{Going, GoesOn}
-use Rattle.bhs_theorems.proofs.KnownLemmas.{IsKnown}
-use Rattle.bhs_theorems.proofs.KnownLemmas.{IsReady, untouched_alike, FreeAreUntouched, known_alike}
+use Rattle.bhs_theorems.proofs.KnownLemmas.{Going, GoesOn, IsKnown, IsReady, untouched_alike, FreeAreUntouched}
+use Rattle.bhs_theorems.proofs.KnownLemmas.{known_alike}
 use Rattle.bhs_theorems.proofs.MetMoveLemmas.{Knows, moved}
 use Rattle.bhs_theorems.proofs.MetClientLemmas.{nothing_more}
+use Rattle.bhs_theorems.proofs.StepCases.{IsUntold, arrival_step}
+use Rattle.bhs_theorems.proofs.TurnLemmas.{placed, turn_of}
 
 -- ---- a draw
 
@@ -49,36 +39,21 @@ pub record Arrival (setup : Setup) (old new : View) (replied : Option Reply) : T
   pub replied_is : replied ≡ Some (here setup.board sight)
   pub new_is : new ≡ Arrived old sight
 
-arrival_at : (world : World) (state : State) (agent : ℕ) (position : Position) → is_let_through world position ≡ true →
-    (sight : Sight) × ((delivered world state agent position).past agent ≡ Arrived (state.past agent) sight)
-arrival_at world state agent (Bound node port) through = let far = world.net.far node port in
-    (sight_at world state far.0 (Some far.1), changed_same state.past agent _)
-arrival_at world state agent Before through = absurd (cc)
-arrival_at world state agent (At node came) through = absurd (cc)
-arrival_at world state agent After through = absurd (cc)
-
 pub arrival : (game : Game) (agent : ℕ) → arrives (world_in game) (state_of game) agent ≡ true →
     Arrival game.setup ((state_of game).past agent) ((state_of (played game (Deliver agent))).past agent)
     (reply_to game (Deliver agent))
 arrival game agent comes =
     let world = world_in game in
     let state = state_of game in
-    let at = arrival_at world state agent (state.position agent) (and_parts (not state.closed) _ comes).1 in
+    let at = arriving world state agent comes in
     record {
-      sight = at.0;
-      replied_is = arrival_by_past world state agent comes ∙ ap (λ (view : View). rep game.setup.board view) at.1;
+      sight = at.sight;
+      replied_is = arrival_by_past world state agent comes ∙ ap (λ (view : View). rep game.setup.board view) at.past_is;
       new_is = ap (λ (after : State). after.past agent)
-          (state_of-played game (Deliver agent) ∙ next_arrived world state agent comes) ∙ at.1;
+          (state_of-played game (Deliver agent) ∙ next_arrived world state agent comes) ∙ at.past_is;
     }
 
 -- who has arrived is on no link
-arrived_at : (world : World) (state : State) (agent : ℕ) (position : Position) → is_let_through world position ≡ true →
-    is_bound ((delivered world state agent position).position agent) ≡ false
-arrived_at world state agent (Bound node port) through = ap is_bound (changed_same state.position agent _)
-arrived_at world state agent Before through = absurd (cc)
-arrived_at world state agent (At node came) through = absurd (cc)
-arrived_at world state agent After through = absurd (cc)
-
 pub arrived_here : (game : Game) (agent : ℕ) → arrives (world_in game) (state_of game) agent ≡ true
     → is_away (played game (Deliver agent)) agent ≡ false
 arrived_here game agent comes =
@@ -86,7 +61,7 @@ arrived_here game agent comes =
     let state = state_of game in
     ap (λ (after : State). is_bound (after.position agent))
     (state_of-played game (Deliver agent) ∙ next_arrived world state agent comes)
-    ∙ arrived_at world state agent (state.position agent) (and_parts (not state.closed) _ comes).1
+    ∙ (arriving world state agent comes).lands
 
 -- who arrives is on a link, before the close
 pub away_arrives : (world : World) (state : State) (agent : ℕ) → arrives world state agent ≡ true
@@ -104,7 +79,7 @@ going_arrives : (setup : Setup) (old new : View) (connection : Connection) (inpu
 going_arrives setup old new connection input sent sight away is going = record {
   met = going.met ++ Arrives sight ∷ [];
   taken = going.taken;
-  split = going.split;
+  reads = going.reads;
   said = commands-append going.met (Arrives sight ∷ []) ∙ append-nil _ ∙ going.said;
   due = due-append setup.quota Start going.met (Arrives sight ∷ []) going.due
       (ap standing (sym going.lived) ∙ away, tt);
@@ -112,10 +87,6 @@ going_arrives setup old new connection input sent sight away is going = record {
       ∙ sym (view_from-append Start going.met (Arrives sight ∷ []));
   heard = ap₂ (λ (one two : List ℕ). one ++ two) going.heard (sym (append-nil (text_of (here setup.board sight))))
       ∙ sym (bytes_from-append setup.board Start going.met (Arrives sight ∷ []));
-  still = going.still;
-  ends = going.ends;
-  end_waits = going.end_waits;
-  last = going.last;
   lives = λ ended. let at = ap standing is in cc;
 }
 
@@ -134,18 +105,15 @@ module _ (stage : Stage) (game agent conn : ℕ) (input : Fed) (sent : List ℕ)
   drawn_alike : (number other : ℕ) → (number ≡ game → Alike other old_game new_game)
       → Alike other (game_at stage number) (game_at drawn_in number)
   drawn_alike number other same =
-      by_bool (number == game) (λ (is : Bool). (number == game) ≡ is
-      → Alike other (game_at stage number) (game_at drawn_in number))
-      (λ first here.
-      let is : number ≡ game = eqb-true number game here in
+      by_same number game
+      (λ is.
       subst (λ (place : ℕ). Alike other (game_at stage place) (game_at drawn_in place)) (sym is)
       (subst (λ (one : Game). Alike other old_game one)
       (sym (get_or-set_same stage.games game new_game _ within)) (same is)))
-      (λ first elsewhere.
+      (λ apart.
       subst (λ (one : Game). Alike other (game_at stage number) one)
-      (sym (get_or-set_other stage.games game number new_game _ (eqb-false number game elsewhere)))
+      (sym (get_or-set_other stage.games game number new_game _ apart))
       (alike_itself other (game_at stage number)))
-      refl
 
   -- it moves nobody
   draw_rests : IsSettled drawn_in → arrives (world_in old_game) (state_of old_game) agent ≡ false
@@ -215,71 +183,34 @@ module _ (stage : Stage) (game agent conn : ℕ) (input : Fed) (sent : List ℕ)
           inr (arrived_here old_game agent comes),
         )))
 
-    draw_moves : IsSettled (moves drawn_in holder).stage →
-        Knows (moves drawn_in holder).stage conn input
-        (sent ++ bytes_among conn (sent_to holder
-        (text_of (here old_game.setup.board a.sight) ++ (moves drawn_in holder).text)))
+    draw_moves : let turn = turn_of drawn_in holder (connection_at stage holder) in
+        IsSettled (placed drawn_in holder turn).stage →
+        Knows (placed drawn_in holder turn).stage conn input
+        (sent ++ bytes_among conn (sent_to holder (text_of (here old_game.setup.board a.sight) ++ turn.text)))
     draw_moves settled =
-        let old = connection_at stage holder in
-        let is_turn : moves drawn_in holder ≡ placed drawn_in holder (turn_of drawn_in holder old) =
-        ap (λ (connections : List Connection). moves (record drawn_in { connections = connections }) holder)
-        (sym (set-get_or stage.connections holder unfed))
-        ∙ moves-placed drawn_in holder old there in
-        let text = text_of (here old_game.setup.board a.sight) in
-        subst (λ (m : Moved). Knows m.stage conn input (sent ++ bytes_among conn (sent_to holder (text ++ m.text))))
-        (sym is_turn)
-        (moved drawn_in holder old there refl drawn_free (subst (λ (m : Moved). IsSettled m.stage) is_turn settled) conn
-        text input sent knows.there drawn_other drawn_own)
+        moved drawn_in holder (connection_at stage holder) there refl drawn_free settled conn
+        (text_of (here old_game.setup.board a.sight)) input sent knows.there drawn_other drawn_own
 
-  draw_tells : arrives (world_in old_game) (state_of old_game) agent ≡ true → (replied : Option Reply)
-      → reply_to old_game (Deliver agent) ≡ replied →
-      (holder : Option ℕ) → position (has_seat (game, agent)) stage.connections ≡ holder →
-      IsSettled (tells_arrival drawn_in replied holder).stage →
-      Knows (tells_arrival drawn_in replied holder).stage conn input
-      (sent ++ bytes_among conn (tells_arrival drawn_in replied holder).outs)
-  draw_tells comes None replied_is holder held settled =
-      absurd (let some = (arrival old_game agent comes).replied_is in cc)
-  draw_tells comes (Some reply) replied_is None held settled = absurd (
-      let untouched = knows.free game agent (nobody_plays stage.connections (game, agent) held) in
-      let here = untouched.at in
-      let away = (away_arrives (world_in old_game) (state_of old_game) agent comes).0 in
-      cc
-      )
-  draw_tells comes (Some reply) replied_is (Some holder) held settled =
-      let at_holder = position-Some (has_seat (game, agent)) stage.connections holder unfed held in
+  pub draw_untold : IsUntold stage game agent → IsSettled drawn_in → Knows drawn_in conn input (sent ++ [])
+  draw_untold untold settled =
+      draw_rests settled (elim untold [
+        | inl none ↦ unanswered (world_in old_game) (state_of old_game) agent none
+        | inr nobody ↦ false_from_ne_true (arrives (world_in old_game) (state_of old_game) agent) (λ comes.
+            let here = (knows.free game agent (nobody_plays stage.connections (game, agent) nobody)).at in
+            let away = (away_arrives (world_in old_game) (state_of old_game) agent comes).0 in
+            cc)
+      ])
+
+  pub draw_told : (holder : ℕ) (reply : Reply) → reply_to old_game (Deliver agent) ≡ Some reply
+      → holder < length stage.connections → (connection_at stage holder).seat ≡ Some (game, agent) →
+      IsSettled (arrival_step drawn_in holder reply).stage →
+      Knows (arrival_step drawn_in holder reply).stage conn input
+      (sent ++ bytes_among conn (arrival_step drawn_in holder reply).outs)
+  draw_told holder reply answered there mine settled =
+      let comes = true_from_ne_false (arrives (world_in old_game) (state_of old_game) agent) (λ stays.
+      let none = no_arrival_no_reply (world_in old_game) (state_of old_game) agent stays in cc) in
       let same : here old_game.setup.board (arrival old_game agent comes).sight ≡ reply =
       let some = (arrival old_game agent comes).replied_is in cc in
-      subst (λ (told : Reply). Knows (moves drawn_in holder).stage conn input
-      (sent ++ bytes_among conn (sent_to holder (text_of told ++ (moves drawn_in holder).text)))) same
-      (draw_moves comes holder at_holder.0 (seat-has_seat (game, agent) (connection_at stage holder) at_holder.1)
-      settled)
-
-  draw_known : IsSettled (delivers stage game (Some (Deliver agent))).stage →
-      Knows (delivers stage game (Some (Deliver agent))).stage conn input
-      (sent ++ bytes_among conn (delivers stage game (Some (Deliver agent))).outs)
-  draw_known settled =
-      let holder = position (has_seat (game, agent)) stage.connections in
-      by_bool (arrives (world_in old_game) (state_of old_game) agent)
-      (λ (comes : Bool). arrives (world_in old_game) (state_of old_game) agent ≡ comes →
-      Knows (delivers stage game (Some (Deliver agent))).stage conn input
-      (sent ++ bytes_among conn (delivers stage game (Some (Deliver agent))).outs))
-      (λ first comes. draw_tells comes (reply_to old_game (Deliver agent)) refl holder refl settled)
-      (λ first stays.
-      let none = no_arrival_no_reply (world_in old_game) (state_of old_game) agent stays in
-      let settled_there : IsSettled drawn_in =
-      subst (λ (replied : Option Reply). IsSettled (tells_arrival drawn_in replied holder).stage) none settled in
-      subst (λ (replied : Option Reply). Knows (tells_arrival drawn_in replied holder).stage conn input
-      (sent ++ bytes_among conn (tells_arrival drawn_in replied holder).outs)) (sym none)
-      (draw_rests settled_there stays))
-      refl
-
-pub delivers_known : (stage : Stage) (game conn : ℕ) (input : Fed) (sent : List ℕ) → game < length stage.games
-    → Knows stage conn input sent → (event : Option Event) →
-    IsSettled (delivers stage game event).stage → Knows (delivers stage game event).stage conn input
-    (sent ++ bytes_among conn (delivers stage game event).outs)
-delivers_known stage game conn input sent within knows None settled = nothing_more stage conn input sent knows
-delivers_known stage game conn input sent within knows (Some (Tell agent command)) settled =
-    nothing_more stage conn input sent knows
-delivers_known stage game conn input sent within knows (Some Close) settled = nothing_more stage conn input sent knows
-delivers_known stage game conn input sent within knows (Some (Deliver agent)) settled =
-    draw_known stage game agent conn input sent within knows settled
+      subst (λ (told : Reply). Knows (arrival_step drawn_in holder told).stage conn input
+      (sent ++ bytes_among conn (arrival_step drawn_in holder told).outs)) same
+      (draw_moves comes holder there mine settled)

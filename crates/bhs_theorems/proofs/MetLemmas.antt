@@ -1,46 +1,35 @@
 -- What is known of a connection, through each instruction.
-use Rattle.std.proofs.Common.{◌≡◌, ◌≢◌, ◌∙◌, ℕ, zero, suc, ◌<◌, ◌≤◌, inl, inr, Bool, true, false, cond}
-use Rattle.std.proofs.Common.{nat_lt, ◌==◌, Option, Some, None, List, [], ◌∷◌, ◌++◌, length, replicate, refl}
+use Rattle.std.proofs.Common.{◌≡◌, ◌≢◌, ◌∙◌, ℕ, zero, suc, ◌<◌, inl, inr, Bool, true, false, cond}
+use Rattle.std.proofs.Common.{Option, Some, None, List, [], ◌∷◌, ◌++◌, length, replicate, refl}
 use Rattle.std.proofs.Common.{sym, ap, subst, append_assoc, append-nil, arith}
-use Rattle.std.specs.List.{position}
-use Rattle.std.proofs.lemmas.Bool.{cond-true, cond-false, ltb-true, ltb-false, eq-eqb, ne_eqb}
-use Rattle.std.proofs.lemmas.List.{get_or_past, length-set, length-map}
+use Rattle.std.proofs.lemmas.List.{length-set, length-map}
 use Rattle.bhs_model.specs.declared.events.Event.{Event}
-use Rattle.bhs_model.specs.declared.events.Event.TheVariants.{Tell, Deliver, Close}
 use Rattle.bhs_model.specs.declared.setups.Setup.{Setup}
-use Rattle.bhs_model.specs.declared.replies.Reply.{Reply}
 use Rattle.bhs_model.specs.Views.{View, Away, standing}
-use Rattle.bhs_model.specs.Runs.{initial, is_bound}
-use Rattle.bhs_model.specs.Runs.{run_from}
+use Rattle.bhs_model.specs.Runs.{initial, is_bound, run_from}
 use Rattle.bhs_lineup.specs.KeyTable.{Seat}
-use Rattle.bhs_rehearsal.specs.Games.{Game, world_in, state_of, played, reply_to, is_away, drawn, delivered}
+use Rattle.bhs_rehearsal.specs.Games.{Game, world_in, state_of, is_away, drawn, delivered}
 use Rattle.bhs_rehearsal.specs.Connections.{Connection, Item, unfed, shut}
-use Rattle.bhs_rehearsal.specs.Stages.{Stage, game_at, connection_at, with_game, has_seat, Entry}
-use Rattle.bhs_rehearsal.specs.Stages.{Waits, Sits, IsDenied, Goes, entry, enters, moves_in, Instruction}
-use Rattle.bhs_rehearsal.specs.Stages.{Feeds, EndsInput, Draws, Delivers, Closes, Stepped}
-use Rattle.bhs_rehearsal.specs.Stages.{tells_arrival, delivers, waits_in, step, begun}
-use Rattle.bhs_rehearsal.specs.Stages.{stands_after, sends}
+use Rattle.bhs_rehearsal.specs.Stages.{Stage, game_at, connection_at, Instruction, Feeds, EndsInput, Draws, Delivers}
+use Rattle.bhs_rehearsal.specs.Stages.{Closes, Stepped, waits_in, step, begun, stands_after, sends}
 use Rattle.bhs_theorems.specs.ScriptLaws.{awaits_arrival, IsSettled}
-use Rattle.bhs_theorems.specs.Clients.{bytes_among, bytes_to}
+use Rattle.bhs_theorems.specs.Clients.{bytes_among, bytes_to, Fed, nothing_fed, at_end, fed_by, fed_to}
 use Rattle.bhs_theorems.proofs.CuttingLemmas.{by_bool}
-use Rattle.bhs_theorems.proofs.TurnLemmas.{grown}
+use Rattle.bhs_theorems.proofs.TurnLemmas.{grown, ending, bare}
 use Rattle.bhs_theorems.proofs.SettlingLemmas.{settle_lemma, scripts_lemma, fresh_at}
 use Rattle.bhs_theorems.specs.Met.{view_of, bytes, takes_commands}
-use Rattle.bhs_theorems.specs.Clients.{Fed, nothing_fed, at_end, fed_by, fed_to}
 use Rattle.bhs_theorems.specs.ScriptHeadline.{beginning, outcome, sent_in, match_of, past_of}
 use Rattle.bhs_theorems.specs.SentAsMet.{IsDenial, OthersAreDenied, over_text, IsSentAsMet, SentAsMet}
 use Rattle.bhs_theorems.proofs.OverLemmas.{over_none}
 use Rattle.bhs_theorems.proofs.FitLemmas.{fits_here, away_stands, here_stands}
 use Rattle.bhs_theorems.proofs.TookLemmas.{lines_of}
-use Rattle.bhs_theorems.proofs.KnownLemmas.{MetBy, ending}
-use Rattle.bhs_theorems.proofs.KnownLemmas.{fed_if, IsKnown}
-use Rattle.bhs_theorems.proofs.KnownLemmas.{IsReady}
+use Rattle.bhs_theorems.proofs.KnownLemmas.{MetBy, fed_if, IsKnown}
 use Rattle.bhs_theorems.proofs.MetMoveLemmas.{Knows, same_bytes}
-use Rattle.bhs_theorems.proofs.MetClientLemmas.{client, end_ready, fed_ready, nothing_more, unended_known}
-use Rattle.bhs_theorems.proofs.MetClientLemmas.{unread_known}
-use Rattle.bhs_theorems.proofs.MetDrawLemmas.{delivers_known}
+use Rattle.bhs_theorems.proofs.MetClientLemmas.{client, end_ready, fed_ready, nothing_more, unended_known, unread_known}
+use Rattle.bhs_theorems.proofs.MetDrawLemmas.{draw_untold, draw_told}
 use Rattle.bhs_theorems.proofs.MetCloseLemmas.{close_known}
 use Rattle.bhs_theorems.proofs.StepCases.{by_client, event_step, by_event, by_close}
+use Rattle.bhs_theorems.proofs.SettledLemmas.{seat_within}
 
 -- ---- every instruction
 
@@ -54,7 +43,8 @@ event_known : (stage : Stage) (conn : ℕ) (input : Fed) (sent : List ℕ) (game
     Knows (event_step stage game event).stage conn input (sent ++ bytes_among conn (event_step stage game event).outs)
 event_known stage conn input sent game event knows = by_event (KnowsBy conn input sent) stage game event
     (λ settled. nothing_more stage conn input sent knows)
-    (λ below settled. delivers_known stage game conn input sent below knows event settled)
+    (λ agent below. draw_untold stage game agent conn input sent below knows)
+    (λ agent holder reply below. draw_told stage game agent conn input sent below knows holder reply)
 
 step_known : (stage : Stage) (conn : ℕ) (input : Fed) (sent : List ℕ) (instruction : Instruction)
     → Knows stage conn input sent →
@@ -62,38 +52,14 @@ step_known : (stage : Stage) (conn : ℕ) (input : Fed) (sent : List ℕ) (instr
     (sent ++ bytes_among conn (step stage instruction).outs)
 step_known stage conn input sent (Feeds mover fed) knows =
     let old = connection_at stage mover in
-    let mine : conn ≡ mover → IsKnown stage old input sent old.seat =
-    λ same. subst (λ (one : ℕ). IsKnown stage (connection_at stage one) input sent (connection_at stage one).seat)
-    same knows.known in
-    let all : conn ≡ mover → fed_if input fed ≡ fed_by conn input (Feeds mover fed) =
-    λ same. sym (cond-true (mover == conn) (fed_if input fed) input (eq-eqb mover conn (sym same))) in
-    client stage mover conn (grown old fed) (fed_by conn input (Feeds mover fed)) input sent
-    (nat_lt mover (length stage.connections)) old.ended refl refl
-    (settle_lemma stage (Feeds mover fed) knows.settled) knows
-    (λ apart. sym (cond-false (mover == conn) (fed_if input fed) input (ne_eqb mover conn (λ same. apart (sym same)))))
-    (λ same ended. subst (λ (new : Fed). IsKnown stage (connection_at stage conn) new sent
-    (connection_at stage conn).seat) (all same)
-    (unread_known stage (connection_at stage conn) input sent fed (connection_at stage conn).seat
-    (ap (λ (one : ℕ). (connection_at stage one).ended) same ∙ ended) knows.known))
-    (λ same still. subst (λ (new : Fed). IsReady stage (grown old fed) new sent old.seat) (all same)
-    (fed_ready stage old input sent fed old.seat still (mine same)))
+    client stage mover conn (grown old fed) (fed_if input fed) input sent refl knows
+    (unread_known stage old input sent fed old.seat) (fed_ready stage old input sent fed old.seat)
+    (settle_lemma stage (Feeds mover fed) knows.settled)
 step_known stage conn input sent (EndsInput mover) knows =
     let old = connection_at stage mover in
-    let mine : conn ≡ mover → IsKnown stage old input sent old.seat =
-    λ same. subst (λ (one : ℕ). IsKnown stage (connection_at stage one) input sent (connection_at stage one).seat)
-    same knows.known in
-    let all : conn ≡ mover → at_end input ≡ fed_by conn input (EndsInput mover) =
-    λ same. sym (cond-true (mover == conn) (at_end input) input (eq-eqb mover conn (sym same))) in
-    client stage mover conn (ending old) (fed_by conn input (EndsInput mover)) input sent
-    (nat_lt mover (length stage.connections)) old.ended refl refl
-    (settle_lemma stage (EndsInput mover) knows.settled) knows
-    (λ apart. sym (cond-false (mover == conn) (at_end input) input (ne_eqb mover conn (λ same. apart (sym same)))))
-    (λ same ended. subst (λ (new : Fed). IsKnown stage (connection_at stage conn) new sent
-    (connection_at stage conn).seat) (all same)
-    (unended_known stage (connection_at stage conn) input sent (connection_at stage conn).seat
-    (ap (λ (one : ℕ). (connection_at stage one).ended) same ∙ ended) knows.known))
-    (λ same still. subst (λ (new : Fed). IsReady stage (ending old) new sent old.seat) (all same)
-    (end_ready stage old input sent old.seat still (mine same)))
+    client stage mover conn (ending old) (at_end input) input sent refl knows
+    (unended_known stage old input sent old.seat) (end_ready stage old input sent old.seat)
+    (settle_lemma stage (EndsInput mover) knows.settled)
 step_known stage conn input sent (Draws game word) knows =
     event_known stage conn input sent game (drawn (game_at stage game) word) knows
     (settle_lemma stage (Draws game word) knows.settled)
@@ -124,48 +90,21 @@ script_known stage conn input sent (instruction ∷ script) knows =
 
 -- ---- as many connections as there were
 
-length_enters : (stage : Stage) (conn : ℕ) (how : Entry) → length (enters stage conn how).stage.connections ≡ length
-    stage.connections
-length_enters stage conn Waits = refl
-length_enters stage conn (Sits seat) = length-set stage.connections conn _
-length_enters stage conn (IsDenied denial) = length-set stage.connections conn _
-length_enters stage conn Goes = length-set stage.connections conn _
-
-length_moves : (stage : Stage) (conn : ℕ) (own : Option (ℕ × ℕ))
-    → length (moves_in stage conn own).stage.connections ≡ length stage.connections
-length_moves stage conn None = length_enters stage conn (entry stage (connection_at stage conn).queue)
-length_moves stage conn (Some seat) = length-set stage.connections conn _
-
-length_tells : (stage : Stage) (replied : Option Reply) (holder : Option ℕ)
-    → length (tells_arrival stage replied holder).stage.connections ≡ length stage.connections
-length_tells stage None holder = refl
-length_tells stage (Some reply) None = refl
-length_tells stage (Some reply) (Some conn) = length_moves stage conn (connection_at stage conn).seat
-
-length_delivers : (stage : Stage) (game : ℕ) (event : Option Event)
-    → length (delivers stage game event).stage.connections ≡ length stage.connections
-length_delivers stage game None = refl
-length_delivers stage game (Some (Tell agent command)) = refl
-length_delivers stage game (Some Close) = refl
-length_delivers stage game (Some (Deliver agent)) =
-    length_tells (with_game stage game (played (game_at stage game) (Deliver agent)))
-    (reply_to (game_at stage game) (Deliver agent)) (position (has_seat (game, agent)) stage.connections)
-
 abbrev HasAsMany : Stage → Stepped → Type 0
 HasAsMany stage done = length done.stage.connections ≡ length stage.connections
 
 length_event : (stage : Stage) (game : ℕ) (event : Option Event) → HasAsMany stage (event_step stage game event)
-length_event stage game event = by_event (HasAsMany stage) stage game event refl
-    (λ below. length_delivers stage game event)
+length_event stage game event = by_event (HasAsMany stage) stage game event refl (λ agent below untold. refl)
+    (λ agent conn reply below answered within seated. length-set stage.connections conn _)
 
 length_step : (stage : Stage) (instruction : Instruction) → length (step stage instruction).stage.connections ≡ length
     stage.connections
 length_step stage (Feeds conn bytes) =
     by_client (HasAsMany stage) stage conn (grown (connection_at stage conn) bytes) (connection_at stage conn).ended
-    refl (λ within. length-set stage.connections conn _)
+    (λ idle. refl) (λ within goes_on. length-set stage.connections conn _)
 length_step stage (EndsInput conn) =
-    by_client (HasAsMany stage) stage conn (ending (connection_at stage conn)) (connection_at stage conn).ended refl
-    (λ within. length-set stage.connections conn _)
+    by_client (HasAsMany stage) stage conn (ending (connection_at stage conn)) (connection_at stage conn).ended
+    (λ idle. refl) (λ within goes_on. length-set stage.connections conn _)
 length_step stage (Draws game word) = length_event stage game (drawn (game_at stage game) word)
 length_step stage (Delivers game agent) = length_event stage game (delivered (game_at stage game) agent)
 length_step stage (Closes game) = by_close (HasAsMany stage) stage game refl
@@ -193,11 +132,7 @@ begun_known games keys connections conn there fresh_logs =
       known = subst (λ (one : Connection). IsKnown start one nothing_fed [] one.seat) (sym (fresh_at connections conn))
           (inl (record {
             heard = refl;
-            split = refl;
-            still = λ again. refl;
-            ends = refl;
-            end_waits = refl;
-            last = tt;
+            reads = record { split = refl; still = λ again. refl; ends = refl; end_waits = refl; last = tt };
           }));
       free = λ game agent free. record {
         past = ap (λ (log : List Event). (run_from (world_in (game_at start game)) initial log).past agent)
@@ -217,7 +152,7 @@ sent_of setup past closed away connection input sent waits is here settled on_li
   met = g.met;
   taken = g.taken;
   untaken = lines_of connection.queue;
-  split = g.split;
+  split = g.reads.split;
   said = g.said;
   due = g.due;
   lived = inl g.lived;
@@ -230,10 +165,10 @@ sent_of setup past closed away connection input sent waits is here settled on_li
             ∙ over_none closed (standing (view_of g.met))
             (λ on. here stays (ap standing g.lived ∙ on))
       ]));
-  all_taken = λ still unended takes. by_bool waits (λ (is : Bool). waits ≡ is → lines_of connection.queue ≡ [])
-      (λ first on. absurd (let at = ap (λ (view : View). takes_commands (standing view)) g.lived in
+  all_taken = λ still unended takes. by_bool waits (λ (is : Bool). lines_of connection.queue ≡ [])
+      (λ on. absurd (let at = ap (λ (view : View). takes_commands (standing view)) g.lived in
       let away_now = ap takes_commands (on_link on) in cc))
-      (λ first off. ap lines_of (settled off)) refl;
+      (λ off. ap lines_of (settled off));
 }
 sent_of setup past closed away connection input sent waits is here settled on_link (inr d) = record {
   met = d.met;
@@ -254,30 +189,24 @@ sent_as_met_lemma one conn seat fresh_logs seated inside =
     let game = match_of one seat in
     let fed = fed_to conn nothing_fed one.script in
     let sent = sent_in one conn in
-    by_bool (nat_lt conn one.connections)
-    (λ (below : Bool). nat_lt conn one.connections ≡ below → IsSentAsMet game.setup (past_of one seat)
-    (state_of game).closed fed sent)
-    (λ first below.
+    let below : conn < one.connections =
+    let within = seat_within final.connections conn seat seated in
+    let same = length_script start one.script in
+    let count = length_fresh one.connections in
+    omega (arith, within, same, count) in
     let knows = script_known start conn nothing_fed [] one.script
-    (begun_known one.games one.keys one.connections conn (ltb-true conn one.connections below) fresh_logs) in
+    (begun_known one.games one.keys one.connections conn below fresh_logs) in
     let known : IsKnown final (connection_at final conn) fed sent (Some seat) =
     subst (λ (own : Option (ℕ × ℕ)). IsKnown final (connection_at final conn) fed sent own) seated knows.known in
     let waits : awaits_arrival final (connection_at final conn) ≡ is_away game seat.1 =
-    ap (λ (own : Option (ℕ × ℕ)). awaits_arrival final (record (connection_at final conn) { seat = own })) seated in
+    ap (λ (own : Option (ℕ × ℕ)). awaits_arrival final (bare own)) seated in
     sent_of game.setup (past_of one seat) (state_of game).closed (is_away game seat.1)
     (connection_at final conn) fed sent
     (awaits_arrival final (connection_at final conn)) waits
     (here_stands (world_in game) (past_of one seat) ((state_of game).position seat.1) (fits_here game seat.1))
     (knows.settled.all_taken conn)
     (λ on. away_stands (world_in game) (past_of one seat) ((state_of game).position seat.1) (fits_here game seat.1)
-    (sym waits ∙ on)) (known inside))
-    (λ first past.
-    let few : length final.connections ≤ conn = let same = length_script start one.script in
-    let count = length_fresh one.connections in let far = ltb-false conn one.connections past in
-    omega (arith, same, count, far) in
-    absurd (let never = sym (ap (λ (it : Connection). it.seat) (get_or_past final.connections conn unfed few))
-    ∙ seated in cc))
-    refl
+    (sym waits ∙ on)) (known inside)
 
 denied_of : (stage : Stage) (connection : Connection) (input : Fed) (sent : List ℕ)
     → IsKnown stage connection input sent None → IsDenial sent

@@ -1,23 +1,18 @@
 -- What is known of a connection, where the instruction moves another or itself.
-use Rattle.std.proofs.Common.{◌≡◌, ◌≢◌, ◌∙◌, ℕ, ◌<◌, Bool}
-use Rattle.std.proofs.Common.{◌==◌, Option, Some, None, List, ◌++◌, length, refl}
-use Rattle.std.proofs.Common.{sym, ap, subst, append_assoc, append-nil}
-use Rattle.std.proofs.lemmas.Bool.{cond-true, eqb-true, eqb-false}
+use Rattle.std.proofs.Common.{◌≡◌, ◌≢◌, ◌∙◌, ℕ, ◌<◌, Option, Some, None, List, ◌++◌, length, refl, sym, ap, subst}
+use Rattle.std.proofs.Common.{append_assoc, append-nil}
+use Rattle.std.proofs.lemmas.Bool.{cond-true, eq-eqb}
 use Rattle.std.proofs.lemmas.List.{get_or-set_same, get_or-set_other, length-set}
 use Rattle.bhs_rehearsal.specs.Connections.{Connection, unfed, taken}
-use Rattle.bhs_rehearsal.specs.Stages.{Stage, game_at, connection_at}
-use Rattle.bhs_rehearsal.specs.Stages.{sent_to}
+use Rattle.bhs_rehearsal.specs.Stages.{Stage, game_at, connection_at, sent_to}
 use Rattle.bhs_theorems.specs.ScriptLaws.{IsSettled}
-use Rattle.bhs_theorems.specs.Clients.{bytes_among}
-use Rattle.bhs_theorems.proofs.CuttingLemmas.{by_bool}
-use Rattle.bhs_theorems.proofs.TurnLemmas.{Turn, placed, turn_in, turn_of}
+use Rattle.bhs_theorems.specs.Clients.{bytes_among, Fed}
+use Rattle.bhs_theorems.proofs.CuttingLemmas.{by_same}
+use Rattle.bhs_theorems.proofs.TurnLemmas.{Turn, placed, turn_in, turn_of, seat_after}
 use Rattle.bhs_theorems.proofs.FeedLemmas.{bytes_among-sent_to}
 use Rattle.bhs_theorems.proofs.ApartLemmas.{sent_elsewhere}
-use Rattle.bhs_theorems.proofs.SettledLemmas.{seat_after}
-use Rattle.bhs_theorems.specs.Clients.{Fed}
-use Rattle.bhs_theorems.proofs.KnownLemmas.{IsKnown}
-use Rattle.bhs_theorems.proofs.KnownLemmas.{IsReady, Untouched, untouched_alike, IsFree, FreeAreUntouched, known_alike}
-use Rattle.bhs_theorems.proofs.KnownLemmas.{others_turn, own_turn}
+use Rattle.bhs_theorems.proofs.KnownLemmas.{IsKnown, IsReady, Untouched, untouched_alike, IsFree, FreeAreUntouched}
+use Rattle.bhs_theorems.proofs.KnownLemmas.{known_alike, others_turn, own_turn}
 
 pub record Knows (stage : Stage) (conn : ℕ) (input : Fed) (sent : List ℕ) : Type 0 where
   pub known : IsKnown stage (connection_at stage conn) input sent (connection_at stage conn).seat
@@ -56,15 +51,12 @@ module _ (stage : Stage) (mover : ℕ) (connection : Connection) (within : mover
 
   free_before : (game agent : ℕ) → IsFree new game agent → IsFree stage game agent
   free_before game agent free_after other theirs =
-      by_bool (other == mover) (λ (is : Bool). (other == mover) ≡ is → ⊥)
-      (λ first same.
-      let is : other ≡ mover = eqb-true other mover same in
+      by_same other mover
+      (λ is.
       let mine : connection.seat ≡ Some (game, agent) =
       as_before ∙ ap (λ (number : ℕ). (connection_at stage number).seat) (sym is) ∙ theirs in
       free_after mover (ap (λ (one : Connection). one.seat) at_mover ∙ keeps_seat (game, agent) mine))
-      (λ first differs. free_after other (ap (λ (one : Connection). one.seat)
-      (at_other other (eqb-false other mover differs)) ∙ theirs))
-      refl
+      (λ apart. free_after other (ap (λ (one : Connection). one.seat) (at_other other apart) ∙ theirs))
 
   moved_free : FreeAreUntouched new
   moved_free game agent free_after =
@@ -89,17 +81,14 @@ module _ (stage : Stage) (mover : ℕ) (connection : Connection) (within : mover
   new_seat : (seat : ℕ × ℕ) → connection.seat ≡ None → turn.connection.seat ≡ Some seat
       → Untouched (game_at stage seat.0) seat.1
   new_seat seat outside seated = free seat.0 seat.1 (λ other theirs.
-      by_bool (other == mover) (λ (is : Bool). (other == mover) ≡ is → ⊥)
-      (λ first same.
-      let is : other ≡ mover = eqb-true other mover same in
+      by_same other mover
+      (λ is.
       let never : ◌≡◌ {A = Option (ℕ × ℕ)} None (Some (seat.0, seat.1)) = sym outside ∙ as_before
       ∙ ap (λ (number : ℕ). (connection_at stage number).seat) (sym is) ∙ theirs in
       cc)
-      (λ first differs.
-      let apart = eqb-false other mover differs in
+      (λ apart.
       apart (settled.one_each other mover seat (ap (λ (one : Connection). one.seat) (at_other other apart) ∙ theirs)
-      (ap (λ (one : Connection). one.seat) at_mover ∙ seated)))
-      refl)
+      (ap (λ (one : Connection). one.seat) at_mover ∙ seated))))
 
   moved_own : (input : Fed) (sent : List ℕ) → IsReady stage connection input sent connection.seat →
       IsKnown new (connection_at new mover) input (sent ++ turn.text) (connection_at new mover).seat
@@ -118,12 +107,10 @@ module _ (stage : Stage) (mover : ℕ) (connection : Connection) (within : mover
       (conn ≡ mover → IsReady stage connection input (sent ++ text) connection.seat) →
       Knows new conn input (sent ++ bytes_among conn (sent_to mover (text ++ turn.text)))
   moved conn text input sent below other_known own_ready =
-      by_bool (mover == conn) (λ (is : Bool). (mover == conn) ≡ is
-      → Knows new conn input (sent ++ bytes_among conn (sent_to mover (text ++ turn.text))))
-      (λ first same.
-      let is : mover ≡ conn = eqb-true mover conn same in
+      by_same mover conn
+      (λ is.
       let heard : bytes_among conn (sent_to mover (text ++ turn.text)) ≡ text ++ turn.text =
-      bytes_among-sent_to conn mover (text ++ turn.text) ∙ cond-true _ _ _ same in
+      bytes_among-sent_to conn mover (text ++ turn.text) ∙ cond-true _ _ _ (eq-eqb mover conn is) in
       same_bytes new conn input input ((sent ++ text) ++ turn.text)
       (sent ++ bytes_among conn (sent_to mover (text ++ turn.text))) refl
       (append_assoc sent text turn.text ∙ ap (λ (more : List ℕ). sent ++ more) (sym heard))
@@ -135,8 +122,8 @@ module _ (stage : Stage) (mover : ℕ) (connection : Connection) (within : mover
         settled = settled;
         there = there_still conn below;
       }))
-      (λ first differs.
-      let apart : conn ≢ mover = λ same. eqb-false mover conn differs (sym same) in
+      (λ differs.
+      let apart : conn ≢ mover = λ same. differs (sym same) in
       same_bytes new conn input input sent (sent ++ bytes_among conn (sent_to mover (text ++ turn.text))) refl
       (sym (append-nil sent) ∙ ap (λ (more : List ℕ). sent ++ more)
       (sym (sent_elsewhere conn mover (text ++ turn.text) apart)))
@@ -146,4 +133,3 @@ module _ (stage : Stage) (mover : ℕ) (connection : Connection) (within : mover
         settled = settled;
         there = there_still conn below;
       }))
-      refl

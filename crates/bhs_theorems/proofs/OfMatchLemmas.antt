@@ -1,26 +1,24 @@
 -- What is said and done in a match changes nothing but that match and who plays in it.
-use Rattle.std.proofs.Common.{◌≡◌, ◌≢◌, ◌∙◌, ℕ, zero, suc, ◌<◌, Bool, true, false, Option, Some, None}
-use Rattle.std.proofs.Common.{List, [], ◌∷◌, ◌++◌, length, map, set, get_or, refl, sym, ap, ap₂, subst}
-use Rattle.std.specs.List.{position}
+use Rattle.std.proofs.Common.{◌≡◌, ◌≢◌, ◌∙◌, ℕ, zero, suc, Bool, true, false, Option, Some, None}
+use Rattle.std.proofs.Common.{List, [], ◌∷◌, ◌++◌, map, get_or, refl, sym, ap, subst}
 use Rattle.std.proofs.lemmas.Bool.{eqb-true, eq-eqb}
-use Rattle.std.proofs.lemmas.List.{set-get_or, get_or-set_other, length-set, map-set}
-use Rattle.std.proofs.lemmas.List.Quantifiers.{position-Some}
+use Rattle.std.proofs.lemmas.List.{get_or-set_other, length-set}
+use Rattle.std.proofs.Math.Seq.{map-set_same}
 use Rattle.bhs_model.specs.declared.events.Event.{Event}
-use Rattle.bhs_model.specs.declared.events.Event.TheVariants.{Tell, Deliver, Close}
-use Rattle.bhs_model.specs.declared.replies.Reply.{Reply}
-use Rattle.bhs_rehearsal.specs.Games.{Game, played, reply_to, drawn, delivered}
-use Rattle.bhs_rehearsal.specs.Connections.{Item, Ends, Connection, unfed, taken}
-use Rattle.bhs_rehearsal.specs.Stages.{Stage, game_at, connection_at, with_game, has_seat, Moved}
-use Rattle.bhs_rehearsal.specs.Stages.{moves, Instruction, Feeds, EndsInput, Draws, Delivers, Closes, Stepped}
-use Rattle.bhs_rehearsal.specs.Stages.{tells_arrival, delivers, shut_in, step, stands_after}
-use Rattle.bhs_theorems.specs.ScriptLaws.{plays_in, IsOfConnection, SameBut, is_of_match}
+use Rattle.bhs_model.specs.declared.events.Event.TheVariants.{Close}
+use Rattle.bhs_session.specs.Texts.{text_of}
+use Rattle.bhs_rehearsal.specs.Games.{Game, played, drawn, delivered}
+use Rattle.bhs_rehearsal.specs.Connections.{Connection, unfed, taken}
+use Rattle.bhs_rehearsal.specs.Stages.{Stage, game_at, connection_at, with_game, Instruction, Feeds, EndsInput, Draws}
+use Rattle.bhs_rehearsal.specs.Stages.{Delivers, Closes, Stepped, sent_to, nothing, step, stands_after}
+use Rattle.bhs_theorems.specs.ScriptLaws.{plays_in, seats_of, IsOfConnection, IsOfGame, SameBut, is_of_match}
+use Rattle.bhs_theorems.specs.ScriptLaws.{MatchesKeepToThemselves}
 use Rattle.bhs_theorems.specs.Clients.{bytes_among}
-use Rattle.bhs_theorems.proofs.CuttingLemmas.{by_bool}
-use Rattle.bhs_theorems.proofs.TurnLemmas.{placed, plays_turn, turn_in, turn_of, moves-placed, grown}
-use Rattle.bhs_theorems.proofs.ApartLemmas.{seat-has_seat, plays_elsewhere, not_shut, clients_lemma, matches_lemma}
-use Rattle.bhs_theorems.proofs.SettledLemmas.{seat_after}
-use Rattle.bhs_theorems.proofs.SettlingLemmas.{seat-shut_if}
-use Rattle.bhs_theorems.proofs.StepCases.{client_step, by_client, event_step, by_event, by_close}
+use Rattle.bhs_theorems.proofs.CuttingLemmas.{by_bool, by_same}
+use Rattle.bhs_theorems.proofs.TurnLemmas.{placed, plays_turn, turn_in, turn_of, grown}
+use Rattle.bhs_theorems.proofs.TurnLemmas.{ending, bare, seat_of, seat_after}
+use Rattle.bhs_theorems.proofs.ApartLemmas.{sent_elsewhere, not_shut, seats_shut, told_elsewhere, clients_lemma}
+use Rattle.bhs_theorems.proofs.StepCases.{client_step, by_client, event_step, drawn_in, by_event, by_close}
 
 -- ---- stages that are the same but for a match
 
@@ -34,26 +32,25 @@ same_itself game stage = record {
 }
 
 -- what a connection plays, by its place
-pub seats_at : (one two : List Connection) → map (λ (connection : Connection). connection.seat) one ≡ map
-    (λ (connection : Connection). connection.seat) two →
+pub seats_at : (one two : List Connection) → map seat_of one ≡ map seat_of two →
     (conn : ℕ) → (get_or one conn unfed).seat ≡ (get_or two conn unfed).seat
 seats_at [] [] same conn = refl
 seats_at [] (other ∷ two) same conn = absurd (cc)
 seats_at (first ∷ one) [] same conn = absurd (cc)
 seats_at (first ∷ one) (other ∷ two) same zero = cc
 seats_at (first ∷ one) (other ∷ two) same (suc conn) =
-    let rest : map (λ (connection : Connection). connection.seat) one ≡ map
-    (λ (connection : Connection). connection.seat) two = cc in
+    let rest : map seat_of one ≡ map seat_of two = cc in
     seats_at one two rest conn
 
-pub plays_by : (game : ℕ) (one other : Connection) → one.seat ≡ other.seat → plays_in game one ≡ plays_in game other
-plays_by game one other same = ap (λ (seat : Option (ℕ × ℕ)). plays_in game (record unfed { seat = seat })) same
+plays_by_seats : (one two : Stage) → seats_of one ≡ seats_of two → (game conn : ℕ)
+    → plays_in game (connection_at one conn) ≡ plays_in game (connection_at two conn)
+plays_by_seats one two same game conn =
+    ap (λ (own : Option (ℕ × ℕ)). plays_in game (bare own)) (seats_at one.connections two.connections same conn)
 
 -- who plays in the match does so in both
 pub plays_in_both : (game : ℕ) (one two : Stage) → SameBut game one two → (conn : ℕ)
     → plays_in game (connection_at one conn) ≡ plays_in game (connection_at two conn)
-plays_in_both game one two same conn = plays_by game (connection_at one conn) (connection_at two conn)
-    (seats_at one.connections two.connections same.seats conn)
+plays_in_both game one two same conn = plays_by_seats one two same.seats game conn
 
 pub same_back : (game : ℕ) (one two : Stage) → SameBut game one two → SameBut game two one
 same_back game one two same = record {
@@ -75,73 +72,75 @@ same_through game one two three first second = record {
       ∙ second.connections conn (sym (plays_in_both game one two first conn) ∙ elsewhere);
 }
 
--- ---- seats
-
--- a seat that stays, where a connection is put in its place
-seats_stay : (connections : List Connection) (conn : ℕ) (new : Connection)
-    → new.seat ≡ (get_or connections conn unfed).seat →
-    map (λ (connection : Connection). connection.seat) connections ≡ map (λ (connection : Connection). connection.seat)
-    (set connections conn new)
-seats_stay connections conn new same =
-    let seat : Connection → Option (ℕ × ℕ) = λ (connection : Connection). connection.seat in
-    ap (map seat) (sym (set-get_or connections conn unfed))
-    ∙ map-set seat connections conn (get_or connections conn unfed)
-    ∙ ap (λ (own : Option (ℕ × ℕ)). set (map seat connections) conn own) (sym same)
-    ∙ sym (map-set seat connections conn new)
-
-pub seats_shut : (number : ℕ) (game : Game) (connections : List Connection) →
-    map (λ (connection : Connection). connection.seat) connections ≡ map (λ (connection : Connection). connection.seat)
-    (shut_in number game connections)
-seats_shut number game [] = refl
-seats_shut number game (connection ∷ connections) =
-    ap₂ (λ (own : Option (ℕ × ℕ)) (others : List (Option (ℕ × ℕ))). own ∷ others)
-    (sym (seat-shut_if number game connection)) (seats_shut number game connections)
-
-seat_by : (game : ℕ) (own : Option (ℕ × ℕ)) (unfinished : Option (List ℕ)) (queue : List Item) (ended : Bool) →
-    plays_in game (record { seat = own; unfinished = unfinished; queue = queue; ended = ended }) ≡ true → (agent : ℕ)
-    × (own ≡ Some (game, agent))
-seat_by game None unfinished queue ended here = absurd (cc)
-seat_by game (Some seat) unfinished queue ended here =
-    (seat.1, ap (λ (number : ℕ). Some (number, seat.1)) (eqb-true seat.0 game here))
-
 -- who plays in the match has a seat there
+seat_by : (game : ℕ) (own : Option (ℕ × ℕ)) → plays_in game (bare own) ≡ true → (agent : ℕ)
+    × (own ≡ Some (game, agent))
+seat_by game None here = absurd (cc)
+seat_by game (Some seat) here = (seat.1, ap (λ (number : ℕ). Some (number, seat.1)) (eqb-true seat.0 game here))
+
 pub seat_in : (game : ℕ) (connection : Connection) → plays_in game connection ≡ true → (agent : ℕ)
     × (connection.seat ≡ Some (game, agent))
-seat_in game connection here = seat_by game connection.seat connection.unfinished connection.queue connection.ended here
+seat_in game connection here = seat_by game connection.seat here
+
+-- nothing happens but to the match and to who plays in it, and nothing is sent to anyone else
+pub record IsOfMatch (game : ℕ) (stage : Stage) (new : Stepped) : Type 0 where
+  pub same : SameBut game stage new.stage
+  pub outs : (conn : ℕ) → plays_in game (connection_at stage conn) ≡ false → bytes_among conn new.outs ≡ []
+
+nothing_of_match : (game : ℕ) (stage : Stage) → IsOfMatch game stage (nothing stage)
+nothing_of_match game stage = record { same = same_itself game stage; outs = λ conn elsewhere. refl }
 
 -- ---- a move in the match
 
-module _ (stage : Stage) (game conn agent : ℕ) (connection : Connection)
+-- who plays elsewhere is not the one that plays here
+plays_elsewhere : (stage : Stage) (game conn other agent : ℕ) → (connection_at stage conn).seat ≡ Some (game, agent)
+    → plays_in game (connection_at stage other) ≡ false → other ≢ conn
+plays_elsewhere stage game conn other agent seated elsewhere same =
+    let here = eq-eqb game game refl in
+    let there = ap (λ (own : Option (ℕ × ℕ)). plays_in game (bare own)) (sym seated)
+    ∙ ap (λ (place : ℕ). plays_in game (connection_at stage place)) (sym same) ∙ elsewhere in
+    cc
+
+module _ (stage : Stage) (game conn agent : ℕ) (connection : Connection) (before : List ℕ)
     (seated : (connection_at stage conn).seat ≡ Some (game, agent)) where
-  playing_same : SameBut game stage (placed stage conn (plays_turn stage (game, agent) connection)).stage
-  playing_same =
+  playing_of_match : let turn = plays_turn stage (game, agent) connection in
+      IsOfMatch game stage
+      (record { stage = (placed stage conn turn).stage; outs = sent_to conn (before ++ turn.text) })
+  playing_of_match =
       let done = taken (game_at stage game) agent connection.queue in
       let turn = plays_turn stage (game, agent) connection in
       record {
-        keys = refl;
-        count = sym (length-set stage.games game done.game);
-        games = λ other apart. sym (get_or-set_other stage.games game other done.game _ apart);
-        seats = seats_stay stage.connections conn turn.connection
-            (seat_after connection (game, agent) done ∙ sym seated);
-        connections = λ other elsewhere.
-            sym (get_or-set_other stage.connections conn other turn.connection unfed
-            (plays_elsewhere stage game conn other agent seated elsewhere));
+        same = record {
+          keys = refl;
+          count = sym (length-set stage.games game done.game);
+          games = λ other apart. sym (get_or-set_other stage.games game other done.game _ apart);
+          seats = sym (map-set_same seat_of stage.connections conn turn.connection unfed
+              (seat_after connection (game, agent) done ∙ sym seated));
+          connections = λ other elsewhere.
+              sym (get_or-set_other stage.connections conn other turn.connection unfed
+              (plays_elsewhere stage game conn other agent seated elsewhere));
+        };
+        outs = λ other elsewhere. sent_elsewhere other conn (before ++ turn.text)
+            (plays_elsewhere stage game conn other agent seated elsewhere);
       }
 
-  turn_same : connection.seat ≡ Some (game, agent)
-      → SameBut game stage (placed stage conn (turn_of stage conn connection)).stage
-  turn_same own = subst (λ (seat : Option (ℕ × ℕ)). SameBut game stage
-      (placed stage conn (turn_in stage conn connection seat)).stage) (sym own) playing_same
+  turn_of_match : connection.seat ≡ Some (game, agent) → let turn = turn_of stage conn connection in
+      IsOfMatch game stage
+      (record { stage = (placed stage conn turn).stage; outs = sent_to conn (before ++ turn.text) })
+  turn_of_match own =
+      subst (λ (seat : Option (ℕ × ℕ)). let turn = turn_in stage conn connection seat in IsOfMatch game stage
+      (record { stage = (placed stage conn turn).stage; outs = sent_to conn (before ++ turn.text) })) (sym own)
+      playing_of_match
 
-client_same : (stage : Stage) (game conn : ℕ) (connection : Connection) (ended : Bool)
+client_of_match : (game : ℕ) (stage : Stage) (conn : ℕ) (connection : Connection) (ended : Bool)
     → connection.seat ≡ (connection_at stage conn).seat → plays_in game (connection_at stage conn) ≡ true →
-    SameBut game stage (client_step stage conn connection ended).stage
-client_same stage game conn connection ended as_before here =
+    IsOfMatch game stage (client_step stage conn connection ended)
+client_of_match game stage conn connection ended as_before here =
     let seated = seat_in game (connection_at stage conn) here in
-    by_client (λ (done : Stepped). SameBut game stage done.stage) stage conn connection ended (same_itself game stage)
-    (λ within. turn_same stage game conn seated.0 connection seated.1 (as_before ∙ seated.1))
+    by_client (IsOfMatch game stage) stage conn connection ended (λ idle. nothing_of_match game stage)
+    (λ within goes_on. turn_of_match stage game conn seated.0 connection [] seated.1 (as_before ∙ seated.1))
 
--- ---- a draw and a close
+-- ---- a draw, a delivery and a close
 
 game_same : (stage : Stage) (game : ℕ) (new : Game) → SameBut game stage (with_game stage game new)
 game_same stage game new = record {
@@ -152,159 +151,101 @@ game_same stage game new = record {
   connections = λ conn elsewhere. refl;
 }
 
--- a connection's move, by itself
-pub moves_itself : (stage : Stage) (conn : ℕ) → conn < length stage.connections
-    → moves stage conn ≡ placed stage conn (turn_of stage conn (connection_at stage conn))
-moves_itself stage conn within =
-    ap (λ (connections : List Connection). moves (record stage { connections = connections }) conn)
-    (sym (set-get_or stage.connections conn unfed))
-    ∙ moves-placed stage conn (connection_at stage conn) within
-
-arrival_same : (stage : Stage) (game agent : ℕ) (new : Game) (reply : Option Reply) (holder : Option ℕ) →
-    position (has_seat (game, agent)) stage.connections ≡ holder
-    → SameBut game stage (tells_arrival (with_game stage game new) reply holder).stage
-arrival_same stage game agent new None holder is = game_same stage game new
-arrival_same stage game agent new (Some reply) None is = game_same stage game new
-arrival_same stage game agent new (Some reply) (Some conn) is =
-    let found = position-Some (has_seat (game, agent)) stage.connections conn unfed is in
-    let between = with_game stage game new in
-    let seated = seat-has_seat (game, agent) (connection_at stage conn) found.1 in
-    subst (λ (moved : Moved). SameBut game stage moved.stage) (sym (moves_itself between conn found.0))
-    (same_through game stage between (placed between conn (turn_of between conn (connection_at stage conn))).stage
-    (game_same stage game new)
-    (turn_same between game conn agent (connection_at stage conn) seated seated))
-
-delivers_same : (stage : Stage) (game : ℕ) (event : Option Event) → SameBut game stage (delivers stage game event).stage
-delivers_same stage game None = same_itself game stage
-delivers_same stage game (Some (Tell agent command)) = same_itself game stage
-delivers_same stage game (Some Close) = same_itself game stage
-delivers_same stage game (Some (Deliver agent)) =
-    arrival_same stage game agent (played (game_at stage game) (Deliver agent))
-    (reply_to (game_at stage game) (Deliver agent))
-    (position (has_seat (game, agent)) stage.connections) refl
-
-event_same : (stage : Stage) (game : ℕ) (event : Option Event) → SameBut game stage
-    (event_step stage game event).stage
-event_same stage game event = by_event (λ (done : Stepped). SameBut game stage done.stage) stage game event
-    (same_itself game stage) (λ below. delivers_same stage game event)
-
-pub draws_same : (stage : Stage) (game word : ℕ) → SameBut game stage (step stage (Draws game word)).stage
-draws_same stage game word = event_same stage game (drawn (game_at stage game) word)
-
-pub deliveries_same : (stage : Stage) (game agent : ℕ) → SameBut game stage (step stage (Delivers game agent)).stage
-deliveries_same stage game agent = event_same stage game (delivered (game_at stage game) agent)
-
-pub closes_same : (stage : Stage) (game : ℕ) → SameBut game stage (step stage (Closes game)).stage
-closes_same stage game =
-    let old = game_at stage game in
-    let new = played old Close in
-    by_close (λ (done : Stepped). SameBut game stage done.stage) stage game (same_itself game stage)
-    (λ below goes_on. record {
-      keys = refl;
-      count = sym (length-set stage.games game new);
-      games = λ other apart. sym (get_or-set_other stage.games game other new _ apart);
-      seats = seats_shut game old stage.connections;
-      connections = λ conn elsewhere. sym (not_shut game old stage.connections conn elsewhere);
+event_of_match : (game : ℕ) (stage : Stage) (event : Option Event) → IsOfMatch game stage (event_step stage game event)
+event_of_match game stage event =
+    by_event (IsOfMatch game stage) stage game event (nothing_of_match game stage)
+    (λ agent below untold. record { same = game_same stage game _; outs = λ conn elsewhere. refl })
+    (λ agent conn reply below answered within seated.
+    let between = drawn_in stage game agent in
+    let old = connection_at stage conn in
+    let turned = turn_of_match between game conn agent old (text_of reply) seated seated in
+    record {
+      same = same_through game stage between (placed between conn (turn_of between conn old)).stage
+          (game_same stage game _) turned.same;
+      outs = turned.outs;
     })
+
+closes_of_match : (game : ℕ) (stage : Stage) → IsOfMatch game stage (step stage (Closes game))
+closes_of_match game stage =
+    let old = game_at stage game in
+    by_close (IsOfMatch game stage) stage game (nothing_of_match game stage) (λ below goes_on. record {
+      same = record {
+        keys = refl;
+        count = sym (length-set stage.games game (played old Close));
+        games = λ other apart. sym (get_or-set_other stage.games game other (played old Close) _ apart);
+        seats = seats_shut game old stage.connections;
+        connections = λ conn elsewhere. sym (not_shut game old stage.connections conn elsewhere);
+      };
+      outs = λ conn elsewhere. told_elsewhere game old stage.connections conn elsewhere;
+    })
+
+is_of_game : (game : ℕ) (stage : Stage) (new : Stepped) → IsOfMatch game stage new → IsOfGame stage game new
+is_of_game game stage new of_match = record {
+  games = λ other apart. sym (of_match.same.games other apart);
+  connections = λ conn elsewhere. sym (of_match.same.connections conn elsewhere);
+  keys = sym of_match.same.keys;
+  outs = of_match.outs;
+}
+
+pub matches_lemma : MatchesKeepToThemselves
+matches_lemma stage game word agent = (
+  is_of_game game stage _ (event_of_match game stage (drawn (game_at stage game) word)),
+  is_of_game game stage _ (closes_of_match game stage),
+  is_of_game game stage _ (event_of_match game stage (delivered (game_at stage game) agent)),
+)
 
 -- ---- every instruction of the match
 
-pub of_match_same : (game : ℕ) (stage : Stage) (instruction : Instruction) → is_of_match game stage instruction ≡ true
-    → SameBut game stage (step stage instruction).stage
-of_match_same game stage (Feeds conn bytes) here =
-    let old = connection_at stage conn in client_same stage game conn (grown old bytes)
-    old.ended refl here
-of_match_same game stage (EndsInput conn) here =
-    let old = connection_at stage conn in
-    let ending : Connection = record old { unfinished = Some []; queue = old.queue ++ Ends ∷ []; ended = true } in
-    client_same stage game conn ending old.ended refl here
-of_match_same game stage (Draws other word) here =
-    subst (λ (number : ℕ). SameBut number stage (step stage (Draws other word)).stage) (eqb-true other game here)
-    (draws_same stage other word)
-of_match_same game stage (Delivers other agent) here =
-    subst (λ (number : ℕ). SameBut number stage (step stage (Delivers other agent)).stage) (eqb-true other game here)
-    (deliveries_same stage other agent)
-of_match_same game stage (Closes other) here =
-    subst (λ (number : ℕ). SameBut number stage (step stage (Closes other)).stage) (eqb-true other game here)
-    (closes_same stage other)
+pub of_match : (game : ℕ) (stage : Stage) (instruction : Instruction) → is_of_match game stage instruction ≡ true
+    → IsOfMatch game stage (step stage instruction)
+of_match game stage (Feeds conn bytes) here =
+    let old = connection_at stage conn in client_of_match game stage conn (grown old bytes) old.ended refl here
+of_match game stage (EndsInput conn) here =
+    let old = connection_at stage conn in client_of_match game stage conn (ending old) old.ended refl here
+of_match game stage (Draws other word) here =
+    subst (λ (number : ℕ). IsOfMatch number stage (step stage (Draws other word))) (eqb-true other game here)
+    (event_of_match other stage (drawn (game_at stage other) word))
+of_match game stage (Delivers other agent) here =
+    subst (λ (number : ℕ). IsOfMatch number stage (step stage (Delivers other agent))) (eqb-true other game here)
+    (event_of_match other stage (delivered (game_at stage other) agent))
+of_match game stage (Closes other) here =
+    subst (λ (number : ℕ). IsOfMatch number stage (step stage (Closes other))) (eqb-true other game here)
+    (closes_of_match other stage)
 
--- who plays in the match, and who does not
-differs : (game : ℕ) (stage : Stage) (conn other : ℕ) → plays_in game (connection_at stage conn) ≡ true
-    → plays_in game (connection_at stage other) ≡ false → other ≢ conn
-differs game stage conn other here elsewhere same =
-    let there : plays_in game (connection_at stage conn) ≡ false =
-    ap (λ (number : ℕ). plays_in game (connection_at stage number)) (sym same) ∙ elsewhere in
-    absurd (cc)
+-- ---- who doesn't play in the match after an instruction didn't before
 
--- and it is not heard elsewhere
-pub of_match_unheard : (game : ℕ) (stage : Stage) (instruction : Instruction)
-    → is_of_match game stage instruction ≡ true →
-    (conn : ℕ) → plays_in game (connection_at stage conn) ≡ false → bytes_among conn (step stage instruction).outs ≡ []
-of_match_unheard game stage (Feeds other bytes) here conn elsewhere =
-    (clients_lemma stage other bytes).0.outs conn (differs game stage other conn here elsewhere)
-of_match_unheard game stage (EndsInput other) here conn elsewhere =
-    (clients_lemma stage other []).1.outs conn (differs game stage other conn here elsewhere)
-of_match_unheard game stage (Draws other word) here conn elsewhere =
-    (matches_lemma stage other word 0).0.outs conn
-    (ap (λ (number : ℕ). plays_in number (connection_at stage conn)) (eqb-true other game here) ∙ elsewhere)
-of_match_unheard game stage (Delivers other agent) here conn elsewhere =
-    (matches_lemma stage other 0 agent).2.outs conn
-    (ap (λ (number : ℕ). plays_in number (connection_at stage conn)) (eqb-true other game here) ∙ elsewhere)
-of_match_unheard game stage (Closes other) here conn elsewhere =
-    (matches_lemma stage other 0 0).1.outs conn
-    (ap (λ (number : ℕ). plays_in number (connection_at stage conn)) (eqb-true other game here) ∙ elsewhere)
+client_before : (game : ℕ) (stage : Stage) (mover conn : ℕ) (new : Stepped) → IsOfConnection stage mover new →
+    (plays_in game (connection_at stage mover) ≡ true → IsOfMatch game stage new) →
+    plays_in game (connection_at new.stage conn) ≡ false → plays_in game (connection_at stage conn) ≡ false
+client_before game stage mover conn new of_one of_its elsewhere =
+    by_same conn mover
+    (λ is. by_bool (plays_in game (connection_at stage conn))
+    (λ (here : Bool). plays_in game (connection_at stage conn) ≡ false)
+    (λ here. plays_in_both game stage new.stage
+    (of_its (ap (λ (place : ℕ). plays_in game (connection_at stage place)) (sym is) ∙ here)).same conn ∙ elsewhere)
+    (λ away. away))
+    (λ apart. ap (plays_in game) (sym (of_one.connections conn apart)) ∙ elsewhere)
 
--- ---- who plays goes on to play
-
-seated_one : (stage : Stage) (conn : ℕ) (own : Option (ℕ × ℕ)) → (connection_at stage conn).seat ≡ own → (new : Stepped)
-    → IsOfConnection stage conn new →
-    ((game : ℕ) → plays_in game (connection_at stage conn) ≡ true → SameBut game stage new.stage) →
-    (other : ℕ) (seat : ℕ × ℕ) → (connection_at stage other).seat ≡ Some seat
-    → (connection_at new.stage other).seat ≡ Some seat
-seated_one stage conn None outside new of_one same other seat seated =
-    let apart : other ≢ conn = λ is. let mine = ap (λ (number : ℕ). (connection_at stage number).seat)
-    is in absurd (cc) in
-    ap (λ (one : Connection). one.seat) (of_one.connections other apart) ∙ seated
-seated_one stage conn (Some own) inside new of_one same other seat seated =
-    let here : plays_in own.0 (connection_at stage conn) ≡ true =
-    ap (λ (one : Option (ℕ × ℕ)). plays_in own.0 (record unfed { seat = one })) inside ∙ eq-eqb own.0 own.0 refl in
-    sym (seats_at stage.connections new.stage.connections (same own.0 here).seats other) ∙ seated
-
-pub stays_seated : (stage : Stage) (instruction : Instruction) (conn : ℕ) (seat : ℕ × ℕ)
-    → (connection_at stage conn).seat ≡ Some seat →
-    (connection_at (step stage instruction).stage conn).seat ≡ Some seat
-stays_seated stage (Feeds other bytes) conn seat seated =
-    seated_one stage other (connection_at stage other).seat refl (step stage (Feeds other bytes))
-    (clients_lemma stage other bytes).0
-    (λ game here. of_match_same game stage (Feeds other bytes) here) conn seat seated
-stays_seated stage (EndsInput other) conn seat seated =
-    seated_one stage other (connection_at stage other).seat refl (step stage (EndsInput other))
-    (clients_lemma stage other []).1
-    (λ game here. of_match_same game stage (EndsInput other) here) conn seat seated
-stays_seated stage (Draws game word) conn seat seated =
-    sym (seats_at stage.connections (step stage (Draws game word)).stage.connections
-    (draws_same stage game word).seats conn) ∙ seated
-stays_seated stage (Delivers game agent) conn seat seated =
-    sym (seats_at stage.connections (step stage (Delivers game agent)).stage.connections
-    (deliveries_same stage game agent).seats conn) ∙ seated
-stays_seated stage (Closes game) conn seat seated =
-    sym (seats_at stage.connections (step stage (Closes game)).stage.connections (closes_same stage game).seats conn)
-    ∙ seated
-
--- so who does not play in the match afterwards did not before
 pub elsewhere_before : (game : ℕ) (stage : Stage) (instruction : Instruction) (conn : ℕ) →
     plays_in game (connection_at (step stage instruction).stage conn) ≡ false
     → plays_in game (connection_at stage conn) ≡ false
-elsewhere_before game stage instruction conn elsewhere =
-    by_bool (plays_in game (connection_at stage conn)) (λ (is : Bool). plays_in game (connection_at stage conn) ≡ is
-    → plays_in game (connection_at stage conn) ≡ false)
-    (λ first here.
-    let seated = seat_in game (connection_at stage conn) here in
-    let still = stays_seated stage instruction conn (game, seated.0) seated.1 in
-    let there : plays_in game (connection_at (step stage instruction).stage conn) ≡ true =
-    ap (λ (one : Option (ℕ × ℕ)). plays_in game (record unfed { seat = one })) still ∙ eq-eqb game game refl in
-    absurd (cc))
-    (λ first away. away) refl
+elsewhere_before game stage (Feeds mover bytes) conn elsewhere =
+    client_before game stage mover conn _ (clients_lemma stage mover bytes).0 (of_match game stage (Feeds mover bytes))
+    elsewhere
+elsewhere_before game stage (EndsInput mover) conn elsewhere =
+    client_before game stage mover conn _ (clients_lemma stage mover []).1 (of_match game stage (EndsInput mover))
+    elsewhere
+elsewhere_before game stage (Draws number word) conn elsewhere =
+    plays_by_seats stage (step stage (Draws number word)).stage
+    (event_of_match number stage (drawn (game_at stage number) word)).same.seats game conn
+    ∙ elsewhere
+elsewhere_before game stage (Delivers number agent) conn elsewhere =
+    plays_by_seats stage (step stage (Delivers number agent)).stage
+    (event_of_match number stage (delivered (game_at stage number) agent)).same.seats game conn
+    ∙ elsewhere
+elsewhere_before game stage (Closes number) conn elsewhere =
+    plays_by_seats stage (step stage (Closes number)).stage
+    (closes_of_match number stage).same.seats game conn ∙ elsewhere
 
 pub elsewhere_at_first : (game : ℕ) (stage : Stage) (script : List Instruction) (conn : ℕ) →
     plays_in game (connection_at (stands_after stage script) conn) ≡ false

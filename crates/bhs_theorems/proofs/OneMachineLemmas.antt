@@ -1,20 +1,18 @@
 -- A phase awaits news exactly if the agent is on a link, and so the machine of a session takes what a rehearsal
 -- takes.
-use Rattle.std.proofs.Common.{◌≡◌, ◌∙◌, ℕ, ◌⊎◌, inl, inr, Bool, true, false, cond, not, ◌&&◌, nat_lt, bytes_eq, nat_le}
-use Rattle.std.proofs.Common.{length, Option, Some, None, List, [], ◌∷◌, ◌++◌, refl, sym, ap, ap₂, subst, append-nil}
+use Rattle.std.proofs.Common.{◌≡◌, ◌∙◌, ℕ, ◌⊎◌, inl, inr, Bool, true, false, cond, not, ◌&&◌, nat_lt, Option, Some}
+use Rattle.std.proofs.Common.{None, List, [], ◌∷◌, ◌++◌, refl, sym, ap, subst, append-nil, ◌≢◌, arith}
 use Rattle.std.proofs.lemmas.Bool.{and_parts}
 use Rattle.bhs_model.specs.declared.commands.Command.{Command}
-use Rattle.bhs_model.specs.declared.commands.Command.TheVariants.{Enter, Look, Write, Depart, Accuse, Leave, Bad}
 use Rattle.bhs_model.specs.declared.events.Event.TheVariants.{Tell}
 use Rattle.bhs_model.specs.declared.replies.Reply.{Reply}
 use Rattle.bhs_model.specs.declared.replies.Reply.TheVariants as replies
 use Rattle.bhs_model.specs.declared.replies.Why.{Why}
 use Rattle.bhs_model.specs.declared.replies.Why.TheVariants as whys
-use Rattle.bhs_model.specs.Views.{View, Sight, Seen, Standing, Outside, Present, Ended, standing, ports, used}
+use Rattle.bhs_model.specs.Views.{View, Sight, Seen, Standing, Ended, standing, ports, used}
 use Rattle.bhs_model.specs.Replying.{accepts, answer, here, rep, text, refusal, hears}
 use Rattle.bhs_model.specs.Worlds.{World}
-use Rattle.bhs_model.specs.Runs.{Position, Before, At, Bound, After, State, arrives, glance, position_after, heard}
-use Rattle.bhs_model.specs.Runs.{is_bound, next}
+use Rattle.bhs_model.specs.Runs.{Position, State, arrives, glance, position_after, heard, is_bound, next}
 use Rattle.bhs_model.proofs.StepLemmas.{by_cases, changed_same, next_heard, next_unheard, answered_by_past}
 use Rattle.bhs_model.proofs.StepLemmas.{no_arrival_no_reply}
 use Rattle.bhs_wire.specs.Lines.{Line, said_by}
@@ -29,9 +27,11 @@ use Rattle.bhs_theorems.specs.OneMachine.{Ran, heard_of, rests, runs, phase_in, 
 use Rattle.bhs_theorems.specs.OneMachine.{IsNews, ArrivalsAreNews, HeardFirst}
 use Rattle.bhs_theorems.proofs.CuttingLemmas.{behind}
 use Rattle.bhs_rehearsal.proofs.TakeLemmas.{takes_line, takes_end, takes_none}
-use Rattle.bhs_theorems.proofs.SlowGameLemmas.{state_of-played}
-use Rattle.bhs_theorems.proofs.FitLemmas.{FitsHere, fits_here}
+use Rattle.bhs_theorems.proofs.AwayLemmas.{state_of-played}
+use Rattle.bhs_theorems.proofs.FitLemmas.{FitsHere, fits_here, here_stands}
 use Rattle.bhs_theorems.proofs.MetDrawLemmas.{arrival, away_arrives, arrived_here}
+use Rattle.bhs_theorems.proofs.AnsweredLemmas.{Fits, heard_fits}
+use Rattle.bhs_theorems.proofs.EventLemmas.{takes_here, stays_here}
 
 -- with a text before what the machine sends
 abbrev then_ran : List ℕ → Ran → Ran
@@ -42,67 +42,11 @@ then_ran text ran = record ran { text = text ++ ran.text }
 abbrev pub waits_after : Reply → Bool
 waits_after reply = awaits (answered_by true reply)
 
-write_waits : (fits same : Bool) (shown : List ℕ)
-    → waits_after (cond fits (cond same replies.Written (replies.Changed shown)) (replies.No whys.Long)) ≡ false
-write_waits true true shown = refl
-write_waits true false shown = refl
-write_waits false same shown = refl
-
-depart_ties : (is_port : Bool) (node port : ℕ) (came : Option ℕ)
-    → waits_after (cond is_port replies.Gone (replies.No whys.Port)) ≡ is_bound
-    (cond is_port (Bound node port) (At node came))
-depart_ties true node port came = refl
-depart_ties false node port came = refl
-
-accuse_ties : (is_port : Bool) (node : ℕ) (came : Option ℕ)
-    → waits_after (cond is_port replies.Noted (replies.No whys.Port)) ≡ is_bound (cond is_port After (At node came))
-accuse_ties true node came = refl
-accuse_ties false node came = refl
-
-present_ties : (world : World) (state : State) (limit node : ℕ) (came : Option ℕ) (command : Command) →
-    waits_after (answer limit Present (world.net.degree node) command
-    (glance world state (At node came) command)) ≡ is_bound (position_after world (At node came) command)
-present_ties world state limit node came Enter = refl
-present_ties world state limit node came Look = refl
-present_ties world state limit node came (Write expect put) =
-    write_waits (nat_le (length put) limit) (bytes_eq (text limit (state.last_write node)) expect)
-    (text limit (state.last_write node))
-present_ties world state limit node came (Depart port) =
-    depart_ties (nat_lt port (world.net.degree node)) node port came
-present_ties world state limit node came (Accuse port) = accuse_ties (nat_lt port (world.net.degree node)) node came
-present_ties world state limit node came Leave = refl
-present_ties world state limit node came Bad = refl
-
--- a command that is not heard in a standing is not heard
-unheard : (standing stands : Standing) (room : Bool) (command : Command) (P : Type 0) →
-    standing ≡ stands → accepts standing room command ≡ true → accepts stands room command ≡ false → P
-unheard standing stands room command P is_so is_heard not_heard =
-    let both : true ≡ false = sym (ap (λ (one : Standing). accepts one room command) (sym is_so) ∙ is_heard)
-    ∙ not_heard in absurd cc
-
-heard_ties : (world : World) (state : State) (view : View) (position : Position) (limit : ℕ) (room : Bool)
-    (command : Command) →
-    accepts (standing view) room command ≡ true → FitsHere world view position → is_bound position ≡ false →
-    waits_after (answer limit (standing view) (ports view) command (glance world state position command)) ≡ is_bound
-    (position_after world position command)
-heard_ties world state view Before limit room Enter may_it fits at =
-    ap (λ (stands : Standing). waits_after (answer limit stands (ports view) Enter (glance world state Before Enter)))
-    fits
-heard_ties world state view Before limit room Leave may_it fits at = refl
-heard_ties world state view Before limit room Look may_it fits at = unheard _ Outside room Look _ fits may_it refl
-heard_ties world state view Before limit room (Write expect put) may_it fits at =
-    unheard _ Outside room (Write expect put) _ fits may_it refl
-heard_ties world state view Before limit room (Depart port) may_it fits at =
-    unheard _ Outside room (Depart port) _ fits may_it refl
-heard_ties world state view Before limit room (Accuse port) may_it fits at =
-    unheard _ Outside room (Accuse port) _ fits may_it refl
-heard_ties world state view Before limit room Bad may_it fits at = unheard _ Outside room Bad _ fits may_it refl
-heard_ties world state view (At node came) limit room command may_it fits at =
-    ap₂ (λ (stands : Standing) (count : ℕ). waits_after
-    (answer limit stands count command (glance world state (At node came) command))) fits.0 fits.1
-    ∙ present_ties world state limit node came command
-heard_ties world state view (Bound node port) limit room command may_it fits at = absurd (cc)
-heard_ties world state view After limit room command may_it fits at = unheard _ Ended room command _ fits may_it refl
+-- a phase that fits what an agent is doing, where who is at its end is on no link
+phase_ties : (phase : Phase) (world : World) (view : View) (position : Position) → Fits phase (standing view)
+    → (is_finished phase ≡ true → is_bound position ≡ false) → FitsHere world view position →
+    awaits phase ≡ is_bound position
+phase_ties phase world view position fits last fits_there = grind arith
 
 -- a command of an agent that is on no link: it is answered, and it is on a link then exactly if the phase awaits
 pub record Ties (game : Game) (agent : ℕ) (command : Command) : Type 0 where
@@ -124,20 +68,32 @@ ties game agent command at =
     let world = world_in game in
     let state = state_of game in
     let view = state.past agent in
+    let next_game = played game (Tell agent command) in
     let stands = state_of-played game (Tell agent command) in
     by_cases (heard world state agent command) (Ties game agent command)
     (λ is_heard.
     let allowed = (and_parts (not state.closed) _ (and_parts (nat_lt agent world.agents) _ is_heard).1).1 in
     let seen = glance world state (state.position agent) command in
+    let reply = answer world.board (standing view) (ports view) command seen in
+    let heard_state = stands ∙ next_heard world state agent command is_heard in
+    let lives : standing view ≢ Ended = λ ended.
+    let deaf = ap (λ (stands : Standing). accepts stands (nat_lt (used view) world.quota) command) ended in cc in
+    let takes = takes_here (standing view) (here_stands world view (state.position agent) (fits_here game agent) at)
+    lives in
     record {
-      reply = answer world.board (standing view) (ports view) command seen;
+      reply = reply;
       replied_is = answered_by_past world state agent command is_heard ∙ ap (λ (past : View). rep world.board past)
           (changed_same state.past agent _);
-      waits = heard_ties world state view (state.position agent) world.board (nat_lt (used view) world.quota) command
-          allowed (fits_here game agent) at
-          ∙ sym (ap is_bound (changed_same state.position agent (position_after world (state.position agent) command)))
-          ∙ sym (ap (λ (after : State). is_bound (after.position agent))
-          (stands ∙ next_heard world state agent command is_heard));
+      waits = phase_ties (answered_by true reply) (world_in next_game) ((state_of next_game).past agent)
+          ((state_of next_game).position agent)
+          (subst (λ (past : View). Fits (answered_by true reply) (standing past))
+          (sym (ap (λ (after : State). after.past agent) heard_state ∙ changed_same state.past agent _))
+          (heard_fits world.board (standing view) (nat_lt (used view) world.quota) (ports view) command seen takes
+          allowed))
+          (λ is_last. ap (λ (after : State). is_bound (after.position agent)) heard_state
+          ∙ ap is_bound (changed_same state.position agent (position_after world (state.position agent) command))
+          ∙ stays_here world world.board (standing view) (ports view) seen (state.position agent) command is_last at)
+          (fits_here next_game agent);
     })
     (λ not_heard.
     let none = unheard_reply (nat_lt agent world.agents) state.closed (hears world.quota view command)
@@ -157,21 +113,11 @@ abbrev Plays : Phase → Type 0
 Plays phase = (phase ≡ Ready) ⊎ (phase ≡ Awaits)
 
 waiting_plays : (reply : Reply) → Plays (waiting true reply)
-waiting_plays replies.Gone = inr refl
-waiting_plays replies.Bye = inl refl
-waiting_plays replies.Noted = inl refl
-waiting_plays replies.Over = inl refl
-waiting_plays (replies.Here ports came board) = inl refl
-waiting_plays replies.Written = inl refl
-waiting_plays (replies.Changed board) = inl refl
-waiting_plays (replies.No why) = inl refl
+waiting_plays reply = grind arith
 
 -- such a phase is the one of its agent where it awaits what its agent does
 phase_is : (away : Bool) (phase : Phase) → Plays phase → awaits phase ≡ away → phase ≡ (cond away Awaits Ready)
-phase_is true phase (inl is) waits = absurd (let never = ap awaits is in cc)
-phase_is true phase (inr is) waits = is
-phase_is false phase (inl is) waits = is
-phase_is false phase (inr is) waits = absurd (let never = ap awaits is in cc)
+phase_is away phase plays waits = grind arith
 
 abbrev TakesAlike : Game → (agent : ℕ) → List Item → Phase → Type 0
 TakesAlike game agent items phase = Plays phase → awaits phase ≡ is_away game agent

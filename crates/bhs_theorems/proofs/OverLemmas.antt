@@ -1,7 +1,7 @@
 -- What is sent of the close.
-use Rattle.std.proofs.Common.{◌≡◌, ◌≢◌, Bool, true, false, List, [], ◌∷◌, ◌++◌, map, refl, ap}
+use Rattle.std.proofs.Common.{◌≡◌, ◌≢◌, Bool, true, false, List, [], ◌∷◌, ◌++◌, map, refl, ap, arith}
 use Rattle.bhs_model.specs.declared.replies.Reply.TheVariants.{Over}
-use Rattle.bhs_model.specs.Views.{Standing, Outside, Present, Away, Ended}
+use Rattle.bhs_model.specs.Views.{Standing, Away, Ended}
 use Rattle.bhs_wire.specs.Lines.{Line}
 use Rattle.bhs_session.specs.Texts.{text_of}
 use Rattle.bhs_theorems.specs.Met.{takes_commands}
@@ -16,38 +16,22 @@ over_away stands untaken away = ap (λ (stands : Standing). over_text true stand
 -- any other that has not ended at its next line
 pub over_next : (stands : Standing) (line : Line) (untaken : List Line) → stands ≢ Ended
     → over_text true stands (line ∷ untaken) ≡ text_of Over
-over_next Outside line untaken lives = refl
-over_next Present line untaken lives = refl
-over_next Away line untaken lives = refl
-over_next Ended line untaken lives = absurd (lives refl)
+over_next standing line untaken lives = grind arith
 
 -- without a line nobody but an agent on a link
 pub over_none : (closed : Bool) (stands : Standing) → stands ≢ Away → over_text closed stands [] ≡ []
-over_none false stands here = refl
-over_none true Outside here = refl
-over_none true Present here = refl
-over_none true Away here = absurd (here refl)
-over_none true Ended here = refl
+over_none closed standing here = grind arith
 
 -- who takes no commands and is on no link has ended
 pub over_ended : (stands : Standing) (untaken : List Line) → takes_commands stands ≡ false → stands ≢ Away
     → over_text true stands untaken ≡ []
-over_ended Outside untaken takes here = absurd (cc)
-over_ended Present untaken takes here = absurd (cc)
-over_ended Away untaken takes here = absurd (here refl)
-over_ended Ended untaken takes here = refl
+over_ended standing untaken ended here = grind arith
 
 -- more lines change nothing, where there is a line or none is awaited
 pub over_same : (closed : Bool) (stands : Standing) (untaken more : List Line)
     → (untaken ≡ [] → takes_commands stands ≡ true → ⊥) →
     over_text closed stands (untaken ++ more) ≡ over_text closed stands untaken
-over_same false stands untaken more none = refl
-over_same true Away untaken more none = refl
-over_same true Ended untaken more none = refl
-over_same true Outside [] more none = absurd (none refl refl)
-over_same true Outside (line ∷ untaken) more none = refl
-over_same true Present [] more none = absurd (none refl refl)
-over_same true Present (line ∷ untaken) more none = refl
+over_same closed stands untaken more none = grind arith
 
 pub nothing_first : (lines more : List Line) → lines ++ more ≡ [] → lines ≡ []
 nothing_first [] more none = refl

@@ -1,14 +1,13 @@
 -- Settled stages, and what keeps a stage settled.
-use Rattle.std.proofs.Common.{◌≡◌, ◌≢◌, ◌∙◌, ℕ, ◌<◌, Bool, true, false, ◌&&◌, cond, nat_lt, ◌==◌, Option, Some, None}
+use Rattle.std.proofs.Common.{inl, inr, ◌≡◌, ◌≢◌, ◌∙◌, ℕ, ◌<◌, Bool, true, false, ◌&&◌, nat_lt, Option, Some, None}
 use Rattle.std.proofs.Common.{List, [], ◌∷◌, length, set, get_or, refl, sym, ap, ap₂, subst}
 use Rattle.std.specs.List.{list_any}
-use Rattle.std.proofs.lemmas.Bool.{ltb-true, ltb-false, eqb-true, eqb-false, eq-eqb}
+use Rattle.std.proofs.lemmas.Bool.{cond_both, eq-eqb, cases_lt}
 use Rattle.std.proofs.lemmas.List.{set-get_or, get_or_past, get_or-set_same, get_or-set_other}
 use Rattle.std.proofs.lemmas.List.Folds.{list_any_at}
 use Rattle.bhs_wire.specs.Lines.{said_by}
 use Rattle.bhs_wire.specs.declared.commands.First.{First}
 use Rattle.bhs_wire.specs.declared.commands.First.TheVariants as firsts
-use Rattle.bhs_wire.specs.declared.denials.Denial.TheVariants as denials
 use Rattle.bhs_lineup.specs.KeyTable.{seat_at}
 use Rattle.bhs_session.specs.Texts.{denial_text}
 use Rattle.bhs_rehearsal.specs.Games.{Game, is_away}
@@ -17,34 +16,29 @@ use Rattle.bhs_rehearsal.specs.Stages.{Stage, game_at, connection_at, with_game,
 use Rattle.bhs_rehearsal.specs.Stages.{Waits, Sits, IsDenied, Goes, let_in, entry_by, entry, Moved, plays, enters}
 use Rattle.bhs_rehearsal.specs.Stages.{moves_in}
 use Rattle.bhs_theorems.specs.ScriptLaws.{awaits_arrival, IsSettled, SettledConnectionsRest}
-use Rattle.bhs_theorems.proofs.CuttingLemmas.{by_bool}
+use Rattle.bhs_theorems.proofs.CuttingLemmas.{by_same}
 use Rattle.bhs_theorems.proofs.TurnLemmas.{Turn, placed, plays_turn, enters_turn, turn_in, turn_of, played_at}
-use Rattle.bhs_theorems.proofs.AwayLemmas.{away-taken, taken_up, taken_rests}
+use Rattle.bhs_theorems.proofs.TurnLemmas.{bare, seat_after}
+use Rattle.bhs_theorems.proofs.AwayLemmas.{taken_alike, taken_up, taken_rests}
+use Rattle.bhs_model.proofs.LegalLemmas.{either}
 
 -- ---- who awaits an arrival
 
 -- in a stage with another match in a place, who plays there awaits as that match says, and the others as before
-awaits_by : (stage : Stage) (game : ℕ) (new : Game) (connections : List Connection) (own : Option (ℕ × ℕ))
-    (unfinished : Option (List ℕ)) (queue : List Item) (ended : Bool) →
-    let connection : Connection = record { seat = own; unfinished = unfinished; queue = queue; ended = ended } in
+awaits_by : (stage : Stage) (game : ℕ) (new : Game) (connections : List Connection) (own : Option (ℕ × ℕ)) →
     game_at (with_game stage game new) game ≡ new →
     ((agent : ℕ) → own ≡ Some (game, agent) → is_away new agent ≡ is_away (game_at stage game) agent) →
-    awaits_arrival (record (with_game stage game new) { connections = connections }) connection ≡ awaits_arrival
-    stage connection
-awaits_by stage game new connections None unfinished queue ended found same = refl
-awaits_by stage game new connections (Some own) unfinished queue ended found same =
-    by_bool (own.0 == game)
-    (λ (is : Bool). (own.0 == game) ≡ is → is_away (game_at (with_game stage game new) own.0) own.1 ≡ is_away
-    (game_at stage own.0) own.1)
-    (λ first here.
-    let is : own.0 ≡ game = eqb-true own.0 game here in
+    awaits_arrival (record (with_game stage game new) { connections = connections }) (bare own) ≡ awaits_arrival stage
+    (bare own)
+awaits_by stage game new connections None found same = refl
+awaits_by stage game new connections (Some own) found same =
+    by_same own.0 game
+    (λ is.
     ap (λ (number : ℕ). is_away (game_at (with_game stage game new) number) own.1) is
     ∙ ap (λ (one : Game). is_away one own.1) found
     ∙ same own.1 (ap (λ (number : ℕ). Some (number, own.1)) is)
     ∙ ap (λ (number : ℕ). is_away (game_at stage number) own.1) (sym is))
-    (λ first elsewhere. ap (λ (one : Game). is_away one own.1)
-    (get_or-set_other stage.games game own.0 new _ (eqb-false own.0 game elsewhere)))
-    refl
+    (λ apart. ap (λ (one : Game). is_away one own.1) (get_or-set_other stage.games game own.0 new _ apart))
 
 pub awaits_kept : (stage : Stage) (game : ℕ) (new : Game) (connections : List Connection) (connection : Connection) →
     game_at (with_game stage game new) game ≡ new →
@@ -52,8 +46,7 @@ pub awaits_kept : (stage : Stage) (game : ℕ) (new : Game) (connections : List 
     awaits_arrival (record (with_game stage game new) { connections = connections }) connection ≡ awaits_arrival
     stage connection
 awaits_kept stage game new connections connection found same =
-    awaits_by stage game new connections connection.seat connection.unfinished connection.queue
-    connection.ended found same
+    awaits_by stage game new connections connection.seat found same
 
 -- ---- one connection in its place
 
@@ -62,17 +55,13 @@ placed_each : (P : ℕ → Connection → Type 0) (connections : List Connection
     ((other : ℕ) → other ≢ conn → P other (get_or connections other unfed)) → (other : ℕ)
     → P other (get_or (set connections conn new) other unfed)
 placed_each P connections conn new within mine others other =
-    by_bool (other == conn) (λ (is : Bool). (other == conn) ≡ is
-    → P other (get_or (set connections conn new) other unfed))
-    (λ first same.
-    let is : other ≡ conn = eqb-true other conn same in
+    by_same other conn
+    (λ is.
     subst (λ (number : ℕ). P number (get_or (set connections conn new) number unfed)) (sym is)
     (subst (λ (one : Connection). P conn one) (sym (get_or-set_same connections conn new unfed within)) mine))
-    (λ first differs.
-    let apart : other ≢ conn = eqb-false other conn differs in
+    (λ apart.
     subst (λ (one : Connection). P other one) (sym (get_or-set_other connections conn other new unfed apart))
     (others other apart))
-    refl
 
 -- the stage is settled but for a connection
 pub record SettledBut (stage : Stage) (conn : ℕ) : Type 0 where
@@ -114,26 +103,6 @@ placed_settles stage conn turn within but own_taken same alone =
 
 -- ---- a turn
 
--- the connection after its items were taken
-own_taken_up : (stage : Stage) (connections : List Connection) (seat : ℕ × ℕ) (connection : Connection) (game : Game)
-    (is_done : Bool) (left : List Item) (text : List ℕ) →
-    let done : Taken = record { game = game; is_done = is_done; left = left; text = text } in
-    let new = after (record connection { seat = Some seat }) done in
-    game_at (with_game stage seat.0 game) seat.0 ≡ game →
-    (is_done ≡ false → is_away game seat.1 ≡ false → left ≡ []) →
-    awaits_arrival (record (with_game stage seat.0 game) { connections = connections }) new ≡ false → new.queue ≡ []
-own_taken_up stage connections seat connection game true left text found up stays = refl
-own_taken_up stage connections seat connection game false left text found up stays =
-    up refl (ap (λ (one : Game). is_away one seat.1) (sym found) ∙ stays)
-
-pub seat_after : (connection : Connection) (seat : ℕ × ℕ) (done : Taken)
-    → (after (record connection { seat = Some seat }) done).seat ≡ Some seat
-seat_after connection seat done =
-    by_bool done.is_done
-    (λ (is_done : Bool). (cond is_done (shut (record connection { seat = Some seat }))
-    (record connection { seat = Some seat; queue = done.left })).seat ≡ Some seat)
-    (λ is. refl) (λ goes_on. refl)
-
 module _ (stage : Stage) (conn : ℕ) (connection : Connection) (within : conn < length stage.connections)
     (but : SettledBut stage conn) where
   plays_settles : (seat : ℕ × ℕ) → IsAlone stage conn (Some seat)
@@ -144,11 +113,13 @@ module _ (stage : Stage) (conn : ℕ) (connection : Connection) (within : conn <
       let found = played_at stage seat connection.queue in
       let new = (placed stage conn turn).stage in
       placed_settles stage conn turn within but
-      (own_taken_up stage new.connections seat connection done.game done.is_done done.left done.text found
-      (taken_up (game_at stage seat.0) seat.1 connection.queue))
+      (cond_both done.is_done _ _ (λ (one : Connection). awaits_arrival new one ≡ false → one.queue ≡ [])
+      (λ is_done stays. refl)
+      (λ goes_on stays. taken_up (game_at stage seat.0) seat.1 connection.queue goes_on
+      (ap (λ (one : Game). is_away one seat.1) (sym found) ∙ stays)))
       (λ other apart. awaits_kept stage seat.0 done.game new.connections (connection_at stage other) found
-      (λ agent theirs. away-taken (game_at stage seat.0) seat.1 connection.queue agent
-      (λ same. alone other apart seat refl (theirs ∙ ap (λ (number : ℕ). Some (seat.0, number)) same))))
+      (λ agent theirs. (taken_alike (game_at stage seat.0) seat.1 connection.queue agent
+      (λ same. alone other apart seat refl (theirs ∙ ap (λ (number : ℕ). Some (seat.0, number)) same))).away))
       (λ other apart own mine theirs. alone other apart own (sym (seat_after connection seat done) ∙ mine) theirs)
 
   -- a connection that is not let in, and takes or waits for nothing
@@ -161,98 +132,77 @@ module _ (stage : Stage) (conn : ℕ) (connection : Connection) (within : conn <
 
 -- ---- an entry
 
-never_waits : (stage : Stage) (seat : Option (ℕ × ℕ)) → let_in stage seat ≡ Waits → ⊥
-never_waits stage None is = cc
-never_waits stage (Some seat) is =
-    by_bool (nat_lt seat.0 (length stage.games))
-    (λ (below : Bool). cond below (cond (list_any (has_seat seat) stage.connections) (IsDenied denials.Taken)
-    (Sits seat)) (IsDenied denials.Key) ≡ Waits → ⊥)
-    (λ below. by_bool (list_any (has_seat seat) stage.connections)
-    (λ (used : Bool). cond used (IsDenied denials.Taken) (Sits seat) ≡ Waits → ⊥)
-    (λ used same. cc) (λ unused same. cc)) (λ past same. cc) is
-
-waits_by_first : (stage : Stage) (first : First) → entry_by stage first ≡ Waits → ⊥
-waits_by_first stage (firsts.Enter key) is = never_waits stage (seat_at key stage.keys) is
-waits_by_first stage (firsts.Tell command) is = cc
-
-waits_for_more : (stage : Stage) (items : List Item) → entry stage items ≡ Waits → items ≡ []
-waits_for_more stage [] is = refl
-waits_for_more stage (Says line ∷ items) is = absurd (waits_by_first stage (said_by line) is)
-waits_for_more stage (Ends ∷ items) is = absurd (cc)
-
 -- who is let in plays what nobody played
 abbrev IsFree : Stage → (seat : ℕ × ℕ) → Type 0
 IsFree stage seat = list_any (has_seat seat) stage.connections ≡ false
 
-let_in_free : (stage : Stage) (other : Option (ℕ × ℕ)) (seat : ℕ × ℕ) → let_in stage other ≡ Sits seat
-    → IsFree stage seat
-let_in_free stage None seat is = absurd (cc)
-let_in_free stage (Some other) seat is =
-    by_bool (nat_lt other.0 (length stage.games))
-    (λ (below : Bool). cond below (cond (list_any (has_seat other) stage.connections) (IsDenied denials.Taken)
-    (Sits other)) (IsDenied denials.Key) ≡ Sits seat → IsFree stage seat)
-    (λ below. by_bool (list_any (has_seat other) stage.connections)
-    (λ (used : Bool). list_any (has_seat other) stage.connections ≡ used
-    → cond used (IsDenied denials.Taken) (Sits other) ≡ Sits seat → IsFree stage seat)
-    (λ first used same. absurd (cc))
-    (λ first unused same. let is_it : other ≡ seat = cc in subst (λ (one : ℕ × ℕ). IsFree stage one) is_it unused) refl)
-    (λ past same. absurd (cc)) is
+-- what an entry says: one that waits has no items
+abbrev EntrySays : Stage → List Item → Entry → Type 0
+EntrySays stage items Waits = items ≡ []
+EntrySays stage items (Sits seat) = IsFree stage seat
+EntrySays stage items how = Unit {0}
 
-sits_by_first : (stage : Stage) (first : First) (seat : ℕ × ℕ) → entry_by stage first ≡ Sits seat → IsFree stage seat
-sits_by_first stage (firsts.Enter key) seat is = let_in_free stage (seat_at key stage.keys) seat is
-sits_by_first stage (firsts.Tell command) seat is = absurd (cc)
+let_in_says : (stage : Stage) (items : List Item) (seat : Option (ℕ × ℕ)) → EntrySays stage items (let_in stage seat)
+let_in_says stage items None = tt
+let_in_says stage items (Some seat) =
+    either (EntrySays stage items) (nat_lt seat.0 (length stage.games)) _ _
+    (cond_both (list_any (has_seat seat) stage.connections) _ _ (EntrySays stage items) (λ used. tt)
+    (λ unused. unused)) tt
 
-sits_free : (stage : Stage) (items : List Item) (seat : ℕ × ℕ) → entry stage items ≡ Sits seat → IsFree stage seat
-sits_free stage [] seat is = absurd (cc)
-sits_free stage (Says line ∷ items) seat is = sits_by_first stage (said_by line) seat is
-sits_free stage (Ends ∷ items) seat is = absurd (cc)
+first_says : (stage : Stage) (items : List Item) (first : First) → EntrySays stage items (entry_by stage first)
+first_says stage items (firsts.Enter key) = let_in_says stage items (seat_at key stage.keys)
+first_says stage items (firsts.Tell command) = tt
 
-pub has_own : (seat : ℕ × ℕ) (own : Option (ℕ × ℕ)) (unfinished : Option (List ℕ)) (queue : List Item) (ended : Bool)
-    → own ≡ Some seat →
-    has_seat seat (record { seat = own; unfinished = unfinished; queue = queue; ended = ended }) ≡ true
-has_own seat own unfinished queue ended mine =
-    ap (λ (one : Option (ℕ × ℕ)). has_seat seat
-    (record { seat = one; unfinished = unfinished; queue = queue; ended = ended })) mine
+entry_says : (stage : Stage) (items : List Item) → EntrySays stage items (entry stage items)
+entry_says stage [] = refl
+entry_says stage (Says line ∷ items) = first_says stage (Says line ∷ items) (said_by line)
+entry_says stage (Ends ∷ items) = tt
+
+pub has_own : (seat : ℕ × ℕ) (connection : Connection) → connection.seat ≡ Some seat
+    → has_seat seat connection ≡ true
+has_own seat connection mine =
+    ap (λ (own : Option (ℕ × ℕ)). has_seat seat (bare own)) mine
     ∙ ap₂ (λ (game agent : Bool). game && agent) (eq-eqb seat.0 seat.0 refl) (eq-eqb seat.1 seat.1 refl)
+
+-- who has a seat is there
+pub seat_within : (connections : List Connection) (conn : ℕ) (seat : ℕ × ℕ)
+    → (get_or connections conn unfed).seat ≡ Some seat → conn < length connections
+seat_within connections conn seat theirs = elim (cases_lt conn (length connections)) [
+  | inl below ↦ below
+  | inr past ↦ absurd (let never = ap (λ (it : Connection). it.seat) (sym (get_or_past connections conn unfed past))
+      ∙ theirs in cc)
+]
 
 -- nobody plays a free seat
 free_alone : (connections : List Connection) (seat : ℕ × ℕ) → list_any (has_seat seat) connections ≡ false → (other : ℕ)
     → (get_or connections other unfed).seat ≡ Some seat → ⊥
 free_alone connections seat free other theirs =
-    let one = get_or connections other unfed in
-    by_bool (nat_lt other (length connections)) (λ (below : Bool). nat_lt other (length connections) ≡ below → ⊥)
-    (λ first below.
-    let within : other < length connections = ltb-true other (length connections) below in
     let used : list_any (has_seat seat) connections ≡ true =
-    list_any_at (has_seat seat) connections other unfed within
-    (has_own seat one.seat one.unfinished one.queue one.ended theirs) in
-    cc)
-    (λ first past. let none = ap (λ (it : Connection). it.seat)
-    (sym (get_or_past connections other unfed (ltb-false other (length connections) past))) ∙ theirs in cc) refl
+    list_any_at (has_seat seat) connections other unfed (seat_within connections other seat theirs)
+    (has_own seat (get_or connections other unfed) theirs) in
+    cc
 
 module _ (stage : Stage) (conn : ℕ) (connection : Connection) (within : conn < length stage.connections)
     (but : SettledBut stage conn) where
-  enters_settles : connection.seat ≡ None → (how : Entry) → entry (with_connection stage conn connection)
-      connection.queue ≡ how →
+  enters_settles : connection.seat ≡ None → (how : Entry)
+      → EntrySays (with_connection stage conn connection) connection.queue how →
       IsSettled (placed stage conn (enters_turn stage connection how)).stage
-  enters_settles outside Waits is =
-      stays_settles stage conn connection within but connection []
-      (waits_for_more (with_connection stage conn connection) connection.queue is) outside
-  enters_settles outside (Sits seat) is =
-      let free = sits_free (with_connection stage conn connection) connection.queue seat is in
+  enters_settles outside Waits none = stays_settles stage conn connection within but connection [] none outside
+  enters_settles outside (Sits seat) free =
       plays_settles stage conn connection within but seat (λ other apart own mine theirs.
       let same : own ≡ seat = cc in
       free_alone (set stage.connections conn connection) seat free other
       (ap (λ (one : Connection). one.seat) (get_or-set_other stage.connections conn other connection unfed apart)
       ∙ theirs ∙ ap Some same))
-  enters_settles outside (IsDenied denial) is = stays_settles stage conn connection within but (shut connection)
+  enters_settles outside (IsDenied denial) says = stays_settles stage conn connection within but (shut connection)
       (denial_text denial) refl outside
-  enters_settles outside Goes is = stays_settles stage conn connection within but (shut connection) [] refl outside
+  enters_settles outside Goes says = stays_settles stage conn connection within but (shut connection) [] refl outside
 
   turn_in_settles : connection.seat ≡ (connection_at stage conn).seat → (own : Option (ℕ × ℕ)) → connection.seat ≡ own
       → IsSettled (placed stage conn (turn_in stage conn connection own)).stage
   turn_in_settles as_before None outside = enters_settles outside
-      (entry (with_connection stage conn connection) connection.queue) refl
+      (entry (with_connection stage conn connection) connection.queue)
+      (entry_says (with_connection stage conn connection) connection.queue)
   turn_in_settles as_before (Some seat) seated =
       plays_settles stage conn connection within but seat
       (λ other apart own mine theirs. apart (sym (but.one_each conn other own (sym as_before ∙ seated ∙ mine) theirs)))

@@ -1,29 +1,26 @@
 -- Each instruction settles a settled stage.
-use Rattle.std.proofs.Common.{◌≡◌, ◌∙◌, ℕ, zero, suc, ◌<◌, ◌≤◌, Bool, true, false, cond, nat_lt, Option, Some, None}
-use Rattle.std.proofs.Common.{List, [], ◌∷◌, ◌++◌, length, replicate, get_or, refl, sym, ap, subst, arith}
+use Rattle.std.proofs.Common.{inl, inr, ◌≡◌, ◌∙◌, ℕ, zero, suc, ◌<◌, ◌≤◌, Bool, true, false, cond, nat_lt, Option, Some}
+use Rattle.std.proofs.Common.{None, List, [], ◌∷◌, ◌++◌, length, replicate, get_or, refl, sym, ap, subst, arith}
 use Rattle.std.specs.List.{position, position_or_len}
-use Rattle.std.proofs.lemmas.Bool.{ltb-true, ltb-false}
-use Rattle.std.proofs.lemmas.List.{set-get_or, get_or_past, get_or-set_same}
-use Rattle.std.proofs.lemmas.List.Quantifiers.{position-Some}
+use Rattle.std.proofs.lemmas.Bool.{ltb-false}
+use Rattle.std.proofs.lemmas.List.{get_or-set_same}
 use Rattle.std.proofs.lemmas.List.Sums.{fails_before_first}
 use Rattle.bhs_model.specs.declared.events.Event.{Event}
-use Rattle.bhs_model.specs.declared.events.Event.TheVariants.{Tell, Deliver, Close}
-use Rattle.bhs_model.specs.declared.replies.Reply.{Reply}
+use Rattle.bhs_model.specs.declared.events.Event.TheVariants.{Deliver, Close}
 use Rattle.bhs_lineup.specs.KeyTable.{Seat}
-use Rattle.bhs_rehearsal.specs.Games.{Game, played, reply_to, is_away, drawn, delivered}
-use Rattle.bhs_rehearsal.specs.Connections.{Ends, Connection, unfed, shut}
-use Rattle.bhs_rehearsal.specs.Stages.{Stage, game_at, connection_at, with_game, has_seat, Moved}
-use Rattle.bhs_rehearsal.specs.Stages.{moves, sent_to, Instruction, Feeds, EndsInput, Draws, Delivers, Closes, Stepped}
-use Rattle.bhs_rehearsal.specs.Stages.{nothing, tells_arrival, delivers, waits_in, shut_in, step}
-use Rattle.bhs_rehearsal.specs.Stages.{begun, stands_after}
+use Rattle.bhs_rehearsal.specs.Games.{Game, played, is_away, drawn, delivered}
+use Rattle.bhs_rehearsal.specs.Connections.{Connection, unfed}
+use Rattle.bhs_rehearsal.specs.Stages.{Stage, game_at, connection_at, with_game, has_seat, Moved, sent_to, Instruction}
+use Rattle.bhs_rehearsal.specs.Stages.{Feeds, EndsInput, Draws, Delivers, Closes, Stepped, nothing, waits_in, shut_in}
+use Rattle.bhs_rehearsal.specs.Stages.{step, begun, stands_after}
 use Rattle.bhs_theorems.specs.ScriptLaws.{awaits_arrival, IsSettled, SettledStagesSettle, ScriptsSettle, moves_in_turn}
 use Rattle.bhs_theorems.specs.ScriptLaws.{AllItemsAreTaken}
-use Rattle.bhs_theorems.proofs.CuttingLemmas.{by_bool}
-use Rattle.bhs_theorems.proofs.TurnLemmas.{placed, turn_of, moves-placed, grown}
-use Rattle.bhs_theorems.proofs.ApartLemmas.{seat-has_seat, shut_if}
-use Rattle.bhs_theorems.proofs.AwayLemmas.{away-delivered, away-unanswered, away-closed}
-use Rattle.bhs_theorems.proofs.SettledLemmas.{SettledBut, awaits_kept, has_own, rest_lemma, turn_settles}
-use Rattle.bhs_theorems.proofs.StepCases.{client_step, by_client, event_step, by_event, by_close}
+use Rattle.bhs_theorems.proofs.TurnLemmas.{grown, ending}
+use Rattle.bhs_theorems.proofs.ApartLemmas.{shut_at, seat-shut_if}
+use Rattle.bhs_theorems.proofs.AwayLemmas.{alike-delivered, alike-unanswered, away-closed}
+use Rattle.bhs_theorems.proofs.SettledLemmas.{SettledBut, awaits_kept, has_own, seat_within, rest_lemma, turn_settles}
+use Rattle.bhs_theorems.proofs.StepCases.{client_step, by_client, event_step, drawn_in, by_event, by_close}
+use Rattle.bhs_model.proofs.LegalLemmas.{either}
 
 -- ---- a client
 
@@ -36,8 +33,8 @@ settled_but stage conn settled = record {
 client_settles : (stage : Stage) (conn : ℕ) (connection : Connection) (ended : Bool) → IsSettled stage
     → connection.seat ≡ (connection_at stage conn).seat → IsSettled (client_step stage conn connection ended).stage
 client_settles stage conn connection ended settled as_before =
-    by_client (λ (done : Stepped). IsSettled done.stage) stage conn connection ended settled
-    (λ within. turn_settles stage conn connection within (settled_but stage conn settled) as_before)
+    by_client (λ (done : Stepped). IsSettled done.stage) stage conn connection ended (λ idle. settled)
+    (λ within goes_on. turn_settles stage conn connection within (settled_but stage conn settled) as_before)
 
 -- ---- a draw
 
@@ -45,19 +42,13 @@ client_settles stage conn connection ended settled as_before =
 pub nobody_plays : (connections : List Connection) (seat : ℕ × ℕ) → position (has_seat seat) connections ≡ None
     → (conn : ℕ) → (get_or connections conn unfed).seat ≡ Some seat → ⊥
 nobody_plays connections seat none conn theirs =
-    let one = get_or connections conn unfed in
-    let has : has_seat seat one ≡ true = has_own seat one.seat one.unfinished one.queue one.ended theirs in
     let all : length connections ≤ position_or_len (has_seat seat) connections =
     passed (position_or_len (has_seat seat) connections) (length connections) _ refl none in
-    by_bool (nat_lt conn (length connections)) (λ (below : Bool). nat_lt conn (length connections) ≡ below → ⊥)
-    (λ first below.
-    let within : conn < length connections = ltb-true conn (length connections) below in
-    let fails : has_seat seat one ≡ false = fails_before_first (has_seat seat) connections conn unfed
-    (omega (arith, all, within)) in
-    cc)
-    (λ first past. let never = ap (λ (it : Connection). it.seat)
-    (sym (get_or_past connections conn unfed (ltb-false conn (length connections) past))) ∙ theirs in cc)
-    refl where
+    let fails : has_seat seat (get_or connections conn unfed) ≡ false =
+    fails_before_first (has_seat seat) connections conn unfed
+    (omega (arith, all, seat_within connections conn seat theirs)) in
+    let has = has_own seat (get_or connections conn unfed) theirs in
+    cc where
       passed : (place count : ℕ) (below : Bool) → nat_lt place count ≡ below
           → cond below (Some place) None ≡ None → count ≤ place
       passed place count true is some = absurd (cc)
@@ -67,15 +58,12 @@ module _ (stage : Stage) (game agent : ℕ) (within : game < length stage.games)
   abbrev new_game : Game
   new_game = played (game_at stage game) (Deliver agent)
 
-  abbrev drawn_in : Stage
-  drawn_in = with_game stage game new_game
-
-  found_again : game_at drawn_in game ≡ new_game
+  found_again : game_at (drawn_in stage game agent) game ≡ new_game
   found_again = get_or-set_same stage.games game new_game _ within
 
   -- where the draw moves no agent that is played
   draw_settles : ((conn : ℕ) (other : ℕ) → (connection_at stage conn).seat ≡ Some (game, other)
-      → is_away new_game other ≡ is_away (game_at stage game) other) → IsSettled drawn_in
+      → is_away new_game other ≡ is_away (game_at stage game) other) → IsSettled (drawn_in stage game agent)
   draw_settles same = record {
     all_taken = λ conn stays. settled.all_taken conn
         (sym (awaits_kept stage game new_game stage.connections (connection_at stage conn) found_again (same conn))
@@ -84,63 +72,18 @@ module _ (stage : Stage) (game agent : ℕ) (within : game < length stage.games)
   }
 
   -- where it moves the agent of this connection
-  draw_settles_but : (conn : ℕ) → (connection_at stage conn).seat ≡ Some (game, agent) → SettledBut drawn_in conn
+  draw_settles_but : (conn : ℕ) → (connection_at stage conn).seat ≡ Some (game, agent)
+      → SettledBut (drawn_in stage game agent) conn
   draw_settles_but conn mine = record {
     others_taken = λ other apart stays. settled.all_taken other
         (sym (awaits_kept stage game new_game stage.connections (connection_at stage other) found_again
-        (λ number theirs. away-delivered (game_at stage game) agent number
+        (λ number theirs. (alike-delivered (game_at stage game) agent number
         (λ same. apart (settled.one_each other conn (game, agent) (theirs ∙ ap (λ (one : ℕ). Some (game, one)) same)
-        mine)))) ∙ stays);
+        mine))).away)) ∙ stays);
     one_each = settled.one_each;
   }
 
-  holder_settles : (conn : ℕ) → conn < length stage.connections → (connection_at stage conn).seat ≡ Some (game, agent)
-      → IsSettled (moves drawn_in conn).stage
-  holder_settles conn there mine =
-      let old = connection_at stage conn in
-      let is_turn : moves drawn_in conn ≡ placed drawn_in conn (turn_of drawn_in conn old) =
-      ap (λ (connections : List Connection). moves (record drawn_in { connections = connections }) conn)
-      (sym (set-get_or stage.connections conn unfed))
-      ∙ moves-placed drawn_in conn old there in
-      subst (λ (moved : Moved). IsSettled moved.stage) (sym is_turn)
-      (turn_settles drawn_in conn old there (draw_settles_but conn mine) refl)
-
-  arrival_settles : (reply : Option Reply) (holder : Option ℕ) → reply_to (game_at stage game) (Deliver agent) ≡ reply →
-      position (has_seat (game, agent)) stage.connections ≡ holder
-      → IsSettled (tells_arrival drawn_in reply holder).stage
-  arrival_settles None holder unanswered held =
-      draw_settles (λ conn other theirs. away-unanswered (game_at stage game) agent other unanswered)
-  arrival_settles (Some reply) None answered nobody =
-      draw_settles (λ conn other theirs. away-delivered (game_at stage game) agent other
-      (λ same. nobody_plays stage.connections (game, agent) nobody conn
-      (theirs ∙ ap (λ (one : ℕ). Some (game, one)) same)))
-  arrival_settles (Some reply) (Some conn) answered held =
-      let at_holder = position-Some (has_seat (game, agent)) stage.connections conn unfed held in
-      holder_settles conn at_holder.0 (seat-has_seat (game, agent) (connection_at stage conn) at_holder.1)
-
-delivers_settles : (stage : Stage) (game : ℕ) → game < length stage.games → IsSettled stage → (event : Option Event)
-    → IsSettled (delivers stage game event).stage
-delivers_settles stage game within settled None = settled
-delivers_settles stage game within settled (Some (Tell agent command)) = settled
-delivers_settles stage game within settled (Some Close) = settled
-delivers_settles stage game within settled (Some (Deliver agent)) =
-    arrival_settles stage game agent within settled (reply_to (game_at stage game) (Deliver agent))
-    (position (has_seat (game, agent)) stage.connections) refl refl
-
 -- ---- a close
-
-pub shut_at : (number : ℕ) (game : Game) (connections : List Connection) (conn : ℕ) →
-    get_or (shut_in number game connections) conn unfed ≡ shut_if number game (get_or connections conn unfed)
-shut_at number game [] conn = refl
-shut_at number game (connection ∷ connections) zero = refl
-shut_at number game (connection ∷ connections) (suc conn) = shut_at number game connections conn
-
-pub seat-shut_if : (number : ℕ) (game : Game) (connection : Connection)
-    → (shut_if number game connection).seat ≡ connection.seat
-seat-shut_if number game connection =
-    by_bool (waits_in number game connection)
-    (λ (waits : Bool). (cond waits (shut connection) connection).seat ≡ connection.seat)
-    (λ waits. refl) (λ stays. refl)
 
 close_settles : (stage : Stage) (game : ℕ) → game < length stage.games → IsSettled stage →
     let old = game_at stage game in
@@ -156,12 +99,9 @@ close_settles stage game within settled =
       all_taken = λ conn.
           subst (λ (one : Connection). awaits_arrival new one ≡ false → one.queue ≡ [])
           (sym (shut_at game old stage.connections conn))
-          (by_bool (waits_in game old (connection_at stage conn))
-          (λ (waits : Bool). awaits_arrival new
-          (cond waits (shut (connection_at stage conn)) (connection_at stage conn)) ≡ false →
-          (cond waits (shut (connection_at stage conn)) (connection_at stage conn)).queue ≡ [])
-          (λ waits stays. refl)
-          (λ goes_on stays. settled.all_taken conn
+          (either (λ (one : Connection). awaits_arrival new one ≡ false → one.queue ≡ [])
+          (waits_in game old (connection_at stage conn)) _ (connection_at stage conn) (λ stays. refl)
+          (λ stays. settled.all_taken conn
           (sym (awaits_kept stage game (played old Close) connections (connection_at stage conn)
           (get_or-set_same stage.games game (played old Close) _ within) (λ agent theirs. away-closed old agent))
           ∙ stays)));
@@ -173,8 +113,16 @@ close_settles stage game within settled =
 
 event_settles : (stage : Stage) (game : ℕ) (event : Option Event) → IsSettled stage
     → IsSettled (event_step stage game event).stage
-event_settles stage game event settled = by_event (λ (done : Stepped). IsSettled done.stage) stage game event settled
-    (λ below. delivers_settles stage game below settled event)
+event_settles stage game event settled =
+    by_event (λ (done : Stepped). IsSettled done.stage) stage game event settled
+    (λ agent below untold. draw_settles stage game agent below settled (λ conn other theirs. elim untold [
+      | inl unanswered ↦ (alike-unanswered (game_at stage game) agent other unanswered).away
+      | inr nobody ↦ (alike-delivered (game_at stage game) agent other
+          (λ same. nobody_plays stage.connections (game, agent) nobody conn
+          (theirs ∙ ap (λ (one : ℕ). Some (game, one)) same))).away
+    ]))
+    (λ agent conn reply below answered there mine. turn_settles (drawn_in stage game agent) conn
+    (connection_at stage conn) there (draw_settles_but stage game agent below settled conn mine) refl)
 
 closes_settle : (stage : Stage) (game : ℕ) → IsSettled stage → IsSettled (step stage (Closes game)).stage
 closes_settle stage game settled = by_close (λ (done : Stepped). IsSettled done.stage) stage game settled
@@ -185,8 +133,7 @@ settle_lemma stage (Feeds conn bytes) settled =
     let old = connection_at stage conn in client_settles stage conn (grown old bytes) old.ended settled refl
 settle_lemma stage (EndsInput conn) settled =
     let old = connection_at stage conn in
-    let ending : Connection = record old { unfinished = Some []; queue = old.queue ++ Ends ∷ []; ended = true } in
-    client_settles stage conn ending old.ended settled refl
+    client_settles stage conn (ending old) old.ended settled refl
 settle_lemma stage (Draws game word) settled = event_settles stage game (drawn (game_at stage game) word) settled
 settle_lemma stage (Delivers game agent) settled =
     event_settles stage game (delivered (game_at stage game) agent) settled

@@ -1,67 +1,32 @@
 -- A match and one that is slow for it, through an event and through items.
-use Rattle.std.proofs.Common.{◌≡◌, ◌∙◌, ℕ, ◌<◌, Bool, true, false, ◌||◌, cond, nat_lt, ◌==◌, not, Option, Some, None}
-use Rattle.std.proofs.Common.{List, [], ◌∷◌, ◌++◌, refl, sym, ap, subst}
-use Rattle.std.proofs.lemmas.Bool.{and_right, cond_both, ltb-true}
+use Rattle.std.proofs.Common.{◌≡◌, ◌∙◌, ℕ, ◌<◌, Bool, true, false, ◌||◌, cond, ◌==◌, not, Option, Some, None, List, []}
+use Rattle.std.proofs.Common.{◌∷◌, ◌++◌, refl, sym, ap, subst, arith}
+use Rattle.std.proofs.lemmas.Bool.{and_right}
 use Rattle.bhs_model.specs.declared.commands.Command.{Command}
-use Rattle.bhs_model.specs.declared.commands.Command.TheVariants.{Enter, Depart, Accuse, Leave}
+use Rattle.bhs_model.specs.declared.commands.Command.TheVariants.{Leave}
 use Rattle.bhs_model.specs.declared.events.Event.{Event}
 use Rattle.bhs_model.specs.declared.events.Event.TheVariants.{Tell, Deliver, Close}
 use Rattle.bhs_model.specs.declared.replies.Reply.{Reply}
 use Rattle.bhs_model.specs.Worlds.{World, doomed}
 use Rattle.bhs_model.specs.Runs.{State, initial, Position, Before, At, Bound, After, changed, position_after, heard}
-use Rattle.bhs_model.specs.Runs.{told, delivered, is_bound, is_doomed, arrives, next, run_from, reply}
+use Rattle.bhs_model.specs.Runs.{delivered, is_bound, is_doomed, arrives, next, run_from, reply}
 use Rattle.bhs_model.specs.Twins.{Twins, is_struck}
 use Rattle.bhs_model.specs.Kept.{keeps, lost}
-use Rattle.bhs_model.specs.Draws.{Held, SlowInstead, is_held, delivery_to, draw, pool, pick}
+use Rattle.bhs_model.specs.Draws.{Held, SlowInstead, is_held, delivery_to, pool, pick}
 use Rattle.bhs_model.proofs.StepLemmas.{next_no_arrival, no_arrival_no_reply}
-use Rattle.bhs_model.proofs.KeptLemmas.{unkept_state}
-use Rattle.bhs_model.proofs.AddLemmas.{run-append}
+use Rattle.bhs_model.proofs.LegalLemmas.{either}
 use Rattle.bhs_model.proofs.TwinLemmas.{doomed_not_through, other_world, reply_alike, next_twin}
-use Rattle.bhs_model.proofs.SlowLemmas.{MadeAlike, draw_alike}
+use Rattle.bhs_model.proofs.SlowLemmas.{MadeAlike, harmless_at, draw_alike}
 use Rattle.bhs_deal.specs.Links.{held_in}
-use Rattle.bhs_deal.specs.Drawing.{delivery_of}
 use Rattle.bhs_wire.specs.Lines.{said_by}
 use Rattle.bhs_session.specs.Texts.{text_of, command_by}
 use Rattle.bhs_rehearsal.specs.Games.{Game, world_in, state_of, played, reply_to, is_away, drawn}
 use Rattle.bhs_rehearsal.specs.Games.{delivered as delivered_event}
 use Rattle.bhs_rehearsal.specs.Connections.{Item, Says, Ends, Taken, is_last, leaves, answers, taken}
 use Rattle.bhs_theorems.specs.ScriptLaws.{IsSlowFor, slow_of, SlowMatchesBegin}
-use Rattle.bhs_theorems.proofs.CuttingLemmas.{by_bool, behind}
+use Rattle.bhs_theorems.proofs.CuttingLemmas.{cond_alike}
 use Rattle.bhs_theorems.proofs.TwinLogLemmas.{keeps_alike, twins-both, twins-one}
-
--- ---- one event
-
--- the match after an event stands as the model says, kept or not
-pub state_of-played : (game : Game) (event : Event) → state_of (played game event) ≡ next (world_in game)
-    (state_of game) event
-state_of-played game event =
-    let world = world_in game in
-    let is_kept = keeps world (state_of game) (lost world game.log) event in
-    by_bool is_kept
-    (λ (kept : Bool). is_kept ≡ kept → state_of (cond kept (record game { log = game.log ++ event ∷ [] }) game) ≡ next
-    world (state_of game) event)
-    (λ first kept. run-append world initial game.log (event ∷ []))
-    (λ first unkept. sym (unkept_state world (state_of game) (lost world game.log) event unkept))
-    refl
-
--- with this log, where it is kept
-abbrev logged : (kept : Bool) → Game → List Event → Game
-logged kept game log = cond kept (record game { log = log }) game
-
-slow_both : (game slow : Game) (kept : Bool) (log slow_log : List Event) → IsSlowFor game slow →
-    Twins (world_in game) log (world_in slow) slow_log → state_of (logged kept game log) ≡ state_of
-    (logged kept slow slow_log) →
-    IsSlowFor (logged kept game log) (logged kept slow slow_log)
-slow_both game slow true log slow_log is twins same =
-    record { worlds = is.worlds; harmless = is.harmless; held_too = is.held_too; stands = same; twins = twins }
-slow_both game slow false log slow_log is twins same = is
-
-slow_one : (game slow : Game) (kept : Bool) (log : List Event) → IsSlowFor game slow →
-    Twins (world_in game) log (world_in slow) slow.log → state_of (logged kept game log) ≡ state_of slow →
-    IsSlowFor (logged kept game log) slow
-slow_one game slow true log is twins same = record
-    { worlds = is.worlds; harmless = is.harmless; held_too = is.held_too; stands = same; twins = twins }
-slow_one game slow false log is twins same = is
+use Rattle.bhs_model.proofs.AddLemmas.{run-append}
 
 -- ---- who is on a link is on a port
 
@@ -71,59 +36,40 @@ IsOnPort world Before = Unit {0}
 IsOnPort world (At node came) = Unit {0}
 IsOnPort world After = Unit {0}
 
-departs_on_port : (world : World) (node port : ℕ) (came : Option ℕ)
-    → IsOnPort world (position_after world (At node came) (Depart port))
-departs_on_port world node port came =
-    cond_both (nat_lt port (world.net.degree node)) (Bound node port) (At node came) (IsOnPort world)
-    (λ below. ltb-true port (world.net.degree node) below) (λ past. tt)
-
-accuses_on_port : (world : World) (node port : ℕ) (came : Option ℕ)
-    → IsOnPort world (position_after world (At node came) (Accuse port))
-accuses_on_port world node port came =
-    cond_both (nat_lt port (world.net.degree node)) After (At node came) (IsOnPort world) (λ below. tt) (λ past. tt)
-
-command_on_port : (world : World) (position : Position) (command : Command) → IsOnPort world position
+told_on_port : (world : World) (position : Position) (command : Command) → IsOnPort world position
     → IsOnPort world (position_after world position command)
-command_on_port world position Enter on = tt
-command_on_port world position Leave on = tt
-command_on_port world (At node came) (Depart port) on = departs_on_port world node port came
-command_on_port world (At node came) (Accuse port) on = accuses_on_port world node port came
-command_on_port world position command on = on
+told_on_port world position command on = grind arith
 
-changed_on_port : (world : World) (state : State) (agent : ℕ) (new : Position) (other : ℕ)
-    → IsOnPort world (state.position other) → IsOnPort world new →
-    IsOnPort world (changed state.position agent new other)
-changed_on_port world state agent new other old_on new_on =
-    cond_both (other == agent) new (state.position other) (IsOnPort world) (λ same. new_on) (λ apart. old_on)
+abbrev AllOnPorts : World → State → Type 0
+AllOnPorts world state = (agent : ℕ) → IsOnPort world (state.position agent)
 
-delivered_on_port : (world : World) (state : State) (agent : ℕ) (position : Position) (other : ℕ)
-    → IsOnPort world (state.position other) →
-    IsOnPort world ((delivered world state agent position).position other)
-delivered_on_port world state agent (Bound node port) other on = changed_on_port world state agent _ other on tt
-delivered_on_port world state agent Before other on = on
-delivered_on_port world state agent (At node came) other on = on
-delivered_on_port world state agent After other on = on
+changed_on_port : (world : World) (state : State) (agent : ℕ) (new : Position) → IsOnPort world new
+    → AllOnPorts world state → (other : ℕ) → IsOnPort world (changed state.position agent new other)
+changed_on_port world state agent new on all other =
+    either (IsOnPort world) (other == agent) new (state.position other) on (all other)
 
-next_on_port : (world : World) (state : State) (event : Event)
-    → ((agent : ℕ) → IsOnPort world (state.position agent)) → (other : ℕ) →
-    IsOnPort world ((next world state event).position other)
-next_on_port world state (Tell agent command) on other =
-    by_bool (heard world state agent command)
-    (λ (is : Bool). IsOnPort world ((cond is (told world state agent command) state).position other))
-    (λ is. changed_on_port world state agent _ other (on other)
-    (command_on_port world (state.position agent) command (on agent))) (λ unheard. on other)
-next_on_port world state (Deliver agent) on other =
-    by_bool (arrives world state agent) (λ (is : Bool). IsOnPort world
-    ((cond is (delivered world state agent (state.position agent)) state).position other))
-    (λ is. delivered_on_port world state agent (state.position agent) other (on other)) (λ stays. on other)
-next_on_port world state Close on other = on other
+delivered_on_port : (world : World) (state : State) (agent : ℕ) (position : Position) → AllOnPorts world state
+    → AllOnPorts world (delivered world state agent position)
+delivered_on_port world state agent (Bound node port) all = changed_on_port world state agent _ tt all
+delivered_on_port world state agent Before all = all
+delivered_on_port world state agent (At node came) all = all
+delivered_on_port world state agent After all = all
 
-run_on_port : (world : World) (state : State) (events : List Event)
-    → ((agent : ℕ) → IsOnPort world (state.position agent)) → (agent : ℕ) →
-    IsOnPort world ((run_from world state events).position agent)
-run_on_port world state [] on = on
-run_on_port world state (event ∷ events) on =
-    run_on_port world (next world state event) events (next_on_port world state event on)
+next_on_port : (world : World) (state : State) (event : Event) → AllOnPorts world state
+    → AllOnPorts world (next world state event)
+next_on_port world state (Tell agent command) all =
+    either (AllOnPorts world) (heard world state agent command) _ state
+    (changed_on_port world state agent _ (told_on_port world (state.position agent) command (all agent)) all) all
+next_on_port world state (Deliver agent) all =
+    either (AllOnPorts world) (arrives world state agent) _ state
+    (delivered_on_port world state agent (state.position agent) all) all
+next_on_port world state Close all = all
+
+run_on_port : (world : World) (state : State) (events : List Event) → AllOnPorts world state
+    → AllOnPorts world (run_from world state events)
+run_on_port world state [] all = all
+run_on_port world state (event ∷ events) all =
+    run_on_port world (next world state event) events (next_on_port world state event all)
 
 on_ports : (game : Game) (agent : ℕ) → IsOnPort (world_in game) ((state_of game).position agent)
 on_ports game = run_on_port (world_in game) initial game.log (λ agent. tt)
@@ -137,21 +83,22 @@ module _ (game slow : Game) (is : IsSlowFor game slow) where
   -- an event that destroys in neither
   pub played_slow : (event : Event) → IsUnstruck event → IsSlowFor (played game event) (played slow event)
   played_slow event unstruck =
-      let same : state_of (played game event) ≡ state_of (played slow event) =
-      state_of-played game event ∙ next_twin (world_in game) (world_in slow) (state_of game) event is.worlds unstruck
-      ∙ ap (λ (state : State). next (world_in slow) state event) is.stands ∙ sym (state_of-played slow event) in
-      let kept = keeps (world_in game) (state_of game) (lost (world_in game) game.log) event in
-      let as_there : kept ≡ keeps (world_in slow) (state_of slow) (lost (world_in slow) slow.log) event =
-      keeps_alike (world_in game) (world_in slow) (state_of game) (lost (world_in game) game.log)
+      cond_alike IsSlowFor (keeps (world_in game) (state_of game) (lost (world_in game) game.log) event)
+      (keeps (world_in slow) (state_of slow) (lost (world_in slow) slow.log) event) _ _ _ _
+      (keeps_alike (world_in game) (world_in slow) (state_of game) (lost (world_in game) game.log)
       (lost (world_in slow) slow.log) event is.worlds unstruck
-      ∙ ap (λ (state : State). keeps (world_in slow) state (lost (world_in slow) slow.log) event) is.stands in
-      let log = game.log ++ event ∷ [] in
-      let slow_log = slow.log ++ event ∷ [] in
-      subst (λ (there : Bool). IsSlowFor (logged kept game log) (logged there slow slow_log)) as_there
-      (slow_both game slow kept log slow_log is
-      (twins-both (world_in game) (world_in slow) game.log slow.log event is.twins is.stands unstruck)
-      (subst (λ (there : Bool). state_of (logged kept game log) ≡ state_of (logged there slow slow_log))
-      (sym as_there) same))
+      ∙ ap (λ (state : State). keeps (world_in slow) state (lost (world_in slow) slow.log) event) is.stands)
+      (λ kept. record {
+        worlds = is.worlds;
+        harmless = is.harmless;
+        held_too = is.held_too;
+        stands = run-append (world_in game) initial game.log (event ∷ [])
+            ∙ next_twin (world_in game) (world_in slow) (state_of game) event is.worlds unstruck
+            ∙ ap (λ (state : State). next (world_in slow) state event) is.stands
+            ∙ sym (run-append (world_in slow) initial slow.log (event ∷ []));
+        twins = twins-both (world_in game) (world_in slow) game.log slow.log event is.twins is.stands unstruck;
+      })
+      (λ unkept. is)
 
   pub reply_slow : (event : Event) → IsUnstruck event → reply_to game event ≡ reply_to slow event
   reply_slow event unstruck =
@@ -172,38 +119,38 @@ module _ (game slow : Game) (is : IsSlowFor game slow) where
   doomed_stays agent doomed = and_right (not (state_of game).closed) _
       (doomed_not_through (world_in game) ((state_of game).position agent) doomed)
 
-  harmless_at : (position : Position) → is_doomed (world_in slow) position ≡ false
-  harmless_at (Bound node port) = is.harmless node port
-  harmless_at Before = refl
-  harmless_at (At node came) = refl
-  harmless_at After = refl
+  -- the links on which the second must hold back
+  abbrev held_or_doomed : Held
+  held_or_doomed node port = held_in game.held node port || doomed (world_in game) node port
+
+  abbrev instead : SlowInstead (world_in game) (held_in game.held) (world_in slow) held_or_doomed
+  instead = record { worlds = is.worlds; harmless = is.harmless; held_too = λ node port. refl }
 
   pub destroyed_slow : (agent : ℕ) → is_doomed (world_in game) ((state_of game).position agent) ≡ true
       → IsSlowFor (played game (Deliver agent)) slow
   destroyed_slow agent doomed =
-      let same : state_of (played game (Deliver agent)) ≡ state_of slow =
-      state_of-played game (Deliver agent) ∙ next_no_arrival (world_in game) (state_of game) agent
-      (doomed_stays agent doomed) ∙ is.stands in
-      slow_one game slow (keeps (world_in game) (state_of game) (lost (world_in game) game.log) (Deliver agent))
-      (game.log ++ Deliver agent ∷ []) is
-      (twins-one (world_in game) (world_in slow) game.log slow.log agent is.twins doomed
-      (harmless_at ((state_of game).position agent))) same
+      either (λ (new : Game). IsSlowFor new slow)
+      (keeps (world_in game) (state_of game) (lost (world_in game) game.log) (Deliver agent)) _ game
+      (record {
+        worlds = is.worlds;
+        harmless = is.harmless;
+        held_too = is.held_too;
+        stands = run-append (world_in game) initial game.log (Deliver agent ∷ [])
+            ∙ next_no_arrival (world_in game) (state_of game) agent (doomed_stays agent doomed) ∙ is.stands;
+        twins = twins-one (world_in game) (world_in slow) game.log slow.log agent is.twins doomed
+            (harmless_at (world_in game) (held_in game.held) (world_in slow) held_or_doomed instead
+            ((state_of game).position agent));
+      })
+      is
 
   pub destroyed_unanswered : (agent : ℕ) → is_doomed (world_in game) ((state_of game).position agent) ≡ true
       → reply_to game (Deliver agent) ≡ None
   destroyed_unanswered agent doomed = no_arrival_no_reply (world_in game) (state_of game) agent
       (doomed_stays agent doomed)
 
-  -- the links on which the second must hold back
-  abbrev held_or_doomed : Held
-  held_or_doomed node port = held_in game.held node port || doomed (world_in game) node port
-
   held_alike : (position : Position) → IsOnPort (world_in game) position → is_held held_or_doomed position ≡ is_held
       (held_in slow.held) position
-  held_alike (Bound node port) on = sym (is.held_too node port on)
-  held_alike Before on = refl
-  held_alike (At node came) on = refl
-  held_alike After on = refl
+  held_alike position on = grind arith
 
   let_go_same : (picked : Option ℕ) → delivery_to held_or_doomed (state_of game) picked ≡ delivery_to
       (held_in slow.held) (state_of game) picked
@@ -212,35 +159,33 @@ module _ (game slow : Game) (is : IsSlowFor game slow) where
       ap (λ (back : Bool). cond back None (Some (Deliver agent)))
       (held_alike ((state_of game).position agent) (on_ports game agent))
 
-  -- what a word draws
-  pub drawn_slow : (word : ℕ) → MadeAlike (world_in game) (world_in slow) (state_of game) (drawn game word)
-      (drawn slow word)
-  drawn_slow word =
-      let picked = pick (pool (state_of game)) word in
-      let instead : SlowInstead (world_in game) (held_in game.held) (world_in slow) held_or_doomed =
-      record { worlds = is.worlds; harmless = is.harmless; held_too = λ node port. refl } in
-      let same : draw held_or_doomed (state_of game) word ≡ drawn slow word =
-      ap (λ (event : Option Event). cond (state_of game).closed None event) (let_go_same picked)
-      ∙ ap (λ (state : State). draw (held_in slow.held) state word) is.stands in
-      subst (λ (there : Option Event). MadeAlike (world_in game) (world_in slow) (state_of game)
-      (drawn game word) there) same
-      (draw_alike (world_in game) (held_in game.held) (world_in slow) held_or_doomed instead (state_of game)
-      (state_of game).closed picked)
+  -- the delivery of who is picked, if any
+  abbrev made : Game → (State → Option ℕ) → Option Event
+  made one picked =
+      let state = state_of one in
+      cond state.closed None (delivery_to (held_in one.held) state (picked state))
 
-  -- what delivers an agent
-  pub delivered_slow : (agent : ℕ) → MadeAlike (world_in game) (world_in slow) (state_of game)
-      (delivered_event game agent)
-      (delivered_event slow agent)
-  delivered_slow agent =
-      let instead : SlowInstead (world_in game) (held_in game.held) (world_in slow) held_or_doomed =
-      record { worlds = is.worlds; harmless = is.harmless; held_too = λ node port. refl } in
-      let same : delivery_of held_or_doomed (state_of game) agent ≡ delivered_event slow agent =
-      ap (λ (event : Option Event). cond (state_of game).closed None event) (let_go_same (Some agent))
-      ∙ ap (λ (state : State). delivery_of (held_in slow.held) state agent) is.stands in
-      subst (λ (there : Option Event). MadeAlike (world_in game) (world_in slow) (state_of game)
-      (delivered_event game agent) there) same
+  made_slow : (picked : State → Option ℕ)
+      → MadeAlike (world_in game) (world_in slow) (state_of game) (made game picked) (made slow picked)
+  made_slow picked =
+      let one = picked (state_of game) in
+      let same : cond (state_of game).closed None (delivery_to held_or_doomed (state_of game) one) ≡ made slow picked =
+      ap (λ (event : Option Event). cond (state_of game).closed None event) (let_go_same one)
+      ∙ ap (λ (state : State). cond state.closed None (delivery_to (held_in slow.held) state (picked state))) is.stands
+      in
+      subst (λ (there : Option Event). MadeAlike (world_in game) (world_in slow) (state_of game) (made game picked)
+      there) same
       (draw_alike (world_in game) (held_in game.held) (world_in slow) held_or_doomed instead (state_of game)
-      (state_of game).closed (Some agent))
+      (state_of game).closed one)
+
+  -- what a word draws, and what delivers an agent
+  pub drawn_slow : (word : ℕ)
+      → MadeAlike (world_in game) (world_in slow) (state_of game) (drawn game word) (drawn slow word)
+  drawn_slow word = made_slow (λ (state : State). pick (pool state) word)
+
+  pub delivered_slow : (agent : ℕ) → MadeAlike (world_in game) (world_in slow) (state_of game)
+      (delivered_event game agent) (delivered_event slow agent)
+  delivered_slow agent = made_slow (λ (state : State). Some agent)
 
 -- ---- items
 
@@ -256,12 +201,7 @@ answers_slow : (reply : Option Reply) (game slow : Game) (others slow_others : T
     TakenAlike (answers reply game others) (answers reply slow slow_others)
 answers_slow None game slow others slow_others is alike = alike
 answers_slow (Some reply) game slow others slow_others is alike =
-    by_bool (is_last reply)
-    (λ (last : Bool). TakenAlike
-    (cond last (record { game = game; is_done = true; left = []; text = text_of reply })
-    (behind (text_of reply) others))
-    (cond last (record { game = slow; is_done = true; left = []; text = text_of reply })
-    (behind (text_of reply) slow_others)))
+    cond_alike TakenAlike (is_last reply) (is_last reply) _ _ _ _ refl
     (λ last. record { game = is; is_done = refl; left = refl; text = refl })
     (λ goes_on. record {
       game = alike.game;
@@ -280,36 +220,24 @@ taken_slow game slow agent [] is = leaves_slow game slow [] is
 taken_slow game slow agent (Says line ∷ items) is =
     let event = Tell agent (command_by (said_by line)) in
     let here = answers (reply_to game event) (played game event) (taken (played game event) agent items) in
-    let there = answers (reply_to slow event) (played slow event) (taken (played slow event) agent items) in
     let next_slow = played_slow game slow is event refl in
-    let alike : TakenAlike here there =
-    subst (λ (reply : Option Reply). TakenAlike here
+    cond_alike TakenAlike (is_away game agent) (is_away slow agent) _ _ _ _ (away_slow game slow is agent)
+    (λ away. leaves_slow game slow (Says line ∷ items) is)
+    (λ stays. subst (λ (reply : Option Reply). TakenAlike here
     (answers reply (played slow event) (taken (played slow event) agent items)))
     (reply_slow game slow is event refl)
     (answers_slow (reply_to game event) (played game event) (played slow event) (taken (played game event) agent items)
     (taken (played slow event) agent items)
-    next_slow (taken_slow (played game event) (played slow event) agent items next_slow)) in
-    subst (λ (away : Bool). TakenAlike (cond (is_away game agent) (leaves game (Says line ∷ items)) here)
-    (cond away (leaves slow (Says line ∷ items)) there)) (away_slow game slow is agent)
-    (by_bool (is_away game agent)
-    (λ (away : Bool). TakenAlike (cond away (leaves game (Says line ∷ items)) here)
-    (cond away (leaves slow (Says line ∷ items)) there))
-    (λ away. leaves_slow game slow (Says line ∷ items) is) (λ stays. alike))
+    next_slow (taken_slow (played game event) (played slow event) agent items next_slow)))
 taken_slow game slow agent (Ends ∷ items) is =
-    let here : Taken = record { game = played game (Tell agent Leave); is_done = true; left = []; text = [] } in
-    let there : Taken = record { game = played slow (Tell agent Leave); is_done = true; left = []; text = [] } in
-    subst (λ (away : Bool). TakenAlike (cond (is_away game agent) (leaves game (Ends ∷ items)) here)
-    (cond away (leaves slow (Ends ∷ items)) there)) (away_slow game slow is agent)
-    (by_bool (is_away game agent)
-    (λ (away : Bool). TakenAlike (cond away (leaves game (Ends ∷ items)) here)
-    (cond away (leaves slow (Ends ∷ items)) there))
+    cond_alike TakenAlike (is_away game agent) (is_away slow agent) _ _ _ _ (away_slow game slow is agent)
     (λ away. leaves_slow game slow (Ends ∷ items) is)
     (λ stays. record {
       game = played_slow game slow is (Tell agent Leave) refl;
       is_done = refl;
       left = refl;
       text = refl;
-    }))
+    })
 
 -- ---- matches that begin
 

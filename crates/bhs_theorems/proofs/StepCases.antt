@@ -1,14 +1,20 @@
 -- What an instruction comes to: nothing, or the one thing that it does.
-use Rattle.std.proofs.Common.{ℕ, ◌<◌, ◌≡◌, Bool, true, false, cond, nat_lt, Option, length, sym, subst, refl}
-use Rattle.std.proofs.lemmas.Bool.{ltb-true}
+use Rattle.std.proofs.Common.{ℕ, ◌<◌, ◌≤◌, ◌≡◌, ◌⊎◌, inl, inr, Bool, true, false, cond, nat_lt, Option, Some, None}
+use Rattle.std.proofs.Common.{◌++◌, length, sym, subst, refl, arith}
+use Rattle.std.specs.List.{position}
+use Rattle.std.proofs.lemmas.Bool.{cond_both, ltb-true, ltb-false}
+use Rattle.std.proofs.lemmas.List.Quantifiers.{position-Some}
 use Rattle.bhs_model.specs.declared.events.Event.{Event}
-use Rattle.bhs_model.specs.declared.events.Event.TheVariants.{Close}
-use Rattle.bhs_rehearsal.specs.Games.{state_of, played}
-use Rattle.bhs_rehearsal.specs.Connections.{Connection}
-use Rattle.bhs_rehearsal.specs.Stages.{Stage, game_at, with_game, with_connection, Moved, moves, Closes, Stepped}
-use Rattle.bhs_rehearsal.specs.Stages.{stepped, nothing, delivers, shut_in, told_over, closes, step}
-use Rattle.bhs_theorems.proofs.CuttingLemmas.{by_bool}
-use Rattle.bhs_theorems.proofs.TurnLemmas.{placed, turn_of, moves-placed}
+use Rattle.bhs_model.specs.declared.events.Event.TheVariants.{Tell, Deliver, Close}
+use Rattle.bhs_model.specs.declared.replies.Reply.{Reply}
+use Rattle.bhs_session.specs.Texts.{text_of}
+use Rattle.bhs_rehearsal.specs.Games.{state_of, played, reply_to}
+use Rattle.bhs_rehearsal.specs.Connections.{Connection, unfed}
+use Rattle.bhs_rehearsal.specs.Stages.{Stage, game_at, connection_at, with_game, with_connection, has_seat, Moved}
+use Rattle.bhs_rehearsal.specs.Stages.{moves, Closes, Stepped, sent_to, stepped, nothing, tells_arrival, delivers}
+use Rattle.bhs_rehearsal.specs.Stages.{shut_in, told_over, step}
+use Rattle.bhs_theorems.proofs.TurnLemmas.{placed, turn_of, moves-placed, moves_itself, bare}
+use Rattle.std.proofs.lemmas.Bool.Decides.{nat_tests}
 
 -- a client's connection then stands so, and moves
 abbrev pub client_step : Stage → (conn : ℕ) → Connection → (ended : Bool) → Stepped
@@ -16,36 +22,90 @@ client_step stage conn connection ended =
     cond (nat_lt conn (length stage.connections))
     (cond ended (nothing stage) (stepped conn (moves (with_connection stage conn connection) conn))) (nothing stage)
 
-client_by : (P : Stepped → Type 0) (stage : Stage) (conn : ℕ) (connection : Connection) (below ended : Bool)
-    → nat_lt conn (length stage.connections) ≡ below → P (nothing stage) →
-    (conn < length stage.connections → P (stepped conn (placed stage conn (turn_of stage conn connection)))) →
-    P (cond below (cond ended (nothing stage) (stepped conn (moves (with_connection stage conn connection) conn)))
-    (nothing stage))
-client_by P stage conn connection false ended is none moved = none
-client_by P stage conn connection true true is none moved = none
-client_by P stage conn connection true false is none moved =
-    let within = ltb-true conn (length stage.connections) is in
-    subst (λ (by_move : Moved). P (stepped conn by_move)) (sym (moves-placed stage conn connection within))
-    (moved within)
-
+-- it is not there, or its input has ended: then nothing comes of it
 pub by_client : (P : Stepped → Type 0) (stage : Stage) (conn : ℕ) (connection : Connection) (ended : Bool)
-    → P (nothing stage) →
-    (conn < length stage.connections → P (stepped conn (placed stage conn (turn_of stage conn connection)))) →
+    → ((length stage.connections ≤ conn) ⊎ (ended ≡ true) → P (nothing stage)) →
+    (conn < length stage.connections → ended ≡ false
+    → P (stepped conn (placed stage conn (turn_of stage conn connection)))) →
     P (client_step stage conn connection ended)
-by_client P stage conn connection ended none moved =
-    client_by P stage conn connection (nat_lt conn (length stage.connections)) ended refl none moved
+by_client P stage conn connection ended idle moved =
+    cond_both (nat_lt conn (length stage.connections)) _ _ P
+    (λ below. cond_both ended _ _ P (λ is. idle (inr is)) (λ goes_on.
+    let within = ltb-true conn (length stage.connections) below in
+    subst (λ (by_move : Moved). P (stepped conn by_move)) (sym (moves-placed stage conn connection within))
+    (moved within goes_on)))
+    (λ past. idle (inl (ltb-false conn (length stage.connections) past)))
 
--- the delivery in a match
+-- who has a seat
+seat_is : (seat : ℕ × ℕ) (own : Option (ℕ × ℕ)) → has_seat seat (bare own) ≡ true → own ≡ Some seat
+seat_is seat own has = grind (arith, nat_tests)
+
+pub seat-has_seat : (seat : ℕ × ℕ) (connection : Connection) → has_seat seat connection ≡ true
+    → connection.seat ≡ Some seat
+seat-has_seat seat connection has = seat_is seat connection.seat has
+
+-- ---- a delivery
+
 abbrev pub event_step : Stage → (game : ℕ) → Option Event → Stepped
 event_step stage game event = cond (nat_lt game (length stage.games)) (delivers stage game event) (nothing stage)
 
+-- the match after the delivery of an agent, in its place
+abbrev pub drawn_in : Stage → (game agent : ℕ) → Stage
+drawn_in stage game agent = with_game stage game (played (game_at stage game) (Deliver agent))
+
+-- it is not answered, or nobody plays the agent
+abbrev pub IsUntold : Stage → (game agent : ℕ) → Type 0
+IsUntold stage game agent = (reply_to (game_at stage game) (Deliver agent) ≡ None)
+    ⊎ (position (has_seat (game, agent)) stage.connections ≡ None)
+
+-- the answer is told to who plays the agent, whose connection then moves
+abbrev pub arrival_step : Stage → (conn : ℕ) → Reply → Stepped
+arrival_step stage conn reply =
+    let turn = turn_of stage conn (connection_at stage conn) in
+    record { stage = (placed stage conn turn).stage; outs = sent_to conn (text_of reply ++ turn.text) }
+
+by_arrival : (P : Stepped → Type 0) (stage : Stage) (seat : ℕ × ℕ) (replied : Option Reply) (holder : Option ℕ)
+    → position (has_seat seat) stage.connections ≡ holder →
+    ((replied ≡ None) ⊎ (holder ≡ None) → P (nothing stage)) →
+    ((conn : ℕ) (reply : Reply) → replied ≡ Some reply → conn < length stage.connections
+    → (connection_at stage conn).seat ≡ Some seat → P (arrival_step stage conn reply)) →
+    P (tells_arrival stage replied holder)
+by_arrival P stage seat None holder is untold told = untold (inl refl)
+by_arrival P stage seat (Some reply) None is untold told = untold (inr refl)
+by_arrival P stage seat (Some reply) (Some conn) is untold told =
+    let found = position-Some (has_seat seat) stage.connections conn unfed is in
+    subst (λ (moved : Moved). P (record { stage = moved.stage; outs = sent_to conn (text_of reply ++ moved.text) }))
+    (sym (moves_itself stage conn found.0))
+    (told conn reply refl found.0 (seat-has_seat seat (connection_at stage conn) found.1))
+
+by_delivers : (P : Stepped → Type 0) (stage : Stage) (game : ℕ) (event : Option Event) → P (nothing stage) →
+    ((agent : ℕ) → IsUntold stage game agent → P (nothing (drawn_in stage game agent))) →
+    ((agent conn : ℕ) (reply : Reply) → reply_to (game_at stage game) (Deliver agent) ≡ Some reply
+    → conn < length stage.connections → (connection_at stage conn).seat ≡ Some (game, agent)
+    → P (arrival_step (drawn_in stage game agent) conn reply)) →
+    P (delivers stage game event)
+by_delivers P stage game None none untold told = none
+by_delivers P stage game (Some (Tell agent command)) none untold told = none
+by_delivers P stage game (Some Close) none untold told = none
+by_delivers P stage game (Some (Deliver agent)) none untold told =
+    let holder = position (has_seat (game, agent)) stage.connections in
+    by_arrival P (drawn_in stage game agent) (game, agent) (reply_to (game_at stage game) (Deliver agent)) holder refl
+    (untold agent) (told agent)
+
 pub by_event : (P : Stepped → Type 0) (stage : Stage) (game : ℕ) (event : Option Event) → P (nothing stage) →
-    (game < length stage.games → P (delivers stage game event)) → P (event_step stage game event)
-by_event P stage game event none delivered =
-    by_bool (nat_lt game (length stage.games))
-    (λ (below : Bool). nat_lt game (length stage.games) ≡ below → P (cond below (delivers stage game event)
-    (nothing stage)))
-    (λ first below. delivered (ltb-true game (length stage.games) below)) (λ first past. none) refl
+    ((agent : ℕ) → game < length stage.games → IsUntold stage game agent → P (nothing (drawn_in stage game agent))) →
+    ((agent conn : ℕ) (reply : Reply) → game < length stage.games
+    → reply_to (game_at stage game) (Deliver agent) ≡ Some reply → conn < length stage.connections
+    → (connection_at stage conn).seat ≡ Some (game, agent)
+    → P (arrival_step (drawn_in stage game agent) conn reply)) →
+    P (event_step stage game event)
+by_event P stage game event none untold told =
+    cond_both (nat_lt game (length stage.games)) _ _ P
+    (λ below.
+    let within = ltb-true game (length stage.games) below in
+    by_delivers P stage game event none (λ agent. untold agent within)
+    (λ agent conn reply. told agent conn reply within))
+    (λ past. none)
 
 -- the close of a match that is open
 abbrev pub close_step : Stage → (game : ℕ) → Stepped
@@ -60,10 +120,7 @@ pub by_close : (P : Stepped → Type 0) (stage : Stage) (game : ℕ) → P (noth
     (game < length stage.games → (state_of (game_at stage game)).closed ≡ false → P (close_step stage game)) →
     P (step stage (Closes game))
 by_close P stage game none done =
-    by_bool (nat_lt game (length stage.games))
-    (λ (below : Bool). nat_lt game (length stage.games) ≡ below → P (cond below (closes stage game) (nothing stage)))
-    (λ first below. by_bool (state_of (game_at stage game)).closed
-    (λ (is_closed : Bool). (state_of (game_at stage game)).closed ≡ is_closed
-    → P (cond is_closed (nothing stage) (close_step stage game)))
-    (λ second is_closed. none) (λ second still. done (ltb-true game (length stage.games) below) still) refl)
-    (λ first past. none) refl
+    cond_both (nat_lt game (length stage.games)) _ _ P
+    (λ below. cond_both (state_of (game_at stage game)).closed _ _ P (λ is_closed. none)
+    (done (ltb-true game (length stage.games) below)))
+    (λ past. none)

@@ -1,5 +1,5 @@
 -- What an agent meets while items of its connection are taken.
-use Rattle.std.proofs.Common.{◌≡◌, ◌≢◌, ◌∙◌, ℕ, ◌⊎◌, inl, inr, Bool, true, false, cond, not, Option, Some, None, List}
+use Rattle.std.proofs.Common.{◌≡◌, ◌≢◌, ◌∙◌, ℕ, ◌⊎◌, inl, inr, Bool, true, false, not, Option, List}
 use Rattle.std.proofs.Common.{[], ◌∷◌, ◌++◌, map, refl, sym, ap, ap₂, subst, append-nil}
 use Rattle.bhs_model.specs.declared.commands.Command.{Command}
 use Rattle.bhs_model.specs.declared.commands.Command.TheVariants.{Leave}
@@ -9,21 +9,23 @@ use Rattle.bhs_model.specs.declared.replies.Reply.{Reply}
 use Rattle.bhs_model.specs.declared.replies.Reply.TheVariants as replies
 use Rattle.bhs_model.specs.Views.{View, Told, Nothing, Away, Ended, standing}
 use Rattle.bhs_model.specs.Worlds.{World}
-use Rattle.bhs_model.specs.Runs.{State, Position, is_bound, glance, position_after, heard, told, next}
+use Rattle.bhs_model.specs.Runs.{State, Position, is_bound, glance, position_after, heard, next}
 use Rattle.bhs_model.proofs.StepLemmas.{changed_same}
 use Rattle.bhs_wire.specs.Lines.{Line}
 use Rattle.bhs_session.specs.Texts.{text_of, command_of}
 use Rattle.bhs_rehearsal.specs.Games.{Game, world_in, state_of, played, reply_to, is_away}
 use Rattle.bhs_rehearsal.specs.Connections.{Item, Says, Ends, Taken, is_last, leaves, answers, taken}
-use Rattle.bhs_theorems.proofs.CuttingLemmas.{by_bool, behind}
-use Rattle.bhs_theorems.proofs.SlowGameLemmas.{state_of-played}
+use Rattle.bhs_theorems.proofs.CuttingLemmas.{behind}
+use Rattle.bhs_theorems.proofs.AwayLemmas.{state_of-played}
 use Rattle.bhs_theorems.specs.Met.{Meeting, past_after, view_from, commands, answer_to, bytes_from, takes_commands}
 use Rattle.bhs_theorems.specs.Met.{AreDue}
 use Rattle.bhs_theorems.specs.SentAsMet.{IsPastOf, over_text}
 use Rattle.bhs_theorems.proofs.OverLemmas.{EndsLast, has_end, over_none, over_next, over_ended}
 use Rattle.bhs_theorems.proofs.FitLemmas.{fits_here, here_stands}
-use Rattle.bhs_theorems.proofs.EventLemmas.{IsIn, played_in, Alike, alike_itself, alike_through, alike-told}
+use Rattle.bhs_theorems.proofs.EventLemmas.{IsIn, played_in}
 use Rattle.bhs_theorems.proofs.EventLemmas.{closed-told, Answered, answered-open, answered-closed, unheard-closed}
+use Rattle.bhs_model.proofs.LegalLemmas.{either}
+use Rattle.std.proofs.lemmas.Bool.{cond_both}
 
 -- the lines among items
 abbrev pub lines_of : List Item → List Line
@@ -128,10 +130,8 @@ took-leaves setup closed game agent items is lives at = record {
 left_position : (world : World) (state : State) (agent : ℕ) → is_bound (state.position agent) ≡ false
     → is_bound ((next world state (Tell agent Leave)).position agent) ≡ false
 left_position world state agent at =
-    by_bool (heard world state agent Leave) (λ (is : Bool). is_bound
-    ((cond is (told world state agent Leave) state).position agent) ≡ false)
-    (λ is. ap is_bound (changed_same state.position agent (position_after world (state.position agent) Leave)))
-    (λ unheard. at)
+    either (λ (new : State). is_bound (new.position agent) ≡ false) (heard world state agent Leave) _ state
+    (ap is_bound (changed_same state.position agent (position_after world (state.position agent) Leave))) at
 
 left_glance : (world : World) (state : State) (position : Position) → glance world state position Leave ≡ Nothing
 left_glance world state position = refl
@@ -139,13 +139,13 @@ left_glance world state position = refl
 left_past : (world : World) (state : State) (agent : ℕ)
     → IsPastOf true (state.past agent) ((next world state (Tell agent Leave)).past agent)
 left_past world state agent =
-    by_bool (heard world state agent Leave) (λ (is : Bool). IsPastOf true (state.past agent)
-    ((cond is (told world state agent Leave) state).past agent))
-    (λ is. inr (
+    either (λ (new : State). IsPastOf true (state.past agent) (new.past agent)) (heard world state agent Leave) _ state
+    (inr (
       changed_same state.past agent _ ∙ ap (λ seen. Told (state.past agent) Leave seen)
           (left_glance world state (state.position agent)),
       refl,
-    )) (λ unheard. inl refl)
+    ))
+    (inl refl)
 
 took-end : (setup : Setup) (closed : Bool) (game : Game) (agent : ℕ) (items : List Item) → IsIn setup agent game
     → (state_of game).closed ≡ closed → is_away game agent ≡ false → items ≡ [] →
@@ -323,11 +323,9 @@ module _ (setup : Setup) (game : Game) (agent : ℕ) (line : Line) (items : List
       let reply = answer_to setup.board old a.meeting in
       subst (λ (replied : Option Reply). Took setup false (is_away game agent) old (Says line ∷ items)
       (answers replied next_game others) agent) (sym a.replied_is)
-      (by_bool (is_last reply)
-      (λ (last : Bool). is_last reply ≡ last → Took setup false (is_away game agent) old (Says line ∷ items)
-      (cond last (record { game = next_game; is_done = true; left = []; text = text_of reply })
-      (behind (text_of reply) others)) agent)
-      (λ first last. took-last a last) (λ first goes_on. took-more a others (more (a.goes_on goes_on))) refl)
+      (cond_both (is_last reply) _ _
+      (λ (done : Taken). Took setup false (is_away game agent) old (Says line ∷ items) done agent)
+      (took-last a) (λ goes_on. took-more a others (more (a.goes_on goes_on))))
 
 pub took : (setup : Setup) (closed : Bool) (game : Game) (agent : ℕ) (items : List Item) → IsIn setup agent game
     → standing ((state_of game).past agent) ≢ Ended → (state_of game).closed ≡ closed → EndsLast items →
@@ -337,9 +335,8 @@ took setup closed game agent (Says line ∷ items) is lives at last =
     let event = Tell agent (command_of line) in
     let next_game = played game event in
     let others = taken next_game agent items in
-    by_bool (is_away game agent)
-    (λ (away : Bool). Took setup closed (is_away game agent) ((state_of game).past agent) (Says line ∷ items)
-    (cond away (leaves game (Says line ∷ items)) (answers (reply_to game event) next_game others)) agent)
+    cond_both (is_away game agent) _ _ (λ (done : Taken). Took setup closed (is_away game agent)
+    ((state_of game).past agent) (Says line ∷ items) done agent)
     (λ away. took-leaves setup closed game agent (Says line ∷ items) is lives at)
     (λ here. by_closed setup closed game agent line items is lives at here others
     (λ still_lives. took setup closed next_game agent items (played_in setup agent game event is) still_lives
@@ -363,43 +360,7 @@ took setup closed game agent (Says line ∷ items) is lives at last =
     by_closed setup false game agent line items is lives at here others more =
         took-line setup game agent line items is lives at here others more
 took setup closed game agent (Ends ∷ items) is lives at last =
-    by_bool (is_away game agent)
-    (λ (away : Bool). Took setup closed (is_away game agent) ((state_of game).past agent) (Ends ∷ items)
-    (cond away (leaves game (Ends ∷ items))
-    (record { game = played game (Tell agent Leave); is_done = true; left = []; text = [] })) agent)
+    cond_both (is_away game agent) _ _ (λ (done : Taken). Took setup closed (is_away game agent)
+    ((state_of game).past agent) (Ends ∷ items) done agent)
     (λ away. took-leaves setup closed game agent (Ends ∷ items) is lives at)
     (λ here. took-end setup closed game agent items is at here last)
-
--- ---- and of the others
-
-answers_alike : (reply : Option Reply) (game played_game : Game) (others : Taken) (agent : ℕ)
-    → Alike agent game played_game → Alike agent game others.game →
-    Alike agent game (answers reply played_game others).game
-answers_alike None game played_game others agent same later = later
-answers_alike (Some reply) game played_game others agent same later =
-    by_bool (is_last reply)
-    (λ (last : Bool). Alike agent game (cond last
-    (record { game = played_game; is_done = true; left = []; text = text_of reply })
-    (behind (text_of reply) others)).game)
-    (λ last. same) (λ more. later)
-
--- taking an agent's items changes nothing for another
-pub taken_alike : (game : Game) (agent : ℕ) (items : List Item) (other : ℕ) → other ≢ agent
-    → Alike other game (taken game agent items).game
-taken_alike game agent [] other apart = alike_itself other game
-taken_alike game agent (Says line ∷ items) other apart =
-    let command = command_of line in
-    let next_game = played game (Tell agent command) in
-    let same = alike-told game agent command other apart in
-    by_bool (is_away game agent)
-    (λ (away : Bool). Alike other game (cond away (leaves game (Says line ∷ items))
-    (answers (reply_to game (Tell agent command)) next_game (taken next_game agent items))).game)
-    (λ away. alike_itself other game)
-    (λ stays. answers_alike (reply_to game (Tell agent command)) game next_game (taken next_game agent items) other same
-    (alike_through other game next_game (taken next_game agent items).game same
-    (taken_alike next_game agent items other apart)))
-taken_alike game agent (Ends ∷ items) other apart =
-    by_bool (is_away game agent)
-    (λ (away : Bool). Alike other game (cond away (leaves game (Ends ∷ items))
-    (record { game = played game (Tell agent Leave); is_done = true; left = []; text = [] })).game)
-    (λ away. alike_itself other game) (λ stays. alike-told game agent Leave other apart)

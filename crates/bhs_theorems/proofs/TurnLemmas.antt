@@ -1,21 +1,28 @@
 -- What a move makes of one connection and of its match, and what it makes of them where more bytes were fed.
-use Rattle.std.proofs.Common.{◌≡◌, ◌∙◌, ℕ, zero, suc, ◌<◌, Bool, true, false, ◌||◌, cond, nat_lt, Option, Some, None}
+use Rattle.std.proofs.Common.{◌≡◌, ◌∙◌, ℕ, zero, suc, ◌<◌, Bool, true, false, ◌||◌, nat_lt, Option, Some, None}
 use Rattle.std.proofs.Common.{List, [], ◌∷◌, ◌++◌, length, map, set, refl, sym, ap, subst, if◌then◌else◌}
 use Rattle.std.specs.List.{list_any}
 use Rattle.std.proofs.lemmas.Bool.{ltb-true, ltb-false}
-use Rattle.std.proofs.lemmas.List.{set-set, set_past, get_or_past, get_or-set_same}
+use Rattle.std.proofs.lemmas.List.{set-set, set-get_or, set_past, get_or_past, get_or-set_same}
 use Rattle.bhs_wire.specs.Lines.{found_in, left_by, said_by}
 use Rattle.bhs_wire.specs.declared.commands.First.{First}
 use Rattle.bhs_wire.specs.declared.commands.First.TheVariants as firsts
-use Rattle.bhs_wire.specs.declared.denials.Denial.TheVariants as denials
 use Rattle.bhs_lineup.specs.KeyTable.{seat_at}
 use Rattle.bhs_session.specs.Texts.{denial_text}
 use Rattle.bhs_rehearsal.specs.Games.{Game}
-use Rattle.bhs_rehearsal.specs.Connections.{Item, Says, Ends, Connection, shut, Taken, taken, after}
+use Rattle.bhs_rehearsal.specs.Connections.{Item, Says, Ends, Connection, unfed, shut, Taken, taken, after}
 use Rattle.bhs_rehearsal.specs.Stages.{Stage, game_at, connection_at, with_game, with_connection, has_seat, Entry}
 use Rattle.bhs_rehearsal.specs.Stages.{Waits, Sits, IsDenied, Goes, let_in, entry_by, entry, Moved, plays, shuts}
 use Rattle.bhs_rehearsal.specs.Stages.{enters, moves_in, moves}
-use Rattle.bhs_theorems.proofs.CuttingLemmas.{by_bool, and_then, taken-append, taken_nobody}
+use Rattle.bhs_theorems.proofs.CuttingLemmas.{by_bool, and_then, taken-append, taken_nobody, cond_alike}
+use Rattle.bhs_model.proofs.LegalLemmas.{either}
+
+abbrev pub seat_of : Connection → Option (ℕ × ℕ)
+seat_of connection = connection.seat
+
+-- a connection that has this seat, and was fed nothing
+abbrev pub bare : Option (ℕ × ℕ) → Connection
+bare own = record unfed { seat = own }
 
 -- the matches and the connection after a move, and what is sent
 pub record Turn : Type 0 where
@@ -51,9 +58,32 @@ turn_in stage conn connection None = enters_turn stage connection
     (entry (with_connection stage conn connection) connection.queue)
 turn_in stage conn connection (Some seat) = plays_turn stage seat connection
 
+-- a connection keeps the seat that it plays
+pub seat_after : (connection : Connection) (seat : ℕ × ℕ) (done : Taken)
+    → (after (record connection { seat = Some seat }) done).seat ≡ Some seat
+seat_after connection seat done =
+    either (λ (new : Connection). new.seat ≡ Some seat) done.is_done _ _ refl refl
+
 -- the move of a connection that stands so
 abbrev pub turn_of : Stage → (conn : ℕ) → Connection → Turn
 turn_of stage conn connection = turn_in stage conn connection connection.seat
+
+-- what holds of a turn in which nothing is taken, and of one that plays
+by_enters : (P : Turn → Type 0) (stage : Stage) (connection : Connection) →
+    ((new : Connection) (text : List ℕ) → P (record { games = stage.games; connection = new; text = text })) →
+    ((seat : ℕ × ℕ) → P (plays_turn stage seat connection)) → (how : Entry) → P (enters_turn stage connection how)
+by_enters P stage connection stays plays Waits = stays connection []
+by_enters P stage connection stays plays (Sits seat) = plays seat
+by_enters P stage connection stays plays (IsDenied denial) = stays (shut connection) (denial_text denial)
+by_enters P stage connection stays plays Goes = stays (shut connection) []
+
+pub by_turn : (P : Turn → Type 0) (stage : Stage) (conn : ℕ) (connection : Connection) →
+    ((new : Connection) (text : List ℕ) → P (record { games = stage.games; connection = new; text = text })) →
+    ((seat : ℕ × ℕ) → P (plays_turn stage seat connection)) → (own : Option (ℕ × ℕ))
+    → P (turn_in stage conn connection own)
+by_turn P stage conn connection stays plays None =
+    by_enters P stage connection stays plays (entry (with_connection stage conn connection) connection.queue)
+by_turn P stage conn connection stays plays (Some seat) = plays seat
 
 -- ---- it is the move
 
@@ -106,6 +136,14 @@ module _ (stage : Stage) (conn : ℕ) (connection : Connection) (within : conn <
       ap (λ (one : Connection). moves_in (with_connection stage conn connection) conn one.seat) placed_at
       ∙ moves_in-placed connection.seat
 
+-- of the connection as it stands
+pub moves_itself : (stage : Stage) (conn : ℕ) → conn < length stage.connections
+    → moves stage conn ≡ placed stage conn (turn_of stage conn (connection_at stage conn))
+moves_itself stage conn within =
+    ap (λ (connections : List Connection). moves (record stage { connections = connections }) conn)
+    (sym (set-get_or stage.connections conn unfed))
+    ∙ moves-placed stage conn (connection_at stage conn) within
+
 -- ---- more bytes
 
 -- the connection after it was fed bytes
@@ -114,6 +152,10 @@ grown connection bytes = record connection {
   unfinished = left_by connection.unfinished bytes;
   queue = connection.queue ++ map Says (found_in connection.unfinished bytes);
 }
+
+-- and after its input ended
+abbrev pub ending : Connection → Connection
+ending connection = record connection { unfinished = Some []; queue = connection.queue ++ Ends ∷ []; ended = true }
 
 abbrev pub sent_behind : (text : List ℕ) → Turn → Turn
 sent_behind text turn = record turn { text = text ++ turn.text }
@@ -209,15 +251,6 @@ enters_alike stage connections connection (IsDenied denial) = refl
 enters_alike stage connections connection Goes = refl
 
 module _ (stage : Stage) (conn : ℕ) (unfinished : Option (List ℕ)) (queue : List Item) (bytes : List ℕ) where
-  let_in_by : (below used : Bool) (seat : ℕ × ℕ) →
-      enters_turn stage (grown (open_one None unfinished queue) bytes)
-      (cond below (cond used (IsDenied denials.Taken) (Sits seat)) (IsDenied denials.Key))
-      ≡ then_fed stage conn (enters_turn stage (open_one None unfinished queue)
-      (cond below (cond used (IsDenied denials.Taken) (Sits seat)) (IsDenied denials.Key))) bytes
-  let_in_by false used seat = refl
-  let_in_by true true seat = refl
-  let_in_by true false seat = plays_grown stage conn seat None unfinished queue bytes
-
   let_in_grown : (seat : Option (ℕ × ℕ)) →
       enters_turn stage (grown (open_one None unfinished queue) bytes)
       (let_in (with_connection stage conn (grown (open_one None unfinished queue) bytes)) seat)
@@ -227,10 +260,13 @@ module _ (stage : Stage) (conn : ℕ) (unfinished : Option (List ℕ)) (queue : 
   let_in_grown (Some seat) =
       let below = nat_lt seat.0 (length stage.games) in
       let old_one = open_one None unfinished queue in
-      ap (λ (used : Bool). enters_turn stage (grown old_one bytes)
-      (cond below (cond used (IsDenied denials.Taken) (Sits seat)) (IsDenied denials.Key)))
-      (list_any-set_alike (has_seat seat) stage.connections conn (grown old_one bytes) old_one refl)
-      ∙ let_in_by below (list_any (has_seat seat) (set stage.connections conn old_one)) seat
+      let Grows : Entry → Entry → Type 0 = λ (how before : Entry).
+      enters_turn stage (grown old_one bytes) how ≡ then_fed stage conn (enters_turn stage old_one before) bytes in
+      cond_alike Grows below below _ _ _ _ refl
+      (λ is. cond_alike Grows _ _ _ _ _ _
+      (list_any-set_alike (has_seat seat) stage.connections conn (grown old_one bytes) old_one refl) (λ used. refl)
+      (λ unused. plays_grown stage conn seat None unfinished queue bytes))
+      (λ past. refl)
 
   entry_by_grown : (first : First) →
       enters_turn stage (grown (open_one None unfinished queue) bytes)

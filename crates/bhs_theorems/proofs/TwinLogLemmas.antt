@@ -9,7 +9,7 @@ use Rattle.bhs_model.specs.Worlds.{World}
 use Rattle.bhs_model.specs.Twins.{SameButDoom, Twins, is_struck, reveals, strike_from, strike, RevealsNothing}
 use Rattle.bhs_model.specs.Runs.{State, initial, arrives, is_bound, is_doomed, next, run, run_from}
 use Rattle.bhs_model.specs.Kept.{keeps}
-use Rattle.bhs_theorems.proofs.CuttingLemmas.{by_bool}
+use Rattle.bhs_theorems.proofs.CuttingLemmas.{cond_alike}
 
 -- ---- one event more
 
@@ -20,12 +20,9 @@ strike-append : (world other : World) (state : State) (events : List Event) (eve
 strike-append world other state [] event = refl
 strike-append world other state (first ∷ events) event =
     let later = strike-append world other (next world state first) events event in
-    by_bool (is_struck world other state first)
-    (λ (struck : Bool). (cond struck (strike_from world other (next world state first) (events ++ event ∷ []))
-    (first ∷ strike_from world other (next world state first) (events ++ event ∷ [])))
-    ≡ (cond struck (strike_from world other (next world state first) events)
-    (first ∷ strike_from world other (next world state first) events))
-    ++ (cond (is_struck world other (run_from world (next world state first) events) event) [] (event ∷ [])))
+    let last = cond (is_struck world other (run_from world (next world state first) events) event) [] (event ∷ []) in
+    cond_alike (λ (all front : List Event). all ≡ front ++ last) (is_struck world other state first)
+    (is_struck world other state first) _ _ _ _ refl
     (λ struck. later) (λ stays. ap (λ (rest : List Event). first ∷ rest) later)
 
 reveals-append : (world other : World) (state : State) (events : List Event) (event : Event)

@@ -1,4 +1,4 @@
-use Rattle.bhs_theorems.proofs.ApartLemmas.{matches_lemma}
+use Rattle.bhs_theorems.proofs.OfMatchLemmas.{matches_lemma}
 use Rattle.bhs_theorems.proofs.scripts.matches_keep_to_themselves.Goals as goal
 
 pub returns : goal.returns
