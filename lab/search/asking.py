@@ -70,24 +70,32 @@ class Run:
 
 
 class Watch:
-    """Says now and then how long the program works and how much memory it takes, also while it asks nothing."""
+    """Says now and then how long the program works, how much memory it takes and how far it is, also while it asks
+    nothing."""
 
     def __init__(self, child: "subprocess.Popen[bytes]", said: Callable[[str], None]) -> None:
         self._child, self._said, self._started = child, said, time.monotonic()
+        self._far = ""
         self._ended = threading.Event()
         self._thread = threading.Thread(target=self._watch, daemon=True)
 
-    def __enter__(self) -> None:
+    def __enter__(self) -> "Watch":
         self._thread.start()
+        return self
 
     def __exit__(self, *_: object) -> None:
         self._ended.set()
         self._thread.join()
 
+    def visited(self, told: Found) -> None:
+        """Takes what the program tells of how far it is."""
+        states, speed = told["visited"], told["visited"] / max(time.monotonic() - self._started, 1e-9)
+        self._far = f": {states:,} states, {speed:,.0f} a second, {told['depth']} turns on the path"
+
     def _watch(self) -> None:
         while not self._ended.wait(PAUSE):
             seconds = time.monotonic() - self._started
-            self._said(f"the program works for {seconds:.0f} s and takes {megabytes_of(self._child.pid)} MB")
+            self._said(f"the program works for {seconds:.0f} s and takes {megabytes_of(self._child.pid)} MB{self._far}")
 
 
 def megabytes_of(pid: int) -> int:
@@ -114,13 +122,15 @@ def asked(program: str, fixture: Fixture, machines: Machines, most: int, shown: 
         child = subprocess.Popen(words, cwd=name, stdin=subprocess.PIPE, stdout=subprocess.PIPE, stderr=subprocess.PIPE)
         assert child.stdin and child.stdout
         try:
-            with Watch(child, said):
+            with Watch(child, said) as watch:
                 for line in child.stdout:
                     told = json.loads(line)
                     if "begin" in told or "ask" in told:
                         child.stdin.write(run.answer(told))
                         child.stdin.flush()
                         shown(1)
+                    elif "visited" in told:
+                        watch.visited(told)
                     else:
                         last.append(told)
                 _, errors = child.communicate()

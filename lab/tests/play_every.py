@@ -3,6 +3,7 @@ poll, raise or are spent; and it agrees with the Python model's search of machin
 import contextlib
 import io
 import random
+import re
 import subprocess
 from typing import Dict, List, Tuple
 from unittest import main as run_tests
@@ -275,6 +276,21 @@ class Exploring(InFolder):
         finally:
             machines.stop()
         self.assertRegex(told.call_args.args[0], r"^the program works for \d+ s and takes \d+ MB$")
+
+    def test_it_is_told_how_far_a_long_search_is(self) -> None:
+        game, fixture = self.game("--network", "ring:16", "--hole", "8", "--agent", RING.words)
+        machines, told = Machines(fixture, game.agents, 5), mock.Mock()
+        machines.start()
+        try:
+            with mock.patch("lab.search.asking.PAUSE", 0.01):
+                answered = asked(program(), fixture, machines, 10_000_000, lambda count: None, told)
+        finally:
+            machines.stop()
+        far = re.compile(r" MB: ([\d,]+) states, [\d,]+ a second, [1-9]\d* turns on the path$")
+        found = [int(at[1].replace(",", "")) for call in told.call_args_list if (at := far.search(call.args[0]))]
+        self.assertGreater(len(set(found)), 1)
+        self.assertEqual(found, sorted(found))
+        self.assertLessEqual(found[-1], answered.counts["states"])
 
     def test_what_has_no_name_is_told_by_name(self) -> None:
         self.command("--network", "ring:3", "--hole", 1, *self.odd("sorts"))

@@ -356,9 +356,11 @@ Each question is asked once. The answer is a line, N being the memory:
   N sleeps                The agent waits until the whiteboard in front of it
                           changes; it may also wake --naps times more
   N stops                 It sends nothing more, but it may still arrive
+  N fails                 Its program raised an exception, or broke a rule
 
 Programs of agents that hold the same may share a memory. Each memory must always
-have the same step.
+have the same step. A long search also tells how far it is, by lines that have no
+answer: {\"visited\":STATES,\"depth\":TURNS}.
 
 A network with too many states ends this at --states. Then draw schedules: with
 --draws N the program draws N of them from the seed of --seed, and plays them by
@@ -388,6 +390,10 @@ At the end comes a line of what was found, and one of how much was visited:
   {\"found\":\"fails\",\"outcome\":O,\"moves\":M,\"lost\":L,\"schedule\":[A,..]}
       If the agents have their turns in this order, nothing more can happen, and
       the match is not solved
+  {\"found\":\"breaks\",\"agent\":A,\"failure\":F,\"schedule\":[A,..]}
+      Under this schedule agent A fails: its program does (program), or it would
+      once it is told that the match is over (close), or it sleeps where nothing
+      more can happen (asleep)
   {\"found\":\"endless\",\"schedule\":[A,..],\"round\":[A,..]}
       After the schedule, this round may go on for ever
   {\"found\":\"exceeds\",\"agent\":A,\"commands\":C}
@@ -404,8 +410,7 @@ With --draws these are `fails`, `breaks` or `exceeds`, or
       turns, and how many come to M moves, or lose L agents
 
 What is found is proved of all agents that do as was answered; the last line is
-not. The program cannot know
-whether the agents of the host do.
+not. The program cannot know whether the agents of the host do.
 
 Example: on the triangle of `arena check --help` an agent that stops at once:
 

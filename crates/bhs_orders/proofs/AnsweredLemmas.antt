@@ -1,7 +1,7 @@
 -- What a rehearsal whose script is played as it comes has read and written.
 use Rattle.std.proofs.Common.{◌≡◌, ◌∙◌, ◌⊎◌, refl, sym, ap, subst, inl, inr, ℕ, ◌+◌, List, [], ◌∷◌, ◌++◌, length, Bool}
 use Rattle.std.proofs.Common.{true, false, append-nil, append_assoc, arith, length-append, nat_lt, if◌then◌else◌}
-use Rattle.std.proofs.Common.{Result, Ok, ◌≢◌}
+use Rattle.std.proofs.Common.{Ok, ◌≢◌}
 use Rattle.std.specs.declared.option.Option.{Option}
 use Rattle.std.specs.List.{AllByRecursion, list_any}
 use Rattle.std.specs.Io.KnownBytes.{Appends, Consumes}
@@ -10,13 +10,13 @@ use Rattle.bhs_model.specs.declared.limits.TheConstants.{MAX_TEXT}
 use Rattle.bhs_wire.specs.Lines.{is_line_feed}
 use Rattle.bhs_stream.specs.Streams.{known_gives, known_takes}
 use Rattle.bhs_stream.proofs.OverMemory.{Appends-from_all}
-use Rattle.bhs_rehearsal.specs.Stages.{Stage, Instruction, stands_after, step}
+use Rattle.bhs_rehearsal.specs.Stages.{Stage, Instruction, step}
 use Rattle.bhs_script.specs.Script.{Gives, Meaning, Refused, Skipped, before, instructions_from, lines_of, meaning}
 use Rattle.bhs_script.specs.Script.{with_meaning}
-use Rattle.bhs_script.specs.Transcript.{all_printed, transcript}
+use Rattle.bhs_script.specs.Transcript.{all_printed}
 use Rattle.bhs_script.proofs.LineLemmas.{lines_of-found}
-use Rattle.bhs_orders.specs.Answered.{answers_to, HasAnswered, IsTranscribed, joined, joined_apart, known_flushes, Mean}
-use Rattle.bhs_orders.specs.Answered.{no_line, skips, gives, sent_by, sent_one_by_one, stands_by}
+use Rattle.bhs_orders.specs.Answered.{answers_to, HasAnswered, IsTranscribed, known_flushes, Mean}
+use Rattle.bhs_orders.specs.Answered.{no_line, skips, gives, stands_by}
 use Rattle.bhs_orders.specs.Interactive.{Progress, Interacts, answer, answers, begins, reads_end, reads_more, judged}
 use Rattle.bhs_orders.specs.Interactive.{onward, with_end}
 

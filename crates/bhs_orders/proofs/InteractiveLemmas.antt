@@ -1,5 +1,5 @@
 -- A script that is played as it comes: one line further, and a fault at one of its lines.
-use Rattle.std.proofs.Common.{◌≡◌, ◌≢◌, ◌∙◌, ◌||◌, refl, sym, ap, ap₂, subst, inl, inr, ℕ, ◌+◌, ◌<◌, ◌≤◌, List, [], ◌∷◌}
+use Rattle.std.proofs.Common.{◌≡◌, ◌≢◌, ◌∙◌, ◌||◌, refl, sym, ap, subst, inl, ℕ, ◌+◌, ◌<◌, ◌≤◌, List, [], ◌∷◌}
 use Rattle.std.proofs.Common.{◌++◌, length, Bool, true, false, append-nil, append_assoc, arith, nat_lt, if◌then◌else◌}
 use Rattle.std.proofs.Common.{IfErr, OnOk, Result, Ok, Err, length-append, length-take-le, take}
 use Rattle.std.specs.List.{list_any}
@@ -17,7 +17,7 @@ use Rattle.bhs_orders.specs.Players.{IsConcluded, IsRefusal, IsReplied, progress
 use Rattle.bhs_orders.specs.Interactive.{Answers, none, more, AnswersPart, BreaksAt, BreaksWithin, IsNext, IsPart}
 use Rattle.bhs_orders.specs.Interactive.{IsRefused}
 use Rattle.bhs_orders.specs.Interactive.{unmeant, overlong, Progress, Interacts, answer, answers, ended, judged}
-use Rattle.bhs_orders.specs.Interactive.{onward, behind_answer}
+use Rattle.bhs_orders.specs.Interactive.{onward}
 use Rattle.bhs_orders.specs.Interactive.{Breaks, InteractsToEnd, InteractionStops, reads_end, reads_more, at_start}
 use Rattle.bhs_orders.specs.Interactive.{with_end}
 use Rattle.bhs_rehearsal.specs.Rehearsing.{Rehearsing}

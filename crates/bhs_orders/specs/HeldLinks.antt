@@ -1,5 +1,5 @@
 -- Which delivery of a log went over a held link.
-use Rattle.std.specs.Prelude.{ℕ, ◌+◌, Bool, false, Option, Some, None, List, [], ◌∷◌, if◌then◌else◌, replicate}
+use Rattle.std.specs.Prelude.{ℕ, ◌+◌, Bool, false, Option, Some, None, List, ◌∷◌, if◌then◌else◌, replicate}
 use Rattle.std.specs.Prelude.{slice_get, slice_set}
 use Rattle.bhs_model.specs.declared.commands.Command.TheVariants.{Depart}
 use Rattle.bhs_model.specs.declared.events.Event.{Event}

@@ -12,8 +12,8 @@ use Rattle.bhs_rehearsal.specs.Stages.{Stage, step}
 use Rattle.bhs_script.specs.Script.{Meaning, Skipped, Gives, Refused, meaning}
 use Rattle.bhs_script.specs.Transcript.{all_printed}
 use Rattle.bhs_orders.specs.declared.faults.Fault.{Fault}
-use Rattle.bhs_orders.specs.declared.faults.Fault.TheVariants.{Read, Text, Line, File, Replay, Twin, Write, Memory}
-use Rattle.bhs_orders.specs.declared.faults.Fault.TheVariants.{Turns, Listen, Unsettled}
+use Rattle.bhs_orders.specs.declared.faults.Fault.TheVariants.{Read, Line, Write, Memory}
+use Rattle.bhs_orders.specs.declared.faults.Fault.TheVariants.{Turns}
 
 -- ---- one line
 

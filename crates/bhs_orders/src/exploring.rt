@@ -11,7 +11,7 @@ use crate::faults::{Fault, report};
 use crate::hosts::Host;
 use crate::links::held_links;
 use bhs_command_line::{Drawing, Exploration, Hunt, Pace};
-use bhs_explore::{Draws, ExploreFault, Explorer, Team};
+use bhs_explore::{Draws, ExploreFault, Explored, Explorer};
 use bhs_lineup::Ready;
 use bhs_model::Text;
 use bhs_stream::{Input, Output, finish, send};
@@ -19,6 +19,9 @@ use bhs_world::World;
 use std::alloc::Global;
 use std::io::Write;
 use std::rt::Files;
+
+// How many visits there are between two lines that tell how far a search is: a fraction of a second.
+const VISITS: u32 = 262_144;
 
 /// Reads a tournament as `check` does, and tries every schedule of one of its matches, or draws some. The host that
 /// plays the agents is asked by lines of the writer, and answers by lines of the reader. Then what was found is
@@ -108,9 +111,9 @@ fn discovered<R: Input, W: Output>(
 }
 
 // What an explorer finds, under all schedules or under those that it draws.
-fn made<T: Team>(
+fn made<R: Input, W: Output>(
     explorer: &mut Explorer,
-    team: &mut T,
+    host: &mut Host<'_, R, W>,
     exploration: Exploration,
 ) -> Result<Discovery, ExploreFault>
     ensures found { IfOk result (λ discovery. IsTrueOf explorer.new (found_in discovery)) }
@@ -119,12 +122,31 @@ fn made<T: Team>(
     ensures held { (explorer.new.held ≡ explorer.old.held) × (explorer.new.naps ≡ explorer.old.naps) }
 {
     match exploration.drawing {
-        None => Ok(Discovery::Tried(explorer.explore(team, exploration.states)?)),
+        None => Ok(Discovery::Tried(tried(explorer, host, exploration.states)?)),
         Some(drawing) => {
             let draws = draws_of(drawing, exploration.states);
-            Ok(Discovery::Drawn(explorer.draw(team, draws)?))
+            Ok(Discovery::Drawn(explorer.draw(host, draws)?))
         }
     }
+}
+
+// What is found under all schedules. Now and then the host is told how far the search is.
+fn tried<R: Input, W: Output>(
+    explorer: &mut Explorer,
+    host: &mut Host<'_, R, W>,
+    states: u32,
+) -> Result<Explored, ExploreFault>
+    ensures found { IfOk result (λ explored. IsTrueOf explorer.new explored.found) }
+    ensures same { (explorer.new.net ≡ explorer.old.net) × (explorer.new.setup ≡ explorer.old.setup) }
+    ensures held { (explorer.new.held ≡ explorer.old.held) × (explorer.new.naps ≡ explorer.old.naps) }
+{
+    for _ in 0..states {
+        if explorer.visit(host, states, VISITS)? {
+            break;
+        }
+        host.tell(explorer.visited())?;
+    }
+    explorer.explore(host, states)
 }
 
 // What is drawn, where a schedule has at most so many turns.

@@ -3,7 +3,7 @@
 
 use crate::faults::Fault;
 use crate::interactive::MAX_READS;
-use bhs_explore::{Latest, Mind, Step, Team, TeamFault};
+use bhs_explore::{Latest, Mind, Step, Team, TeamFault, Visited};
 use bhs_model::{Command, MAX_TEXT};
 use bhs_net::Memory;
 use bhs_stream::{BUFFER, Input, Output, finish, send};
@@ -54,6 +54,25 @@ impl<'h, R: Input, W: Output> Host<'h, R, W> {
             Some(fault) => fault,
             None => Fault::Line { line: self.taken },
         }
+    }
+
+    /// Tells how far a search is, by a line that has no answer.
+    pub(crate) fn tell(&mut self, visited: Visited) -> Result<(), TeamFault> {
+        match self.told(visited) {
+            Ok(()) => Ok(()),
+            Err(fault) => {
+                self.fault = Some(fault);
+                Err(TeamFault)
+            }
+        }
+    }
+
+    fn told(&mut self, visited: Visited) -> Result<(), Fault> {
+        let Visited { states, depth } = visited;
+        let line = format!(in self.alloc; "{{\"visited\":{states},\"depth\":{depth}}}\n")?;
+        send(self.writer, line.as_bytes())?;
+        finish(self.writer)?;
+        Ok(())
     }
 
     // Asks a question, and takes the answer.

@@ -1,4 +1,4 @@
-use Rattle.std.proofs.Common.{◌≡◌, ◌∙◌, ap₂, sym, subst, ℕ, List}
+use Rattle.std.proofs.Common.{◌∙◌, ap₂, sym, subst, ℕ, List}
 use Rattle.bhs_model.specs.Setups.{normal}
 use Rattle.bhs_orders.specs.Discoveries.{AreLinks}
 use Rattle.bhs_orders.proofs.exploring.discovered.Goals as goal

@@ -1,4 +1,4 @@
-use Rattle.std.proofs.Common.{◌≡◌, ◌∷◌, ◌++◌, ◌+◌, ap, sym, refl, arith, length, length-append}
+use Rattle.std.proofs.Common.{◌≡◌, ◌∷◌, ◌++◌, ◌+◌, ap, refl, arith, length, length-append}
 use Rattle.bhs_orders.specs.Players.{progress_of}
 use Rattle.bhs_orders.specs.Interactive.{none}
 use Rattle.bhs_orders.proofs.PlayLemmas.{fault_is}

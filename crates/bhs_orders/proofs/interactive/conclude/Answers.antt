@@ -1,6 +1,6 @@
-use Rattle.std.proofs.Common.{◌≡◌, ◌<◌, ◌∷◌, ◌++◌, [], List, ℕ, refl, sym, subst, inl, length, rules}
+use Rattle.std.proofs.Common.{◌≡◌, ◌<◌, [], refl, inl, length, rules}
 use Rattle.bhs_orders.specs.Players.{progress_of}
-use Rattle.bhs_orders.specs.Interactive.{Answers, BreaksAt, Progress, none, ended}
+use Rattle.bhs_orders.specs.Interactive.{none, ended}
 use Rattle.bhs_orders.specs.declared.faults.Fault.TheVariants.{Write}
 use Rattle.bhs_orders.proofs.PlayLemmas.{fault_is}
 use Rattle.bhs_orders.proofs.InteractiveLemmas.{breaks_within, ended_line, ended_nothing, nothing_left}

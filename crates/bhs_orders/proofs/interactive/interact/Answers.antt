@@ -1,12 +1,11 @@
-use Rattle.std.proofs.Common.{◌≡◌, ◌<◌, ◌≤◌, ◌+◌, ◌*◌, [], List, ℕ, true, false, length, take, arith, rules, refl}
+use Rattle.std.proofs.Common.{◌≡◌, ◌+◌, [], true, false, length, take, arith, rules, refl}
 use Rattle.std.proofs.Common.{subst}
 use Rattle.std.proofs.Common.{length-take-le}
-use Rattle.bhs_stream.specs.Streams.{Chunk, chunk_by}
-use Rattle.bhs_stream.specs.Reading.{IsPiece}
+use Rattle.bhs_stream.specs.Streams.{Chunk}
 use Rattle.bhs_stream.specs.declared.reading.TheConstants.{BUFFER}
 use Rattle.bhs_stream.proofs.ChunkLemmas.{chunk_by-take}
 use Rattle.bhs_orders.specs.Players.{progress_of}
-use Rattle.bhs_orders.specs.Interactive.{IsPart, Progress, Interacts, begins, ended}
+use Rattle.bhs_orders.specs.Interactive.{Progress, Interacts, begins, ended}
 use Rattle.bhs_orders.proofs.PlayLemmas.{fault_is}
 use Rattle.bhs_orders.proofs.InteractiveLemmas.{piece_read, silent, stops_by, stops_within, interacts_before}
 use Rattle.bhs_orders.proofs.InteractiveLemmas.{interacts_ended}

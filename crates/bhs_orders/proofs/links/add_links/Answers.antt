@@ -1,4 +1,4 @@
-use Rattle.bhs_orders.proofs.LinkLemmas.{no_more, not_more, one_more}
+use Rattle.bhs_orders.proofs.LinkLemmas.{no_more}
 use Rattle.bhs_orders.proofs.links.add_links.Goals as goal
 
 pub loop-port-init : goal.loop-port-init
