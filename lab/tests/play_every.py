@@ -278,7 +278,7 @@ class Exploring(InFolder):
         self.assertRegex(told.call_args.args[0], r"^the program works for \d+ s and takes \d+ MB$")
 
     def test_it_is_told_how_far_a_long_search_is(self) -> None:
-        game, fixture = self.game("--network", "ring:16", "--hole", "8", "--agent", RING.words)
+        game, fixture = self.game("--network", "ring:27", "--hole", "13", "--agent", RING.words)
         machines, told = Machines(fixture, game.agents, 5), mock.Mock()
         machines.start()
         try:
