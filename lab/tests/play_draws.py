@@ -2,9 +2,11 @@
 comes to the most moves on small rings, and the schedule that is kept comes to the same when the agents play it."""
 import contextlib
 import io
+import statistics
 from typing import Optional
 from unittest import main as run_tests
 
+from lab import api as lab
 from lab.__main__ import main, parser
 from lab.commands.drawing import moves_of
 from lab.commands.explore import PACES
@@ -57,6 +59,15 @@ class Drawing(InFolder):
                                   for draws in (None, Draws(2000, 2, pace, "moves")))
                 assert proved is not None and hunted is not None
                 self.assertEqual(hunted["moves"], proved["moves"])
+
+    def test_schedules_are_drawn_as_the_schedulers_of_the_lab_draw(self) -> None:
+        for pace in PACES:
+            with self.subTest(pace=pace):
+                _, counts, _, _ = self.answered("ring:8", 4, Draws(5000, 3, pace, None))
+                rows = lab.play("ring:8", RING.words, pace, count=2, holes=[4], seeds=300, engine="model")
+                moves = [row["moves"] for row in rows]
+                error = statistics.stdev(moves) / len(moves) ** 0.5
+                self.assertAlmostEqual(moves_of(counts["moves"]).mean, statistics.fmean(moves), delta=5 * error + 0.01)
 
     def test_what_is_drawn_is_a_function_of_the_seed(self) -> None:
         runs = [self.answered("ring:6", 3, Draws(100, seed, "slow-agents", None)) for seed in (1, 1, 2)]
