@@ -1,20 +1,20 @@
 """`explore --draws` by the program: it draws schedules of matches that have too many to try, and the lab answers what
 agents do (lab/search/asking.py). The worst schedule is kept, and the agents play it."""
 import statistics
-from typing import List, NamedTuple, Tuple
+from typing import Any, List, NamedTuple, Tuple
 
-from lab.commands.trying import FAILURES, FOUND, Tried, Wanted, checked, found_in, shown_failure, shown_schedule
+from lab.commands.trying import FAILURES, FOUND, Tried, Wanted, all_tried, found_in, shown_failure, shown_schedule
+from lab.rules.fixtures import Fixture
 from lab.rules.model import Object
 from lab.search.asking import BREAKS, EXCEEDS, Draws, asked
 from lab.search.machines import Machines
 from lab.search.pasts import NoFunction
-from lab.support.progress import bar
 
 Pairs = List[Tuple[int, int]]
 
 
 class Moves(NamedTuple):
-    """The least, mean, median and most of numbers, each of which came so often."""
+    """The least, mean, median and most of the moves of drawn schedules."""
 
     least: int
     mean: float
@@ -23,7 +23,7 @@ class Moves(NamedTuple):
 
 
 def moves_of(pairs: Pairs) -> Moves:
-    """What numbers come to that came so often, in order."""
+    """Sums up pairs of a number of moves and how many schedules made it, in order of the moves."""
     numbers = [number for number, _ in pairs]
     count = sum(times for _, times in pairs)
     mean = sum(number * times for number, times in pairs) / count
@@ -31,7 +31,7 @@ def moves_of(pairs: Pairs) -> Moves:
 
 
 def at(pairs: Pairs, place: int) -> int:
-    """The number at this place, if each stands there as often as it came."""
+    """The number at this place of the list that repeats each number as often as its pair says."""
     for number, times in pairs:
         if place < times:
             return number
@@ -41,26 +41,10 @@ def at(pairs: Pairs, place: int) -> int:
 
 def run(wanted: Wanted, draws: Draws) -> int:
     """Draws schedules of all matches, up to the first match in which one fails."""
-    game, fixtures = wanted.game, wanted.game.fixtures()
-    machines, all_tried = Machines(fixtures[0], game.agents, game.limit), []
-    machines.start()
-    try:
-        with bar(None, "answer") as shown:
-            for fixture in fixtures:
-                found = asked(wanted.program, fixture, machines, wanted.states, shown.update, shown.set_postfix_str,
-                              draws)
-                all_tried.append(Tried(fixture, found))
-                shown.clear()
-                print(line_of(all_tried[-1]), flush=True)
-                if found.found is None or all_tried[-1].has_failed() or found.found["found"] == EXCEEDS:
-                    break
-                if wanted.check:
-                    checked(wanted, machines, fixture)
-    finally:
-        machines.stop()
-    for what, count in machines.unnamed.items():
-        print(f"{count} times history stands for what a program holds: {what}")
-    return told(wanted, draws, all_tried)
+    def one(machines: Machines, fixture: Fixture, shown: Any) -> Tried:
+        return Tried(fixture, asked(wanted.program, fixture, machines, wanted.states, shown.update,
+                                    shown.set_postfix_str, draws))
+    return told(wanted, draws, all_tried(wanted, one, line_of))
 
 
 def line_of(tried: Tried) -> str:
@@ -80,12 +64,12 @@ def line_of(tried: Tried) -> str:
     return f"home {setup.home} holes {setup.holes}: {said}, {seconds:.1f} s"
 
 
-def told(wanted: Wanted, draws: Draws, all_tried: List[Tried]) -> int:
+def told(wanted: Wanted, draws: Draws, tries: List[Tried]) -> int:
     """Says what the drawn schedules of all matches come to, and keeps the worst."""
-    last = all_tried[-1]
-    schedules, turns = (sum(tried.answered.counts.get(what, 0) for tried in all_tried)
+    last = tries[-1]
+    schedules, turns = (sum(tried.answered.counts.get(what, 0) for tried in tries)
                         for what in ("schedules", "turns"))
-    counts = f"{schedules} drawn schedules, {turns} steps in {sum(tried.answered.seconds for tried in all_tried):.1f} s"
+    counts = f"{schedules} drawn schedules, {turns} steps in {sum(tried.answered.seconds for tried in tries):.1f} s"
     if last.answered.found is None:
         print(f"{counts}: stopped before all were drawn; no schedule failed until then")
         return 130
@@ -96,13 +80,13 @@ def told(wanted: Wanted, draws: Draws, all_tried: List[Tried]) -> int:
         print(f"{counts}: a schedule fails")
         return shown_failure(wanted, last)
     print(f"{counts}: none of them fails, which says nothing of the others")
-    shown_worst(wanted, draws, all_tried)
+    shown_worst(wanted, draws, tries)
     return 0
 
 
-def shown_worst(wanted: Wanted, draws: Draws, all_tried: List[Tried]) -> None:
+def shown_worst(wanted: Wanted, draws: Draws, tries: List[Tried]) -> None:
     """Writes the schedule with the most moves, or with the most agents lost, once the agents have played it."""
-    worst = max(all_tried, key=lambda tried: measure_of(draws, found_in(tried)))
+    worst = max(tries, key=lambda tried: measure_of(draws, found_in(tried)))
     found, setup = found_in(worst), worst.fixture.setup
     what = "agents lost" if draws.hunt == "lost" else "moves"
     print(f"most {what}: home {setup.home} holes {setup.holes}, solved moves {found['moves']} lost {found['lost']}")

@@ -1,7 +1,7 @@
 """`explore` by the program: it tries the schedules, and the lab answers what agents do (lab/search/asking.py). Where
 the program says nothing, as an agent may use more than its quota, the Python model's search takes over, and says so."""
 import pathlib
-from typing import Any, List, NamedTuple, Optional, Sequence, Tuple
+from typing import Any, Callable, List, NamedTuple, Optional, Sequence, Tuple
 
 from lab.play import finds
 from lab.play.matches import Run
@@ -40,7 +40,9 @@ class Tried(NamedTuple):
         return self.answered.found is not None and self.answered.found["found"] in FOUND
 
     def is_whole(self) -> bool:
-        return self.beside.is_whole if self.beside is not None else self.answered.found is not None
+        if self.beside is not None:
+            return self.beside.is_whole
+        return self.answered.found is not None and self.answered.found["found"] != EXCEEDS
 
 
 class Wanted(NamedTuple):
@@ -55,26 +57,41 @@ class Wanted(NamedTuple):
     keep: pathlib.Path
 
 
+# tries the schedules of one match, whose agents are these machines, and shows that it does
+Try = Callable[[Machines, Fixture, Any], Tried]
+
+
 def run(wanted: Wanted) -> int:
     """Tries the schedules of all matches, up to the first that fails."""
+    def one(machines: Machines, fixture: Fixture, shown: Any) -> Tried:
+        found = asked(wanted.program, fixture, machines, wanted.states, shown.update, shown.set_postfix_str)
+        shown.clear()
+        return beside(wanted, Tried(fixture, found), shown)
+    return told(wanted, all_tried(wanted, one, line_of))
+
+
+def all_tried(wanted: Wanted, one: Try, line: Callable[[Tried], str]) -> List[Tried]:
+    """Tries the matches of a game, up to the first that fails or is not tried as a whole, and prints a line for
+    each."""
     game, fixtures = wanted.game, wanted.game.fixtures()
-    machines, all_tried = Machines(fixtures[0], game.agents, game.limit), []
+    machines, found = Machines(fixtures[0], game.agents, game.limit), []
     machines.start()
     try:
         with bar(None, "answer") as shown:
             for fixture in fixtures:
-                found = asked(wanted.program, fixture, machines, wanted.states, shown.update, shown.set_postfix_str)
-                tried = Tried(fixture, found)
+                tried = one(machines, fixture, shown)
                 shown.clear()
-                all_tried.append(beside(wanted, tried, shown))
-                print(line_of(all_tried[-1]), flush=True)
-                if not all_tried[-1].is_whole() or all_tried[-1].has_failed():
+                found.append(tried)
+                print(line(tried), flush=True)
+                if not tried.is_whole() or tried.has_failed():
                     break
-                if wanted.check and all_tried[-1].beside is None:
+                if wanted.check and tried.beside is None:
                     checked(wanted, machines, fixture)
     finally:
         machines.stop()
-    return told(wanted, all_tried, machines)
+    for what, count in machines.unnamed.items():
+        print(f"{count} times history stands for what a program holds: {what}")
+    return found
 
 
 def beside(wanted: Wanted, tried: Tried, shown: Any) -> Tried:
@@ -118,13 +135,11 @@ def checked(wanted: Wanted, machines: Machines, fixture: Fixture) -> None:
     print(f"    {wanted.check} drawn schedules, {steps} steps: the agents did as they had answered", flush=True)
 
 
-def told(wanted: Wanted, all_tried: List[Tried], machines: Machines) -> int:
+def told(wanted: Wanted, tries: List[Tried]) -> int:
     """Says what was found of all matches, and writes the schedule that fails."""
-    last = all_tried[-1]
-    states = sum(tried.answered.counts.get("states", 0) for tried in all_tried)
-    counts = f"{states} states in {sum(tried.answered.seconds for tried in all_tried):.1f} s"
-    for what, count in machines.unnamed.items():
-        print(f"{count} times history stands for what a program holds: {what}")
+    last = tries[-1]
+    states = sum(tried.answered.counts.get("states", 0) for tried in tries)
+    counts = f"{states} states in {sum(tried.answered.seconds for tried in tries):.1f} s"
     if last.beside is not None and (last.has_failed() or not last.is_whole()):
         return told_by_model(wanted.game, [last.beside], wanted.keep, wanted.engine)
     if not last.is_whole():
@@ -133,11 +148,11 @@ def told(wanted: Wanted, all_tried: List[Tried], machines: Machines) -> int:
     if last.has_failed():
         print(f"{counts}: a schedule fails")
         return shown_failure(wanted, last)
-    says_less = any(tried.beside is not None for tried in all_tried)
+    says_less = any(tried.beside is not None for tried in tries)
     engine = name_of(wanted.program)
     by = "" if engine == built.PROGRAM else f", by {engine}"
     print(f"{counts}: {'no schedule fails, in part of the Python model' if says_less else THEOREM}{by}")
-    moves, lost = zip(*(bounds_of(tried) for tried in all_tried))
+    moves, lost = zip(*(bounds_of(tried) for tried in tries))
     print(f"most moves {max(moves)}, most agents lost {max(lost)}")
     return 0
 

@@ -1,49 +1,32 @@
 """What `explore --draws` finds by the program: drawn schedules lie within what a search of all schedules proves, a hunt
 comes to the most moves on small rings, and the schedule that is kept comes to the same when the agents play it."""
-import contextlib
-import io
 import statistics
 from typing import Optional
 from unittest import main as run_tests
 
 from lab import api as lab
-from lab.__main__ import main, parser
+from lab.__main__ import main
 from lab.commands.drawing import moves_of
 from lab.commands.explore import PACES
 from lab.commands.mutants import FOLDER
-from lab.commands.words import game_of
-from lab.search.asking import Answered, Draws, asked
-from lab.search.machines import Machines
-from lab.tests.playing import RING, InFolder, program
+from lab.search.asking import Answered, Draws
+from lab.tests.exploring import InExplore
+from lab.tests.playing import RING, program
 
 
-class Drawing(InFolder):
-    def command(self, *words: object) -> int:
-        said = io.StringIO()
-        with contextlib.redirect_stdout(said), contextlib.redirect_stderr(said):
-            status = main(["explore", *map(str, words), "--program", program(), "--keep", str(self.folder / "find")])
-        self.said = said.getvalue()
-        return status
-
-    def answered(self, network: str, hole: int, draws: Optional[Draws]) -> Answered:
+class Drawing(InExplore):
+    def on_ring(self, network: str, hole: int, draws: Optional[Draws]) -> Answered:
         """What the program finds of two agents on a ring, under all schedules or under those that are drawn."""
-        words = ["explore", "--network", network, "--hole", str(hole), "--agent", RING.words]
-        game = game_of(parser().parse_args(words))
-        (fixture,) = game.fixtures()
-        machines = Machines(fixture, game.agents, 5)
-        machines.start()
-        try:
-            return asked(program(), fixture, machines, 1_000_000, lambda count: None, draws=draws)
-        finally:
-            machines.stop()
+        game, fixture = self.game("--network", network, "--hole", str(hole), "--agent", RING.words)
+        return self.answered(fixture, game.agents, draws=draws)
 
     def test_drawn_schedules_lie_within_what_is_proved(self) -> None:
         for network, hole in (("ring:4", 2), ("ring:5", 1), ("ring:5", 3)):
-            proved = self.answered(network, hole, None).found
+            proved = self.on_ring(network, hole, None).found
             assert proved is not None
             for pace in PACES:
                 with self.subTest(network=network, hole=hole, pace=pace):
-                    found, counts, _, _ = self.answered(network, hole, Draws(200, 1, pace, None))
+                    found, counts, _, _ = self.on_ring(network, hole, Draws(200, 1, pace, None))
                     assert found is not None
                     self.assertEqual((found["found"], counts["solved"], counts["failed"]), ("comes", 200, 0))
                     self.assertEqual([sum(times for _, times in counts[what]) for what in ("moves", "lost")],
@@ -55,7 +38,7 @@ class Drawing(InFolder):
     def test_a_hunt_comes_to_the_most_moves(self) -> None:
         for network, hole, pace in (("ring:5", 1, "fair"), ("ring:5", 2, "fair"), ("ring:6", 4, "slow-agents")):
             with self.subTest(network=network, hole=hole):
-                proved, hunted = (self.answered(network, hole, draws).found
+                proved, hunted = (self.on_ring(network, hole, draws).found
                                   for draws in (None, Draws(2000, 2, pace, "moves")))
                 assert proved is not None and hunted is not None
                 self.assertEqual(hunted["moves"], proved["moves"])
@@ -63,14 +46,14 @@ class Drawing(InFolder):
     def test_schedules_are_drawn_as_the_schedulers_of_the_lab_draw(self) -> None:
         for pace in PACES:
             with self.subTest(pace=pace):
-                _, counts, _, _ = self.answered("ring:8", 4, Draws(5000, 3, pace, None))
+                _, counts, _, _ = self.on_ring("ring:8", 4, Draws(5000, 3, pace, None))
                 rows = lab.play("ring:8", RING.words, pace, count=2, holes=[4], seeds=300, engine="model")
                 moves = [row["moves"] for row in rows]
                 error = statistics.stdev(moves) / len(moves) ** 0.5
                 self.assertAlmostEqual(moves_of(counts["moves"]).mean, statistics.fmean(moves), delta=5 * error + 0.01)
 
     def test_what_is_drawn_is_a_function_of_the_seed(self) -> None:
-        runs = [self.answered("ring:6", 3, Draws(100, seed, "slow-agents", None)) for seed in (1, 1, 2)]
+        runs = [self.on_ring("ring:6", 3, Draws(100, seed, "slow-agents", None)) for seed in (1, 1, 2)]
         self.assertEqual((runs[0].found, runs[0].counts), (runs[1].found, runs[1].counts))
         self.assertNotEqual(runs[0].counts["turns"], runs[2].counts["turns"])
 

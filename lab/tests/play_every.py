@@ -1,7 +1,6 @@
 """What `explore` finds by the program: what is known of the sample agents, their wrong versions, and agents that sleep,
 poll, raise or are spent; and it agrees with the Python model's search of machines that are drawn."""
 import contextlib
-import io
 import random
 import re
 import subprocess
@@ -9,18 +8,18 @@ from typing import Dict, List, Tuple
 from unittest import main as run_tests
 from unittest import mock
 
-from lab.__main__ import main, parser
+from lab.__main__ import main
 from lab.commands.mutants import FOLDER
-from lab.commands.words import game_of
 from lab.play.matches import STUCK
-from lab.play.teams import AgentWords, Game
+from lab.play.teams import Game
 from lab.rules.fixtures import Fixture
-from lab.search.asking import Answered, Found, asked
+from lab.search.asking import Found
 from lab.search.explore import End, explored
 from lab.search.following import follow
 from lab.search.machines import Machines
 from lab.search.pasts import NoFunction
-from lab.tests.playing import AGENTS, FAULTY, KNOWN_MAP, MAP, RING, InFolder, program
+from lab.tests.exploring import InExplore
+from lab.tests.playing import AGENTS, FAULTY, KNOWN_MAP, MAP, RING, program
 
 THEOREM = "every schedule solves (a theorem about programs that are functions of what they hold, as they answered here)"
 # how many drawn machines are compared
@@ -167,7 +166,7 @@ for place, command in enumerate([{"do": "enter", "key": sys.argv[2]}, {"do": "lo
 '''
 
 
-class Exploring(InFolder):
+class Exploring(InExplore):
     def setUp(self) -> None:
         super().setUp()
         (self.folder / "odd.py").write_text(ODD, encoding="utf-8")
@@ -175,19 +174,6 @@ class Exploring(InFolder):
 
     def odd(self, name: str) -> List[str]:
         return ["--agent", f"{self.folder}/odd.py:{name}"]
-
-    def command(self, *words: object) -> int:
-        said = io.StringIO()
-        with contextlib.redirect_stdout(said), contextlib.redirect_stderr(said):
-            status = main(["explore", *map(str, words), "--program", program(), "--keep", str(self.folder / "find")])
-        self.said = said.getvalue()
-        return status
-
-    def game(self, *words: str) -> Tuple[Game, Fixture]:
-        """A game, and its one match."""
-        game = game_of(parser().parse_args(["explore", *words]))
-        (fixture,) = game.fixtures()
-        return game, fixture
 
     def test_the_most_moves_on_rings(self) -> None:
         for nodes, moves in {3: 4, 4: 9, 5: 14, 6: 23}.items():
@@ -268,24 +254,16 @@ class Exploring(InFolder):
 
     def test_it_is_told_how_long_the_program_works(self) -> None:
         game, fixture = self.game("--network", "ring:4", "--hole", "1", "--agent", RING.words)
-        machines, told = Machines(fixture, game.agents, 5), mock.Mock()
-        machines.start()
-        try:
-            with mock.patch("lab.search.asking.PAUSE", 0.01):
-                asked(program(), fixture, machines, 1_000_000, lambda count: None, told)
-        finally:
-            machines.stop()
+        told = mock.Mock()
+        with mock.patch("lab.search.asking.PAUSE", 0.01):
+            self.answered(fixture, game.agents, said=told)
         self.assertRegex(told.call_args.args[0], r"^the program works for \d+ s and takes \d+ MB$")
 
     def test_it_is_told_how_far_a_long_search_is(self) -> None:
         game, fixture = self.game("--network", "ring:27", "--hole", "13", "--agent", RING.words)
-        machines, told = Machines(fixture, game.agents, 5), mock.Mock()
-        machines.start()
-        try:
-            with mock.patch("lab.search.asking.PAUSE", 0.01):
-                answered = asked(program(), fixture, machines, 10_000_000, lambda count: None, told)
-        finally:
-            machines.stop()
+        told = mock.Mock()
+        with mock.patch("lab.search.asking.PAUSE", 0.01):
+            answered = self.answered(fixture, game.agents, said=told)
         far = re.compile(r" MB: ([\d,]+) states, [\d,]+ a second, [1-9]\d* turns on the path$")
         found = [int(at[1].replace(",", "")) for call in told.call_args_list if (at := far.search(call.args[0]))]
         self.assertGreater(len(set(found)), 1)
@@ -332,18 +310,6 @@ class Exploring(InFolder):
                 for seed in range(20):
                     follow(fixture, game.agents, machines, seed, 5)
 
-    def answered(self, fixture: Fixture, agents: List[AgentWords], check: int = 0) -> Answered:
-        """What the program answers. Then this many drawn schedules are followed."""
-        machines = Machines(fixture, agents, 5)
-        machines.start()
-        try:
-            answered = asked(program(), fixture, machines, 1_000_000, lambda count: None)
-            for seed in range(check):
-                follow(fixture, agents, machines, seed, 5)
-            return answered
-        finally:
-            machines.stop()
-
     def test_drawn_ends_are_failures_of_both(self) -> None:
         """One agent solves the match, and the other comes to an end that is drawn."""
         kinds: Dict[str, int] = {}
@@ -358,7 +324,7 @@ class Exploring(InFolder):
 
     def both(self, game: Game, fixture: Fixture, check: int = 0) -> Tuple[Found, End]:
         """What the program finds, and the worst end by the Python model."""
-        found = self.answered(fixture, game.agents, check).found
+        found = self.answered(fixture, game.agents, check=check).found
         beside = explored(fixture, game.agents, mock.Mock()).explorer.worst
         assert beside is not None and found is not None
         return found, beside
