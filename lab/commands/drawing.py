@@ -67,9 +67,10 @@ def line_of(tried: Tried) -> str:
 def told(wanted: Wanted, draws: Draws, tries: List[Tried]) -> int:
     """Says what the drawn schedules of all matches come to, and keeps the worst."""
     last = tries[-1]
-    schedules, turns = (sum(tried.answered.counts.get(what, 0) for tried in tries)
-                        for what in ("schedules", "turns"))
-    counts = f"{schedules} drawn schedules, {turns} steps in {sum(tried.answered.seconds for tried in tries):.1f} s"
+    solved, failed, turns = (sum(tried.answered.counts.get(what, 0) for tried in tries)
+                             for what in ("solved", "failed", "turns"))
+    seconds = sum(tried.answered.seconds for tried in tries)
+    counts = f"{solved + failed} drawn schedules, {turns} steps in {seconds:.1f} s"
     if last.answered.found is None:
         print(f"{counts}: stopped before all were drawn; no schedule failed until then")
         return 130

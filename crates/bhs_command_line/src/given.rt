@@ -210,7 +210,7 @@ fn drawing(
     }
 }
 
-// The same, where there is a word of how many schedules.
+// The schedules that these words have drawn, if --draws is given.
 fn drawn_by(
     draws: Text,
     seed: Option<Text>,

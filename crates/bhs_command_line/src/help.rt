@@ -364,9 +364,9 @@ answer: {\"visited\":STATES,\"depth\":TURNS}.
 
 A network with too many states ends this at --states. Then draw schedules: with
 --draws N the program draws N of them from the seed of --seed, and plays them by
-the same answers, a hundred thousand within seconds. It keeps the first that
-fails, or else the one with the most moves. --by NAME says whose turn it is among
-the agents that can move:
+the same answers: a hundred thousand take seconds once the host has answered. It
+keeps the first that fails, or else the one with the most moves. --by NAME says
+whose turn it is among the agents that can move:
 
   fair           each is as likely
   last-departed  agents go as far as they can, and of those on links the one
@@ -404,10 +404,10 @@ With --draws these are `fails`, `breaks` or `exceeds`, or
 
   {\"found\":\"comes\",\"moves\":M,\"lost\":L,\"schedule\":[A,..]}
       Under this schedule the match is solved; no drawn one fails
-  {\"schedules\":N,\"solved\":S,\"failed\":F,\"turns\":T,\"moves\":[[M,C],..],
+  {\"solved\":S,\"failed\":F,\"turns\":T,\"moves\":[[M,C],..],
    \"lost\":[[L,C],..],\"memories\":M,\"stances\":T}
-      in one line: how many schedules were drawn, are solved and fail, their
-      turns, and how many come to M moves, or lose L agents
+      in one line: how many of the schedules are solved and fail, their turns,
+      and how many come to M moves, or lose L agents
 
 What is found is proved of all agents that do as was answered; the last line is
 not. The program cannot know whether the agents of the host do.

@@ -39,7 +39,7 @@ fn unfit_appeal(alloc: Global, words: &ArgMatches<'_>) -> Result<String, AllocEr
     )
 }
 
-// Tells the first word of an exploration that is none, or those that need schedules to be drawn.
+// Tells the first wrong word of an exploration, or that its options need --draws.
 fn unfit_exploration(alloc: Global, words: &ArgMatches<'_>) -> Result<String, AllocError> {
     let told = unfit_number(alloc, words, &[GAME, STATES, NAPS])?;
     if !told.is_empty() {
@@ -69,7 +69,7 @@ fn unfit_exploration(alloc: Global, words: &ArgMatches<'_>) -> Result<String, Al
     }
 }
 
-// Tells the word of what is hunted for, if it is none.
+// Tells the word of --hunt, if it is wrong.
 fn unfit_hunt(alloc: Global, words: &ArgMatches<'_>) -> Result<String, AllocError> {
     match words.get_str("hunt") {
         Some(word) if hunt_in(word).is_none() => {
@@ -79,7 +79,7 @@ fn unfit_hunt(alloc: Global, words: &ArgMatches<'_>) -> Result<String, AllocErro
     }
 }
 
-// Tells a word that is none of these names.
+// Tells a word that should be one of these names.
 fn unfit_name(alloc: Global, word: &str, name: &str, names: &str) -> Result<String, AllocError> {
     format!(in alloc;
         "error: invalid value '{word}' for '{name}': it is none of {names}\n\n\

@@ -10,12 +10,13 @@ use rand_core::SeedableRng;
 use rand_core::utils::NextWord;
 use std::alloc::{AllocError, Global};
 
-// How slow an agent or a link is, as one of these weights; and how seldom sleepers wake.
+// The weights of agents and of links, from slow to fast.
 const PACES: [u32; 5] = [2, 30, 100, 100, 500];
 
+// The weights of sleepers.
 const WAKINGS: [u32; 2] = [1, 10];
 
-/// How it is drawn which agent moves next, among those that can.
+/// How the agent that moves next is drawn among those that can.
 #[derive(Clone, Copy, Debug, PartialEq, Eq)]
 pub enum Pace {
     /// Each is as likely.
@@ -105,7 +106,7 @@ impl Lots {
         }
     }
 
-    /// A number below this one, which is not 0.
+    /// A drawn number below `most`; 0 if `most` is 0.
     pub(crate) fn below(&mut self, most: u32) -> u32 {
         let word = self.words.next_word();
         if most == 0 { 0 } else { word % most }
@@ -173,7 +174,7 @@ impl Lots {
         }
     }
 
-    // Of the agents that can move, whose turns weigh nothing, the one that departed last.
+    // The agent that departed last of those that can move; it is next if no turn weighs anything.
     fn last(&self, chart: &Chart, row: &[u32]) -> Option<u16> {
         let mut found = None;
         let mut latest = 0;

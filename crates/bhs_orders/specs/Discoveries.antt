@@ -105,11 +105,10 @@ counts_line explored =
 -- the line of what was counted of drawn schedules
 abbrev pub draws_line : Drawn → List ℕ
 draws_line drawn =
-    (codes "{\"schedules\":" ++ (decimal drawn.schedules
-    ++ (codes ",\"solved\":" ++ (decimal drawn.solved
+    (codes "{\"solved\":" ++ (decimal drawn.solved
     ++ (codes ",\"failed\":" ++ (decimal drawn.failed
     ++ (codes ",\"turns\":" ++ (decimal drawn.turns
-    ++ (codes ",\"moves\":" ++ pairs_text drawn.moves.items)))))))))
+    ++ (codes ",\"moves\":" ++ pairs_text drawn.moves.items)))))))
     ++ (codes ",\"lost\":" ++ (pairs_text drawn.lost.items
     ++ (codes ",\"memories\":" ++ (decimal drawn.memories
     ++ (codes ",\"stances\":" ++ (decimal drawn.stances ++ codes "}\n"))))))

@@ -57,18 +57,13 @@ fn counts_line(alloc: Global, explored: &Explored) -> Result<String, Memory>
 fn draws_line(alloc: Global, drawn: &Drawn) -> Result<String, Memory>
     ensures { IfOk result (λ text. string_bytes text ≡ draws_line drawn.now) }
 {
-    let (schedules, solved, failed, turns) = (
-        drawn.schedules,
-        drawn.solved,
-        drawn.failed,
-        drawn.turns,
-    );
+    let (solved, failed, turns) = (drawn.solved, drawn.failed, drawn.turns);
     let (memories, stances) = (drawn.memories, drawn.stances);
     let moves = pairs(alloc, &drawn.moves)?;
     let lost = pairs(alloc, &drawn.lost)?;
     let (moves, lost) = (moves.as_str(), lost.as_str());
     let mut text = format!(in alloc;
-        "{{\"schedules\":{schedules},\"solved\":{solved},\"failed\":{failed},\"turns\":{turns},\"moves\":{moves}"
+        "{{\"solved\":{solved},\"failed\":{failed},\"turns\":{turns},\"moves\":{moves}"
     )?;
     let more = format!(in alloc;
         ",\"lost\":{lost},\"memories\":{memories},\"stances\":{stances}}}\n"

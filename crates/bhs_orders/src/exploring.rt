@@ -149,7 +149,7 @@ fn tried<R: Input, W: Output>(
     explorer.explore(host, states)
 }
 
-// What is drawn, where a schedule has at most so many turns.
+// The schedules to draw, each of at most this many turns.
 fn draws_of(drawing: Drawing, turns: u32) -> Draws {
     let pace = match drawing.pace {
         Pace::Fair => bhs_explore::Pace::Fair,

@@ -58,13 +58,8 @@ impl<'h, R: Input, W: Output> Host<'h, R, W> {
 
     /// Tells how far a search is, by a line that has no answer.
     pub(crate) fn tell(&mut self, visited: Visited) -> Result<(), TeamFault> {
-        match self.told(visited) {
-            Ok(()) => Ok(()),
-            Err(fault) => {
-                self.fault = Some(fault);
-                Err(TeamFault)
-            }
-        }
+        let told = self.told(visited);
+        self.noted(told)
     }
 
     fn told(&mut self, visited: Visited) -> Result<(), Fault> {
@@ -81,8 +76,13 @@ impl<'h, R: Input, W: Output> Host<'h, R, W> {
             Ok(question) => self.answer(&question),
             Err(memory) => Err(Fault::from(memory)),
         };
-        match answer {
-            Ok(mind) => Ok(mind),
+        self.noted(answer)
+    }
+
+    // Notes the fault for which the host answers nothing more, if there is one.
+    fn noted<T: Drop>(&mut self, done: Result<T, Fault>) -> Result<T, TeamFault> {
+        match done {
+            Ok(done) => Ok(done),
             Err(fault) => {
                 self.fault = Some(fault);
                 Err(TeamFault)
