@@ -59,10 +59,10 @@ class Server:
 
     def __init__(self, program: str, folder: pathlib.Path, *options: str, turns: int = 400, sessions: int = 100,
                  log: Optional[int] = None, before: Callable[[], None] = lambda: None, pause: int = 5,
-                 says: int = subprocess.DEVNULL) -> None:
+                 says: int = subprocess.DEVNULL, grace: int = 300) -> None:
         self.port = free_port()
         words = [program, "serve", "cup.toml", "--port", self.port, "--sessions", sessions, "--turns", turns,
-                 "--pause", pause, "--grace", 300, "--replay", "match", *options]
+                 "--pause", pause, "--grace", grace, "--replay", "match", *options]
         self.begun = time.monotonic()
         self.child = subprocess.Popen([*map(str, words)], cwd=folder, stdin=says, stdout=subprocess.PIPE,
                                       preexec_fn=before, stderr=subprocess.PIPE if log is None else log)

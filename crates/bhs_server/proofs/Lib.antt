@@ -3,3 +3,4 @@ pub mod DrainedLemmas
 pub mod ExchangeLemmas
 pub mod KnownLemmas
 pub mod ServedLemmas
+pub mod WaitingLemmas

@@ -4,3 +4,4 @@ pub mod Settling
 pub mod Exchanges
 pub mod Written
 pub mod Unserved
+pub mod Waiting

@@ -1,7 +1,11 @@
 //! Who is connected to a server. The number of clients is bounded: those that have not entered make room for others,
 //! the oldest first.
 
+ghost use Rattle.std.specs.Prelude.{◌≡◌, map};
+ghost use Rattle.bhs_server.specs.Waiting.{older, with_room};
+
 use crate::unserved::{Unserved, turn_away};
+use crate::waiting::{Known, Stand, grow_older, oldest_waiting};
 use bhs_net::Memory;
 use std::alloc::Global;
 use std::net::{Shutdown, TcpStream};
@@ -10,44 +14,12 @@ use std::sync::Arc;
 // How many clients may be connected at most that have not entered.
 const WAITING: usize = 256;
 
-// After how many looks a client that has not entered is cut off. There are two looks a second.
-const LOOKS: u32 = 20;
-
-// Where a client stands.
-#[derive(Clone, Copy, PartialEq, Eq)]
-enum Stand {
-    /// Its first line is still to come.
-    Waits,
-    /// Its first line is being read, and it is not cut off meanwhile.
-    Enters,
-    /// Its agent has entered.
-    IsIn,
-    /// It is cut off, and its session is about to end.
-    IsCut,
-}
-
-// A client that is connected.
-#[derive(Drop)]
-struct Client {
-    session: u32,
-    socket: Arc<TcpStream, Global>,
-    stand: Stand,
-    /// How many looks it has waited to be let in.
-    looks: u32,
-}
-
-impl Client {
-    // Ends its input, so that its session ends.
-    fn cut(&mut self) {
-        self.stand = Stand::IsCut;
-        let _ = self.socket.shutdown(Shutdown::Read);
-    }
-}
-
 /// The clients that are connected, in the order in which they came.
 #[derive(Drop)]
 pub(crate) struct Clients {
-    all: Vec<Client>,
+    known: Vec<Known>,
+    /// The socket of each, at the same place.
+    sockets: Vec<Arc<TcpStream, Global>>,
     /// How many may be connected at most.
     most: usize,
 }
@@ -56,8 +28,10 @@ impl Clients {
     /// Nobody is connected, and at most this many may be.
     pub(crate) fn new(alloc: Global, most: u32) -> Result<Clients, Memory> {
         let most = most as usize;
+        let room = most.saturating_add(WAITING);
         Ok(Clients {
-            all: Vec::with_capacity(alloc, most.saturating_add(WAITING))?,
+            known: Vec::with_capacity(alloc, room)?,
+            sockets: Vec::with_capacity(alloc, room)?,
             most,
         })
     }
@@ -71,17 +45,19 @@ impl Clients {
         let Ok(kept) = Arc::try_clone(socket) else {
             return Err(Unserved::Memory);
         };
-        let are_many = self.all.len() >= self.most.saturating_add(WAITING);
+        let are_many = self.known.len() >= self.most.saturating_add(WAITING);
         if are_many || (!self.has_room() && !self.make_room()) {
             return Err(Unserved::Full);
         }
-        let client = Client {
+        let client = Known {
             session,
-            socket: kept,
             stand: Stand::Waits,
             looks: 0,
         };
-        match self.all.push(client) {
+        if self.known.reserve(1).is_err() || self.sockets.push(kept).is_err() {
+            return Err(Unserved::Memory);
+        }
+        match self.known.push(client) {
             Ok(()) => Ok(()),
             Err(_) => Err(Unserved::Memory),
         }
@@ -91,7 +67,7 @@ impl Clients {
     fn has_room(&self) -> bool {
         let mut waiting: usize = 0;
         let mut open: usize = 0;
-        for client in self.all.iter() {
+        for client in self.known.iter() {
             if client.stand != Stand::IsCut {
                 open = open.saturating_add(1);
             }
@@ -102,15 +78,23 @@ impl Clients {
         waiting < WAITING && open < self.most
     }
 
-    /// Cuts off the oldest client that waits to be let in, if one does. Answers whether one did.
-    pub(crate) fn make_room(&mut self) -> bool {
-        for client in self.all.iter_mut() {
-            if client.stand == Stand::Waits {
-                client.cut();
-                return true;
-            }
+    /// Cuts off the oldest client that waits to be let in, if one does, and nobody else. Answers whether one did.
+    pub(crate) fn make_room(&mut self) -> bool
+        ensures { self.new.known.items ≡ with_room self.old.known.items }
+    {
+        let Some(place) = oldest_waiting(&self.known) else {
+            return false;
+        };
+        self.known[place].stand = Stand::IsCut;
+        self.hear_no_more(place);
+        true
+    }
+
+    // Ends the input of the client at this place, so that its session ends.
+    fn hear_no_more(&self, place: usize) {
+        if let Some(socket) = self.sockets.get(place) {
+            let _ = socket.shutdown(Shutdown::Read);
         }
-        false
     }
 
     /// The first line of the client of a session is still to come: whether it is not cut off.
@@ -130,7 +114,7 @@ impl Clients {
 
     // Has the client of a session stand so, unless it is cut off: whether it is not.
     fn stands(&mut self, session: u32, stand: Stand) -> bool {
-        for client in self.all.iter_mut() {
+        for client in self.known.iter_mut() {
             if client.session == session && client.stand != Stand::IsCut {
                 client.stand = stand;
                 return true;
@@ -141,9 +125,9 @@ impl Clients {
 
     /// Tells the client of a session that there is no memory to serve it. It is connected no more.
     pub(crate) fn turn_away(&mut self, session: u32) {
-        for client in self.all.iter() {
-            if client.session == session {
-                turn_away(&client.socket, Unserved::Memory);
+        if let Some(place) = self.place_of(session) {
+            if let Some(socket) = self.sockets.get(place) {
+                turn_away(socket, Unserved::Memory);
             }
         }
         self.remove(session);
@@ -151,28 +135,40 @@ impl Clients {
 
     /// The client of a session is connected no more.
     pub(crate) fn remove(&mut self, session: u32) {
-        if let Some(place) = self.all.iter().position(|client| client.session == session) {
-            let _gone = self.all.remove(place);
+        if let Some(place) = self.place_of(session) {
+            if place < self.known.len() && place < self.sockets.len() {
+                let _known = self.known.remove(place);
+                let _gone = self.sockets.remove(place);
+            }
         }
     }
 
-    /// There was a look: cuts off who has waited too long to be let in.
-    pub(crate) fn grow_older(&mut self) {
-        for client in self.all.iter_mut() {
-            if client.stand == Stand::Waits {
-                client.looks = client.looks.saturating_add(1);
-                if client.looks >= LOOKS {
-                    client.cut();
-                }
+    // The place of the client of a session.
+    fn place_of(&self, session: u32) -> Option<usize> {
+        self.known
+            .iter()
+            .position(|client| client.session == session)
+    }
+
+    /// There was a look: cuts off who has waited too long to be let in, and nobody else.
+    pub(crate) fn grow_older(&mut self)
+        ensures { self.new.known.items ≡ map older self.old.known.items }
+    {
+        grow_older(&mut self.known);
+        for place in 0..self.known.len() {
+            if self.known[place].stand == Stand::IsCut {
+                self.hear_no_more(place);
             }
         }
     }
 
     /// Cuts off all.
     pub(crate) fn cut_all(&mut self) {
-        for client in self.all.iter_mut() {
+        for client in self.known.iter_mut() {
             client.stand = Stand::IsCut;
-            let _ = client.socket.shutdown(Shutdown::Both);
+        }
+        for socket in self.sockets.iter() {
+            let _ = socket.shutdown(Shutdown::Both);
         }
     }
 }

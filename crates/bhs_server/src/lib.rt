@@ -15,6 +15,7 @@ mod sessions;
 mod settling;
 mod unserved;
 mod visits;
+mod waiting;
 mod watching;
 mod welcoming;
 

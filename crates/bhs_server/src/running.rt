@@ -88,11 +88,13 @@ pub(crate) fn all_sessions<
         if !are_all {
             return Err(Lack::Thread);
         }
-        let mut session: u32 = 0;
+        let mut next: u32 = 0;
         for _ in rt.forever() {
             let Some((stream, peer)) = accepted(rt, listener, ending) else {
                 return Ok(());
             };
+            let session = next;
+            next = next.wrapping_add(1);
             watch.came(session, peer);
             let Some(socket) = welcomed(rt, alloc, session, stream, ending, watch) else {
                 continue;
@@ -114,7 +116,6 @@ pub(crate) fn all_sessions<
                 ending.turn_away(rt, session);
                 watch.left_outside(session, Outside::Unserved(Unserved::Memory));
             }
-            session = session.wrapping_add(1);
         }
         unreachable!()
     })?;

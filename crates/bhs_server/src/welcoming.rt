@@ -63,6 +63,10 @@ impl<R: Wait, G: Gate, W: Watch> Host<'_, R, G, W> {
     fn part(&self, session: u32, connection: &Connection, visit: Visit) {
         let Visit { ended, played } = visit;
         let denial = connection.denial();
+        if denial.is_some() {
+            // it counts no more once it knows that it is denied
+            self.ending.go(self.rt, session);
+        }
         let _ = connection.send_held();
         let ended = if connection.has_failed() {
             Ended::WriteFault

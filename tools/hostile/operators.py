@@ -1,0 +1,357 @@
+"""What the operator of a contest is told, and whom a server cuts off: tests for what no contract says.
+
+    python3 -m tools.hostile.operators PROGRAM [TEXT]
+
+Each case serves a contest in a temporary folder; with TEXT only those whose titles have it. They run beside each other,
+since most of them wait. A line for each says how it went, and the last line reads `N passed, M failed`. It takes about
+a minute, which is how long the line of a minute takes.
+"""
+import concurrent.futures
+import contextlib
+import os
+import pathlib
+import re
+import socket
+import subprocess
+import sys
+import tempfile
+import time
+from typing import Callable, Dict, Iterator, List, Sequence, Tuple
+
+from tools.hostile.session_lines import HERE, LOOK, OVER
+from tools.hostile.spoilers import TEAMS, Server, Wrong, answer, enter, serving, tournament, wants
+
+# turns that no test waits for
+LONG = 1_000_000
+LEAVE, ACCUSE = b'{"do":"leave"}\n', b'{"do":"accuse","port":1}\n'
+# the row of the last of two teams
+LAST_ROW = "  2 "
+# how many cases run beside each other
+BESIDE = 12
+FULL = b'{"no":"full"}\n'
+
+Case = Callable[[str, pathlib.Path], None]
+CASES: Dict[str, Case] = {}
+
+
+def case(title: str) -> Callable[[Case], Case]:
+    def add(one: Case) -> Case:
+        CASES[title] = one
+        return one
+    return add
+
+
+def heard(program: str, folder: pathlib.Path, *options: str, **more: object) -> "contextlib.AbstractContextManager":
+    """A server whose operator can say something."""
+    return serving(program, folder, *options, says=subprocess.PIPE, **{"turns": LONG, **more})
+
+
+def asked(server: Server, last: str = LAST_ROW) -> str:
+    """What the operator is told that asks for the status."""
+    server.hears(b"status\n")
+    return server.tells(last)
+
+
+def found(pattern: str, text: str) -> Tuple[str, ...]:
+    match = re.search(pattern, text, re.M)
+    if not match:
+        raise Wrong(f"{pattern!r} is not in {text!r}")
+    return match.groups()
+
+
+@contextlib.contextmanager
+def played(program: str, folder: pathlib.Path, text: str, *options: str, **more: object) -> Iterator[Server]:
+    """A server of the tournament of this text."""
+    tournament(folder)
+    (folder / "cup.toml").write_text(text)
+    server = Server(program, folder, *options, **{"turns": LONG, "says": subprocess.PIPE, **more})
+    try:
+        yield server
+    finally:
+        server.child.kill()
+        server.child.wait()
+
+
+def tournament_of(teams: Sequence[str], agents: int = 2, holes: Sequence[int] = (4,)) -> str:
+    """A tournament on the ring of eight nodes with a match for each team; the black holes go round."""
+    text = f'version = 2\nseed = "{"00" * 32}"\n'
+    for match, team in enumerate(teams):
+        keys = ", ".join(f'"{team}-{agent}"' for agent in range(agents))
+        text += (f'[[match]]\nteam = "{team}"\nnetwork = "ring.toml"\nhome = 0\nholes = [{holes[match % len(holes)]}]\n'
+                 f'quota = 1000\nboard = 64\nkeys = [{keys}]\n')
+    return text
+
+
+# ---- who is cut off
+
+@case("an agent that entered is not cut off when ten seconds have passed")
+def plays_on(program: str, folder: pathlib.Path) -> None:
+    with serving(program, folder, turns=LONG) as server, server.connect(enter("red-0")) as client:
+        wants("enter", answer(client, len(HERE)), HERE)
+        time.sleep(12)
+        client.sendall(LOOK)
+        wants("a look after 12 s", answer(client, len(HERE)), HERE)
+
+
+@case("a client that is denied ends no agent's time of grace")
+def denied_in_grace(program: str, folder: pathlib.Path) -> None:
+    with serving(program, folder, turns=200, grace=5000) as server, server.connect(enter("blue-0")) as client:
+        wants("enter", answer(client, len(HERE)), HERE)
+        for number in range(5):
+            with server.connect(enter(f"no-{number}")) as stranger:
+                answer(stranger, 100)
+        # the matches are closed after a second, and the session has five seconds left then
+        time.sleep(3)
+        client.sendall(LOOK)
+        wants("an agent within its time of grace", answer(client, len(OVER)), OVER)
+
+
+@case("more agents play than may wait to be let in")
+def many_agents(program: str, folder: pathlib.Path) -> None:
+    text = tournament_of([f"t{match}" for match in range(5)], agents=60)
+    with contextlib.ExitStack() as stack:
+        server = stack.enter_context(played(program, folder, text, sessions=1000))
+        for match in range(5):
+            for agent in range(60):
+                client = stack.enter_context(server.connect(enter(f"t{match}-{agent}")))
+                wants(f"agent {agent} of match {match}", answer(client, 7), HERE[:7])
+
+
+@case("a client whose first line never ends is cut off for its bytes")
+def dripping(program: str, folder: pathlib.Path) -> None:
+    with serving(program, folder, turns=LONG) as server, server.connect() as client:
+        begun, sent = time.monotonic(), 0
+        client.settimeout(9)
+        with contextlib.suppress(OSError):
+            while time.monotonic() - begun < 6:
+                sent += client.send(b"\n" * 4096)
+        if time.monotonic() - begun > 5.5:
+            raise Wrong(f"it was let send {sent} bytes")
+
+
+@case("a client that was denied takes no room of the next, however few may be connected")
+def denied_makes_room(program: str, folder: pathlib.Path) -> None:
+    with serving(program, folder, turns=LONG, sessions=1) as server:
+        for number in range(60):
+            with server.connect(b"x\n") as stranger:
+                # it leaves as soon as it knows that it is denied
+                answer(stranger, 6)
+                with server.connect() as client:
+                    client.settimeout(0.02)
+                    with contextlib.suppress(socket.timeout):
+                        if client.recv(100) == FULL:
+                            raise Wrong(f"client {number} was told full, though nobody plays")
+            time.sleep(0.02)
+
+
+@case("each client has a number of its own in the log")
+def own_numbers(program: str, folder: pathlib.Path) -> None:
+    with heard(program, folder, "--log", sessions=1) as server:
+        with server.connect(enter("red-0")) as client:
+            wants("enter", answer(client, len(HERE)), HERE)
+            for _ in range(3):
+                with server.connect(b"x\n") as other:
+                    wants("a client more", answer(other, len(FULL)), FULL)
+        server.hears(b"close\n")
+        told = server.ended()[2]
+    wants("the numbers of those who came", re.findall(r"serve: session (\d+) from", told), ["0", "1", "2", "3"])
+
+
+# ---- what is told
+
+@case("with --log the verdict on a match of many events is that of the table, when it closes and in the status")
+def many_events(program: str, folder: pathlib.Path) -> None:
+    with heard(program, folder, "--log") as server, server.connect(enter("red-0") + LOOK * 200 + ACCUSE) as client:
+        answer(client, 201 * len(HERE))
+        time.sleep(1)
+        now = asked(server)
+        server.hears(b"close\n")
+        _status, printed, told = server.ended()
+    line = next(line for line in (now + told).splitlines() if "match 0 (red) closed" in line)
+    row = next(line for line in printed.splitlines() if " red " in line).split()
+    if row[2] not in line:
+        raise Wrong(f"{row} and {line!r}")
+    stands = next(line for line in now.splitlines() if " red " in line).split()
+    wants("the row of the status", stands[1:], row[1:])
+    events = (folder / "match0.jsonl").read_text().count("\n") - 2
+    wants("events", found(r"events (\d+)", line)[0], str(events))
+
+
+@case("the status is told once for each line that asks for it")
+def status_once(program: str, folder: pathlib.Path) -> None:
+    with heard(program, folder) as server:
+        asked(server)
+        time.sleep(2.5)
+        server.hears(b"close\n")
+        told = server.ended()[2]
+    if "serve: sessions" in told:
+        raise Wrong(told)
+
+
+@case("the status ranks each match by its own verdict")
+def own_verdicts(program: str, folder: pathlib.Path) -> None:
+    with heard(program, folder, "--log") as server, server.connect(enter("blue-1") + ACCUSE) as client:
+        answer(client, len(HERE) + 14)
+        server.hears(b"close 0\n")
+        server.tells("match 0 (red) closed")
+        rows = [line.split()[:3] for line in asked(server).splitlines() if re.match(r" +[12] ", line)]
+    wants("rows", rows, [["1", "red", "silent"], ["2", "blue", "wrong"]])
+
+
+@case("the status tells the turns of each match")
+def own_turns(program: str, folder: pathlib.Path) -> None:
+    with heard(program, folder, "--gather", "1000000") as server, contextlib.ExitStack() as stack:
+        for agent in range(2):
+            answer(stack.enter_context(server.connect(enter(f"blue-{agent}"))), len(HERE))
+        time.sleep(1)
+        told = asked(server)
+    red, blue = (int(found(rf"\({team}\) is open: turns (\d+)", told)[0]) for team in TEAMS)
+    if red or not blue:
+        raise Wrong(f"red has taken {red} turns, and blue {blue}")
+
+
+@case("the status tells the events of each match")
+def own_events(program: str, folder: pathlib.Path) -> None:
+    with heard(program, folder) as server, server.connect(enter("red-0") + LOOK * 20) as client:
+        answer(client, 21 * len(HERE))
+        time.sleep(1.2)
+        told = asked(server)
+    wants("events", found(r"\(red\) is open: turns \d+ of \d+ events (\d+)", told)[0], "21")
+
+
+@case("the status tells the turns after which a match was closed")
+def turns_of_a_closed_match(program: str, folder: pathlib.Path) -> None:
+    with heard(program, folder, "--log") as server:
+        time.sleep(0.5)
+        server.hears(b"close 1\n")
+        told = server.tells("match 1 (blue) closed") + asked(server)
+    closed = found(r"match 1 \(blue\) closed: turns (\d+) events (\d+)", told)
+    wants("turns and events", found(r"match 1 \(blue\) is closed: turns (\d+) events (\d+)", told), closed)
+
+
+@case("the status has a line for each of three matches")
+def status_of_three(program: str, folder: pathlib.Path) -> None:
+    with played(program, folder, tournament_of(["red", "blue", "green"])) as server:
+        told = asked(server, "  3 ")
+    wants("matches", told.count(" is open: turns "), 3)
+
+
+@case("a match that is closed is not closed again")
+def closed_once(program: str, folder: pathlib.Path) -> None:
+    with heard(program, folder, "--log", "--early") as server:
+        for agent in range(2):
+            with server.connect(enter(f"blue-{agent}") + LEAVE) as client:
+                answer(client, 200)
+        server.tells("match 1 (blue) closed")
+        server.hears(b"close 1\n")
+        told = asked(server)
+    if "the operator closes match 1" in told:
+        raise Wrong(told)
+
+
+@case("the lines of the log have the times since the server began")
+def times_of_the_log(program: str, folder: pathlib.Path) -> None:
+    with heard(program, folder, "--log") as server:
+        time.sleep(2.2)
+        server.hears(b"close\n")
+        told = server.ended()[2]
+    found(r"^(0:00:0[2-9]) serve: the operator closes all", told)
+
+
+@case("with --log it is told each minute how far the matches are")
+def each_minute(program: str, folder: pathlib.Path) -> None:
+    with serving(program, folder, "--log", turns=LONG) as server:
+        until, told = time.monotonic() + 75, b""
+        os.set_blocking(server.child.stderr.fileno(), False)
+        while time.monotonic() < until and b"is open: turns" not in told:
+            told += server.child.stderr.read() or b""
+            time.sleep(0.5)
+    if b"is open: turns" not in told:
+        raise Wrong(told.decode())
+
+
+@case("of a hundred strangers each is told or counted, and only once")
+def strangers(program: str, folder: pathlib.Path) -> None:
+    with heard(program, folder, "--log") as server:
+        for _ in range(100):
+            with server.connect(b"x\n") as client:
+                answer(client, 100)
+        told = server.tells("more clients played nobody")
+        time.sleep(11)
+        server.hears(b"close\n")
+        told += server.ended()[2]
+    lines = told.count("it was denied")
+    more = sum(int(count) for count in re.findall(r"serve: (\d+) more clients", told))
+    if lines + more != 100:
+        raise Wrong(f"{lines} lines and {more} more")
+
+
+# ---- files
+
+@case("the part of each match has the head of that match")
+def heads_of_parts(program: str, folder: pathlib.Path) -> None:
+    with played(program, folder, tournament_of(TEAMS, holes=[4, 5])) as server, server.connect(enter("blue-0")) as client:
+        answer(client, len(HERE))
+        time.sleep(1)
+    for match, hole in ((0, 4), (1, 5)):
+        recovered = subprocess.run([program, "recover", f"match{match}.jsonl.part"], cwd=folder, text=True,
+                                   stdout=subprocess.PIPE).stdout
+        wants(f"the head of match {match}", f'"holes":[{hole}]' in recovered.split("\n")[0], True)
+
+
+@case("a lock that a killed server has left keeps nobody out")
+def lock_left_behind(program: str, folder: pathlib.Path) -> None:
+    with serving(program, folder, turns=LONG):
+        pass
+    wants("the lock that is left", (folder / "match.lock").exists(), True)
+    server = Server(program, folder, turns=1)
+    wants("the next server", server.ended()[0], 0)
+    wants("the lock at the end", (folder / "match.lock").exists(), False)
+
+
+@case("each match can be appealed with the turns of its number, and earlier turns are kept")
+def turns_of_each_match(program: str, folder: pathlib.Path) -> None:
+    text = tournament_of(TEAMS).replace("version = 2", "version = 3").replace(
+        "[[match]]", 'schedule = "oblivious"\ndelay_scales = 2\ndelay_odds = 2\n[[match]]', 1)
+    for _ in range(2):
+        with played(program, folder, text, turns=1500) as server:
+            for team, steps in (("red", 3), ("blue", 1)):
+                with server.connect(enter(f"{team}-0") + b'{"do":"depart","port":0}\n' * steps + LEAVE) as client:
+                    answer(client, 10_000)
+            wants("the status", server.ended()[0], 0)
+        for match in range(2):
+            judged = subprocess.run([program, "judge", f"match{match}.jsonl", "--turns", f"match{match}.turns",
+                                     "--tournament", "cup.toml", "--match", str(match)], cwd=folder, text=True,
+                                    stdout=subprocess.PIPE, stderr=subprocess.PIPE)
+            wants(f"the appeal of match {match}", judged.returncode, 0)
+    wants("files of turns", sorted(path.name for path in folder.glob("match*turns*")),
+          ["match0.turns", "match0.turns.old", "match1.turns", "match1.turns.old"])
+
+
+def try_case(program: str, title: str) -> Tuple[str, str]:
+    """The title of a case, and what was wrong, if something was."""
+    with tempfile.TemporaryDirectory() as folder:
+        try:
+            CASES[title](program, pathlib.Path(folder))
+        except (Wrong, OSError, StopIteration, subprocess.SubprocessError) as wrong:
+            return title, f"{type(wrong).__name__}: {str(wrong)[-600:]}"
+    return title, ""
+
+
+def main(given: Sequence[str]) -> int:
+    if len(given) not in (1, 2) or given[0] in ("-h", "--help"):
+        print(__doc__.strip())
+        return 2
+    program = str(pathlib.Path(given[0]).resolve())
+    chosen: List[str] = [title for title in CASES if len(given) == 1 or given[1] in title]
+    with concurrent.futures.ThreadPoolExecutor(BESIDE) as pool:
+        failed = 0
+        for title, wrong in pool.map(lambda title: try_case(program, title), chosen):
+            failed += bool(wrong)
+            print(f"{'FAILED' if wrong else 'ok'}: {title}{': ' * bool(wrong)}{wrong}", flush=True)
+    print(f"{len(chosen) - failed} passed, {failed} failed", flush=True)
+    return int(failed != 0)
+
+
+if __name__ == "__main__":
+    sys.exit(main(sys.argv[1:]))
