@@ -4,7 +4,7 @@
 use bhs_deal::{Dealer, pick};
 use std::process::Abort;
 
-mod lateness;
+mod timeliness;
 mod links;
 mod matches;
 

@@ -290,7 +290,8 @@ def strangers(program: str, folder: pathlib.Path) -> None:
 
 @case("the part of each match has the head of that match")
 def heads_of_parts(program: str, folder: pathlib.Path) -> None:
-    with played(program, folder, tournament_of(TEAMS, holes=[4, 5])) as server, server.connect(enter("blue-0")) as client:
+    text = tournament_of(TEAMS, holes=[4, 5])
+    with played(program, folder, text) as server, server.connect(enter("blue-0")) as client:
         answer(client, len(HERE))
         time.sleep(1)
     for match, hole in ((0, 4), (1, 5)):

@@ -6,6 +6,7 @@ next word of its match's stream, and the word picks out of the pool, or under th
 So the log of a match is compared with those words, whenever its clients may have come.
 """
 import contextlib
+import json
 import pathlib
 import socket
 import subprocess
@@ -245,28 +246,61 @@ def check_table(stage: Stage, printed: bytes, matches: Sequence[Match]) -> None:
     expect(Run(0, printed, b""), table(rows).encode())
 
 
-def judged_by_turns(stage: Stage, number: int, turns: str) -> Run:
-    """The judging of the replay of a match by these turns of its events."""
+def judged_by_turns(stage: Stage, replay: str, number: int, turns: str) -> Run:
+    """The judging of a replay of a match by these turns of its events."""
     (stage.folder / "bent.turns").write_text(turns)
-    return stage.run(["judge", f"hosted{number}.jsonl", "--turns", "bent.turns", "--tournament", "cup.toml", "--match",
-                      str(number)])
+    return stage.run(["judge", replay, "--turns", "bent.turns", "--tournament", "cup.toml", "--match", str(number)])
+
+
+def text_of(turns: Sequence[int]) -> str:
+    return "".join(f"{turn}\n" for turn in turns)
+
+
+def without(replay: str, turns: Sequence[int], place: int) -> Tuple[str, List[int]]:
+    """A replay and its turns without the event at a place."""
+    head, *events, _end = replay.splitlines()
+    left = [*events[:place], *events[place + 1:]]
+    text = "\n".join([head, *left, json.dumps({"end": len(left)}, separators=(",", ":"))]) + "\n"
+    return text, [*turns[:place], *turns[place + 1:]]
+
+
+def check_left_out(stage: Stage, number: int, replay: str, turns: Sequence[int], place: int, told: str) -> None:
+    """A replay from which the last delivery of an agent that stays on its link is left out stands no appeal."""
+    text, left = without(replay, turns, place)
+    (stage.folder / "left.jsonl").write_text(text)
+    expect(judged_by_turns(stage, "left.jsonl", number, text_of(left)), b"", f"left.jsonl: {told}\n".encode(), 4)
+
+
+def last_destructions(events: Sequence[dict]) -> List[int]:
+    """The places of the deliveries that destroy their agents."""
+    return [place for place, event in enumerate(events) if event["do"] == "deliver" and event["reply"] is None]
 
 
 def check_turns(stage: Stage, number: int, replay: str) -> None:
     """A replay stands an appeal by the turns that are served beside it, and by no others."""
+    own = f"hosted{number}.jsonl"
     text = (stage.folder / f"hosted{number}.turns").read_text()
     turns = [int(line) for line in text.splitlines()]
-    verdict = stage.run(["judge", f"hosted{number}.jsonl"]).printed
-    expect(judged_by_turns(stage, number, text), verdict)
-    deliveries = [place for place, event in enumerate(objects_of(replay)[1:]) if event["do"] == "deliver"]
+    events = objects_of(replay)[1:]
+    verdict = stage.run(["judge", own]).printed
+    expect(judged_by_turns(stage, own, number, text), verdict)
+    deliveries = [place for place, event in enumerate(events) if event["do"] == "deliver"]
     for place in deliveries[:3]:
         # those behind are as much later, so that none falls
         bent = [turn + (at >= place) for at, turn in enumerate(turns)]
-        told = f"hosted{number}.jsonl: late at place {place}\n"
-        expect(judged_by_turns(stage, number, "".join(f"{turn}\n" for turn in bent)), b"", told.encode(), 4)
-    events = len(turns)
-    expect(judged_by_turns(stage, number, text + f"{turns[-1]}\n"), b"",
-           f"bent.turns: {events + 1} turns, {events} events\n".encode(), 4)
+        told = f"agent {events[place]['agent']} arrives in turn {turns[place]}, before place {place}"
+        expect(judged_by_turns(stage, own, number, text_of(bent)), b"", f"{own}: {told}\n".encode(), 4)
+        if place + 1 < len(turns):
+            # what follows an arrival happens in its turn
+            crowded = [*turns[:place + 1], turns[place], *turns[place + 2:]]
+            expect(judged_by_turns(stage, own, number, text_of(crowded)), b"",
+                   f"bent.turns: turn of place {place + 1}\n".encode(), 4)
+    for place in last_destructions(events)[:1]:
+        told = f"agent {events[place]['agent']} arrives in turn {turns[place]}, before place {place}"
+        check_left_out(stage, number, replay, turns, place, told)
+    count = len(turns)
+    expect(judged_by_turns(stage, own, number, text + f"{turns[-1]}\n"), b"",
+           f"bent.turns: {count + 1} turns, {count} events\n".encode(), 4)
 
 
 def check_contest(stage: Stage, rule: Rule) -> None:

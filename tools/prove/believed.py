@@ -23,7 +23,7 @@ HEADLINES = {
         ("bhs_theorems", "Calls", "EqualPastsAreAnsweredAlike"),
     "scripts of rehearsals: `rehearsals::equal_pasts_are_sent_equal_bytes` of `bhs_theorems`":
         ("bhs_theorems", "ScriptHeadline", "EqualPastsAreSentEqualBytes"),
-    "turns of contests: `contests::equal_waits_in_contests` of `bhs_theorems`":
+    "turns of contests: `contests::every_arrival_in_contests` of `bhs_theorems`":
         ("bhs_theorems", "ContestTime", "EqualWaitsInContests"),
     "replies to agents: `equal_pasts` of `bhs_model`": ("bhs_model", "Laws", "EqualPasts"),
 }

@@ -1,5 +1,6 @@
 pub mod Words
 pub mod MarkLemmas
 pub mod DrawLemmas
-pub mod LateLemmas
-pub mod InTimeLemmas
+pub mod DueLemmas
+pub mod UntimelyLemmas
+pub mod WaitingLemmas

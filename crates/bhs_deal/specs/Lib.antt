@@ -4,5 +4,6 @@ pub mod Links
 pub mod Marking
 pub mod Drawing
 pub mod Delaying
-pub mod Lateness
+pub mod Scheduling
+pub mod Timeliness
 pub mod Examples

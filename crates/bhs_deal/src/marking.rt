@@ -10,7 +10,7 @@ use bhs_model::{make_room, mark_port, no_port_marks};
 use bhs_net::Net;
 use std::alloc::{AllocError, Global};
 
-fn is_port(net: &Net, pair: (u16, u16)) -> bool
+pub(crate) fn is_port(net: &Net, pair: (u16, u16)) -> bool
     ensures { result ≡ is_port_of net.now pair }
 {
     let (node, port) = pair;

@@ -9,6 +9,7 @@ use crate::hall::Hall;
 use crate::networks::is_of_world;
 use crate::parts::Parts;
 use crate::pass::Pass;
+use bhs_deal::Held;
 use bhs_match::Sealed;
 
 /// Why a match does not settle.
@@ -43,6 +44,8 @@ pub struct Settlement {
     pub sealed: Sealed,
     /// The turn of each event of its log.
     pub turns: Vec<u32>,
+    /// The links over which no turn let an agent arrive.
+    pub held: Held,
 }
 
 /// The match of a cell that no thread shares any more, for reading alone, if the passes agree with it: each claimed
@@ -52,6 +55,7 @@ pub struct Settlement {
 pub fn settle(cell: Cell, passes: Vec<Pass>) -> Result<Settlement, Unsettled>
     ensures settled { IfOk result (λ settlement. AreInAccord cell settlement.sealed passes.items) }
     ensures turns { IfOk result (λ settlement. length settlement.turns.items ≡ length settlement.sealed.log) }
+    ensures held { IfOk result (λ settlement. settlement.held ≡ cell.held) }
     ensures refused { IfErr result (λ unsettled. HasRefused cell passes unsettled) }
 {
     cell.into_parts().settle(passes)
@@ -64,6 +68,7 @@ impl Parts {
         ensures settled { IfOk result (λ settlement. (settlement.sealed ≡ self.hall.play)
             × IsSettled (account_of self passes.items)) }
         ensures turns { IfOk result (λ settlement. settlement.turns.items ≡ self.hall.turns) }
+        ensures held { IfOk result (λ settlement. settlement.held ≡ self.held) }
         ensures count { IfOk result (λ settlement. length settlement.turns.items ≡ length settlement.sealed.log) }
         ensures refused { IfErr result (λ unsettled. IsRefused self passes unsettled) }
     {
@@ -74,13 +79,17 @@ impl Parts {
             left,
             net: _,
             setup: _,
-            held: _,
+            held,
             schedule: _,
         } = self;
         match dispute {
             None => {
                 let (sealed, turns) = hall.into_sealed();
-                Ok(Settlement { sealed, turns })
+                Ok(Settlement {
+                    sealed,
+                    turns,
+                    held,
+                })
             }
             Some(why) => Err(Unsettled {
                 why,

@@ -1,14 +1,18 @@
--- The verdict on the match of a replay, if its deliveries were made at their turns.
-use Rattle.std.specs.Prelude.{◌≡◌, ◌≢◌, ℕ, Bool, List, Some, None, length, slice_get}
+-- The verdict on the match of a replay, if it is with its turns a timed execution.
+use Rattle.std.specs.Prelude.{◌≡◌, ◌≢◌, ◌==◌, ℕ, Bool, List, Option, Some, None, length, slice_get, if◌then◌else◌}
 use Rattle.bhs_net.specs.Network.{Network}
 use Rattle.bhs_model.specs.declared.setups.Setup.{Setup}
 use Rattle.bhs_stream.specs.Streams.{Taken}
 use Rattle.bhs_time.specs.Schedules.{DelayLaw, Schedule}
-use Rattle.bhs_time.specs.Stamps.{AreInTime}
+use Rattle.bhs_time.specs.TimedLogs.{IsTimedLog}
 use Rattle.bhs_time.specs.declared.kinds.ScheduleKind.TheVariants as kinds
 use Rattle.bhs_match.specs.Matches.{Play, world_in}
 use Rattle.bhs_deal.specs.Dealer.{dealer_at}
-use Rattle.bhs_deal.specs.Lateness.{late_in, stamps_in, whole_schedule, IsFirstLate}
+use Rattle.bhs_deal.specs.Links.{held_in}
+use Rattle.bhs_deal.specs.Scheduling.{stamps_in, whole_schedule}
+use Rattle.bhs_deal.specs.Timeliness.{IsUntimelyAt}
+use Rattle.bhs_deal.specs.declared.timeliness.Untimely.{Untimely}
+use Rattle.bhs_deal.specs.declared.timeliness.Untimely.TheVariants as untimely
 use Rattle.bhs_referee.specs.Verdicts.{verdict_of}
 use Rattle.bhs_lineup.specs.declared.lineups.Lineup.{Lineup}
 use Rattle.bhs_lineup.specs.declared.lineups.Ready.{Ready}
@@ -18,8 +22,10 @@ use Rattle.bhs_orders.specs.HeldLinks.{first_held}
 use Rattle.bhs_orders.specs.Reports.{IsReplayed, verdict_line}
 use Rattle.bhs_orders.specs.Showing.{Prints, Reports}
 use Rattle.bhs_orders.specs.Summary.{IsAssembled}
-use Rattle.bhs_orders.specs.Turns.{first_fall}
-use Rattle.bhs_orders.specs.declared.appeal_faults.AppealFault.TheVariants.{Adaptive, Other, Count, Falls, Held, Late}
+use Rattle.bhs_orders.specs.declared.appeal_faults.AppealFault.{AppealFault}
+use Rattle.bhs_orders.specs.declared.appeal_faults.AppealFault.TheVariants.{Adaptive, Other, Count, Early, LeftOut}
+use Rattle.bhs_orders.specs.declared.appeal_faults.AppealFault.TheVariants.{Held}
+use Rattle.bhs_orders.specs.declared.appeal_faults.AppealFault.TheVariants.{Late}
 use Rattle.bhs_orders.specs.declared.faults.Fault.{Fault}
 use Rattle.bhs_orders.specs.declared.faults.Fault.TheVariants.{NoMatch, Appeal, Memory}
 
@@ -43,17 +49,26 @@ pub record IsSameMatch (one : Case) (ready : Ready) : Type 0 where
   pub there : slice_get one.lineup.ready.items one.game ≡ Some ready
   pub same : own_head one.play.net one.play.setup ≡ own_head ready.game.net ready.game.setup
 
--- The replay is of the tournament's match, which has the oblivious schedule. Each event has a turn, no turn is less
--- than the one before it, and each delivery was made in time and over a link that is not held.
+-- The replay is of the tournament's match, which has the oblivious schedule. Each event has a turn, and with these
+-- turns the replay's log is that of a timed execution by the words of the seed and with the match's held links.
 pub record IsOnTime (one : Case) : Type 0 where
   pub ready : Ready
   pub same : IsSameMatch one ready
   pub law : DelayLaw
   pub oblivious : one.lineup.schedule ≡ kinds.Oblivious law
   pub count : length one.turns ≡ length one.play.log
-  pub rises : first_fall one.turns ≡ None
-  pub free : first_held ready.held one.play ≡ None
-  pub in_time : AreInTime (schedule_of one law) (world_in one.play) (stamps_in one.play.log one.turns)
+  pub timely : IsTimedLog (world_in one.play) (held_in ready.held) (schedule_of one law)
+      (stamps_in one.play.log one.turns)
+
+-- the event at this place is the first that belongs to no timed execution, for this reason
+pub record IsAstrayAt (one : Case) (place : ℕ) (why : Untimely) : Type 0 where
+  pub ready : Ready
+  pub same : IsSameMatch one ready
+  pub law : DelayLaw
+  pub oblivious : one.lineup.schedule ≡ kinds.Oblivious law
+  pub count : length one.turns ≡ length one.play.log
+  pub astray : IsUntimelyAt (world_in one.play) (held_in ready.held) (schedule_of one law)
+      (stamps_in one.play.log one.turns) place why
 
 -- the delivery at this place is the first over a link that the tournament's match holds
 pub record IsHeldAt (one : Case) (place : ℕ) : Type 0 where
@@ -61,13 +76,16 @@ pub record IsHeldAt (one : Case) (place : ℕ) : Type 0 where
   pub there : slice_get one.lineup.ready.items one.game ≡ Some ready
   pub found : first_held ready.held one.play ≡ Some place
 
--- the delivery at this place is the first that was not made in time
-pub record IsLateAt (one : Case) (place : ℕ) : Type 0 where
-  pub law : DelayLaw
-  pub oblivious : one.lineup.schedule ≡ kinds.Oblivious law
-  pub count : length one.turns ≡ length one.play.log
-  pub found : late_in (schedule_of one law) one.play one.turns ≡ Some place
-  pub late : IsFirstLate (schedule_of one law) (world_in one.play) (stamps_in one.play.log one.turns) place
+-- the fault of a delivery that its turn does not make, if this is the first delivery over a held link
+abbrev pub fault_of_late : (place : ℕ) → (held : Option ℕ) → AppealFault
+fault_of_late place None = Late place
+fault_of_late place (Some other) = if other == place then Held place else Late place
+
+-- the fault of an event that belongs to no timed execution
+abbrev pub fault_of : (place : ℕ) → Untimely → (held : Option ℕ) → AppealFault
+fault_of place untimely.Early held = Early place
+fault_of place (untimely.LeftOut agent turn) held = LeftOut place agent turn
+fault_of place untimely.Late held = fault_of_late place held
 
 -- the replay's match has another head than the tournament's match of that number
 pub record IsOtherMatch (one : Case) (game : ℕ) : Type 0 where
@@ -88,9 +106,10 @@ IsWrongWith one (NoMatch game) = (game ≡ one.game) × (slice_get one.lineup.re
 IsWrongWith one (Appeal Adaptive) = one.lineup.schedule ≡ kinds.Adaptive
 IsWrongWith one (Appeal (Other game)) = IsOtherMatch one game
 IsWrongWith one (Appeal (Count turns events)) = IsMiscounted one turns events
-IsWrongWith one (Appeal (Falls place)) = first_fall one.turns ≡ Some place
-IsWrongWith one (Appeal (Held place)) = IsHeldAt one place
-IsWrongWith one (Appeal (Late place)) = IsLateAt one place
+IsWrongWith one (Appeal (Early place)) = IsAstrayAt one place untimely.Early
+IsWrongWith one (Appeal (LeftOut place agent turn)) = IsAstrayAt one place (untimely.LeftOut agent turn)
+IsWrongWith one (Appeal (Held place)) = IsAstrayAt one place untimely.Late × IsHeldAt one place
+IsWrongWith one (Appeal (Late place)) = IsAstrayAt one place untimely.Late
 IsWrongWith one Memory = Unit {0}
 IsWrongWith one fault = ⊥
 
@@ -108,7 +127,7 @@ IsVerdictOn play text = text ≡ verdict_line (verdict_of play)
 module _ {O : Type 0} (takes : O → List ℕ → Taken → O → Type 0) (flushes : O → Bool → O → Type 0) where
   -- what came of an appeal to the match of this number
   pub data Appeals (game : ℕ) (output output' : O) (code : ℕ) : Type 0 where
-    -- its deliveries were made in time, and the verdict on it was to be printed
+    -- with its turns it is a timed execution, and the verdict on it was to be printed
     upholds : (one : Case) → IsCase game one → IsOnTime one
         → Reports (Prints takes flushes) (IsVerdictOn one.play) output output' code → Appeals game output output' code
     -- this is wrong, and nothing was written

@@ -1,6 +1,5 @@
 -- The text of the turns of a match's events.
-use Rattle.std.specs.Prelude.{◌≡◌, ◌<◌, ◌^◌, ◌+◌, ℕ, nat_lt, if◌then◌else◌, List, [], ◌∷◌, ◌++◌, codes, decimal}
-use Rattle.std.specs.Prelude.{Option, Some, None}
+use Rattle.std.specs.Prelude.{◌≡◌, ◌<◌, ◌^◌, ℕ, List, [], ◌∷◌, ◌++◌, codes, decimal}
 use Rattle.std.specs.List.{AllByRecursion}
 use Rattle.bhs_orders.specs.declared.faults.Fault.{Fault}
 use Rattle.bhs_orders.specs.declared.faults.Fault.TheVariants.{Line, Memory}
@@ -32,14 +31,3 @@ abbrev pub IsRefusedText : (text : List ℕ) → Fault → Type 0
 IsRefusedText text (Line line) = ¬ IsOfTurns text
 IsRefusedText text Memory = Unit {0}
 IsRefusedText text fault = ⊥
-
--- The first place of a turn that is less than the turn before it. The first turn in the list has the place `place`, and
--- the turn before it is `before`.
-abbrev pub first_fall_from : (before place : ℕ) → List ℕ → Option ℕ
-first_fall_from before place [] = None
-first_fall_from before place (turn ∷ turns) =
-    if nat_lt turn before then Some place else first_fall_from turn (place + 1) turns
-
--- the first place of a turn that is less than the turn before it
-abbrev pub first_fall : List ℕ → Option ℕ
-first_fall turns = first_fall_from 0 0 turns

@@ -18,9 +18,12 @@ pub enum AppealFault {
     /// There are not as many turns as events.
     #[error("{turns} turns, {events} events")]
     Count { turns: usize, events: usize },
-    /// The turn of the event at this place is less than the one before it.
+    /// The turn of the event at this place has passed: it is less than the one before it, or an arrival has ended it.
     #[error("turn of place {place}")]
-    Falls { place: usize },
+    Early { place: usize },
+    /// Before the event at this place this turn delivers this agent, and the replay leaves that out.
+    #[error("agent {agent} arrives in turn {turn}, before place {place}")]
+    LeftOut { place: usize, agent: u16, turn: u64 },
     /// The delivery at this place went over a held link.
     #[error("held link at place {place}")]
     Held { place: usize },

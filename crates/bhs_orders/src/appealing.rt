@@ -1,7 +1,7 @@
-//! The verdict on the match of a replay, if its deliveries were made at their turns.
+//! The verdict on the match of a replay, if it is with its turns a timed execution.
 
 ghost use Rattle.std.specs.Prelude.{◌≡◌, ◌↔◌, IsTrue, IfOk, IfErr, OnOk};
-ghost use Rattle.bhs_orders.specs.Appeals.{own_head, Appeals, IsOnTime, IsWrongWith};
+ghost use Rattle.bhs_orders.specs.Appeals.{fault_of, fault_of_late, own_head, Appeals, IsOnTime, IsWrongWith};
 
 use crate::appeal_faults::AppealFault;
 use crate::checking::lineup_of;
@@ -11,9 +11,8 @@ use crate::judging::verdict_line;
 use crate::replays::match_of;
 use crate::showing::show_made;
 use crate::turn_files::turns_of;
-use crate::turns::first_fall;
 use bhs_command_line::Appeal;
-use bhs_deal::{Dealer, first_late};
+use bhs_deal::{Dealer, Schedule, Untimely, first_untimely};
 use bhs_lineup::{Lineup, Ready};
 use bhs_match::Sealed;
 use bhs_net::Memory;
@@ -26,7 +25,7 @@ use std::io::Write;
 use std::rt::Files;
 
 /// Reads a replay, the turns of its events and a tournament, and prints the verdict on the replay's match as a line, if
-/// it is the match of that number in the tournament and each of its deliveries was made in time. A fault goes to
+/// it is the match of that number in the tournament and is with these turns a timed execution. A fault goes to
 /// `errors` and ends it. The answer is the exit status.
 pub fn print_appealed_verdict<F: Files, W: Output, E: Write>(
     alloc: Global,
@@ -61,7 +60,7 @@ pub fn print_appealed_verdict<F: Files, W: Output, E: Write>(
 fn blamed<'a>(replay: &'a str, appeal: &'a Appeal, fault: Fault) -> &'a str {
     match fault {
         Fault::NoMatch { .. } | Fault::Appeal(AppealFault::Adaptive) => appeal.tournament.as_str(),
-        Fault::Appeal(AppealFault::Count { .. } | AppealFault::Falls { .. }) => {
+        Fault::Appeal(AppealFault::Count { .. } | AppealFault::Early { .. }) => {
             appeal.turns.as_str()
         }
         _ => replay,
@@ -105,16 +104,36 @@ fn compared(
             events,
         }));
     }
-    if let Some(place) = first_fall(turns) {
-        return Err(Fault::Appeal(AppealFault::Falls { place }));
-    }
-    if let Some(place) = first_held(alloc, sealed, &ready.held)? {
-        return Err(Fault::Appeal(AppealFault::Held { place }));
-    }
     let dealer = Dealer::new(lineup.seed, u64::from(game));
-    match first_late(alloc, sealed, turns, delays, &dealer)? {
-        Some(place) => Err(Fault::Appeal(AppealFault::Late { place })),
-        None => Ok(()),
+    let schedule = Schedule {
+        dealer: &dealer,
+        delays,
+        held: &ready.held,
+    };
+    let Some((place, why)) = first_untimely(alloc, sealed, turns, &schedule)? else {
+        return Ok(());
+    };
+    let held = first_held(alloc, sealed, &ready.held)?;
+    Err(Fault::Appeal(fault_of(place, why, held)))
+}
+
+// The fault of an event that belongs to no timed execution, if this is the first delivery over a held link.
+fn fault_of(place: usize, why: Untimely, held: Option<usize>) -> AppealFault
+    ensures { result ≡ fault_of place why held }
+{
+    match why {
+        Untimely::Early => AppealFault::Early { place },
+        Untimely::LeftOut { agent, turn } => AppealFault::LeftOut { place, agent, turn },
+        Untimely::Late => late(place, held),
+    }
+}
+
+fn late(place: usize, held: Option<usize>) -> AppealFault
+    ensures { result ≡ fault_of_late place held }
+{
+    match held {
+        Some(other) if other == place => AppealFault::Held { place },
+        _ => AppealFault::Late { place },
     }
 }
 

@@ -1,7 +1,7 @@
 //! The text of the turns of a match's events.
 
 ghost use Rattle.std.specs.Prelude.{◌≡◌, ◌≢◌, ◌<◌, ◌^◌, ℕ, decimal, IfOk, IfErr, MatchOption, string_bytes};
-ghost use Rattle.bhs_orders.specs.Turns.{first_fall, turn_line, turns_text, IsRefusedText};
+ghost use Rattle.bhs_orders.specs.Turns.{turn_line, turns_text, IsRefusedText};
 ghost use Rattle.bhs_orders.specs.declared.faults.Fault.TheVariants as faults;
 
 use crate::faults::Fault;
@@ -76,18 +76,4 @@ fn turn_in(alloc: Global, line: &[u8]) -> Result<Option<u32>, Memory>
     } else {
         Ok(None)
     }
-}
-
-/// The first place of a turn that is less than the one before it.
-pub(crate) fn first_fall(turns: &[u32]) -> Option<usize>
-    ensures { result ≡ first_fall turns.now }
-{
-    let mut before = 0;
-    for (place, turn) in turns.iter().enumerate() {
-        if *turn < before {
-            return Some(place);
-        }
-        before = *turn;
-    }
-    None
 }

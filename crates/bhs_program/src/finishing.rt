@@ -133,7 +133,7 @@ fn write_one<F: Files, E: Write>(
     ensures filed { result ≡ DONE → HasReplay (known_takes F.File.contents) schedule.now settled.now }
     ensures status { result ≡ DONE ⊎ IsOfFault result }
 {
-    let Ok(Settlement { sealed, turns }) = settled else {
+    let Ok(Settlement { sealed, turns, .. }) = settled else {
         return DONE;
     };
     let timed = write_timed(alloc, files, place, schedule, turns, errors);

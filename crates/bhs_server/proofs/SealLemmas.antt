@@ -9,32 +9,35 @@ use Rattle.bhs_match.specs.Matches.{Play}
 use Rattle.bhs_lock.specs.Cells.{Given}
 use Rattle.bhs_lock.specs.declared.settling.Settlement.{Settlement}
 use Rattle.bhs_server.specs.declared.settling.Refused.{Refused}
-use Rattle.bhs_server.specs.declared.settling.Refused.TheVariants.{Unsettled, Late}
-use Rattle.bhs_server.specs.Settling.{HaveFared, HasFared, IsPunctual, IsLate, at_start}
+use Rattle.bhs_server.specs.declared.settling.Refused.TheVariants.{Unsettled, Untimely}
+use Rattle.bhs_deal.specs.declared.timeliness.Untimely.{Untimely as Why}
+use Rattle.bhs_server.specs.Settling.{HaveFared, HasFared, IsTimely, IsAstray, at_start}
 
 abbrev Fared : Type 0
 Fared = Result Settlement Refused
 
 -- ---- a dealer at its start has the same schedule
 
-punctual_later : (schedule : ScheduleKind) (dealer : Option ChaCha) (play : Play) (turns : List ℕ) →
-    IsPunctual schedule (option_map at_start dealer) play turns → IsPunctual schedule dealer play turns
-punctual_later Adaptive dealer play turns is = tt
-punctual_later (Oblivious law) None play turns is = tt
-punctual_later (Oblivious law) (Some dealer) play turns is = is
+timely_later : (schedule : ScheduleKind) (dealer : Option ChaCha) (held : List (ℕ × ℕ)) (play : Play)
+    (turns : List ℕ) →
+    IsTimely schedule (option_map at_start dealer) held play turns → IsTimely schedule dealer held play turns
+timely_later Adaptive dealer held play turns is = tt
+timely_later (Oblivious law) None held play turns is = tt
+timely_later (Oblivious law) (Some dealer) held play turns is = is
 
-late_later : (schedule : ScheduleKind) (dealer : Option ChaCha) (play : Play) (turns : List ℕ) (place : ℕ) →
-    IsLate schedule (option_map at_start dealer) play turns place → IsLate schedule dealer play turns place
-late_later Adaptive dealer play turns place is = is
-late_later (Oblivious law) None play turns place is = is
-late_later (Oblivious law) (Some dealer) play turns place is = is
+astray_later : (schedule : ScheduleKind) (dealer : Option ChaCha) (held : List (ℕ × ℕ)) (play : Play) (turns : List ℕ)
+    (place : ℕ) (why : Why) → IsAstray schedule (option_map at_start dealer) held play turns place why →
+    IsAstray schedule dealer held play turns place why
+astray_later Adaptive dealer held play turns place why is = is
+astray_later (Oblivious law) None held play turns place why is = is
+astray_later (Oblivious law) (Some dealer) held play turns place why is = is
 
 fared_later : (given : Given) (dealer : Option ChaCha) (one : Fared) → HasFared given (option_map at_start dealer) one →
     HasFared given dealer one
 fared_later given dealer (Ok settlement) is =
-    (is.0, punctual_later given.schedule dealer settlement.sealed settlement.turns.items is.1)
-fared_later given dealer (Err (Late settlement place)) is =
-    (is.0, late_later given.schedule dealer settlement.sealed settlement.turns.items place is.1)
+    (is.0, timely_later given.schedule dealer given.held settlement.sealed settlement.turns.items is.1)
+fared_later given dealer (Err (Untimely settlement place why)) is =
+    (is.0, astray_later given.schedule dealer given.held settlement.sealed settlement.turns.items place why is.1)
 fared_later given dealer (Err (Unsettled unsettled)) is = is
 
 first_copy : (dealers : List ChaCha) → slice_get (map at_start dealers) 0 ≡ option_map at_start (slice_get dealers 0)

@@ -40,7 +40,8 @@ one_grown (first ∷ old) (one ∷ now) (suc place) d within same grown =
     heads : one ∷ take place now ≡ older first ∷ map older (take place old) → one ≡ older first
     heads e = cc
 
-    tails : one ∷ take place now ≡ older first ∷ map older (take place old) → take place now ≡ map older (take place old)
+    tails : one ∷ take place now ≡ older first ∷ map older (take place old) →
+        take place now ≡ map older (take place old)
     tails e = cc
 
 -- all
@@ -58,7 +59,8 @@ all_grown (first ∷ old) (one ∷ now) (suc place) past same grown =
     heads : one ∷ take place now ≡ older first ∷ map older (take place old) → one ≡ older first
     heads e = cc
 
-    tails : one ∷ take place now ≡ older first ∷ map older (take place old) → take place now ≡ map older (take place old)
+    tails : one ∷ take place now ≡ older first ∷ map older (take place old) →
+        take place now ≡ map older (take place old)
     tails e = cc
 
 -- a client that is cut off at its place

@@ -1,11 +1,11 @@
 //! Settling the matches of a contest once its sessions have ended.
 
 ghost use Rattle.std.specs.Prelude.{◌≡◌, IfOk, MatchOption, length, map, option_map, slice_get, vec_len};
-ghost use Rattle.bhs_server.specs.Settling.{HasFared, HaveFared, IsPunctual, IsLate, at_start};
+ghost use Rattle.bhs_server.specs.Settling.{HasFared, HaveFared, IsAstray, IsTimely, at_start};
 
 use crate::ports::Played;
 use crate::sessions::Session;
-use bhs_deal::{Dealer, first_late};
+use bhs_deal::{Dealer, Schedule, Untimely, first_untimely};
 use bhs_lock::{Cell, Pass, Settlement, settle};
 use bhs_net::Memory;
 use bhs_session::Ended;
@@ -17,10 +17,11 @@ use std::alloc::Global;
 pub enum Refused {
     /// It does not settle with the passes of its sessions.
     Unsettled(bhs_lock::Unsettled),
-    /// It settles, and its delivery at this place of the log was not made in time.
-    Late {
+    /// It settles, and with its turn the event at this place of the log belongs to no timed execution.
+    Untimely {
         settlement: Settlement,
         place: usize,
+        why: Untimely,
     },
 }
 
@@ -107,35 +108,43 @@ fn settled_by(
         Ok(settlement) => settlement,
         Err(unsettled) => return Ok(Err(Refused::Unsettled(unsettled))),
     };
-    match late(alloc, schedule, dealer, &settlement)? {
-        Some(place) => Ok(Err(Refused::Late { settlement, place })),
+    match astray(alloc, schedule, dealer, &settlement)? {
+        Some((place, why)) => Ok(Err(Refused::Untimely {
+            settlement,
+            place,
+            why,
+        })),
         None => Ok(Ok(settlement)),
     }
 }
 
-// The place of the first delivery that was not made in time.
-fn late(
+// The first event of a match that belongs to no timed execution.
+fn astray(
     alloc: Global,
     schedule: ScheduleKind,
     dealer: Option<Dealer>,
     settlement: &Settlement,
-) -> Result<Option<usize>, Memory>
+) -> Result<Option<(usize, Untimely)>, Memory>
     requires { length settlement.now.turns.items ≡ length settlement.now.sealed.log }
-    ensures { IfOk result (λ place. MatchOption place
-        (IsPunctual schedule dealer settlement.now.sealed settlement.now.turns.items)
-        (IsLate schedule dealer settlement.now.sealed settlement.now.turns.items)) }
+    ensures { IfOk result (λ found. MatchOption found
+        (IsTimely schedule dealer settlement.now.held settlement.now.sealed settlement.now.turns.items)
+        (λ at. IsAstray schedule dealer settlement.now.held settlement.now.sealed settlement.now.turns.items
+        at.0 at.1)) }
 {
     let Some(dealer) = dealer else {
         return Ok(None);
     };
     match schedule {
         ScheduleKind::Adaptive => Ok(None),
-        ScheduleKind::Oblivious(delays) => first_late(
+        ScheduleKind::Oblivious(delays) => first_untimely(
             alloc,
             &settlement.sealed,
             &settlement.turns,
-            delays,
-            &dealer,
+            &Schedule {
+                dealer: &dealer,
+                delays,
+                held: &settlement.held,
+            },
         ),
     }
 }

@@ -268,5 +268,6 @@ sent_as_met_lemma one part =
                 (left_as one.play.setup.quota one.play.setup.board (view_of met.met) met.rest w.parting is.here
                 met.are_steps met.heard),
             is.done,
+            is.here,
           );
     }

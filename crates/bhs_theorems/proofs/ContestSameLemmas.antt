@@ -16,7 +16,7 @@ use Rattle.bhs_theorems.specs.Met.{takes_commands, IsDue, AreDue}
 use Rattle.bhs_theorems.proofs.MeetingLemmas.{view_from-append, due-append}
 use Rattle.bhs_theorems.proofs.PastLemmas.{kinds, kinded, met_alike}
 use Rattle.bhs_theorems.specs.ContestMet.{Attended, fed, TookPart, AreSaid, IsLeftAs, is_whole, IsSentAsMet}
-use Rattle.bhs_theorems.specs.ContestMet.{EqualPastsAreSentEqualBytes}
+use Rattle.bhs_match.specs.Matches.{state_of}
 use Rattle.bhs_theorems.proofs.ContestMetLemmas.{sent_as_met_lemma}
 
 -- ---- the kinds of commands
@@ -24,7 +24,7 @@ use Rattle.bhs_theorems.proofs.ContestMetLemmas.{sent_as_met_lemma}
 kind_kept : (command : Command) (reply : Reply) → kind_of (kept_command command reply) ≡ kind_of command
 kind_kept command reply = grind arith
 
-kinds_said : (limit : ℕ) (view : View) (met : List Meeting) (said : List Command) → AreSaid limit view met said
+pub kinds_said : (limit : ℕ) (view : View) (met : List Meeting) (said : List Command) → AreSaid limit view met said
     → kinds kind_of met ≡ map kind_of said
 kinds_said limit view [] [] are = refl
 kinds_said limit view [] (own ∷ said) are = absurd are
@@ -75,7 +75,7 @@ length_kinded (Hears command glance ∷ met) = ap suc (length_kinded met)
 length_kinded (Refuses command ∷ met) = ap suc (length_kinded met)
 length_kinded (Arrives sight ∷ met) = length_kinded met
 
-same_met : (quota : ℕ) (met other : List Meeting) (over more : List Command) → AreDue quota Start met
+pub same_met : (quota : ℕ) (met other : List Meeting) (over more : List Command) → AreDue quota Start met
     → AreDue quota Start other → view_of met ≡ view_of other
     → kinds kind_of met ++ over ≡ kinds kind_of other ++ more →
     (takes_commands (standing (view_of met)) ≡ true → over ≡ [])
@@ -83,7 +83,7 @@ same_met : (quota : ℕ) (met other : List Meeting) (over more : List Command) �
     → map (kinded kind_of) met ≡ map (kinded kind_of) other
 same_met quota = met_alike kind_of quota (same_hearing quota) Start
 
-same_bytes : (limit : ℕ) (met other : List Meeting) → map (kinded kind_of) met ≡ map (kinded kind_of) other
+pub same_bytes : (limit : ℕ) (met other : List Meeting) → map (kinded kind_of) met ≡ map (kinded kind_of) other
     → bytes limit met ≡ bytes limit other
 same_bytes limit met other same =
     sym (bytes_kinded limit Start met) ∙ ap (bytes limit) same ∙ bytes_kinded limit Start other
@@ -218,8 +218,12 @@ all_done one part is whole = elim (is.whole whole).4 [
   | inr ended ↦ inr ended
 ]
 
-pub equal_bytes_lemma : EqualPastsAreSentEqualBytes
-equal_bytes_lemma one two part part2 whole whole2 quotas boards pasts said =
+pub equal_bytes_if_whole : (one two : Attended) → TookPart one → TookPart two → is_whole one.ended ≡ true →
+    is_whole two.ended ≡ true → one.play.setup.quota ≡ two.play.setup.quota →
+    one.play.setup.board ≡ two.play.setup.board →
+    (state_of one.play).past one.pass.agent ≡ (state_of two.play).past two.pass.agent →
+    fed one ≡ fed two → one.written ≡ two.written
+equal_bytes_if_whole one two part part2 whole whole2 quotas boards pasts said =
     let first = sent_as_met_lemma one part in
     let second = sent_as_met_lemma two part2 in
     all_sent one first whole

@@ -1,4 +1,4 @@
--- Equal waits of agents whose matches settled.
+-- Equal waits of agents whose matches settled, and every arrival in their pasts.
 use Rattle.std.proofs.Common.{ℕ, ◌≡◌, List, [], ◌∷◌, Some, length, arith, refl, sym, ap, ◌∙◌, subst}
 use Rattle.rand_chacha.specs.ChaCha.{ChaCha}
 use Rattle.bhs_model.specs.declared.marks.Kept.{Kept}
@@ -11,13 +11,17 @@ use Rattle.bhs_time.specs.Schedules.{Schedule, DelayLaw}
 use Rattle.bhs_time.specs.TimedRuns.{TimedState, timed_initial}
 use Rattle.bhs_time.specs.Stamps.{Stamped, happened_at, stamped_run_from, AreInTime}
 use Rattle.bhs_time.proofs.StampLemmas.{IsStamped, initial_stamped, happened_state, happened_stamped}
-use Rattle.bhs_time.proofs.LogTimeLemmas.{equal_waits_in_logs_lemma}
+use Rattle.bhs_time.specs.TimedLogs.{IsTimedLog}
+use Rattle.bhs_time.proofs.InTimeLogLemmas.{in_time_lemma}
+use Rattle.bhs_time.proofs.LogTimeLemmas.{equal_waits_in_logs_lemma, every_arrival_lemma}
 use Rattle.bhs_match.specs.Matches.{world_in, state_of}
-use Rattle.bhs_deal.specs.Lateness.{stamps_in}
+use Rattle.bhs_deal.specs.Links.{held_in}
+use Rattle.bhs_deal.specs.Scheduling.{stamps_in}
 use Rattle.bhs_lock.specs.Cells.{Given}
 use Rattle.bhs_lock.specs.declared.settling.Settlement.{Settlement}
-use Rattle.bhs_server.specs.Settling.{IsPunctual}
+use Rattle.bhs_server.specs.Settling.{IsTimely}
 use Rattle.bhs_theorems.specs.ContestTime.{timed_view, schedule_of, HasEnded, EqualWaitsInContests}
+use Rattle.bhs_theorems.specs.ContestTime.{EveryArrivalInContests}
 
 stamped_from : (world : World) (timed : TimedState) (stamps : List Stamped) → IsStamped timed →
     IsStamped (stamped_run_from world timed stamps)
@@ -50,8 +54,10 @@ past_of one agent count =
 in_time : (given : Given) (dealer : ChaCha) (law : DelayLaw) (one : Settlement) → HasEnded given dealer law one →
     AreInTime (schedule_of dealer law one) (world_in one.sealed) (stamps_in one.sealed.log one.turns.items)
 in_time given dealer law one ended =
-    subst (λ (kind : ScheduleKind). IsPunctual kind (Some dealer) one.sealed one.turns.items) ended.schedule
-    ended.fared.1
+    in_time_lemma (world_in one.sealed) (held_in given.held) (schedule_of dealer law one)
+    (stamps_in one.sealed.log one.turns.items)
+    (subst (λ (kind : ScheduleKind). IsTimely kind (Some dealer) given.held one.sealed one.turns.items) ended.schedule
+    ended.fared.1)
 
 pub waits_in_contests_lemma : EqualWaitsInContests
 waits_in_contests_lemma given other dealer another law one two ended also same agent before turn later sight seen
@@ -66,3 +72,13 @@ waits_in_contests_lemma given other dealer another law one two ended also same a
           (stamps_in two.sealed.log two.turns.items)) (sym same) (in_time other another law two also))
           arrived came;
     }
+
+pub every_arrival_in_contests_lemma : EveryArrivalInContests
+every_arrival_in_contests_lemma given other dealer another law one two ended also same agent before there turn later has
+    had left =
+    every_arrival_lemma (schedule_of dealer law one) (world_in one.sealed) (world_in two.sealed)
+    (stamps_in one.sealed.log one.turns.items) (stamps_in two.sealed.log two.turns.items) agent before there turn later
+    (in_time given dealer law one ended)
+    (subst (λ (schedule : Schedule). AreInTime schedule (world_in two.sealed)
+    (stamps_in two.sealed.log two.turns.items)) (sym same) (in_time other another law two also))
+    has had left

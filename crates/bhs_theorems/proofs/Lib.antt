@@ -5,6 +5,7 @@ pub mod AwayLemmas
 pub mod CallLemmas
 pub mod ContestMetLemmas
 pub mod ContestSameLemmas
+pub mod ToldAllLemmas
 pub mod ContestStepsLemmas
 pub mod ContestTimeLemmas
 pub mod ContestWalkLemmas
@@ -38,3 +39,5 @@ pub mod TookLemmas
 pub mod TurnLemmas
 pub mod TwinLogLemmas
 pub mod WorkedScripts
+pub mod OwnAppealLemmas
+pub mod TimeExampleLemmas

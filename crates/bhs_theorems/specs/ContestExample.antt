@@ -1,11 +1,11 @@
 -- A session of a client whose agent enters, is refused an Enter, departs, arrives and leaves: what it was answered, its
 -- text, and what its agent met. And one in another contest, whose agent cannot tell the two apart.
-use Rattle.std.specs.Prelude.{ℕ, ◌≡◌, Some, None, List, [], ◌∷◌}
+use Rattle.std.specs.Prelude.{ℕ, ◌≡◌, Some, None, List, [], ◌∷◌, ◌++◌}
 use Rattle.bhs_model.specs.declared.commands.Command.TheVariants.{Enter, Depart, Leave}
 use Rattle.bhs_model.specs.declared.events.Event.TheVariants.{Tell, Deliver, Close}
 use Rattle.bhs_model.specs.declared.marks.Mark.TheVariants as marks
 use Rattle.bhs_model.specs.declared.replies.Reply.{Reply}
-use Rattle.bhs_model.specs.declared.replies.Reply.TheVariants.{Here, Gone, Bye}
+use Rattle.bhs_model.specs.declared.replies.Reply.TheVariants.{Here, Gone, Bye, Over}
 use Rattle.bhs_model.specs.Views.{Nothing, Saw, Seen, Unwritten}
 use Rattle.bhs_match.specs.Matches.{Play, state_of}
 use Rattle.bhs_lock.specs.declared.model.Receipt.{Receipt}
@@ -15,7 +15,8 @@ use Rattle.bhs_session.specs.Phase.{Fresh}
 use Rattle.bhs_theorems.specs.Met.{Meeting, Hears, Refuses, Arrives, view_of, bytes}
 use Rattle.bhs_server.specs.Exchanges.{Exchange, Took, Refused, Came, session_text, commands_in, receipts_in, kept_in}
 use Rattle.bhs_server.specs.Exchanges.{arrivals_in, AreInTurn}
-use Rattle.bhs_theorems.specs.ContestMet.{Attended, fed, TookPart}
+use Rattle.bhs_session.specs.Texts.{text_of}
+use Rattle.bhs_theorems.specs.ContestMet.{Attended, fed, TookPart, IsToldAll}
 
 abbrev pub receipt : (place : ℕ) → Reply → Receipt
 receipt place reply = record { place = place; reply = reply }
@@ -151,3 +152,26 @@ ThePastsAreEqual = (state_of settled).past 0 ≡ (state_of settled_elsewhere).pa
 
 abbrev pub TheSameWasFed : Type 0
 TheSameWasFed = fed worked ≡ fed elsewhere
+
+-- ---- an agent on a link at the close
+
+-- what the other agent said and was answered: it is on its link for node 3, a black hole, when the match is closed
+abbrev pub said_beside : List Exchange
+said_beside = Took Enter (receipt 0 (Here 2 None [])) ∷ Took (Depart 1) (receipt 3 Gone) ∷ []
+
+abbrev pub met_beside : List Meeting
+met_beside = Hears Enter (Saw (Seen 2 None Unwritten)) ∷ Hears (Depart 1) Nothing ∷ []
+
+-- its session, which was told that the match is over
+abbrev pub beside : Attended
+beside = record {
+  play = settled_elsewhere;
+  pass = pass_beside;
+  said = commands_in said_beside;
+  more = [];
+  written = bytes 8 met_beside ++ text_of Over;
+  ended = endings.Over;
+}
+
+abbrev pub TheHeadlineSpeaksOfWhoIsOnALink : Type 0
+TheHeadlineSpeaksOfWhoIsOnALink = TookPart beside × IsToldAll beside

@@ -1,6 +1,6 @@
 -- What a session wrote is the bytes of what its agent met in the log of its match, where the match settled with the
 -- pass that the session played by.
-use Rattle.std.specs.Prelude.{ℕ, ◌≡◌, ◌⊎◌, Bool, true, false, Some, List, [], ◌∷◌, ◌++◌, map, slice_get}
+use Rattle.std.specs.Prelude.{ℕ, ◌≡◌, ◌≢◌, ◌⊎◌, Bool, true, false, Some, List, [], ◌∷◌, ◌++◌, map, slice_get}
 use Rattle.bhs_model.specs.declared.commands.Command.{Command}
 use Rattle.bhs_model.specs.declared.commands.Command.TheVariants.{Leave}
 use Rattle.bhs_model.specs.declared.replies.Reply.TheVariants.{Over}
@@ -117,18 +117,26 @@ pub record IsSentAsMet (one : Attended) : Type 0 where
       (left ≡ []) × (last ≡ []) × (unwritten ≡ [])
       × IsLeftAs (view_of met) ((state_of one.play).past one.pass.agent)
       × ((is_between one.ended ≡ true) ⊎ (standing (view_of met) ≡ Stopped))
+      × (standing (view_of met) ≢ Away)
 
 abbrev pub SentAsMet : Type 0
 SentAsMet = (one : Attended) → TookPart one → IsSentAsMet one
 
 -- ---- the headline
 
+-- A session was told all that its agent met: it ended by a Bye, an accusation, or the end of its input or its turns; or
+-- it was told that the match is over while its agent was on a link, as each agent is that was destroyed.
+abbrev pub IsToldAll : Attended → Type 0
+IsToldAll one =
+    (is_whole one.ended ≡ true)
+    ⊎ ((one.ended ≡ endings.Over) × (standing ((state_of one.play).past one.pass.agent) ≡ Away))
+
 -- Two sessions of any two contests, in matches of equal quota and whiteboards of equal size, whose agents have equal
--- pasts in the logs that settled and that were fed equal commands, wrote equal bytes, if each ended by a Bye, an
--- accusation, or the end of its input or turns.
+-- pasts in the logs that settled and that were fed equal commands, wrote equal bytes, if each was told all that its
+-- agent met.
 abbrev pub EqualPastsAreSentEqualBytes : Type 0
 EqualPastsAreSentEqualBytes =
-    (one two : Attended) → TookPart one → TookPart two → is_whole one.ended ≡ true → is_whole two.ended ≡ true →
+    (one two : Attended) → TookPart one → TookPart two → IsToldAll one → IsToldAll two →
     one.play.setup.quota ≡ two.play.setup.quota → one.play.setup.board ≡ two.play.setup.board →
     (state_of one.play).past one.pass.agent ≡ (state_of two.play).past two.pass.agent →
     fed one ≡ fed two → one.written ≡ two.written

@@ -2,11 +2,11 @@
 use Rattle.std.specs.Prelude.{ℕ, ◌≡◌, Some, Ok}
 use Rattle.rand_chacha.specs.ChaCha.{ChaCha}
 use Rattle.bhs_time.specs.declared.kinds.ScheduleKind.TheVariants.{Oblivious}
-use Rattle.bhs_time.specs.TimedViews.{TimedView, ArrivedAt, TimedSight, bare}
+use Rattle.bhs_time.specs.TimedViews.{TimedView, ArrivedAt, TimedSight, bare, departed_at}
 use Rattle.bhs_time.specs.Schedules.{Schedule, DelayLaw}
-use Rattle.bhs_time.specs.Stamps.{stamped_run}
+use Rattle.bhs_time.specs.Stamps.{stamped_run, HasArrival}
 use Rattle.bhs_match.specs.Matches.{world_in, state_of}
-use Rattle.bhs_deal.specs.Lateness.{whole_schedule, stamps_in}
+use Rattle.bhs_deal.specs.Scheduling.{whole_schedule, stamps_in}
 use Rattle.bhs_lock.specs.Cells.{Given}
 use Rattle.bhs_lock.specs.declared.settling.Settlement.{Settlement}
 use Rattle.bhs_server.specs.Settling.{HasFared}
@@ -41,3 +41,15 @@ EqualWaitsInContests = (given other : Given) (dealer another : ChaCha) (law : De
     (agent : ℕ) (before : TimedView) (turn later : ℕ) (sight seen : TimedSight) →
     timed_view one agent ≡ ArrivedAt before turn sight → timed_view two agent ≡ ArrivedAt before later seen →
     WaitAlike one two agent before turn later sight seen
+
+-- The headline in time, of every arrival. Take two matches of any two contests, which settled, and whose schedules are
+-- the same. They may differ in their networks, in what destroys, in held links and in all that is said. Wherever an
+-- agent has arrived in its past in one and in its past in the other, after departing after equally many turns, it
+-- arrived after equally many turns. What it met before may differ, and what it has met since.
+abbrev pub EveryArrivalInContests : Type 0
+EveryArrivalInContests = (given other : Given) (dealer another : ChaCha) (law : DelayLaw) (one two : Settlement) →
+    HasEnded given dealer law one → HasEnded other another law two →
+    schedule_of dealer law one ≡ schedule_of another law two →
+    (agent : ℕ) (before there : TimedView) (turn later : ℕ) →
+    HasArrival (timed_view one agent) before turn → HasArrival (timed_view two agent) there later →
+    departed_at before ≡ departed_at there → turn ≡ later

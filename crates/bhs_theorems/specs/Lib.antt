@@ -12,3 +12,5 @@ pub mod ScriptHeadline
 pub mod ScriptLaws
 pub mod SentAsMet
 pub mod Timely
+pub mod OwnAppeals
+pub mod TimeExample

@@ -4,8 +4,10 @@ ghost use Rattle.bhs_theorems.specs.ContestExample.{AllIsInTurn, TheArrivalIsThi
 ghost use Rattle.bhs_theorems.specs.ContestExample.{TheReceiptsAreThese};
 ghost use Rattle.bhs_theorems.specs.ContestExample.{ThePastIsOfWhatWasMet, TheTextIsOfWhatWasMet};
 ghost use Rattle.bhs_theorems.specs.ContestExample.{TheHeadlineSpeaksOfTheOther, ThePastsAreEqual, TheSameWasFed};
+ghost use Rattle.bhs_theorems.specs.ContestExample.{TheHeadlineSpeaksOfWhoIsOnALink};
 ghost use Rattle.bhs_theorems.specs.ContestMet.{EqualPastsAreSentEqualBytes, SentAsMet};
-ghost use Rattle.bhs_theorems.specs.ContestTime.{EqualWaitsInContests};
+ghost use Rattle.bhs_theorems.specs.ContestTime.{EqualWaitsInContests, EveryArrivalInContests};
+ghost use Rattle.bhs_theorems.specs.TimeExample.{TheTheoremOfTimeSpeaksOfIt};
 
 /// A session whose pass settled with its match wrote the bytes of what its agent met in the log, and behind them at
 /// most one line; or a front of that, if a write failed or memory ran out.
@@ -14,8 +16,9 @@ pub fn sent_as_met()
 {}
 
 /// Two sessions of any two contests, in matches of equal quota and whiteboards of equal size, whose agents have equal
-/// pasts in the logs that settled and that were fed equal commands, wrote equal bytes, if each ended by a Bye, an
-/// accusation, or the end of its input or turns.
+/// pasts in the logs that settled and that were fed equal commands, wrote equal bytes, if each was told all that its
+/// agent met: it ended by a Bye, an accusation, or the end of its input or turns, or was told that the match is over
+/// while its agent was on a link, as each agent is that was destroyed.
 pub fn equal_pasts_are_sent_equal_bytes()
     ensures { EqualPastsAreSentEqualBytes }
 {}
@@ -26,8 +29,14 @@ pub fn equal_waits_in_contests()
     ensures { EqualWaitsInContests }
 {}
 
+/// Every arrival, anywhere in the past of an agent, in two matches of any two contests with one schedule, if both
+/// settled: equal turns of departure give equal turns of arrival.
+pub fn every_arrival_in_contests()
+    ensures { EveryArrivalInContests }
+{}
+
 /// A session of a client, worked out by hand; and one in a match on another network, with other black holes and another
-/// number of agents, of which the headline says that it wrote the same.
+/// number of agents, of which the headline says that it wrote the same. And one whose agent is on a link at the close.
 pub fn worked_session()
     ensures text { TheTextIsOfWhatWasMet }
     ensures receipts { TheReceiptsAreThese }
@@ -38,4 +47,10 @@ pub fn worked_session()
     ensures other { TheHeadlineSpeaksOfTheOther }
     ensures equal_pasts { ThePastsAreEqual }
     ensures equal_commands { TheSameWasFed }
+    ensures on_a_link { TheHeadlineSpeaksOfWhoIsOnALink }
+{}
+
+/// A match under the oblivious schedule, worked out by hand, of which the theorem over every arrival speaks.
+pub fn worked_walk()
+    ensures { TheTheoremOfTimeSpeaksOfIt }
 {}

@@ -2,6 +2,7 @@
 //! nothing, over the definitions that the contracts of the working functions cite.
 #![tactic(auto)]
 
+pub mod appeals;
 pub mod contests;
 pub mod locks;
 pub mod rehearsals;

@@ -9,3 +9,5 @@ pub mod ContestLemmas
 pub mod WaitLemmas
 pub mod DelayLemmas
 pub mod LogTimeLemmas
+pub mod TimedLogLemmas
+pub mod InTimeLogLemmas

@@ -8,14 +8,15 @@ use Rattle.bhs_model.specs.declared.events.Event.TheVariants.{Tell, Deliver, Clo
 use Rattle.bhs_model.specs.Worlds.{World}
 use Rattle.bhs_model.specs.Runs.{Position, Before, At, Bound, After, heard, arrives}
 use Rattle.bhs_model.specs.Draws.{Held}
-use Rattle.bhs_time.specs.TimedViews.{TimedView, departed_at}
+use Rattle.bhs_time.specs.TimedViews.{TimedView, Fresh, ToldAt, ArrivedAt, departed_at}
 use Rattle.bhs_time.specs.Schedules.{Schedule}
 use Rattle.bhs_time.specs.TimedRuns.{TimedState, TimedAct, timed_initial, event_of, told_then, arrived_then, happened}
 use Rattle.bhs_time.specs.TimedRuns.{happened_if, timed_run_from, turn_after}
 use Rattle.bhs_time.specs.Laws.{IsFirst, IsPunctual}
-use Rattle.bhs_time.specs.Stamps.{Stamped, happened_at, stamped_run_from, IsInTime, AreInTimeFrom, stamped_first}
+use Rattle.bhs_time.specs.Stamps.{Stamped, happened_at, stamped_run, stamped_run_from, IsInTime, AreInTimeFrom}
+use Rattle.bhs_time.specs.Stamps.{stamped_first}
 use Rattle.bhs_time.specs.Stamps.{stamps_from, TurnsSayWhatWasMet, DeliveriesInTimeArrivePunctually}
-use Rattle.bhs_time.specs.Stamps.{EqualWaitsInLogs}
+use Rattle.bhs_time.specs.Stamps.{EqualWaitsInLogs, EveryArrivalInLogs, HasArrival}
 use Rattle.bhs_time.proofs.WaitLemmas.{first_once}
 
 -- ---- the events of a timed execution with their turns
@@ -110,3 +111,23 @@ equal_waits_in_logs_lemma schedule world other stamps others agent before turn l
     let two = subst (λ (past : TimedView). IsPunctual schedule agent past) came
     (punctual_lemma schedule other others agent also) in
     first_once schedule agent _ turn later one.0 two.0
+
+at_arrival : (schedule : Schedule) (agent : ℕ) (past before : TimedView) (turn : ℕ) →
+    IsPunctual schedule agent past → HasArrival past before turn → IsFirst schedule agent (departed_at before) turn
+at_arrival schedule agent Fresh before turn punctual has = absurd has
+at_arrival schedule agent (ToldAt past at command glance) before turn punctual has =
+    at_arrival schedule agent past before turn punctual has
+at_arrival schedule agent (ArrivedAt past at sight) before turn punctual (inl same) =
+    subst (λ (old : TimedView). IsFirst schedule agent (departed_at old) turn) same.0
+    (subst (λ (when : ℕ). IsFirst schedule agent (departed_at past) when) same.1 punctual.0)
+at_arrival schedule agent (ArrivedAt past at sight) before turn punctual (inr has) =
+    at_arrival schedule agent past before turn punctual.1 has
+
+pub every_arrival_lemma : EveryArrivalInLogs
+every_arrival_lemma schedule world other stamps others agent before there turn later in_time also one two same =
+    let past = (stamped_run world stamps).pasts agent in
+    let past' = (stamped_run other others).pasts agent in
+    first_once schedule agent (departed_at before) turn later
+    (at_arrival schedule agent past before turn (punctual_lemma schedule world stamps agent in_time) one)
+    (subst (λ (from : ℕ). IsFirst schedule agent from later) (sym same)
+    (at_arrival schedule agent past' there later (punctual_lemma schedule other others agent also) two))

@@ -6,3 +6,4 @@ pub mod Stamps
 pub mod Leaving
 pub mod Contests
 pub mod Rows
+pub mod TimedLogs

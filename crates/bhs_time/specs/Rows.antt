@@ -1,6 +1,7 @@
 -- Worked rows on the triangle: each is checked by computing the definitions.
-use Rattle.std.specs.Prelude.{◌+◌, ◌*◌, ◌≡◌, Bool, true, false, Some, None, List, [], ◌∷◌, ◌++◌}
+use Rattle.std.specs.Prelude.{ℕ, ◌+◌, ◌*◌, ◌≡◌, Bool, true, false, Some, None, List, [], ◌∷◌, ◌++◌}
 use Rattle.bhs_model.specs.declared.commands.Command.TheVariants.{Enter, Look, Depart}
+use Rattle.bhs_model.specs.declared.events.Event.{Event}
 use Rattle.bhs_model.specs.declared.events.Event.TheVariants.{Tell, Deliver, Close}
 use Rattle.bhs_model.specs.Runs.{is_bound, run}
 use Rattle.bhs_model.specs.Draws.{Held, Act, Says as DoesSay, Draws, played}
@@ -10,6 +11,8 @@ use Rattle.bhs_time.specs.TimedViews.{UnwrittenThen}
 use Rattle.bhs_time.specs.TimedViews.{departed_at}
 use Rattle.bhs_time.specs.Schedules.{Schedule, Words, releases, delay, oblivious}
 use Rattle.bhs_time.specs.TimedRuns.{TimedAct, Says, Passes, Ends, timed_run, timed_events}
+use Rattle.bhs_time.specs.Stamps.{Stamped, HasArrival}
+use Rattle.bhs_time.specs.TimedLogs.{timed_log}
 
 -- The word of a turn is its number, so even turns pick agent 0 and odd turns agent 1. The word of a departure is its
 -- turn.
@@ -65,6 +68,24 @@ APickThatDoesNothing =
     × (timed_events triangle none_held with_delays (Says 1 Enter ∷ Says 1
     (Depart 0) ∷ Passes ∷ Passes ∷ Ends ∷ Passes ∷ [])
     ≡ Tell 1 Enter ∷ Tell 1 (Depart 0) ∷ Deliver 1 ∷ Close ∷ [])
+
+-- the log of these acts: the Delivers that change nothing are not kept, and the walker arrives in the turn after 2
+abbrev pub stamp : Event → (turn : ℕ) → Stamped
+stamp event turn = record { event = event; turn = turn }
+
+abbrev pub ALogWithItsTurns : Type 0
+ALogWithItsTurns =
+    timed_log triangle none_held without_delays
+    (Says 0 Enter ∷ Passes ∷ Says 0 (Depart 0) ∷ Passes ∷ Passes ∷ Says 0 Look ∷ Ends ∷ Passes ∷ [])
+    ≡ stamp (Tell 0 Enter) 0 ∷ stamp (Tell 0 (Depart 0)) 1 ∷ stamp (Deliver 0) 2 ∷ stamp (Tell 0 Look) 3
+    ∷ stamp Close 3 ∷ []
+
+-- an arrival in the midst of a past: the agent has looked since
+abbrev pub AnArrivalInAPast : Type 0
+AnArrivalInAPast =
+    HasArrival
+    ((timed_run triangle none_held with_delays (walk ++ Says 1 Look ∷ [])).pasts 1)
+    (ToldAt (ToldAt Fresh 2 Enter (SawThen (SeenThen 2 None UnwrittenThen))) 2 (Depart 0) NothingThen) 7
 
 -- what an agent says on a link does not change the turn of its departure
 abbrev pub ADepartureKeepsItsTurn : Type 0

@@ -1,10 +1,10 @@
 -- Logs with turns: each event with the number of turns after which it happened.
-use Rattle.std.specs.Prelude.{ℕ, ◌≡◌, List, [], ◌∷◌, Option, Some, None}
+use Rattle.std.specs.Prelude.{ℕ, ◌≡◌, ◌⊎◌, List, [], ◌∷◌, Option, Some, None}
 use Rattle.bhs_model.specs.declared.events.Event.{Event}
 use Rattle.bhs_model.specs.declared.events.Event.TheVariants.{Deliver}
 use Rattle.bhs_model.specs.Worlds.{World}
 use Rattle.bhs_model.specs.Draws.{Held}
-use Rattle.bhs_time.specs.TimedViews.{TimedView, ArrivedAt, TimedSight, departed_at}
+use Rattle.bhs_time.specs.TimedViews.{TimedView, Fresh, ToldAt, ArrivedAt, TimedSight, departed_at}
 use Rattle.bhs_time.specs.Schedules.{Schedule}
 use Rattle.bhs_time.specs.TimedRuns.{TimedState, TimedAct, timed_initial, event_of, happened, timed_next, timed_run}
 use Rattle.bhs_time.specs.Laws.{IsFirst, IsPunctual}
@@ -80,3 +80,19 @@ EqualWaitsInLogs = (schedule : Schedule) (world other : World) (stamps others : 
     (stamped_run world stamps).pasts agent ≡ ArrivedAt before turn sight →
     (stamped_run other others).pasts agent ≡ ArrivedAt before later seen →
     turn ≡ later
+
+-- a past has, anywhere in it, an arrival at this turn, and before that it was this past
+abbrev pub HasArrival : TimedView → (before : TimedView) → (turn : ℕ) → Type 0
+HasArrival Fresh before turn = ⊥
+HasArrival (ToldAt past at command glance) before turn = HasArrival past before turn
+HasArrival (ArrivedAt past at sight) before turn = ((past ≡ before) × (at ≡ turn)) ⊎ HasArrival past before turn
+
+-- Every arrival of a log, and not the last step alone: agents that departed after equally many turns arrive after
+-- equally many turns, whatever else they have met.
+abbrev pub EveryArrivalInLogs : Type 0
+EveryArrivalInLogs = (schedule : Schedule) (world other : World) (stamps others : List Stamped) (agent : ℕ)
+    (before there : TimedView) (turn later : ℕ) →
+    AreInTime schedule world stamps → AreInTime schedule other others →
+    HasArrival ((stamped_run world stamps).pasts agent) before turn →
+    HasArrival ((stamped_run other others).pasts agent) there later →
+    departed_at before ≡ departed_at there → turn ≡ later

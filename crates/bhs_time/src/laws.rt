@@ -6,6 +6,8 @@ ghost use Rattle.bhs_time.specs.Leaving.{CutsSufficeInTime, TheUnseenMayBeLeftOu
 ghost use Rattle.bhs_time.specs.Rows.{
   ADepartureKeepsItsTurn,
   AHeldLinkHolds,
+  ALogWithItsTurns,
+  AnArrivalInAPast,
   APickThatDoesNothing,
   AWalkWithItsTurns,
   HowLongALinkTakes,
@@ -13,7 +15,10 @@ ghost use Rattle.bhs_time.specs.Rows.{
   ThePoolTells,
   WhoIsReleased,
 };
-ghost use Rattle.bhs_time.specs.Stamps.{DeliveriesInTimeArrivePunctually, EqualWaitsInLogs, TurnsSayWhatWasMet};
+ghost use Rattle.bhs_time.specs.Stamps.{DeliveriesInTimeArrivePunctually, EqualWaitsInLogs, EveryArrivalInLogs};
+ghost use Rattle.bhs_time.specs.Stamps.{TurnsSayWhatWasMet};
+ghost use Rattle.bhs_time.specs.TimedLogs.{TimedLogsAreInTime, TimedLogsAscend, TimedLogsCrossNoHeldLink};
+ghost use Rattle.bhs_time.specs.TimedLogs.{TimedLogsMayBeCut};
 ghost use Rattle.bhs_time.specs.Laws.{
   ArrivalsAreByTheWords,
   ClocksOnlyStamp,
@@ -90,6 +95,31 @@ pub fn equal_waits_in_logs()
     ensures { EqualWaitsInLogs }
 {}
 
+/// Every arrival, anywhere in the past of an agent: equal turns of departure give equal turns of arrival.
+pub fn every_arrival_in_logs()
+    ensures { EveryArrivalInLogs }
+{}
+
+/// A log that a timed execution leaves has each delivery in time.
+pub fn timed_logs_are_in_time()
+    ensures { TimedLogsAreInTime }
+{}
+
+/// The turns of a log that a timed execution leaves ascend.
+pub fn timed_logs_ascend()
+    ensures { TimedLogsAscend }
+{}
+
+/// No delivery in a log that a timed execution leaves is over a held link.
+pub fn timed_logs_cross_no_held_link()
+    ensures { TimedLogsCrossNoHeldLink }
+{}
+
+/// A log that a timed execution leaves may be cut short.
+pub fn timed_logs_may_be_cut()
+    ensures { TimedLogsMayBeCut }
+{}
+
 /// What the definitions give on a triangle, worked out by hand.
 pub fn worked_rows()
     ensures how_long_a_link_takes { HowLongALinkTakes }
@@ -99,5 +129,7 @@ pub fn worked_rows()
     ensures a_pick_that_does_nothing { APickThatDoesNothing }
     ensures a_departure_keeps_its_turn { ADepartureKeepsItsTurn }
     ensures a_held_link_holds { AHeldLinkHolds }
+    ensures a_log_with_its_turns { ALogWithItsTurns }
+    ensures an_arrival_in_a_past { AnArrivalInAPast }
     ensures the_pool_tells { ThePoolTells }
 {}

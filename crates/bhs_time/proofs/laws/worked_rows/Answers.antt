@@ -1,4 +1,4 @@
-use Rattle.std.proofs.Common.{refl}
+use Rattle.std.proofs.Common.{refl, inl}
 use Rattle.bhs_time.proofs.laws.worked_rows.Goals as goal
 
 pub returns : goal.returns
@@ -10,5 +10,7 @@ returns c = record {
   a_pick_that_does_nothing = (refl, refl);
   a_departure_keeps_its_turn = refl;
   a_held_link_holds = (refl, refl);
+  a_log_with_its_turns = refl;
+  an_arrival_in_a_past = inl (refl, refl);
   the_pool_tells = (refl, refl, refl);
 }

@@ -1,5 +1,5 @@
 use super::super::triangle::{network, setup};
-use bhs_deal::{Dealer, first_late};
+use bhs_deal::{Dealer, Held, Schedule, Untimely, first_untimely};
 use bhs_match::{Match, Sealed};
 use bhs_model::{Command, Event};
 use bhs_time::Delays;
@@ -22,9 +22,27 @@ fn walk<R: Abort>(rt: &R, alloc: Global, port: u16) -> Result<Sealed, Fail> {
     }
 }
 
+/// The first untimely event of a walk with these turns of departure and arrival, under this law of delays.
+fn found(
+    alloc: Global,
+    sealed: &Sealed,
+    turns: [u32; 2],
+    delays: Delays,
+    dealer: &Dealer,
+) -> Result<Option<(usize, Untimely)>, Fail> {
+    let held = Held::new(alloc, sealed.net(), &[])?;
+    let schedule = Schedule {
+        dealer,
+        delays,
+        held: &held,
+    };
+    let all = [0, turns[0], turns[1], 9];
+    Ok(first_untimely(alloc, sealed, &all, &schedule)?)
+}
+
 /// By the seed of zeros turns pick the agents 0, 1, 1, 1, 0, 0, 0, 1. Links have no delay.
 #[test]
-fn a_delivery_is_in_time_at_the_first_turn_that_picks_the_agent(
+fn a_delivery_is_timely_at_the_first_turn_that_picks_the_agent(
     rt: HostRuntime,
 ) -> Result<(), Fail> {
     let alloc = rt.alloc();
@@ -32,21 +50,20 @@ fn a_delivery_is_in_time_at_the_first_turn_that_picks_the_agent(
     // into the black hole by port 1 as well as to the next node
     for port in 0..2 {
         let sealed = walk(&rt, alloc, port)?;
-        for (departed, arrived, late) in [
+        for (departed, arrived, wrong) in [
             (0, 0, None),
             (1, 4, None),
             (4, 4, None),
             (5, 5, None),
             // the turn before, the turn after, and a turn that picks the agent again
-            (1, 3, Some(2)),
-            (1, 5, Some(2)),
-            (0, 4, Some(2)),
+            (1, 3, Some((2, Untimely::Late))),
+            (1, 5, Some((2, Untimely::LeftOut { agent: 0, turn: 4 }))),
+            (0, 4, Some((2, Untimely::LeftOut { agent: 0, turn: 0 }))),
             // before its departure
-            (4, 0, Some(2)),
+            (4, 0, Some((2, Untimely::Early))),
         ] {
-            let turns = [0, departed, arrived, 9];
-            let found = first_late(alloc, &sealed, &turns, Delays::new(0, 1), &dealer)?;
-            assert_eq!(rt; found, late);
+            let turns = [departed, arrived];
+            assert_eq!(rt; found(alloc, &sealed, turns, Delays::new(0, 1), &dealer)?, wrong);
         }
     }
     Ok(())
@@ -54,26 +71,25 @@ fn a_delivery_is_in_time_at_the_first_turn_that_picks_the_agent(
 
 /// Each link takes one turn; the dealer may stand anywhere, and another stream picks by other words.
 #[test]
-fn a_delivery_before_its_delay_is_not_in_time(rt: HostRuntime) -> Result<(), Fail> {
+fn a_delivery_before_its_delay_is_not_timely(rt: HostRuntime) -> Result<(), Fail> {
     let alloc = rt.alloc();
     let sealed = walk(&rt, alloc, 0)?;
     let mut dealer = Dealer::new([0; 32], 0);
     for _ in 0..3 {
-        for (departed, arrived, late) in [
-            (0, 0, Some(2)),
+        for (departed, arrived, wrong) in [
+            (0, 0, Some((2, Untimely::Late))),
             (0, 4, None),
-            (4, 4, Some(2)),
+            (4, 4, Some((2, Untimely::Late))),
             (4, 5, None),
         ] {
-            let turns = [0, departed, arrived, 9];
-            let found = first_late(alloc, &sealed, &turns, Delays::new(1, 1), &dealer)?;
-            assert_eq!(rt; found, late);
+            let turns = [departed, arrived];
+            assert_eq!(rt; found(alloc, &sealed, turns, Delays::new(1, 1), &dealer)?, wrong);
         }
         dealer.next();
     }
     // the first word of stream 1 picks agent 1, the second too
     let other = Dealer::new([0; 32], 1);
-    let found = first_late(alloc, &sealed, &[0, 0, 0, 9], Delays::new(0, 1), &other)?;
-    assert_eq!(rt; found, Some(2));
+    let wrong = Some((2, Untimely::Late));
+    assert_eq!(rt; found(alloc, &sealed, [0, 0], Delays::new(0, 1), &other)?, wrong);
     Ok(())
 }

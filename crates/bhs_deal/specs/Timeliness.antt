@@ -1,0 +1,139 @@
+-- Whether a log with turns is that of a timed execution under the oblivious schedule of a match's words, as it is found
+-- out event by event.
+use Rattle.std.specs.Prelude.{ℕ, zero, suc, ◌+◌, ◌-◌, ◌%◌, ◌<◌, ◌≡◌, ◌==◌, Bool, false, Option, Some, None, List, []}
+use Rattle.std.specs.Prelude.{◌∷◌, ◌++◌, take, nat_le, nat_lt, if◌then◌else◌, replicate, slice_set, slice_get}
+use Rattle.std.specs.Prelude.{slice_index_or}
+use Rattle.rand_chacha.specs.ChaCha.{ChaCha}
+use Rattle.bhs_net.specs.Network.{Network}
+use Rattle.bhs_model.specs.declared.commands.Command.TheVariants.{Depart, Leave}
+use Rattle.bhs_model.specs.declared.events.Event.{Event}
+use Rattle.bhs_model.specs.declared.events.Event.TheVariants.{Tell, Deliver}
+use Rattle.bhs_model.specs.declared.marks.Kept.{Kept}
+use Rattle.bhs_model.specs.Marks.{events_of}
+use Rattle.bhs_model.specs.Sites.{sites}
+use Rattle.bhs_model.specs.Worlds.{World}
+use Rattle.bhs_model.specs.Draws.{Held}
+use Rattle.bhs_time.specs.Schedules.{Schedule, DelayLaw, delay}
+use Rattle.bhs_time.specs.Stamps.{Stamped}
+use Rattle.bhs_time.specs.TimedLogs.{IsTimedLog, turn_behind, turns_passed}
+use Rattle.bhs_match.specs.Matches.{Play, world_in}
+use Rattle.bhs_deal.specs.Delaying.{delay_word}
+use Rattle.bhs_deal.specs.Links.{held_in, is_port_of}
+use Rattle.bhs_deal.specs.Scheduling.{words_by}
+use Rattle.bhs_deal.specs.declared.timeliness.Untimely.{Untimely}
+use Rattle.bhs_deal.specs.declared.timeliness.Untimely.TheVariants.{Early, LeftOut, Late}
+
+-- what decides the deliveries of a match: its words, the law of its delays, its held links, its network, and how many
+-- agents it has
+pub record Course : Type 0 where
+  pub dealer : ChaCha
+  pub law : DelayLaw
+  pub held : List (ℕ × ℕ)
+  pub net : Network
+  pub agents : ℕ
+
+-- after how many turns an agent that departed after this many is ready to arrive
+abbrev pub due_after : Course → (agent departed : ℕ) → ℕ
+due_after course agent departed =
+    departed + delay course.law.odds course.law.scales (delay_word course.dealer agent departed)
+
+-- The dues of a match, by agent: after how many turns an agent on a link is ready to arrive. There is none for an agent
+-- that is on no link, on a held one, or was destroyed.
+abbrev pub due_of : List (Option ℕ) → (agent : ℕ) → Option ℕ
+due_of dues agent = slice_index_or dues agent None
+
+-- whether a due has come
+abbrev pub is_due : Option ℕ → (turn : ℕ) → Bool
+is_due None turn = false
+is_due (Some due) turn = nat_le due turn
+
+-- the agent that a turn picks
+abbrev pub picked_by : Course → (turn : ℕ) → ℕ
+picked_by course turn = (words_by course.dealer).picks turn % course.agents
+
+-- the agent that a turn delivers, if it delivers one
+abbrev pub delivered_by : Course → List (Option ℕ) → (turn : ℕ) → Option ℕ
+delivered_by course dues turn =
+    if is_due (due_of dues (picked_by course turn)) turn then Some (picked_by course turn) else None
+
+-- the agent and the turn, if there is an agent
+abbrev pub or_else : Option ℕ → (turn : ℕ) → Option (ℕ × ℕ) → Option (ℕ × ℕ)
+or_else None turn later = later
+or_else (Some agent) turn later = Some (agent, turn)
+
+-- the first of this many turns from one on that delivers an agent, and which
+abbrev pub first_delivery : Course → List (Option ℕ) → (from count : ℕ) → Option (ℕ × ℕ)
+first_delivery course dues from zero = None
+first_delivery course dues from (suc count) =
+    or_else (delivered_by course dues from) from (first_delivery course dues (from + 1) count)
+
+-- the due of an agent that departs by a port of a node
+abbrev pub due_on : Course → (node port agent turn : ℕ) → Option ℕ
+due_on course node port agent turn =
+    if held_in course.held node port then None else Some (due_after course agent turn)
+
+-- the dues after an event with this site and turn
+abbrev pub dues_after : Course → List (Option ℕ) → Event → (site : Option ℕ) → (turn : ℕ) → List (Option ℕ)
+dues_after course dues (Tell agent (Depart port)) (Some node) turn =
+    if is_port_of course.net (node, port) then slice_set dues agent (due_on course node port agent turn) else dues
+dues_after course dues (Tell agent Leave) site turn = slice_set dues agent None
+dues_after course dues (Deliver agent) site turn = slice_set dues agent None
+dues_after course dues event site turn = dues
+
+-- whether this is the agent
+abbrev pub is_agent : Option ℕ → (agent : ℕ) → Bool
+is_agent None agent = false
+is_agent (Some other) agent = agent == other
+
+-- what is wrong with an event in its own turn
+abbrev pub late_in : Course → List (Option ℕ) → Event → (turn : ℕ) → Option Untimely
+late_in course dues (Deliver agent) turn =
+    if is_agent (delivered_by course dues turn) agent then None else Some Late
+late_in course dues event turn = None
+
+-- what is wrong, if a delivery was left out before
+abbrev pub left_out : Option (ℕ × ℕ) → Option Untimely → Option Untimely
+left_out None own = own
+left_out (Some found) own = Some (LeftOut found.0 found.1)
+
+-- what is wrong with an event at its turn, if this many turns have passed before it
+abbrev pub untimely : Course → List (Option ℕ) → (now : ℕ) → Event → (turn : ℕ) → Option Untimely
+untimely course dues now event turn =
+    if nat_lt turn now then Some Early
+    else left_out (first_delivery course dues now (turn - now)) (late_in course dues event turn)
+
+-- what was found here, or what is found later
+abbrev pub at_or_later : (place : ℕ) → Option Untimely → Option (ℕ × Untimely) → Option (ℕ × Untimely)
+at_or_later place None later = later
+at_or_later place (Some why) later = Some (place, why)
+
+-- the first event that is wrong, with its place, where the first event has this place and this many turns have passed
+abbrev pub untimely_from : Course → List (Option ℕ) → (now place : ℕ) → List Kept → List (Option ℕ) → (turns : List ℕ)
+    → Option (ℕ × Untimely)
+untimely_from course dues now place (one ∷ log) (site ∷ sites) (turn ∷ turns) =
+    at_or_later place (untimely course dues now one.event turn)
+    (untimely_from course (dues_after course dues one.event site turn) (turn_behind one.event turn) (place + 1) log
+    sites turns)
+untimely_from course dues now place log sites turns = None
+
+abbrev pub untimely_in : Course → Play → (turns : List ℕ) → Option (ℕ × Untimely)
+untimely_in course play turns =
+    untimely_from course (replicate play.setup.agents None) 0 0 play.log
+    (sites (world_in play) (events_of play.log)) turns
+
+-- why an event of a log, with its turn, is not the next behind the events before it
+abbrev pub IsReason : Untimely → World → Held → Schedule → (before : List Stamped) → Stamped → Type 0
+IsReason Early world held schedule before one = one.turn < turns_passed 0 before
+IsReason (LeftOut agent turn) world held schedule before one =
+    (turn < one.turn)
+    × IsTimedLog world held schedule (before ++ record { event = Deliver agent; turn = turn } ∷ [])
+IsReason Late world held schedule before one = (agent : ℕ) × (one.event ≡ Deliver agent)
+
+-- The events before this place are the log of a timed execution, and with the event at this place they are not.
+pub record IsUntimelyAt (world : World) (held : Held) (schedule : Schedule) (stamps : List Stamped) (place : ℕ)
+    (why : Untimely) : Type 0 where
+  pub before : IsTimedLog world held schedule (take place stamps)
+  pub never : ¬ IsTimedLog world held schedule (take (suc place) stamps)
+  pub one : Stamped
+  pub there : slice_get stamps place ≡ Some one
+  pub reason : IsReason why world held schedule (take place stamps) one
