@@ -153,7 +153,8 @@ def told(wanted: Wanted, tries: List[Tried]) -> int:
     by = "" if engine == built.PROGRAM else f", by {engine}"
     print(f"{counts}: {'no schedule fails, in part of the Python model' if says_less else THEOREM}{by}")
     moves, lost = zip(*(bounds_of(tried) for tried in tries))
-    print(f"most moves {max(moves)}, most agents lost {max(lost)}")
+    turns = "" if says_less else f", most turns {max(found_in(tried)['turns'] for tried in tries)}"
+    print(f"most moves {max(moves)}, most agents lost {max(lost)}{turns}")
     return 0
 
 

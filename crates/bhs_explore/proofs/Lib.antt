@@ -9,9 +9,10 @@ pub mod Scenes
 pub mod Leading
 pub mod Waking
 pub mod Closing
-pub mod ClosedCharts
 pub mod Verdicts
 pub mod Schedules
+pub mod Ends
+pub mod ClosedCharts
 pub mod Told
 pub mod Whole
 pub mod NotesLemmas

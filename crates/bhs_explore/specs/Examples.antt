@@ -8,10 +8,11 @@ use Rattle.bhs_referee.specs.declared.verdicts.Outcome.TheVariants.{Solved, Sile
 use Rattle.bhs_explore.specs.declared.minds.Step.{Step}
 use Rattle.bhs_explore.specs.declared.minds.Step.TheVariants.{Says, Sleeps, Stops, Fails}
 use Rattle.bhs_explore.specs.Minds.{Heard, Woke, Mind, Minds}
-use Rattle.bhs_explore.specs.Schedules.{Trial, under, can_move, verdict}
+use Rattle.bhs_explore.specs.Schedules.{Trial, opening, under, can_move, verdict}
 use Rattle.bhs_explore.specs.Machines.{Machines, memory_at, minds_of}
 use Rattle.bhs_explore.specs.Everywhere.{step_after, step_when_over}
 use Rattle.bhs_explore.specs.Spending.{used_in}
+use Rattle.bhs_explore.specs.Endings.{moving}
 
 -- enters, goes to node 1, and accuses the link from there to node 2
 abbrev pub scout : Mind
@@ -132,6 +133,12 @@ WhatIsUsed =
     (used_in (on_triangle scout victim) (under (on_triangle scout victim) (0 ∷ 0 ∷ 0 ∷ [])) 0 ≡ 1)
     × (used_in (on_triangle scout victim) (under (on_triangle scout victim) (0 ∷ 0 ∷ 0 ∷ 0 ∷ [])) 0 ≡ 2)
     × (used_in (on_triangle scout victim) (under (on_triangle scout victim) (1 ∷ 1 ∷ 1 ∷ 1 ∷ [])) 1 ≡ 1)
+
+-- Six turns of this schedule move: both agents enter and depart, and the scout arrives and accuses. Its last two do not:
+-- the victim is destroyed on its link, and the scout has stopped.
+abbrev pub TurnsThatMove : Type 0
+TurnsThatMove =
+    moving (on_triangle scout victim) opening (0 ∷ 1 ∷ 0 ∷ 1 ∷ 0 ∷ 0 ∷ 1 ∷ 0 ∷ []) ≡ 6
 
 -- One agent fails once it has ended. Another fails when it is told on its link that the match is over, and not before.
 -- A third never enters and sleeps, though nothing more can happen.

@@ -8,6 +8,7 @@ pub mod Talks
 pub mod Notes
 pub mod Questions
 pub mod Certificates
+pub mod Endings
 pub mod Walks
 pub mod Knowing
 pub mod Telling

@@ -9,6 +9,7 @@ use Rattle.bhs_standings.specs.Tables.{outcome_text}
 use Rattle.bhs_lineup.specs.declared.lineups.Lineup.{Lineup}
 use Rattle.bhs_lineup.specs.declared.lineups.Ready.{Ready}
 use Rattle.bhs_command_line.specs.declared.orders.Exploration.{Exploration}
+use Rattle.bhs_explore.specs.declared.found.Bounds.{Bounds}
 use Rattle.bhs_explore.specs.declared.found.Found.{Found}
 use Rattle.bhs_explore.specs.declared.found.Found.TheVariants.{Solves, Comes, Fails, Breaks, Endless, Exceeds}
 use Rattle.bhs_explore.specs.declared.found.Failure.{Failure}
@@ -50,6 +51,14 @@ pair_items before (pair ∷ pairs) = (before ++ pair_text pair) ++ pair_items (c
 abbrev pub pairs_text : List (ℕ × ℕ) → List ℕ
 pairs_text pairs = (codes "[" ++ pair_items (codes "") pairs) ++ codes "]"
 
+-- the line of what every schedule comes to
+abbrev pub solves_line : Bounds → List ℕ
+solves_line bounds =
+    codes "{\"found\":\"solves\",\"moves\":" ++ (decimal bounds.moves
+    ++ (codes ",\"lost\":" ++ (decimal bounds.lost
+    ++ (codes ",\"turns\":" ++ (decimal bounds.turns
+    ++ (codes ",\"commands\":" ++ (list_text bounds.commands.items ++ codes "}\n")))))))
+
 -- the line of a schedule that solves
 abbrev pub comes_line : Verdict → (schedule : List ℕ) → List ℕ
 comes_line verdict schedule =
@@ -80,10 +89,7 @@ breaks_line agent failure schedule =
 
 -- the line of what was found
 abbrev pub found_line : Found → List ℕ
-found_line (Solves moves lost commands) =
-    codes "{\"found\":\"solves\",\"moves\":" ++ (decimal moves
-    ++ (codes ",\"lost\":" ++ (decimal lost
-    ++ (codes ",\"commands\":" ++ (list_text commands.items ++ codes "}\n")))))
+found_line (Solves bounds) = solves_line bounds
 found_line (Comes verdict schedule) = comes_line verdict schedule.items
 found_line (Fails verdict schedule) = fails_line verdict schedule.items
 found_line (Breaks agent failure schedule) = breaks_line agent failure schedule.items
@@ -133,7 +139,7 @@ discovery found = found_line (found_in found) ++ counted_line found
 
 -- the exit status of what was found
 abbrev pub found_status : Found → ℕ
-found_status (Solves moves lost commands) = DONE
+found_status (Solves bounds) = DONE
 found_status (Comes verdict schedule) = DONE
 found_status (Fails verdict schedule) = FAILING
 found_status (Breaks agent failure schedule) = FAILING

@@ -3,10 +3,10 @@
 ghost use Rattle.std.specs.Prelude.{◌≡◌, IfOk, string_bytes};
 ghost use Rattle.bhs_orders.specs.Discoveries.{breaks_line, comes_line, counts_line, discovery, draws_line};
 ghost use Rattle.bhs_orders.specs.Discoveries.{failure_text, fails_line, found_in, found_line, found_status};
-ghost use Rattle.bhs_orders.specs.Discoveries.{list_text, pairs_text};
+ghost use Rattle.bhs_orders.specs.Discoveries.{list_text, pairs_text, solves_line};
 
 use crate::statuses::{DONE, FAILING, REFUSED_TEXT};
-use bhs_explore::{Drawn, Explored, Failure, Found};
+use bhs_explore::{Bounds, Drawn, Explored, Failure, Found};
 use bhs_net::Memory;
 use bhs_referee::Verdict;
 use bhs_standings::outcome_text;
@@ -77,7 +77,7 @@ pub(crate) fn status_of(found: &Found) -> u8
     ensures { result ≡ found_status found.now }
 {
     match found {
-        Found::Solves { .. } | Found::Comes { .. } => DONE,
+        Found::Solves(_) | Found::Comes { .. } => DONE,
         Found::Fails { .. } | Found::Breaks { .. } | Found::Endless { .. } => FAILING,
         Found::Exceeds { .. } => REFUSED_TEXT,
     }
@@ -88,17 +88,7 @@ fn found_line(alloc: Global, found: &Found) -> Result<String, Memory>
     ensures { IfOk result (λ text. string_bytes text ≡ found_line found.now) }
 {
     match found {
-        Found::Solves {
-            moves,
-            lost,
-            commands,
-        } => {
-            let commands = numbers(alloc, commands)?;
-            let commands = commands.as_str();
-            format!(in alloc;
-                "{{\"found\":\"solves\",\"moves\":{moves},\"lost\":{lost},\"commands\":{commands}}}\n"
-            )
-        }
+        Found::Solves(bounds) => solves_line(alloc, bounds),
         Found::Comes { verdict, schedule } => comes_line(alloc, *verdict, schedule),
         Found::Fails { verdict, schedule } => fails_line(alloc, *verdict, schedule),
         Found::Breaks {
@@ -120,6 +110,18 @@ fn found_line(alloc: Global, found: &Found) -> Result<String, Memory>
             )
         }
     }
+}
+
+// The line of what every schedule comes to.
+fn solves_line(alloc: Global, bounds: &Bounds) -> Result<String, Memory>
+    ensures { IfOk result (λ text. string_bytes text ≡ solves_line bounds.now) }
+{
+    let (moves, lost, turns) = (bounds.moves, bounds.lost, bounds.turns);
+    let commands = numbers(alloc, &bounds.commands)?;
+    let commands = commands.as_str();
+    format!(in alloc;
+        "{{\"found\":\"solves\",\"moves\":{moves},\"lost\":{lost},\"turns\":{turns},\"commands\":{commands}}}\n"
+    )
 }
 
 // The line of a schedule that solves.

@@ -62,7 +62,7 @@ module _ {O : Type 0} (takes : O → List ℕ → Taken → O → Type 0) (flush
 
 -- the exit status of what was found
 of_found : (found : Found) (code : ℕ) → code ≡ found_status found → IsStatus code
-of_found (found.Solves moves lost commands) code is = inl is
+of_found (found.Solves bounds) code is = inl is
 of_found (found.Comes verdict schedule) code is = inl is
 of_found (found.Fails verdict schedule) code is = inr (inl (inr is))
 of_found (found.Breaks agent failure schedule) code is = inr (inl (inr is))
