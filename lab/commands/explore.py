@@ -30,6 +30,10 @@ theorem, as above; nothing is proved of schedules that were not drawn, nor of th
 
 A sleeper wakes once after each change of the whiteboard in front of it, and --naps times more: a team that waits by
 counting, as for a timeout, fails once another agent is slower than it counts.
+
+A round of turns that may go on for ever is told with the schedule that leads to it. It is fair if each agent that can
+move throughout it has a turn in it; if it is not fair, agents may wait for one that never has a turn. A round in which
+agents use commands ends with their quota, so there the Python model's search takes over.
 """
 import argparse
 import pathlib

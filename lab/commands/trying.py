@@ -25,6 +25,8 @@ THEOREM = "every schedule solves (a theorem about programs that are functions of
 FAILURES = {"program": "fails", "close": "fails when it is told that the match is over",
             "asleep": "sleeps, and nothing changes any more"}
 FOUND = (FAILS, BREAKS, ENDLESS)
+# whether each agent that can move throughout a round has a turn in it
+FAIRNESS = {True: "and it is fair", False: "and it is not fair: an agent that can move never has a turn"}
 
 
 class Tried(NamedTuple):
@@ -119,7 +121,7 @@ def line_of(tried: Tried) -> str:
     if found is None:
         said = why
     elif found["found"] == ENDLESS:
-        said = f"{counts['states']} states, a schedule goes on for ever"
+        said = f"{counts['states']} states, a schedule goes on for ever, " + FAIRNESS[found["fair"]]
     elif found["found"] == BREAKS:
         said = f"{counts['states']} states, under a schedule agent {found['agent']} {FAILURES[found['failure']]}"
     else:
@@ -181,7 +183,7 @@ def shown_failure(wanted: Wanted, tried: Tried) -> int:
     choices = choices_of(tried.fixture, game.agents, turns, breaks, game.limit)
     if found["found"] == ENDLESS:
         print(f"home {setup.home} holes {setup.holes}: after {len(found['schedule'])} choices, the last "
-              f"{len(found['round'])} of the schedule may be repeated for ever")
+              f"{len(found['round'])} of the schedule may be repeated for ever, {FAIRNESS[found['fair']]}")
     elif found["found"] == FAILS:
         print(f"it comes to: home {setup.home} holes {setup.holes}, {found['outcome']} moves {found['moves']} lost "
               f"{found['lost']}")

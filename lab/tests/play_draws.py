@@ -26,13 +26,15 @@ class Drawing(InExplore):
             assert proved is not None
             for pace in PACES:
                 with self.subTest(network=network, hole=hole, pace=pace):
-                    found, counts, _, _ = self.on_ring(network, hole, Draws(200, 1, pace, None))
+                    found, counts, *_ = self.on_ring(network, hole, Draws(200, 1, pace, None))
                     assert found is not None
                     self.assertEqual((found["found"], counts["solved"], counts["failed"]), ("comes", 200, 0))
                     self.assertEqual([sum(times for _, times in counts[what]) for what in ("moves", "lost")],
                                      [200, 200])
                     self.assertEqual(found["moves"], counts["moves"][-1][0])
                     self.assertLessEqual(found["moves"], proved["moves"])
+                    self.assertLessEqual(len(found["schedule"]), proved["turns"])
+                    self.assertLessEqual(counts["turns"], 200 * proved["turns"])
                     self.assertLessEqual(counts["lost"][-1][0], proved["lost"])
 
     def test_a_hunt_comes_to_the_most_moves(self) -> None:
@@ -46,7 +48,7 @@ class Drawing(InExplore):
     def test_schedules_are_drawn_as_the_schedulers_of_the_lab_draw(self) -> None:
         for pace in PACES:
             with self.subTest(pace=pace):
-                _, counts, _, _ = self.on_ring("ring:8", 4, Draws(5000, 3, pace, None))
+                _, counts, *_ = self.on_ring("ring:8", 4, Draws(5000, 3, pace, None))
                 rows = lab.play("ring:8", RING.words, pace, count=2, holes=[4], seeds=300, engine="model")
                 moves = [row["moves"] for row in rows]
                 error = statistics.stdev(moves) / len(moves) ** 0.5

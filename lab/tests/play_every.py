@@ -35,6 +35,13 @@ def polls(agent, key):
         agent.look()
 
 
+def enters_again(agent, key):
+    agent.enter(key)
+    while True:
+        agent._lines.send('{"do":"enter","key":"' + key + '"}')
+        agent._lines.receive()
+
+
 def counts(agent, key):
     agent.enter(key)
     looks = 0
@@ -181,7 +188,7 @@ class Exploring(InExplore):
                 status = self.command("--network", f"ring:{nodes}", "--agent", RING.words, "--check", 2)
                 self.assertEqual(status, 0, self.said)
                 self.assertIn(THEOREM, self.said)
-                self.assertIn(f"most moves {moves}, most agents lost 1", self.said)
+                self.assertIn(f"most moves {moves}, most agents lost 1, most turns ", self.said)
                 self.assertNotIn("history stands", self.said)
 
     def test_other_sample_agents(self) -> None:
@@ -203,10 +210,20 @@ class Exploring(InExplore):
                 self.assertEqual(main(["replay", str(self.folder / "find"), "--program", program()]), 0)
 
     def test_what_goes_on_for_ever(self) -> None:
+        match = ["--network", "ring:3", "--hole", 1]
+        for names, fair in ((["enters_again"], "and it is not fair"), (["enters_again", "knows"], "and it is not fair"),
+                            (["knows", "enters_again"], "and it is fair")):
+            with self.subTest(names):
+                agents = [word for name in names for word in self.odd(name)]
+                self.assertEqual(self.command(*match, *agents), 1, self.said)
+                self.assertIn(f"a schedule goes on for ever, {fair}", self.said)
+
+    def test_an_agent_that_polls_spends_its_quota(self) -> None:
         for name in ("polls", "refused"):
             with self.subTest(name):
-                self.assertEqual(self.command("--network", "ring:3", "--hole", 1, *self.odd(name)), 1)
-                self.assertIn("a schedule goes on for ever", self.said)
+                status = self.command("--network", "ring:3", "--hole", 1, "--quota", 4, *self.odd(name))
+                self.assertEqual(status, 1, self.said)
+                self.assertIn("agent 0 may use 5 commands: the Python model's search takes over", self.said)
 
     def test_a_sleeper_that_waits_for_nothing(self) -> None:
         self.assertEqual(self.command("--network", "ring:3", "--hole", 1, *self.odd("sleeps")), 1)

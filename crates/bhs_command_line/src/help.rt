@@ -384,9 +384,10 @@ keeps that schedule. No drawn schedule has more than --states turns.";
 pub(crate) const EXPLORE_EXAMPLE: &str = "\
 At the end comes a line of what was found, and one of how much was visited:
 
-  {\"found\":\"solves\",\"moves\":M,\"lost\":L,\"commands\":[C,..]}
-      Under every schedule the match is solved, in at most M moves, with at most
-      L agents lost, and agent A uses at most the A-th of these commands
+  {\"found\":\"solves\",\"moves\":M,\"lost\":L,\"turns\":T,\"commands\":[C,..]}
+      Every schedule comes to rest after at most T turns that change
+      anything, and the match is then solved, in at most M moves, with at most L
+      agents lost; agent A uses at most the A-th of these commands.
   {\"found\":\"fails\",\"outcome\":O,\"moves\":M,\"lost\":L,\"schedule\":[A,..]}
       If the agents have their turns in this order, nothing more can happen, and
       the match is not solved
@@ -394,10 +395,13 @@ At the end comes a line of what was found, and one of how much was visited:
       Under this schedule agent A fails: its program does (program), or it would
       once it is told that the match is over (close), or it sleeps where nothing
       more can happen (asleep)
-  {\"found\":\"endless\",\"schedule\":[A,..],\"round\":[A,..]}
-      After the schedule, this round may go on for ever
+  {\"found\":\"endless\",\"schedule\":[A,..],\"round\":[A,..],\"fair\":B}
+      After the schedule this round may go on for ever. It is fair (true) if each
+      agent that can move throughout it has a turn in it. In an unfair round
+      (false) agents may wait for one that never has a turn
   {\"found\":\"exceeds\",\"agent\":A,\"commands\":C}
-      An agent may use more commands than its quota, so nothing is said
+      An agent may use more commands than its quota, as one may that asks again
+      and again, so nothing is said
   {\"states\":S,\"memories\":M,\"stances\":T,\"boards\":B}
 
 With --draws these are `fails`, `breaks` or `exceeds`, or

@@ -14,6 +14,7 @@ pub mod Schedules
 pub mod Ends
 pub mod ClosedCharts
 pub mod Told
+pub mod Repeating
 pub mod Whole
 pub mod NotesLemmas
 pub mod QuestionsLemmas

@@ -134,8 +134,8 @@ WhatIsUsed =
     × (used_in (on_triangle scout victim) (under (on_triangle scout victim) (0 ∷ 0 ∷ 0 ∷ 0 ∷ [])) 0 ≡ 2)
     × (used_in (on_triangle scout victim) (under (on_triangle scout victim) (1 ∷ 1 ∷ 1 ∷ 1 ∷ [])) 1 ≡ 1)
 
--- Six turns of this schedule move: both agents enter and depart, and the scout arrives and accuses. Its last two do not:
--- the victim is destroyed on its link, and the scout has stopped.
+-- Six turns of this schedule move: both agents enter and depart, and the scout arrives and accuses. The last two do
+-- not: the victim is destroyed on its link, and the scout has stopped.
 abbrev pub TurnsThatMove : Type 0
 TurnsThatMove =
     moving (on_triangle scout victim) opening (0 ∷ 1 ∷ 0 ∷ 1 ∷ 0 ∷ 0 ∷ 1 ∷ 0 ∷ []) ≡ 6

@@ -10,6 +10,7 @@ pub mod Questions
 pub mod Certificates
 pub mod Endings
 pub mod Walks
+pub mod Rounds
 pub mod Knowing
 pub mod Telling
 pub mod Laws

@@ -54,10 +54,22 @@ pairs_text pairs = (codes "[" ++ pair_items (codes "") pairs) ++ codes "]"
 -- the line of what every schedule comes to
 abbrev pub solves_line : Bounds → List ℕ
 solves_line bounds =
-    codes "{\"found\":\"solves\",\"moves\":" ++ (decimal bounds.moves
+    (codes "{\"found\":\"solves\",\"moves\":" ++ (decimal bounds.moves
     ++ (codes ",\"lost\":" ++ (decimal bounds.lost
-    ++ (codes ",\"turns\":" ++ (decimal bounds.turns
-    ++ (codes ",\"commands\":" ++ (list_text bounds.commands.items ++ codes "}\n")))))))
+    ++ (codes ",\"turns\":" ++ decimal bounds.turns)))))
+    ++ (codes ",\"commands\":" ++ (list_text bounds.commands.items ++ codes "}\n"))
+
+-- the word for yes or no, as JSON spells it
+abbrev pub bool_text : Bool → List ℕ
+bool_text true = codes "true"
+bool_text false = codes "false"
+
+-- the line of a round that may go on for ever
+abbrev pub endless_line : (schedule round : List ℕ) → (is_fair : Bool) → List ℕ
+endless_line schedule round is_fair =
+    codes "{\"found\":\"endless\",\"schedule\":" ++ (list_text schedule
+    ++ (codes ",\"round\":" ++ (list_text round
+    ++ (codes ",\"fair\":" ++ (bool_text is_fair ++ codes "}\n")))))
 
 -- the line of a schedule that solves
 abbrev pub comes_line : Verdict → (schedule : List ℕ) → List ℕ
@@ -93,9 +105,7 @@ found_line (Solves bounds) = solves_line bounds
 found_line (Comes verdict schedule) = comes_line verdict schedule.items
 found_line (Fails verdict schedule) = fails_line verdict schedule.items
 found_line (Breaks agent failure schedule) = breaks_line agent failure schedule.items
-found_line (Endless schedule round) =
-    codes "{\"found\":\"endless\",\"schedule\":" ++ (list_text schedule.items
-    ++ (codes ",\"round\":" ++ (list_text round.items ++ codes "}\n")))
+found_line (Endless schedule round is_fair) = endless_line schedule.items round.items is_fair
 found_line (Exceeds agent commands) =
     codes "{\"found\":\"exceeds\",\"agent\":" ++ (decimal agent
     ++ (codes ",\"commands\":" ++ (decimal commands ++ codes "}\n")))
@@ -143,7 +153,7 @@ found_status (Solves bounds) = DONE
 found_status (Comes verdict schedule) = DONE
 found_status (Fails verdict schedule) = FAILING
 found_status (Breaks agent failure schedule) = FAILING
-found_status (Endless schedule round) = FAILING
+found_status (Endless schedule round is_fair) = FAILING
 found_status (Exceeds agent commands) = REFUSED_TEXT
 
 -- ---- what it is true of

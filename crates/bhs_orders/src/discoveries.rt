@@ -1,9 +1,9 @@
 //! What is printed of the schedules that were tried, or drawn.
 
 ghost use Rattle.std.specs.Prelude.{◌≡◌, IfOk, string_bytes};
-ghost use Rattle.bhs_orders.specs.Discoveries.{breaks_line, comes_line, counts_line, discovery, draws_line};
-ghost use Rattle.bhs_orders.specs.Discoveries.{failure_text, fails_line, found_in, found_line, found_status};
-ghost use Rattle.bhs_orders.specs.Discoveries.{list_text, pairs_text, solves_line};
+ghost use Rattle.bhs_orders.specs.Discoveries.{bool_text, breaks_line, comes_line, counts_line, discovery, draws_line};
+ghost use Rattle.bhs_orders.specs.Discoveries.{endless_line, failure_text, fails_line, found_in, found_line};
+ghost use Rattle.bhs_orders.specs.Discoveries.{found_status, list_text, pairs_text, solves_line};
 
 use crate::statuses::{DONE, FAILING, REFUSED_TEXT};
 use bhs_explore::{Bounds, Drawn, Explored, Failure, Found};
@@ -96,14 +96,11 @@ fn found_line(alloc: Global, found: &Found) -> Result<String, Memory>
             failure,
             schedule,
         } => breaks_line(alloc, *agent, *failure, schedule),
-        Found::Endless { schedule, round } => {
-            let schedule = agents(alloc, schedule)?;
-            let round = agents(alloc, round)?;
-            let (schedule, round) = (schedule.as_str(), round.as_str());
-            format!(in alloc;
-                "{{\"found\":\"endless\",\"schedule\":{schedule},\"round\":{round}}}\n"
-            )
-        }
+        Found::Endless {
+            schedule,
+            round,
+            is_fair,
+        } => endless_line(alloc, schedule, round, *is_fair),
         Found::Exceeds { agent, commands } => {
             format!(in alloc;
                 "{{\"found\":\"exceeds\",\"agent\":{agent},\"commands\":{commands}}}\n"
@@ -119,9 +116,37 @@ fn solves_line(alloc: Global, bounds: &Bounds) -> Result<String, Memory>
     let (moves, lost, turns) = (bounds.moves, bounds.lost, bounds.turns);
     let commands = numbers(alloc, &bounds.commands)?;
     let commands = commands.as_str();
+    let mut text = format!(in alloc;
+        "{{\"found\":\"solves\",\"moves\":{moves},\"lost\":{lost},\"turns\":{turns}"
+    )?;
+    let more = format!(in alloc; ",\"commands\":{commands}}}\n")?;
+    text.push_str(more.as_str())?;
+    Ok(text)
+}
+
+// The line of a round that may go on for ever.
+fn endless_line(
+    alloc: Global,
+    schedule: &[u16],
+    round: &[u16],
+    is_fair: bool,
+) -> Result<String, Memory>
+    ensures { IfOk result (λ text. string_bytes text ≡ endless_line schedule.now round.now is_fair) }
+{
+    let schedule = agents(alloc, schedule)?;
+    let round = agents(alloc, round)?;
+    let (schedule, round) = (schedule.as_str(), round.as_str());
+    let fair = bool_text(is_fair);
     format!(in alloc;
-        "{{\"found\":\"solves\",\"moves\":{moves},\"lost\":{lost},\"turns\":{turns},\"commands\":{commands}}}\n"
+        "{{\"found\":\"endless\",\"schedule\":{schedule},\"round\":{round},\"fair\":{fair}}}\n"
     )
+}
+
+// The word for yes or no.
+fn bool_text(is: bool) -> &'static str
+    ensures { result.now ≡ bool_text is }
+{
+    if is { "true" } else { "false" }
 }
 
 // The line of a schedule that solves.

@@ -66,7 +66,7 @@ of_found (found.Solves bounds) code is = inl is
 of_found (found.Comes verdict schedule) code is = inl is
 of_found (found.Fails verdict schedule) code is = inr (inl (inr is))
 of_found (found.Breaks agent failure schedule) code is = inr (inl (inr is))
-of_found (found.Endless schedule round) code is = inr (inl (inr is))
+of_found (found.Endless schedule round is_fair) code is = inr (inl (inr is))
 of_found (found.Exceeds agent commands) code is = inr (inr (Text, is))
 
 -- the exit status of a contest
