@@ -17,6 +17,7 @@ use Rattle.bhs_explore.specs.declared.found.Failure.TheVariants as failures
 use Rattle.bhs_explore.specs.declared.drawing.Drawn.{Drawn}
 use Rattle.bhs_explore.specs.declared.explorers.Explored.{Explored}
 use Rattle.bhs_explore.specs.Answers.{Knowledge, is_held}
+use Rattle.bhs_explore.specs.Questions.{IsAskedOnce, SomeMachinesAnswer}
 use Rattle.bhs_explore.specs.Telling.{IsTrueOf}
 use Rattle.bhs_orders.specs.Fault.{status}
 use Rattle.bhs_orders.specs.RehearsedTournaments.{Rests}
@@ -170,11 +171,14 @@ pub record IsOf (ready : Ready) (exploration : Exploration) (known : Knowledge) 
   pub held : AreLinks ready known.held
   pub naps : known.naps ≡ exploration.naps
 
--- What was found is true of all machines that answer as was noted in an exploration of this match, and schedules were
--- drawn if the exploration has that. Nothing is said of what was counted.
+-- What was found is true of all machines that answer as was noted in an exploration of this match, and there are such
+-- machines, since each question was asked once. Schedules were drawn if the exploration has that. Nothing is said of what
+-- was counted.
 pub record IsFound (ready : Ready) (exploration : Exploration) (found : Discovery) : Type 0 where
   pub known : Knowledge
   pub of : IsOf ready exploration known
+  pub once : IsAskedOnce known
+  pub some : SomeMachinesAnswer known
   pub kind : is_drawn found ≡ is_some exploration.drawing
   pub is_true : IsTrueOf known (found_in found)
 

@@ -1,6 +1,7 @@
 //! Every schedule of a match, tried, or schedules that are drawn, where a host plays the agents.
 
 ghost use Rattle.std.specs.Prelude.{◌≡◌, IfOk, is_some};
+ghost use Rattle.bhs_explore.specs.Questions.{IsAskedOnce, SomeMachinesAnswer};
 ghost use Rattle.bhs_explore.specs.Telling.{IsTrueOf};
 ghost use Rattle.bhs_orders.specs.Discoveries.{Explores, ExploresMatch, IsFound, PrintsDiscovery};
 ghost use Rattle.bhs_orders.specs.Discoveries.{found_in, is_drawn};
@@ -117,6 +118,8 @@ fn made<R: Input, W: Output>(
     exploration: Exploration,
 ) -> Result<Discovery, ExploreFault>
     ensures found { IfOk result (λ discovery. IsTrueOf explorer.new (found_in discovery)) }
+    ensures once { IfOk result (λ discovery. IsAskedOnce explorer.new) }
+    ensures some { IfOk result (λ discovery. SomeMachinesAnswer explorer.new) }
     ensures kind { IfOk result (λ discovery. is_drawn discovery ≡ is_some exploration.drawing) }
     ensures same { (explorer.new.net ≡ explorer.old.net) × (explorer.new.setup ≡ explorer.old.setup) }
     ensures held { (explorer.new.held ≡ explorer.old.held) × (explorer.new.naps ≡ explorer.old.naps) }
@@ -137,6 +140,8 @@ fn tried<R: Input, W: Output>(
     states: u32,
 ) -> Result<Explored, ExploreFault>
     ensures found { IfOk result (λ explored. IsTrueOf explorer.new explored.found) }
+    ensures once { IfOk result (λ explored. IsAskedOnce explorer.new) }
+    ensures some { IfOk result (λ explored. SomeMachinesAnswer explorer.new) }
     ensures same { (explorer.new.net ≡ explorer.old.net) × (explorer.new.setup ≡ explorer.old.setup) }
     ensures held { (explorer.new.held ≡ explorer.old.held) × (explorer.new.naps ≡ explorer.old.naps) }
 {

@@ -17,6 +17,8 @@ returns-in-Ok-made g c =
             (sym (c.in-Ok-made.ensures.held.0 ∙ c.in-Ok-new.ensures.held.0)) c.in_ok-held.ensures;
         naps = c.in-Ok-made.ensures.held.1 ∙ c.in-Ok-new.ensures.held.1;
       };
+      once = c.in-Ok-made.ensures.once;
+      some = c.in-Ok-made.ensures.some;
       kind = c.in-Ok-made.ensures.kind;
       is_true = c.in-Ok-made.ensures.found;
     }
