@@ -29,7 +29,9 @@ theorem, as above; nothing is proved of schedules that were not drawn, nor of th
     python3 -m lab explore --network ring:32 --agent "examples/agents/ring.py {nodes}" --draws 100000 --hunt moves
 
 A sleeper wakes once after each change of the whiteboard in front of it, and --naps times more: a team that waits by
-counting, as for a timeout, fails once another agent is slower than it counts.
+counting, as for a timeout, fails once another agent is slower than it counts. What is found says nothing of agents that
+nap more often. A warning tells if some agent still sleeps after that many naps, and might do something else after one
+more.
 
 A round of turns that may go on for ever is told with the schedule that leads to it. It is fair if each agent that can
 move throughout it has a turn in it; if it is not fair, agents may wait for one that never has a turn. A round in which

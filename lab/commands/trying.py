@@ -117,7 +117,7 @@ def line_of(tried: Tried) -> str:
     """What was found of one match."""
     if tried.beside is not None:
         return by_model(tried.beside)
-    setup, (found, counts, seconds, why) = tried.fixture.setup, tried.answered
+    setup, (found, counts, seconds, why, _) = tried.fixture.setup, tried.answered
     if found is None:
         said = why
     elif found["found"] == ENDLESS:
@@ -155,8 +155,12 @@ def told(wanted: Wanted, tries: List[Tried]) -> int:
     by = "" if engine == built.PROGRAM else f", by {engine}"
     print(f"{counts}: {'no schedule fails, in part of the Python model' if says_less else THEOREM}{by}")
     moves, lost = zip(*(bounds_of(tried) for tried in tries))
-    turns = "" if says_less else f", most turns {max(found_in(tried)['turns'] for tried in tries)}"
-    print(f"most moves {max(moves)}, most agents lost {max(lost)}{turns}")
+    naps, turns = wanted.game.naps, [found_in(tried)["turns"] for tried in tries if tried.beside is None]
+    last = "" if says_less else f", most turns {max(turns)}, if agents nap at most {naps} times"
+    print(f"most moves {max(moves)}, most agents lost {max(lost)}{last}")
+    if any(tried.answered.unwoken for tried in tries):
+        print("warning: some agents still sleep after so many naps, and what they do when they wake once more is not "
+              f"known: try --naps {naps + 1}")
     return 0
 
 

@@ -5,12 +5,12 @@ import subprocess
 import tempfile
 import threading
 import time
-from typing import Any, Callable, Dict, List, NamedTuple, Optional
+from typing import Any, Callable, Dict, List, NamedTuple, Optional, Tuple
 
 from lab.rules.engines import Refused, text_of_fault
 from lab.rules.fixtures import Fixture, write_tournament
 from lab.rules.model import spelled
-from lab.search.machines import WAKES, Machines
+from lab.search.machines import SLEEP, WAKES, Machines
 
 SOLVES, COMES, FAILS, BREAKS, ENDLESS, EXCEEDS = "solves", "comes", "fails", "breaks", "endless", "exceeds"
 TOO_MANY = "states"
@@ -37,12 +37,15 @@ class Draws(NamedTuple):
 
 class Answered(NamedTuple):
     """What the program found in one match, how much it visited, and in how many seconds. If `found` is None, it was
-    stopped before all was visited, and `why` says why."""
+    stopped before all was visited, and `why` says why. `unwoken` counts the memories that sleep and go on to something
+    that was never asked, if they wake once more and see the same: agents that hold them have napped as often as they
+    may."""
 
     found: Optional[Found]
     counts: Found
     seconds: float
     why: str = ""
+    unwoken: int = 0
 
 
 class Run:
@@ -52,6 +55,20 @@ class Run:
         self._machines = machines
         self._numbers: Dict[int, int] = {}
         self.back: List[int] = []
+        self._after: Dict[Tuple[int, str], int] = {}
+
+    def unwoken(self) -> int:
+        """How many memories sleep and go on to something that was never asked, if they wake and see the same."""
+        return sum(self._is_unwoken(memory) for memory in self.back)
+
+    def _is_unwoken(self, memory: int) -> bool:
+        if self._machines.steps[memory].does != SLEEP:
+            return False
+        woken = self._after.get((memory, WAKES))
+        if woken is None:
+            return True
+        seen = self._machines.seen_by(memory) if self._machines.looks(woken) else None
+        return seen is not None and (woken, seen) not in self._after
 
     def answer(self, question: Found) -> bytes:
         """The lines that answer a question of the program."""
@@ -59,8 +76,8 @@ class Run:
         if "begin" in question:
             memory = machines.begin(question["begin"])
         else:
-            news = WAKES if "wakes" in question else spelled(question["hears"])
-            memory = machines.next(self.back[question["ask"]], news)
+            news, before = WAKES if "wakes" in question else spelled(question["hears"]), self.back[question["ask"]]
+            memory = self._after[before, news] = machines.next(before, news)
         if memory not in self._numbers:
             self._numbers[memory] = len(self.back)
             self.back.append(memory)
@@ -144,7 +161,7 @@ def asked(program: str, fixture: Fixture, machines: Machines, most: int, shown: 
                 child.kill()
                 child.communicate()
     if len(last) == 2:
-        return Answered(last[0], last[1], time.monotonic() - started)
+        return Answered(last[0], last[1], time.monotonic() - started, unwoken=run.unwoken())
     fault = text_of_fault(errors)
     if fault == f"host: {TOO_MANY}":
         return Answered(None, {}, time.monotonic() - started, LONGER if draws else MORE)

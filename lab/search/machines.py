@@ -19,7 +19,7 @@ from lab.play.matches import STUCK
 from lab.play.players import DONE, SLEEPS, TRAVELS, WAITS, Player, Team
 from lab.play.teams import INSIDE, AgentWords
 from lab.rules.fixtures import Fixture
-from lab.rules.model import GONE, LAST, OVER as TOLD_OVER, command_of, denial, spelled, text_of
+from lab.rules.model import GONE, LAST, OVER as TOLD_OVER, Object, command_of, denial, spelled, text_of
 from lab.search.memories import Unnamed, memory_of, own_modules
 from lab.search.pasts import NoFunction
 
@@ -110,6 +110,28 @@ class Machines:
             all_news.append(way[1])
             way = self._ways[way[0]]
         return -1 - way[0], all_news[::-1]
+
+    def seen_by(self, memory: int) -> Optional[str]:
+        """What an agent that was played to a memory is told if it looks and nothing has changed since it saw its node
+        last; None if it has seen none."""
+        pairs, way = [], self._ways[memory]
+        while way[0] >= 0:
+            pairs.append(way)
+            way = self._ways[way[0]]
+        here: Object = {}
+        for before, news in reversed(pairs):
+            reply: Object = {} if news == WAKES else json.loads(news)
+            if reply.get("ok") == "here":
+                here = reply
+            elif here and reply.get("ok") in ("changed", "written"):
+                said = reply if reply["ok"] == "changed" else json.loads(self.steps[before].line)
+                here = {**here, "board": said.get("board", said.get("put"))}
+        return spelled(here) if here else None
+
+    def looks(self, memory: int) -> bool:
+        """Whether a program that holds this memory looks next."""
+        step = self.steps[memory]
+        return step.does == "says" and command_of(text_of(step.line)).get("do") == "look"
 
     def _begun(self, agent: int) -> Seated:
         words = self._agents[agent].words

@@ -190,6 +190,7 @@ class Exploring(InExplore):
                 self.assertIn(THEOREM, self.said)
                 self.assertIn(f"most moves {moves}, most agents lost 1, most turns ", self.said)
                 self.assertNotIn("history stands", self.said)
+                self.assertNotIn("warning", self.said)
 
     def test_other_sample_agents(self) -> None:
         for words in (["--network", "hypercube:2", "--hole", "3", "--agent", KNOWN_MAP.words],
@@ -224,6 +225,18 @@ class Exploring(InExplore):
                 status = self.command("--network", "ring:3", "--hole", 1, "--quota", 4, *self.odd(name))
                 self.assertEqual(status, 1, self.said)
                 self.assertIn("agent 0 may use 5 commands: the Python model's search takes over", self.said)
+
+    def test_agents_that_give_up_after_more_naps_are_told_of(self) -> None:
+        hasty = (FOLDER / "counts_naps.py").read_text(encoding="utf-8").replace("NAPS = 3", "NAPS = 4")
+        (self.folder / "counts_four_naps.py").write_text(hasty, encoding="utf-8")
+        agent = f"{self.folder}/counts_four_naps.py {{nodes}} {{links}}"
+        match = ["--network", "ring:3", "--agents", 3, "--agent", agent]
+        for naps in (0, 2):
+            with self.subTest(naps=naps):
+                self.assertEqual(self.command(*match, "--naps", naps), 0, self.said)
+                self.assertIn(f", if agents nap at most {naps} times\n", self.said)
+                self.assertIn(f"what they do when they wake once more is not known: try --naps {naps + 1}\n", self.said)
+        self.assertEqual(self.command(*match, "--naps", 3), 1, self.said)
 
     def test_a_sleeper_that_waits_for_nothing(self) -> None:
         self.assertEqual(self.command("--network", "ring:3", "--hole", 1, *self.odd("sleeps")), 1)

@@ -384,10 +384,12 @@ keeps that schedule. No drawn schedule has more than --states turns.";
 pub(crate) const EXPLORE_EXAMPLE: &str = "\
 At the end comes a line of what was found, and one of how much was visited:
 
-  {\"found\":\"solves\",\"moves\":M,\"lost\":L,\"turns\":T,\"commands\":[C,..]}
-      Every schedule comes to rest after at most T turns that change
+  {\"found\":\"solves\",\"moves\":M,\"lost\":L,\"turns\":T,\"naps\":N,
+   \"commands\":[C,..]}
+      in one line: every schedule comes to rest after at most T turns that change
       anything, and the match is then solved, in at most M moves, with at most L
-      agents lost; agent A uses at most the A-th of these commands.
+      agents lost; agent A uses at most the A-th of these commands. All this holds
+      if agents nap at most N times: nothing is said of longer waits
   {\"found\":\"fails\",\"outcome\":O,\"moves\":M,\"lost\":L,\"schedule\":[A,..]}
       If the agents have their turns in this order, nothing more can happen, and
       the match is not solved

@@ -58,7 +58,8 @@ solves_line bounds =
     (codes "{\"found\":\"solves\",\"moves\":" ++ (decimal bounds.moves
     ++ (codes ",\"lost\":" ++ (decimal bounds.lost
     ++ (codes ",\"turns\":" ++ decimal bounds.turns)))))
-    ++ (codes ",\"commands\":" ++ (list_text bounds.commands.items ++ codes "}\n"))
+    ++ (codes ",\"naps\":" ++ (decimal bounds.naps
+    ++ (codes ",\"commands\":" ++ (list_text bounds.commands.items ++ codes "}\n"))))
 
 -- the word for yes or no, as JSON spells it
 abbrev pub bool_text : Bool → List ℕ

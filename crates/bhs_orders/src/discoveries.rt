@@ -113,13 +113,14 @@ fn found_line(alloc: Global, found: &Found) -> Result<String, Memory>
 fn solves_line(alloc: Global, bounds: &Bounds) -> Result<String, Memory>
     ensures { IfOk result (λ text. string_bytes text ≡ solves_line bounds.now) }
 {
-    let (moves, lost, turns) = (bounds.moves, bounds.lost, bounds.turns);
+    let (moves, lost) = (bounds.moves, bounds.lost);
+    let (turns, naps) = (bounds.turns, bounds.naps);
     let commands = numbers(alloc, &bounds.commands)?;
     let commands = commands.as_str();
     let mut text = format!(in alloc;
         "{{\"found\":\"solves\",\"moves\":{moves},\"lost\":{lost},\"turns\":{turns}"
     )?;
-    let more = format!(in alloc; ",\"commands\":{commands}}}\n")?;
+    let more = format!(in alloc; ",\"naps\":{naps},\"commands\":{commands}}}\n")?;
     text.push_str(more.as_str())?;
     Ok(text)
 }
