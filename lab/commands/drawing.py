@@ -49,7 +49,7 @@ def run(wanted: Wanted, draws: Draws) -> int:
 
 def line_of(tried: Tried) -> str:
     """What the drawn schedules of one match come to."""
-    setup, (found, counts, seconds, why) = tried.fixture.setup, tried.answered
+    setup, (found, counts, seconds, why, _) = tried.fixture.setup, tried.answered
     if found is None:
         return f"home {setup.home} holes {setup.holes}: {why}, {seconds:.1f} s"
     if found["found"] == EXCEEDS:

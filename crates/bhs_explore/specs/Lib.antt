@@ -13,5 +13,6 @@ pub mod Walks
 pub mod Rounds
 pub mod Knowing
 pub mod Telling
+pub mod Counting
 pub mod Laws
 pub mod Examples

@@ -1,6 +1,6 @@
 -- What is printed of the schedules that were tried, or drawn.
 use Rattle.std.specs.Prelude.{◌≡◌, ℕ, ◌<◌, Bool, true, false, List, [], ◌∷◌, ◌++◌, codes, decimal, Some, is_some}
-use Rattle.std.specs.Prelude.{slice_get}
+use Rattle.std.specs.Prelude.{slice_get, nat_lt}
 use Rattle.bhs_net.specs.Network.{nodes_of, degree_of}
 use Rattle.bhs_stream.specs.Streams.{Taken}
 use Rattle.bhs_deal.specs.Links.{held_in}
@@ -17,6 +17,7 @@ use Rattle.bhs_explore.specs.declared.found.Failure.TheVariants as failures
 use Rattle.bhs_explore.specs.declared.drawing.Drawn.{Drawn}
 use Rattle.bhs_explore.specs.declared.explorers.Explored.{Explored}
 use Rattle.bhs_explore.specs.Answers.{Knowledge, is_held}
+use Rattle.bhs_explore.specs.Counting.{is_excess, is_failure}
 use Rattle.bhs_explore.specs.Questions.{IsAskedOnce, SomeMachinesAnswer}
 use Rattle.bhs_explore.specs.Telling.{IsTrueOf}
 use Rattle.bhs_orders.specs.Fault.{status}
@@ -172,9 +173,14 @@ pub record IsOf (ready : Ready) (exploration : Exploration) (known : Knowledge) 
   pub held : AreLinks ready known.held
   pub naps : known.naps ≡ exploration.naps
 
+-- Of drawn schedules one is told that fails exactly if some were counted that fail, unless an agent wants more commands
+-- than its quota.
+abbrev pub IsCounted : Discovery → Type 0
+IsCounted (discoveries.Tried explored) = Unit {0}
+IsCounted (discoveries.Drawn drawn) = is_excess drawn.found ≡ false → is_failure drawn.found ≡ nat_lt 0 drawn.failed
+
 -- What was found is true of all machines that answer as was noted in an exploration of this match, and there are such
--- machines, since each question was asked once. Schedules were drawn if the exploration has that. Nothing is said of what
--- was counted.
+-- machines, since each question was asked once. Schedules were drawn if the exploration has that.
 pub record IsFound (ready : Ready) (exploration : Exploration) (found : Discovery) : Type 0 where
   pub known : Knowledge
   pub of : IsOf ready exploration known
@@ -182,6 +188,7 @@ pub record IsFound (ready : Ready) (exploration : Exploration) (found : Discover
   pub some : SomeMachinesAnswer known
   pub kind : is_drawn found ≡ is_some exploration.drawing
   pub is_true : IsTrueOf known (found_in found)
+  pub counted : IsCounted found
 
 -- ---- the order
 

@@ -3,7 +3,7 @@
 ghost use Rattle.std.specs.Prelude.{◌≡◌, IfOk, is_some};
 ghost use Rattle.bhs_explore.specs.Questions.{IsAskedOnce, SomeMachinesAnswer};
 ghost use Rattle.bhs_explore.specs.Telling.{IsTrueOf};
-ghost use Rattle.bhs_orders.specs.Discoveries.{Explores, ExploresMatch, IsFound, PrintsDiscovery};
+ghost use Rattle.bhs_orders.specs.Discoveries.{Explores, ExploresMatch, IsCounted, IsFound, PrintsDiscovery};
 ghost use Rattle.bhs_orders.specs.Discoveries.{found_in, is_drawn};
 
 use crate::checking::lineup_of;
@@ -120,6 +120,7 @@ fn made<R: Input, W: Output>(
     ensures found { IfOk result (λ discovery. IsTrueOf explorer.new (found_in discovery)) }
     ensures once { IfOk result (λ discovery. IsAskedOnce explorer.new) }
     ensures some { IfOk result (λ discovery. SomeMachinesAnswer explorer.new) }
+    ensures counted { IfOk result (λ discovery. IsCounted discovery) }
     ensures kind { IfOk result (λ discovery. is_drawn discovery ≡ is_some exploration.drawing) }
     ensures same { (explorer.new.net ≡ explorer.old.net) × (explorer.new.setup ≡ explorer.old.setup) }
     ensures held { (explorer.new.held ≡ explorer.old.held) × (explorer.new.naps ≡ explorer.old.naps) }

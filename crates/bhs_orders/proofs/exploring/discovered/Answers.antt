@@ -21,4 +21,5 @@ returns-in-Ok-made g c =
       some = c.in-Ok-made.ensures.some;
       kind = c.in-Ok-made.ensures.kind;
       is_true = c.in-Ok-made.ensures.found;
+      counted = c.in-Ok-made.ensures.counted;
     }
