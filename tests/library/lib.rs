@@ -5,6 +5,7 @@
 mod boards;
 mod cells;
 mod draws;
+mod explorations;
 mod halls;
 mod limits;
 mod lines;

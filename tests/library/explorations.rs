@@ -1,0 +1,196 @@
+//! Explorations of the triangle: what all schedules come to, rounds, and drawn schedules.
+
+use super::triangle::{network, setup};
+use bhs_explore::{
+    Drawn, Draws, ExploreFault, Explored, Explorer, Found, Hunt, Latest, Mind, Pace, Step, Team,
+    TeamFault,
+};
+use bhs_model::{Command, Mark};
+use bhs_world::World;
+use std::alloc::Global;
+use std::test::Fail;
+
+/// How agent 0 goes on once it has entered.
+#[derive(Clone, Copy)]
+pub enum Scout {
+    /// It goes to node 1, and accuses the link from there to the black hole.
+    Solves,
+    /// It enters again and again.
+    EntersAgain,
+    /// It looks again and again.
+    LooksAgain,
+}
+
+/// A team of a scout and of an agent that stops at once.
+#[derive(Drop)]
+pub struct Pair {
+    pub scout: Scout,
+}
+
+/// What the scout holds by its memory: it enters with 0, agent 1 has stopped with 1, and the scout goes on with 2.
+fn step_of(scout: Scout, memory: u32) -> Step {
+    match (scout, memory) {
+        (_, 0) => Step::Says(Command::Enter),
+        (Scout::Solves, 2) => Step::Says(Command::Depart { port: 0 }),
+        (Scout::Solves, 4) => Step::Says(Command::Accuse { port: 1 }),
+        (Scout::EntersAgain, 2) => Step::Says(Command::Enter),
+        (Scout::LooksAgain, 2) => Step::Says(Command::Look),
+        _ => Step::Stops,
+    }
+}
+
+fn mind_of(scout: Scout, memory: u32) -> Mind {
+    Mind {
+        memory,
+        step: step_of(scout, memory),
+    }
+}
+
+impl Team for Pair {
+    ghost answers = { λ old exchange new. Unit {0} };
+
+    fn begin(&mut self, agent: u16) -> Result<Mind, TeamFault> {
+        Ok(mind_of(self.scout, u32::from(agent)))
+    }
+
+    fn next(&mut self, before: u32, latest: Latest, _shown: &str) -> Result<Mind, TeamFault> {
+        let after = match (before, latest) {
+            (0, _) => 2,
+            (2, Latest::Heard(Mark::Gone)) => 3,
+            (2, _) => 2,
+            (3, Latest::Heard(Mark::Here { .. })) => 4,
+            (4, _) => 5,
+            _ => return Err(TeamFault),
+        };
+        Ok(mind_of(self.scout, after))
+    }
+}
+
+/// An exploration of the triangle, whose black hole is node 2.
+pub fn explorer(alloc: Global, team: &mut Pair) -> Result<Explorer, Fail> {
+    let world = World::new(alloc, network(alloc)?, setup(alloc)?)?;
+    Ok(Explorer::new(alloc, world, Vec::new(alloc), 2, team)?)
+}
+
+pub fn explored(alloc: Global, scout: Scout) -> Result<Explored, Fail> {
+    let mut team = Pair { scout };
+    let mut explorer = explorer(alloc, &mut team)?;
+    Ok(explorer.explore(&mut team, 100)?)
+}
+
+/// Four schedules of this seed.
+pub fn draws(hunt: Option<Hunt>) -> Draws {
+    Draws {
+        schedules: 4,
+        seed: 5,
+        pace: Pace::Fair,
+        hunt,
+        turns: 100,
+    }
+}
+
+pub fn drawn(alloc: Global, scout: Scout, hunt: Option<Hunt>) -> Result<Drawn, Fail> {
+    let mut team = Pair { scout };
+    let mut explorer = explorer(alloc, &mut team)?;
+    Ok(explorer.draw(&mut team, draws(hunt))?)
+}
+
+#[test]
+fn every_schedule_solves(rt: HostRuntime) -> Result<(), Fail> {
+    let explored = explored(rt.alloc(), Scout::Solves)?;
+    assert_eq!(rt;
+        (explored.states, explored.memories, explored.longest),
+        (5, 6, 5)
+    );
+    match explored.found {
+        Found::Solves(bounds) => {
+            assert_eq!(rt;
+                (bounds.moves, bounds.lost, bounds.turns, bounds.naps),
+                (1, 0, 4, 2)
+            );
+            assert_eq!(rt; bounds.commands.as_slice(), [2, 0].as_slice());
+            Ok(())
+        }
+        _ => Err(Fail::from("not every schedule solves")),
+    }
+}
+
+#[test]
+fn visits_lead_to_the_same(rt: HostRuntime) -> Result<(), Fail> {
+    let mut team = Pair {
+        scout: Scout::Solves,
+    };
+    let mut explorer = explorer(rt.alloc(), &mut team)?;
+    assert_eq!(rt; explorer.visit(&mut team, 100, 3)?, false);
+    let visited = explorer.visited();
+    assert_eq!(rt; (visited.states, visited.depth), (4, 4));
+    assert!(rt; explorer.visit(&mut team, 100, 100)?);
+    assert_eq!(rt; explorer.visited().depth, 0);
+    match explorer.explore(&mut team, 100)?.found {
+        Found::Solves(bounds) => {
+            assert_eq!(rt; bounds.turns, 4);
+            Ok(())
+        }
+        _ => Err(Fail::from("not every schedule solves")),
+    }
+}
+
+#[test]
+fn a_search_of_few_states_ends(rt: HostRuntime) -> Result<(), Fail> {
+    let mut team = Pair {
+        scout: Scout::Solves,
+    };
+    let mut explorer = explorer(rt.alloc(), &mut team)?;
+    match explorer.explore(&mut team, 2) {
+        Err(ExploreFault::Many) => Ok(()),
+        _ => Err(Fail::from("it went on")),
+    }
+}
+
+#[test]
+fn a_round_without_counted_commands_goes_on_for_ever(rt: HostRuntime) -> Result<(), Fail> {
+    match explored(rt.alloc(), Scout::EntersAgain)?.found {
+        Found::Endless {
+            schedule,
+            round,
+            is_fair,
+        } => {
+            assert_eq!(rt;
+                (schedule.as_slice(), round.as_slice()),
+                ([0].as_slice(), [0].as_slice())
+            );
+            assert!(rt; is_fair);
+            Ok(())
+        }
+        _ => Err(Fail::from("no round was found")),
+    }
+}
+
+#[test]
+fn a_round_of_looks_spends_the_quota(rt: HostRuntime) -> Result<(), Fail> {
+    match explored(rt.alloc(), Scout::LooksAgain)?.found {
+        Found::Exceeds { agent, commands } => {
+            assert_eq!(rt; (agent, commands), (0, 11));
+            Ok(())
+        }
+        _ => Err(Fail::from("the quota suffices")),
+    }
+}
+
+#[test]
+fn drawn_schedules_are_counted(rt: HostRuntime) -> Result<(), Fail> {
+    for hunt in [None, Some(Hunt::Moves), Some(Hunt::Lost)] {
+        let drawn = drawn(rt.alloc(), Scout::Solves, hunt)?;
+        assert_eq!(rt; (drawn.solved, drawn.failed, drawn.turns), (4, 0, 16));
+        assert_eq!(rt; drawn.moves.as_slice(), [(1, 4)].as_slice());
+        assert_eq!(rt; drawn.lost.as_slice(), [(0, 4)].as_slice());
+        match drawn.found {
+            Found::Comes { verdict, schedule } => {
+                assert_eq!(rt; (verdict.moves, verdict.lost), (1, 0));
+                assert_eq!(rt; schedule.as_slice(), [0, 0, 0, 0].as_slice());
+            }
+            _ => return Err(Fail::from("a schedule failed")),
+        }
+    }
+    Ok(())
+}
