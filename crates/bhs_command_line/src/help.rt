@@ -389,7 +389,7 @@ At the end comes a line of what was found, and one of how much was visited:
       in one line: every schedule comes to rest after at most T turns that change
       anything, and the match is then solved, in at most M moves, with at most L
       agents lost; agent A uses at most the A-th of these commands. All this holds
-      if agents nap at most N times: nothing is said of longer waits
+      if agents nap at most N times in a row: nothing is said of longer waits
   {\"found\":\"fails\",\"outcome\":O,\"moves\":M,\"lost\":L,\"schedule\":[A,..]}
       If the agents have their turns in this order, nothing more can happen, and
       the match is not solved
