@@ -156,8 +156,8 @@ def told(wanted: Wanted, tries: List[Tried]) -> int:
     print(f"{counts}: {'no schedule fails, in part of the Python model' if says_less else THEOREM}{by}")
     moves, lost = zip(*(bounds_of(tried) for tried in tries))
     naps, turns = wanted.game.naps, [found_in(tried)["turns"] for tried in tries if tried.beside is None]
-    last = "" if says_less else f", most turns {max(turns)}, if agents nap at most {naps} times"
-    print(f"most moves {max(moves)}, most agents lost {max(lost)}{last}")
+    more = "" if says_less else f", most turns {max(turns)}, if agents nap at most {naps} times"
+    print(f"most moves {max(moves)}, most agents lost {max(lost)}{more}")
     if any(tried.answered.unwoken for tried in tries):
         print("warning: some agents still sleep after so many naps, and what they do when they wake once more is not "
               f"known: try --naps {naps + 1}")

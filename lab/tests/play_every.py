@@ -294,8 +294,11 @@ class Exploring(InExplore):
         told = mock.Mock()
         with mock.patch("lab.search.asking.PAUSE", 0.01):
             answered = self.answered(fixture, game.agents, said=told)
-        far = re.compile(r" MB: ([\d,]+) states, [\d,]+ a second, [1-9]\d* turns on the path$")
-        found = [int(at[1].replace(",", "")) for call in told.call_args_list if (at := far.search(call.args[0]))]
+        far = re.compile(r" MB: ([\d,]+) states, [\d,]+ a second, ([1-9]\d*) turns on the path$")
+        all_told = [at for call in told.call_args_list if (at := far.search(call.args[0]))]
+        found, depths = [int(at[1].replace(",", "")) for at in all_told], [int(at[2]) for at in all_told]
+        # a path grows and shrinks
+        self.assertNotEqual(depths, sorted(depths))
         self.assertGreater(len(set(found)), 1)
         self.assertEqual(found, sorted(found))
         self.assertLessEqual(found[-1], answered.counts["states"])
