@@ -129,4 +129,5 @@ def told_of(fault: Exception, command: Command) -> str:
 
 
 if __name__ == "__main__":
+    lab.with_one_order()
     sys.exit(main())

@@ -2,7 +2,7 @@
 import os
 import sys
 
-from lab import INSTALLED
+from lab import INSTALLED, with_one_order
 from lab.support import built
 
 
@@ -22,5 +22,6 @@ def arena() -> int:
 
 def lab() -> int:
     """Runs the lab under the name by which it was installed."""
+    with_one_order()
     from lab.__main__ import main
     return main(None, INSTALLED)

@@ -25,7 +25,8 @@ BATCH, SECONDS_TO_ANSWER = 20, 20
 # of Linux: asks for a signal when the parent ends
 PR_SET_PDEATHSIG = 1
 # what a Dask worker runs: the lab, in a process of its own
-PLAY = f"import sys; sys.path.insert(0, {str(TOP)!r}); from lab.play.spread import serve; serve()"
+PLAY = (f"import sys; sys.path.insert(0, {str(TOP)!r}); import lab; lab.with_one_order(); "
+        "from lab.play.spread import serve; serve()")
 
 
 class Numbered(Protocol):
