@@ -78,7 +78,8 @@ def game(network: NetworkLike, agents: Union[AgentLike, Sequence[AgentLike]], *,
         name, found = f"{network.nodes} nodes", network
     else:
         name, found = str(getattr(network, "name", "")) or f"graph of {len(network)} nodes", networks.of_graph(network)
-    return Game(name, found, team_of(agents, count), home, sorted(holes), list(dark), quota, board, naps, limit)
+    return Game(name, networks.checked(found, name), team_of(agents, count), home, sorted(holes), list(dark), quota,
+                board, naps, limit)
 
 
 def path_of(engine: str) -> Optional[str]:
@@ -95,9 +96,16 @@ def play(network: NetworkLike, agents: Union[AgentLike, Sequence[AgentLike]], sc
          seeds: Union[int, Iterable[int]] = 1, *, engine: str = MODEL, workers: int = 1, **more: Any) -> List[Row]:
     """Plays a match for each seed, and gives their rows. `seeds` is how many, or which; `more` is what `game` takes."""
     asked_game, path = game(network, agents, **more), path_of(engine)
+    if isinstance(seeds, int) and seeds < 0:
+        raise ValueError(f"seeds is how many there are, or a list of which, and not {seeds}")
     numbers = range(seeds) if isinstance(seeds, int) else seeds
     asked = [Asked(asked_game, scheduler, seed, path) for seed in numbers]
     return [row.forget() for row in rows_of(asked, workers)]
+
+
+def said_of(record: Record) -> str:
+    """The verdict of a match, and what else failed in it."""
+    return "; ".join([finds.verdict_text(record.verdict), *record.played.faults])
 
 
 class Exploration(NamedTuple):
@@ -122,7 +130,7 @@ class Exploration(NamedTuple):
     def __str__(self) -> str:
         said = "a schedule fails" if self.fails else "no schedule fails, of the Python model" if self.is_whole else (
             "stopped before all were visited; no schedule failed until then")
-        worst = f"; {finds.verdict_text(self.worst.verdict)}" if self.worst else ""
+        worst = f"; {said_of(self.worst)}" if self.worst else ""
         return f"{self.states} states in {self.seconds:.1f} s: {said}{worst}"
 
     def _repr_html_(self) -> str:
@@ -157,7 +165,7 @@ class Found(NamedTuple):
 
     def __str__(self) -> str:
         said = "the team fails" if self.fails else "the team solved its network under each"
-        return f"{self.tried} schedules were tried: {said}; {finds.verdict_text(self.verdict)}"
+        return f"{self.tried} schedules were tried: {said}; {said_of(self.best)}"
 
     def _repr_html_(self) -> str:
         return f"<p>{self}</p>{self.best._repr_html_()}"

@@ -40,12 +40,16 @@ class Tally:
     def __init__(self) -> None:
         self.outcomes: Counter[str] = collections.Counter()
         self.failed = 0
+        # how many failed though the network was solved, since an agent did
+        self.beside = 0
         # what is worth most: the shortest match in which the team failed, or else the one with the most moves
         self.best: Optional[Row] = None
 
     def add(self, row: Row) -> None:
-        self.outcomes[row["outcome"].split()[0]] += 1
+        outcome = row["outcome"].split()[0]
+        self.outcomes[outcome] += 1
         self.failed += row["failed"]
+        self.beside += row["failed"] and outcome == "solved"
         if self.best is None or rank(row) > rank(self.best):
             self.best = row
 
@@ -109,7 +113,8 @@ def report(tally: Tally, best: Row, keep: Optional[pathlib.Path], out: TextIO) -
     played = sum(tally.outcomes.values())
     told = "the shortest that failed" if tally.failed else "the most moves"
     record = best.match()
-    lines: List[str] = [f"{played} schedule{'' if played == 1 else 's'}: {counts}; failed {tally.failed}",
+    beside = f", of which {tally.beside} solved, but an agent failed" if tally.beside else ""
+    lines: List[str] = [f"{played} schedule{'' if played == 1 else 's'}: {counts}; failed {tally.failed}{beside}",
                         f"{told}: seed {best['seed']}, home {best['home']}, holes {best['holes']}, "
                         f"{finds.verdict_text(record.verdict)}", *record.faults()]
     print("\n".join(lines), file=out)

@@ -11,6 +11,7 @@ Each agent of each match has modules of its own, as a program outside has: its f
 `random`, which begins with the agent's number as its seed. So agents share no variable with each other, nor with an
 earlier match.
 """
+import contextlib
 import functools
 import hashlib
 import importlib
@@ -20,8 +21,8 @@ import pathlib
 import random
 import sys
 from importlib.machinery import SourceFileLoader
-from types import CodeType, FunctionType, ModuleType
-from typing import Any, Callable, Dict, List, Sequence, Tuple
+from types import CellType, CodeType, FunctionType, ModuleType
+from typing import Any, Callable, Dict, List, Sequence, Set, Tuple
 
 from lab.play.imports import files_behind
 from lab.play.own_modules import OwnModules
@@ -182,26 +183,52 @@ def client_module() -> ModuleType:
 
 
 def with_own_variables(function: Callable[..., None], drawing: ModuleType) -> Callable[..., None]:
-    """A function whose global variables are its own, and those of the functions that it calls out of the same notebook
-    or file: what it assigns to them nobody else sees. It draws by this module `random`. A list or another object that a
-    variable has is shared."""
+    """A function whose variables are its own, those of its notebook or file and those of functions around it, and those
+    of the functions that it calls out of there: what it assigns to them nobody else sees. It draws by this module
+    `random`. A list or another object that a variable has is shared."""
     if not isinstance(function, FunctionType):
         return function
-    shared = function.__globals__
-    own = {name: value for name, value in shared.items()}
-    for name, value in shared.items():
-        if value is random:
-            own[name] = drawing
-        elif isinstance(value, FunctionType) and value.__globals__ is shared:
-            own[name] = over(value, own)
-    return over(function, own)
+    own = Own(function.__globals__)
+    own.variables.update({name: drawing if value is random else own.value(value)
+                          for name, value in function.__globals__.items()})
+    found: Callable[..., None] = own.value(function)
+    return found
 
 
-def over(function: FunctionType, variables: Dict[str, Any]) -> FunctionType:
-    """A function over these global variables."""
-    made = FunctionType(function.__code__, variables, function.__name__, function.__defaults__, function.__closure__)
-    made.__kwdefaults__ = function.__kwdefaults__
-    return made
+class Own:
+    """Functions of a notebook or a file over variables of their own. Functions that share one go on sharing it."""
+
+    def __init__(self, shared: Dict[str, Any]) -> None:
+        self.variables: Dict[str, Any] = {}
+        self._shared = shared
+        self._made: Dict[int, Any] = {}
+        self._filled: Set[int] = set()
+
+    def value(self, value: Any) -> Any:
+        """A function over its own variables; another value as it is."""
+        if not isinstance(value, FunctionType) or value.__globals__ is not self._shared:
+            return value
+        if id(value) not in self._made:
+            cells = tuple(self._cell(cell) for cell in value.__closure__ or ())
+            made = FunctionType(value.__code__, self.variables, value.__name__, value.__defaults__, cells)
+            made.__kwdefaults__ = value.__kwdefaults__
+            self._made[id(value)] = made
+            self._fill(value)
+        return self._made[id(value)]
+
+    def _cell(self, cell: CellType) -> CellType:
+        """A variable of a function around others."""
+        found: CellType = self._made.setdefault(id(cell), CellType())
+        return found
+
+    def _fill(self, function: FunctionType) -> None:
+        """Gives the variables of functions around one what they have, which may be that function itself."""
+        for cell in function.__closure__ or ():
+            if id(cell) not in self._filled:
+                self._filled.add(id(cell))
+                # a variable may have no value yet
+                with contextlib.suppress(ValueError):
+                    self._made[id(cell)].cell_contents = self.value(cell.cell_contents)
 
 
 def source_digest(function: Callable[..., None]) -> str:

@@ -190,7 +190,8 @@ def of_graph(graph: Any) -> Network:
         raise NoNetwork(f"a network has 3 to {MOST_NODES} nodes, and this graph has {graph.number_of_nodes()}")
     number = {node: place for place, node in enumerate(graph.nodes)}
     ports = {node: {other: port for port, other in enumerate(graph.adj[node])} for node in graph.nodes}
-    return Network(len(number), [(number[v], ports[v][w], number[w], ports[w][v]) for v, w in graph.edges])
+    network = Network(len(number), [(number[v], ports[v][w], number[w], ports[w][v]) for v, w in graph.edges])
+    return checked(network, str(getattr(graph, "name", "")) or "the graph")
 
 
 def named(name: str) -> Network:
@@ -231,7 +232,19 @@ def sizes_of(kind: str, size: str) -> List[int]:
 
 def biconnected(name: str) -> Network:
     """The network that a word names, or else a line that says where it can be cut."""
-    network = named(name)
+    return checked(named(name), name)
+
+
+def checked(network: Network, name: str) -> Network:
+    """The network, or else a line that says which rule it breaks, and where it can be cut."""
+    ends = [end for v, p, w, q in network.links for end in ((v, p), (w, q))]
+    pairs = [frozenset((v, w)) for v, _, w, _ in network.links]
+    if not 3 <= network.nodes <= MOST_NODES:
+        raise NoNetwork(f"{name}: a network has 3 to {MOST_NODES} nodes, and not {network.nodes}")
+    if sorted(ends) != [(v, p) for v, degree in enumerate(network.degrees()) for p in range(degree)]:
+        raise NoNetwork(f"{name}: a node with D links has the ports 0 to D - 1, each once")
+    if len(set(pairs)) < len(pairs) or any(len(pair) < 2 for pair in pairs):
+        raise NoNetwork(f"{name}: a link joins two nodes, and no other link joins them")
     cut = cut_of(network)
     if cut:
         advice = "take another seed" if name.startswith("random") else "add a link"

@@ -105,6 +105,42 @@ class Api(InFolder):
             with self.assertRaises(NoNetwork):
                 of_graph(wrong)
 
+    def test_networks_that_the_rules_refuse_are_refused(self) -> None:
+        for wrong, why in ((networkx.path_graph(4), "without node 1 some other nodes are apart"),
+                           (lab.Network(4, [(0, 0, 1, 1), (1, 0, 0, 1), (2, 0, 3, 1), (3, 0, 2, 1)]), "joins two"),
+                           (lab.Network(3, [(0, 0, 1, 1), (1, 0, 2, 1), (2, 0, 0, 2)]), "has the ports 0 to D - 1"),
+                           (lab.Network(2, [(0, 0, 1, 0)]), "has 3 to 4096 nodes, and not 2")):
+            with self.subTest(why), self.assertRaisesRegex(NoNetwork, why):
+                lab.play(wrong, RING.words)
+
+    def test_seeds_are_not_negative(self) -> None:
+        with self.assertRaisesRegex(ValueError, "seeds is how many there are, or a list of which, and not -1"):
+            lab.play("ring:3", accuser, seeds=-1)
+
+    def test_a_function_has_its_own_variables_of_functions_around_it(self) -> None:
+        def counter() -> Any:
+            count = 0
+
+            def step() -> int:
+                nonlocal count
+                count += 1
+                return count if count > 1 else step()
+
+            def search(agent: Any, key: str) -> None:
+                agent.enter(key)
+                agent.depart(1)
+                agent.accuse(1 if step() == 2 and count == 2 else 0)
+            return search
+        rows = lab.play("ring:3", counter(), holes=[1], count=1, seeds=3)
+        self.assertEqual([row["outcome"] for row in rows], ["solved"] * 3)
+
+    def test_what_fails_beside_a_network_that_is_solved_is_told(self) -> None:
+        found = lab.explore("ring:3", [accuser, waiter], holes=[1])
+        self.assertTrue(found.fails)
+        fault = "agent 1: sleeps, and nothing changes any more"
+        self.assertRegex(str(found), f"a schedule fails; .* moves .*; {fault}$")
+        self.assertRegex(str(lab.hunt("ring:3", [accuser, waiter], holes=[1], runs=3)), f"the team fails; .*; {fault}$")
+
     def test_explore_and_hunt_have_results(self) -> None:
         right = lab.explore("ring:5", RING.words)
         self.assertTrue(right.solves and right.is_whole)

@@ -1,9 +1,11 @@
 """The words of `run`, and what is worth most of the matches that were played."""
 import argparse
+import io
 import unittest
 from typing import Any, Dict
+from unittest import mock
 
-from lab.commands.run import Tally, rank, seeds
+from lab.commands.run import Tally, rank, report, seeds
 
 
 def row(**more: Any) -> Dict[str, Any]:
@@ -29,6 +31,18 @@ class Tallies(unittest.TestCase):
         tally.add(row(failed=True, choices=8))
         self.assertEqual(tally.best["choices"], 8)
         self.assertGreater(rank(row(moves=7)), rank(row()))  # type: ignore[arg-type]
+
+    def test_networks_that_are_solved_while_an_agent_fails(self) -> None:
+        """Of sixty matches that are solved, in all of which an agent fails, it is said that they are the same."""
+        tally, said = Tally(), io.StringIO()
+        for _ in range(60):
+            tally.add(row(failed=True, seed=0, home=0, holes=[1]))  # type: ignore[arg-type]
+        best: Any = mock.Mock()
+        best.match().faults.return_value = []
+        best.__getitem__ = mock.Mock(return_value=0)
+        with mock.patch("lab.commands.run.finds.verdict_text", return_value="solved"):
+            report(tally, best, None, said)
+        self.assertIn("60 schedules: solved 60; failed 60, of which 60 solved, but an agent failed\n", said.getvalue())
 
 
 if __name__ == "__main__":
