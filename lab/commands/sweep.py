@@ -14,8 +14,10 @@ plays and judges, which is faster and proves nothing; the rows are the same. If 
 the program plays the runs that are kept once more, and their replays must be the same.
 
 `made.json` has the SHA-256 of all that rows depend on: the sweep, the files of agents and schedulers with what they
-import, the lab, the program and Python. If one of them is another, the command refuses to go on in the folder. With
---verify it plays rows again and says which come out otherwise; another engine than the first may play them.
+import, the files that agents inside the lab read while they play, the lab, the program and Python. If one of them is
+another, or a row is not of the run that the sweep has there, the command refuses to go on in the folder. With --verify
+it plays rows again and says which come out otherwise, and whether `summary.csv` and `report.html` are what is made of
+the rows; another engine than the first may play them.
 """
 import argparse
 import pathlib

@@ -24,6 +24,7 @@ from importlib.machinery import SourceFileLoader
 from types import CellType, CodeType, FunctionType, ModuleType
 from typing import Any, Callable, Dict, List, Sequence, Set, Tuple
 
+from lab.play import outside
 from lab.play.imports import files_behind
 from lab.play.own_modules import OwnModules
 from lab.rules.model import Setup
@@ -62,7 +63,7 @@ def loaded(path: pathlib.Path) -> ModuleType:
     """The module in a file, which may import what stands beside it, and the client of the sample agents."""
     if not path.is_file():
         raise NoAgent(f"{path}: there is no such file")
-    with OwnModules(0) as modules:
+    with OwnModules(0) as modules, outside.loading():
         return loaded_anew(path, modules)[0]
 
 

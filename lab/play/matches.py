@@ -29,6 +29,7 @@ class Player(Protocol):
 
     def hear(self, line: str) -> None: ...
     def go_on(self) -> None: ...
+    def read(self) -> Dict[str, str]: ...
     def stop(self, fault: Optional[str] = None) -> None: ...
 
 
@@ -53,6 +54,8 @@ class Played(NamedTuple):
     faults: List[str]
     # what programs wrote to standard error, by the numbers of their agents
     errors: Dict[int, str] = {}
+    # the SHA-256 of each file that agents inside the lab have read, by their names
+    read: Dict[str, str] = {}
 
     def verdict(self) -> Verdict:
         return judge(self.match)
@@ -204,4 +207,5 @@ def play(engine: Engine, team: Team, scheduler: Scheduler, fixture: Fixture) -> 
         team.stop()
         engine.stop()
     errors = {player.number: player.errors for player in team.players if player.errors}
-    return Played(run.choices, engine.match, engine.script, replay, faults_of(team.players), errors)
+    read = {name: digest for player in team.players for name, digest in player.read().items()}
+    return Played(run.choices, engine.match, engine.script, replay, faults_of(team.players), errors, read)

@@ -6,9 +6,10 @@ is the line that it sent, or None if its input has ended.
 import signal
 import threading
 from collections import deque
-from typing import Any, Deque, List, Mapping, Optional, Sequence
+from typing import Any, Deque, Dict, List, Mapping, Optional, Sequence
 
 from lab.play.agent_files import Script
+from lab.play.outside import read_by
 from lab.play.own_modules import OwnModules
 from lab.rules.model import LAST, spelled
 from lab.support.missing import needed
@@ -44,6 +45,10 @@ class Player:
         self._is_over = False
         self._is_closed = False
         self._thread = needed("greenlet").greenlet(lambda: self._run(script, key))
+
+    def read(self) -> Dict[str, str]:
+        """The SHA-256 of each file that the program has read, by their names, if that is noted."""
+        return read_by(self._thread)
 
     def hear(self, line: str) -> None:
         """Tells the agent a line, and lets it go on."""

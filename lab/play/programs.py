@@ -18,7 +18,7 @@ import subprocess
 import threading
 import time
 from collections import deque
-from typing import Any, Callable, Deque, List, Mapping, NamedTuple, Optional, Protocol, Sequence, Tuple
+from typing import Any, Callable, Deque, Dict, List, Mapping, NamedTuple, Optional, Protocol, Sequence, Tuple
 
 from lab.play.agent_files import NoAgent
 from lab.play.players import DENIALS, DONE, LAST_LINES, TRAVELS, WAITS
@@ -255,6 +255,10 @@ class Player:
 
     def go_on(self) -> None:
         """A program sleeps as it likes, so it is never woken."""
+
+    def read(self) -> Dict[str, str]:
+        """What a program of its own reads is not noted."""
+        return {}
 
     def stop(self, fault: Optional[str] = None) -> None:
         """Ends the program and all that it started."""

@@ -66,6 +66,8 @@ def program_at(path: Optional[str]) -> str:
 
 
 BY_MODEL = "the Python model, of which nothing is proved"
+# all names of what plays
+NAMES = (BY_MODEL, built.PROGRAM, built.UNPROVED, built.UNKNOWN)
 
 
 def name_of(program: Optional[str]) -> str:

@@ -3,24 +3,34 @@ import hashlib
 import pathlib
 import sys
 import tempfile
-from typing import Any, Dict, Iterable, Iterator, List, NamedTuple, Optional, Tuple
+from typing import Any, Dict, Iterable, Iterator, List, NamedTuple, Optional, Sequence, Tuple
 
 from lab.play.agent_files import digests
 from lab.play.finds import engine_of, write_find
 from lab.play.games import maker_of
 from lab.play.matches import Played, play
+from lab.play.outside import watch
 from lab.play.schedules import Schedule, schedule_of
 from lab.play.spread import Result, over_cluster, over_processes
 from lab.play.teams import Together
-from lab.rules.engines import Differs, judged, name_of
+from lab.rules.engines import NAMES, Differs, judged, name_of
+from lab.rules.fixtures import Fixture
 from lab.support.progress import along
 from lab.sweep import grid, report, verify
 from lab.sweep.grid import Case, Grid, NoSweep
-from lab.sweep.tables import RUNS, NoTable, cells_in, changed_in, checked, done_in, line_of, made_by, rows_in
+from lab.sweep.tables import (RUNS, NoTable, cells_in, changed_in, checked, done_in, line_of, made_by, note_read,
+                              rows_in)
 
 SUMMARY, REPORT, WORST = "summary.csv", "report.html", "worst"
 # an agent may wait for a processor that has much other work: a row is not to depend on that
 LIMIT = 60
+
+
+class Ran(NamedTuple):
+    """The row of a run, and the SHA-256 of each file that its agents have read, by their names."""
+
+    row: List[str]
+    read: Dict[str, str]
 
 
 class Work(NamedTuple):
@@ -29,9 +39,11 @@ class Work(NamedTuple):
     text: str
     program: Optional[str]
 
-    def play(self, case: Case) -> List[str]:
-        """The row of a run."""
-        return row_of(self, grid.grid_of(self.text), case)
+    def play(self, case: Case) -> Ran:
+        """Plays a run. What its agents read is noted."""
+        watch()
+        schedule, played = played_case(self, grid.grid_of(self.text), case)
+        return Ran(row_for(case, schedule, played, self.program), played.read)
 
     def digests(self) -> Dict[str, str]:
         """The SHA-256 of each file that rows depend on."""
@@ -48,27 +60,39 @@ def played_case(work: Work, spec: Grid, case: Case) -> Tuple[Schedule, Played]:
     return empty._replace(choices=played.choices), played
 
 
-def row_of(work: Work, spec: Grid, case: Case) -> List[str]:
-    """The row of a run."""
-    schedule, played = played_case(work, spec, case)
-    return row_for(case, schedule, played, work.program)
-
-
 def row_for(case: Case, schedule: Schedule, played: Played, program: Optional[str]) -> List[str]:
     """The row of a run that was played. The program judges it, if there is one."""
-    setup, match = schedule.fixture.setup, played.match
-    verdict = played.verdict()
+    match, verdict = played.match, played.verdict()
     if program:
         with tempfile.NamedTemporaryFile(suffix=".jsonl") as file:
             file.write(played.replay)
             file.flush()
             verdict = judged(program, pathlib.Path(file.name))
     commands = sum(agent.used for agent in match.agents)
-    found = (case.number, case.network, setup.nodes, len(setup.links), setup.home, case.hole, case.team.name,
-             setup.agents, case.scheduler, case.seed, verdict.outcome, verdict.moves, verdict.lost, commands,
-             len(match.log), hashlib.sha256(played.replay).hexdigest(), "")
+    found = (verdict.outcome, verdict.moves, verdict.lost, commands, len(match.log),
+             hashlib.sha256(played.replay).hexdigest(), "")
     faults = [" ".join(fault.split()) for fault in played.faults]
-    return checked([*map(str, found), *(faults or [""])])
+    return checked([*asked_of(case, schedule.fixture), *map(str, found), *(faults or [""])])
+
+
+def asked_of(case: Case, fixture: Fixture) -> List[str]:
+    """The columns of a row that say which run it is."""
+    setup = fixture.setup
+    return list(map(str, (case.number, case.network, setup.nodes, len(setup.links), setup.home, case.hole,
+                          case.team.name, setup.agents, case.scheduler, case.seed)))
+
+
+def check_rows(spec: Grid, cases: Sequence[Case], folder: pathlib.Path) -> None:
+    """Refuses a folder whose rows are not those of the sweep's first runs."""
+    path = folder / RUNS
+    rows = cells_in(path)
+    if len(rows) > len(cases):
+        raise NoTable(f"{path}: it has {len(rows)} rows, and the sweep has {len(cases)} runs: name another folder")
+    for case, row in zip(cases, rows):
+        wanted = asked_of(case, spec.fixture(case))
+        if row[:len(wanted)] != wanted:
+            raise NoTable(f"{path}: line {case.number + 2} is of another run than the sweep has there: name another "
+                          "folder, or remove this line and all below it, and start the same command again")
 
 
 def made_of(spec: Grid, text: str, program: Optional[str]) -> Dict[str, Any]:
@@ -86,8 +110,9 @@ class Way(NamedTuple):
 
 def swept(work: Work, keeper: Work, cases: List[Case], done: int, way: Way) -> int:
     """Plays the runs that are not done yet, and writes everything. The keeper plays what is kept once more."""
+    check_rows(grid.grid_of(work.text), cases, way.out)
     try:
-        write_rows(results(work, cases[done:], way), len(cases) - done, way.out)
+        write_rows(noted(results(work, cases[done:], way), way.out), len(cases) - done, way.out)
     except KeyboardInterrupt:
         print(f"interrupted; {done_in(way.out / RUNS)} of {len(cases)} runs are done: the same command goes on there")
         return 130
@@ -98,13 +123,24 @@ def verified(work: Work, cases: List[Case], made: Dict[str, Any], way: Way, want
     """Plays rows of the folder again, whoever made them, and compares them."""
     for name in changed_in(way.out, made):
         print(f"lab: {name} is other than when the rows were made", file=sys.stderr)
+    check_rows(grid.grid_of(work.text), cases, way.out)
     rows = cells_in(way.out / RUNS)
-    if len(rows) > len(cases):
-        raise NoTable(f"{way.out / RUNS} has {len(rows)} rows, and the sweep {len(cases)} runs: it is another sweep")
     numbers = verify.chosen(len(rows), wanted)
-    found = verify.compared(numbers, rows, results(work, [cases[number] for number in numbers], way))
+    again = results(work, [cases[number] for number in numbers], way)
+    found = verify.compared(numbers, rows, (it._replace(found=it.found and it.found.row) for it in again))
+    others = other_texts(grid.grid_of(work.text), way.out) if len(rows) == len(cases) else []
+    for name in others:
+        print(f"{name} is not what is made of the rows", file=sys.stderr)
     print(f"by {name_of(work.program)}: ", end="")
-    return verify.told(numbers, len(rows), found)
+    return verify.told(numbers, len(rows), found) or int(bool(others))
+
+
+def noted(results: Iterable[Result], folder: pathlib.Path) -> Iterator[Result]:
+    """The rows of results, of which it is written down first what their agents have read."""
+    for result in results:
+        if not result.fault:
+            note_read(folder, result.found.read)
+        yield result._replace(found=result.found and result.found.row)
 
 
 def write_rows(results: Iterable[Result], total: int, folder: pathlib.Path) -> None:
@@ -130,7 +166,7 @@ def told(work: Work, keeper: Work, cases: List[Case], folder: pathlib.Path) -> i
     """Writes the summary, the worst runs and the report."""
     spec, rows = grid.grid_of(work.text), rows_in(folder / RUNS)
     groups = report.groups_of(rows, spec)
-    (folder / SUMMARY).write_text("".join(map(line_of, report.summary(groups))), encoding="utf-8")
+    (folder / SUMMARY).write_text(summary_text(groups), encoding="utf-8")
     pages = [report.Kept(row, kept(keeper, spec, cases[int(row["run"])], row, folder))
              for row in along(report.worst_runs(rows), len(spec.names) * len(spec.teams), "page")]
     engine = name_of(work.program)
@@ -150,5 +186,29 @@ def kept(work: Work, spec: Grid, case: Case, row: report.Row, folder: pathlib.Pa
                       "something else although they are given the same")
     place = folder / WORST / str(case.number)
     write_find(place, schedule, played, work.program)
+    return link_to(case.number, folder)
+
+
+def link_to(run: int, folder: pathlib.Path) -> str:
+    """What shows a run that was kept, from the folder of the report."""
+    place = folder / WORST / str(run)
     names = [name for name in ("match0.html", "schedule.txt") if (place / name).exists()]
-    return f"{WORST}/{case.number}/{names[0]}"
+    return f"{WORST}/{run}/{names[0] if names else ''}"
+
+
+def summary_text(groups: List[report.Group]) -> str:
+    return "".join(map(line_of, report.summary(groups)))
+
+
+def other_texts(spec: Grid, folder: pathlib.Path) -> List[str]:
+    """Which of the summary and the report are not what is made of the rows. The report may name any engine."""
+    rows = rows_in(folder / RUNS)
+    groups = report.groups_of(rows, spec)
+    pages = [report.Kept(row, link_to(int(row["run"]), folder)) for row in report.worst_runs(rows)]
+    may_be = {SUMMARY: [summary_text(groups)], REPORT: [report.page(spec, groups, pages, it) for it in NAMES]}
+    return [name for name, texts in may_be.items() if text_in(folder / name) not in texts]
+
+
+def text_in(path: pathlib.Path) -> str:
+    """The text of a file, or nothing if there is none."""
+    return path.read_text(encoding="utf-8", errors="replace") if path.is_file() else ""

@@ -23,6 +23,8 @@ COLUMNS = ("run", "network", "nodes", "links", "home", "hole", "team", "agents",
            "moves", "lost", "commands", "events", "replay", "check", "fault")
 CHECK = COLUMNS.index("check")
 RUNS, MADE = "runs.csv", "made.json"
+# in the record: what agents have read while they played
+READ = "read"
 DIGITS = 16
 
 
@@ -101,9 +103,20 @@ def differences(before: Any, now: Any, name: str = "") -> List[str]:
 
 def changed_in(folder: pathlib.Path, made: Mapping[str, Any]) -> List[str]:
     """What the rows of a folder depend on and is other now, by its names."""
+    before = dict(record_in(folder))
+    read: Dict[str, str] = before.pop(READ, {})
+    others = [name for name, digest in read.items() if imports.digest_named(name) != digest]
+    return differences(before, made) + others
+
+
+def record_in(folder: pathlib.Path) -> Dict[str, Any]:
+    """What a folder has about how its rows are made."""
     path = folder / MADE
     try:
-        return differences(json.loads(path.read_text(encoding="utf-8")), made)
+        found = json.loads(path.read_text(encoding="utf-8"))
+        if not isinstance(found, dict):
+            raise ValueError
+        return found
     except FileNotFoundError:
         raise NoTable(f"{path}: it is not known of which runs the rows of {folder} are: name another folder") from None
     except (UnicodeDecodeError, ValueError):
@@ -121,8 +134,28 @@ def prepared(folder: pathlib.Path, made: Mapping[str, Any]) -> int:
             raise NoTable(f"{folder} has rows that were made otherwise: {changed[0]}{others} differ; name another "
                           "folder by --out, or remove this one")
     else:
-        path.write_text(json.dumps(made, indent=1, sort_keys=True) + "\n", encoding="utf-8")
+        write_record(folder, made)
     return done_in(folder / RUNS)
+
+
+def note_read(folder: pathlib.Path, read: Mapping[str, str]) -> None:
+    """Writes down what agents have read, before their row is written; what they have read before must be the same."""
+    record = record_in(folder)
+    known = {**{name: digest for name, digest in record.get("files", {}).items()}, **record.get(READ, {})}
+    for name, digest in read.items():
+        if known.get(name, digest) != digest:
+            raise NoTable(f"{name} has changed while it was played: name another folder by --out, and start again")
+    new = {name: digest for name, digest in read.items() if name not in known}
+    if new:
+        write_record(folder, {**record, READ: {**record.get(READ, {}), **new}})
+
+
+def write_record(folder: pathlib.Path, record: Mapping[str, Any]) -> None:
+    """Writes how the rows of a folder are made, whole or not at all."""
+    text = json.dumps(record, indent=1, sort_keys=True) + "\n"
+    path = folder / f".{MADE}"
+    path.write_text(text, encoding="utf-8")
+    path.replace(folder / MADE)
 
 
 @contextlib.contextmanager

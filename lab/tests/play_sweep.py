@@ -147,7 +147,65 @@ class Sweeps(InFolder):
         path.write_text("".join(map(tables.line_of, [tables.COLUMNS, *rows])))
         status, said, errors = self.verified(*MODEL)
         self.assertEqual((status, said), (1, "24 of 24 rows were played again: 1 differ"))
-        self.assertEqual(errors, "run 5 comes out otherwise: moves\n")
+        self.assertIn("run 5 comes out otherwise: moves\n", errors)
+        self.assertIn("summary.csv is not what is made of the rows", errors)
+
+    def test_what_is_made_of_the_rows_is_verified(self) -> None:
+        self.small(TOP / "examples" / "agents" / "ring.py")
+        self.file.write_text(self.file.read_text().replace("seeds = 6", "seeds = 2"))
+        with contextlib.redirect_stdout(io.StringIO()):
+            self.assertEqual(main(self.words("out", *MODEL)), 0)
+        for name, text in ((sweeping.SUMMARY, ",2,2,"), (sweeping.REPORT, "solved")):
+            with self.subTest(name):
+                path = self.folder / "out" / name
+                before = path.read_text()
+                self.assertIn(text, before)
+                path.write_text(before.replace(text, text[::-1] + "1", 1))
+                status, said, errors = self.verified(*MODEL)
+                self.assertEqual((status, said), (1, "8 of 8 rows were played again: 0 differ"))
+                self.assertEqual(errors, f"{name} is not what is made of the rows\n")
+                path.write_text(before)
+        self.assertEqual(self.verified(*MODEL)[0], 0)
+
+    def test_rows_of_another_grid_are_refused(self) -> None:
+        """Rows that were written as they are, but are not those of the sweep: swapped, or one too many."""
+        self.small(TOP / "examples" / "agents" / "ring.py")
+        with contextlib.redirect_stdout(io.StringIO()):
+            self.assertEqual(main(self.words("out", *MODEL)), 0)
+        path = self.folder / "out" / tables.RUNS
+        rows = tables.cells_in(path)
+
+        def written(changed: List[List[str]]) -> str:
+            for number, row in enumerate(changed):
+                row[0] = str(number)
+                row[tables.CHECK] = tables.check_of(row)
+            path.write_text("".join(map(tables.line_of, [tables.COLUMNS, *changed])))
+            return self.refused("out", *MODEL)
+        copies = [list(row) for row in rows]
+        self.assertIn("line 7 is of another run than the sweep has there",
+                      written([*copies[:5], copies[6], copies[5], *copies[7:]]))
+        self.assertIn("it has 25 rows, and the sweep has 24 runs", written([list(row) for row in [*rows, rows[-1]]]))
+
+    def test_what_an_agent_reads_without_importing_it_by_its_name_is_noted(self) -> None:
+        helper, table = self.folder / "helper.py", self.folder / "table.json"
+        (self.folder / "own.py").write_text(
+            "import importlib, json, pathlib\nHERE = pathlib.Path(__file__).parent\ndef search(agent, key, nodes):\n"
+            "    helper = importlib.import_module('hel' + 'per')\n"
+            "    assert json.loads((HERE / 'table.json').read_text()) == [1]\n    helper.search(agent, key, nodes)\n")
+        helper.write_text((TOP / "examples" / "agents" / "ring.py").read_text())
+        table.write_text("[1]")
+        self.small(self.folder / "own.py")
+        for workers in ("1", "2"):
+            with contextlib.redirect_stdout(io.StringIO()):
+                self.assertEqual(main(self.words(f"out{workers}", "--workers", workers, *MODEL)), 0)
+            for file, text in ((table, "[1 ]"), (helper, helper.read_text() + "# other\n")):
+                with self.subTest(file, workers=workers):
+                    before = file.read_text()
+                    file.write_text(text)
+                    self.assertIn(f"made otherwise: {file}", self.refused(f"out{workers}", *MODEL))
+                    file.write_text(before)
+            with contextlib.redirect_stdout(io.StringIO()):
+                self.assertEqual(main(self.words(f"out{workers}", *MODEL)), 0)
 
     def verified(self, *more: str) -> Tuple[int, str, str]:
         """The exit status of --verify, the end of its line, and what it says on standard error."""
