@@ -50,7 +50,7 @@ class Plan(NamedTuple):
     """A division: what was explored before, and the crossings of the agent that is told and of the one that tells."""
 
     explored: Nodes
-    crossings: Tuple[List[Crossing], List[Crossing]]
+    crossings: Tuple[Tuple[Crossing, ...], Tuple[Crossing, ...]]
 
 
 class NotBiconnected(Exception):
@@ -165,7 +165,7 @@ class Map:
         the one that tells begins at the start too."""
         order = self.order_of(explored, first)
         half = (len(order) + 1) // 2
-        told, teller = (self.crossings(explored, part, start) for part in (order[:half], order[half:]))
+        told, teller = (tuple(self.crossings(explored, part, start)) for part in (order[:half], order[half:]))
         return Plan(explored, (told, teller))
 
 

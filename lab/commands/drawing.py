@@ -3,7 +3,8 @@ agents do (lab/search/asking.py). The worst schedule is kept, and the agents pla
 import statistics
 from typing import Any, List, NamedTuple, Tuple
 
-from lab.commands.trying import FAILURES, FOUND, Tried, Wanted, all_tried, found_in, shown_failure, shown_schedule
+from lab.commands.trying import (FAILURES, FOUND, Search, Tried, Wanted, all_tried, found_in, shown_failure,
+                                 shown_schedule)
 from lab.rules.fixtures import Fixture
 from lab.rules.model import Object
 from lab.search.asking import BREAKS, EXCEEDS, Draws, asked
@@ -64,9 +65,9 @@ def line_of(tried: Tried) -> str:
     return f"home {setup.home} holes {setup.holes}: {said}, {seconds:.1f} s"
 
 
-def told(wanted: Wanted, draws: Draws, tries: List[Tried]) -> int:
+def told(wanted: Wanted, draws: Draws, search: Search) -> int:
     """Says what the drawn schedules of all matches come to, and keeps the worst."""
-    last = tries[-1]
+    tries, last = search.tries, search.tries[-1]
     solved, failed, turns = (sum(tried.answered.counts.get(what, 0) for tried in tries)
                              for what in ("solved", "failed", "turns"))
     seconds = sum(tried.answered.seconds for tried in tries)
@@ -80,7 +81,7 @@ def told(wanted: Wanted, draws: Draws, tries: List[Tried]) -> int:
     if last.answered.found["found"] in FOUND:
         print(f"{counts}: a schedule fails")
         return shown_failure(wanted, last)
-    print(f"{counts}: none of them fails, which says nothing of the others")
+    print(f"{counts}: none of them fails, which says nothing of the others; {search.checks}")
     shown_worst(wanted, draws, tries)
     return 0
 

@@ -8,10 +8,14 @@ writes that one to a folder. The exit status is 1 if a schedule fails.
 
 The program tries the schedules (`arena explore`), and the lab answers what the agents do. What is found is a theorem
 about programs that are functions of what they hold, as they answered here. Of an agent inside the lab (--agent) that is
-what its frames, objects and modules hold; what has no name is told, and the agent's history stands for it. A program of
-its own (--command) is told apart by its history, or by a member "memory" of its lines, by which it declares what it
-holds; that must be all on which it goes on. --check N plays N drawn schedules, and compares what the agents do with
-what they had answered.
+what its frames, objects and modules hold; what has no name is told, with what to write instead, and the agent's history
+stands for it. A program of its own (--command) is told apart by its history, or by a member "memory" of its lines, by
+which it declares what it holds; that, with its key, must be all on which it goes on.
+
+It is checked that programs are such functions, and the line of the verdict says how often. Where two histories come to
+one memory, the second agent is played on beside the first for some steps. The agents play 20 drawn schedules (--check
+N: N), and must do what they had answered. On small matches the Python model's search, which merges no histories, must
+find the same. With --check 0 nothing is checked.
 
 A schedule also fails if an agent raises or breaks a rule under it, also once it has ended or when it is told that the
 match is over, and if it sleeps where nothing happens any more. The Python model's search takes over if an agent may use
@@ -52,6 +56,8 @@ from lab.support.faults import Fault
 from lab.support.progress import bar
 
 FOLDER = finds.FOLDER
+# how many drawn schedules of a search are played by the agents
+CHECKED = 20
 # whose turn it is in drawn schedules, and what is hunted for
 PACES, HUNTS = ("fair", "last-departed", "starved", "slow-agents", "slow-links"), ("moves", "lost")
 
@@ -72,9 +78,9 @@ def add_words(parser: argparse.ArgumentParser) -> None:
                         f"is told there ({FOLDER})")
     parser.add_argument("--search", choices=(PROGRAM, MODEL), help="who tries the schedules: the program, or the "
                         "Python model, of which nothing is proved (the engine)")
-    parser.add_argument("--check", metavar="N", type=not_negative, default=0, help="after the program's search, play "
-                        "this many drawn schedules of each match by the agents, and compare what they do with what "
-                        "they answered (0)")
+    parser.add_argument("--check", metavar="N", type=not_negative, default=CHECKED, help="after the program's search, "
+                        "play this many drawn schedules by the agents, and compare what they do with what they "
+                        f"answered ({CHECKED}); with 0 merges of histories are not checked either")
     add_engine(parser)
 
 

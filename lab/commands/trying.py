@@ -3,6 +3,7 @@ the program says nothing, as an agent may use more than its quota, the Python mo
 import pathlib
 from typing import Any, Callable, List, NamedTuple, Optional, Sequence, Tuple
 
+from lab.commands.checking import Checks
 from lab.play import finds
 from lab.play.matches import Run
 from lab.play.schedulers import ANSWER, ARRIVE, WAKE, Choice
@@ -14,7 +15,7 @@ from lab.rules.model import AWAY, ENDED, OUTSIDE, Object
 from lab.rules.rehearsal import Rehearsal
 from lab.search.asking import BREAKS, ENDLESS, EXCEEDS, FAILS, SOLVES, Answered, asked
 from lab.search.explore import Explored, explored
-from lab.search.following import follow
+from lab.search.beside import MERGES
 from lab.search.machines import Machines
 from lab.search.pasts import NoFunction
 from lab.support import built
@@ -63,6 +64,14 @@ class Wanted(NamedTuple):
 Try = Callable[[Machines, Fixture, Any], Tried]
 
 
+class Search(NamedTuple):
+    """The matches that were tried, up to the first that fails or is not tried as a whole, and what was checked of how
+    their agents were taken for machines."""
+
+    tries: List[Tried]
+    checks: Checks
+
+
 def run(wanted: Wanted) -> int:
     """Tries the schedules of all matches, up to the first that fails."""
     def one(machines: Machines, fixture: Fixture, shown: Any) -> Tried:
@@ -72,11 +81,11 @@ def run(wanted: Wanted) -> int:
     return told(wanted, all_tried(wanted, one, line_of))
 
 
-def all_tried(wanted: Wanted, one: Try, line: Callable[[Tried], str]) -> List[Tried]:
-    """Tries the matches of a game, up to the first that fails or is not tried as a whole, and prints a line for
-    each."""
-    game, fixtures = wanted.game, wanted.game.fixtures()
-    machines, found = Machines(fixtures[0], game.agents, game.limit), []
+def all_tried(wanted: Wanted, one: Try, line: Callable[[Tried], str]) -> Search:
+    """Tries the matches of a game, and prints a line for each."""
+    game, fixtures, found = wanted.game, wanted.game.fixtures(), []
+    machines = Machines(fixtures[0], game.agents, game.limit, MERGES if wanted.check else 0)
+    checks = Checks(machines, game, wanted.check, len(fixtures))
     machines.start()
     try:
         with bar(None, "answer") as shown:
@@ -85,15 +94,17 @@ def all_tried(wanted: Wanted, one: Try, line: Callable[[Tried], str]) -> List[Tr
                 shown.clear()
                 found.append(tried)
                 print(line(tried), flush=True)
+                if tried.beside is None and tried.is_whole():
+                    checks.check(fixture, tried.answered.found, shown)
                 if not tried.is_whole() or tried.has_failed():
                     break
-                if wanted.check and tried.beside is None:
-                    checked(wanted, machines, fixture)
+        if not found[-1].has_failed():
+            machines.check_shared()
     finally:
         machines.stop()
     for what, count in machines.unnamed.items():
         print(f"{count} times history stands for what a program holds: {what}")
-    return found
+    return Search(found, checks)
 
 
 def beside(wanted: Wanted, tried: Tried, shown: Any) -> Tried:
@@ -130,16 +141,9 @@ def line_of(tried: Tried) -> str:
     return f"home {setup.home} holes {setup.holes}: {said}, {seconds:.1f} s"
 
 
-def checked(wanted: Wanted, machines: Machines, fixture: Fixture) -> None:
-    """Plays drawn schedules by the agents, and compares what they do with what they answered."""
-    game = wanted.game
-    steps = sum(follow(fixture, game.agents, machines, seed, game.limit) for seed in range(wanted.check))
-    print(f"    {wanted.check} drawn schedules, {steps} steps: the agents did as they had answered", flush=True)
-
-
-def told(wanted: Wanted, tries: List[Tried]) -> int:
+def told(wanted: Wanted, search: Search) -> int:
     """Says what was found of all matches, and writes the schedule that fails."""
-    last = tries[-1]
+    tries, last = search.tries, search.tries[-1]
     states = sum(tried.answered.counts.get("states", 0) for tried in tries)
     counts = f"{states} states in {sum(tried.answered.seconds for tried in tries):.1f} s"
     if last.beside is not None and (last.has_failed() or not last.is_whole()):
@@ -153,11 +157,14 @@ def told(wanted: Wanted, tries: List[Tried]) -> int:
     says_less = any(tried.beside is not None for tried in tries)
     engine = name_of(wanted.program)
     by = "" if engine == built.PROGRAM else f", by {engine}"
-    print(f"{counts}: {'no schedule fails, in part of the Python model' if says_less else THEOREM}{by}")
+    said = "no schedule fails, in part of the Python model" if says_less else THEOREM
+    print(f"{counts}: {said}{by}; {search.checks}")
     moves, lost = zip(*(bounds_of(tried) for tried in tries))
     naps, turns = wanted.game.naps, [found_in(tried)["turns"] for tried in tries if tried.beside is None]
     more = "" if says_less else f", most turns {max(turns)}, if agents nap at most {naps} times"
-    print(f"most moves {max(moves)}, most agents lost {max(lost)}{more}")
+    # an agent on a held link does not arrive where it would be lost
+    most = "no more agents lost than" if last.fixture.held else "most agents lost"
+    print(f"most moves {max(moves)}, {most} {max(lost)}{more}")
     if any(tried.answered.unwoken for tried in tries):
         print("warning: some agents still sleep after so many naps, and what they do when they wake once more is not "
               f"known: try --naps {naps + 1}")
@@ -189,8 +196,10 @@ def shown_failure(wanted: Wanted, tried: Tried) -> int:
         print(f"home {setup.home} holes {setup.holes}: after {len(found['schedule'])} choices, the last "
               f"{len(found['round'])} of the schedule may be repeated for ever, {FAIRNESS[found['fair']]}")
     elif found["found"] == FAILS:
+        # an agent on a held link does not arrive where it would be lost
+        most = "at most " if tried.fixture.held else ""
         print(f"it comes to: home {setup.home} holes {setup.holes}, {found['outcome']} moves {found['moves']} lost "
-              f"{found['lost']}")
+              f"{most}{found['lost']}")
     verdict = (found["outcome"], found["moves"], found["lost"]) if found["found"] == FAILS else None
     keep(wanted, tried, choices, verdict)
     return 1
@@ -207,7 +216,8 @@ def keep(wanted: Wanted, tried: Tried, choices: List[Choice], verdict: Optional[
     game, found = wanted.game, found_in(tried)
     schedule = schedule_of(tried.fixture, game.agents, f"explore{game.origin}", choices)
     played = finds.keep(wanted.keep, schedule, wanted.engine)
-    if found["found"] == BREAKS and not played.faults or verdict and played.verdict() != verdict:
+    come_to, same = played.verdict(), 2 if tried.fixture.held else 3
+    if found["found"] == BREAKS and not played.faults or verdict and come_to[:same] != verdict[:same]:
         raise NoFunction("played again it comes to something else: explore needs agents that are functions of what "
                          "they hold")
 

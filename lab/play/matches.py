@@ -126,6 +126,9 @@ class Run:
             player.state = DONE
         else:
             self._tell(self.engine.feed(player.number, line))
+            if player.state == WAITS and player.line is None and self.match.agents[player.number].standing == AWAY:
+                # a line that was sent before the arrival is answered after it
+                player.state = TRAVELS
 
     def close(self) -> None:
         """Ends the match. Players that sleep are stuck; those on links are told that the match is over."""

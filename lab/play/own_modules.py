@@ -14,6 +14,9 @@ LOADING = threading.RLock()
 # all folders out of which agents were loaded
 FOLDERS: Set[str] = set()
 RANDOM = "random"
+# modules, by their names, that stand in none of these folders: they are asked once
+FOREIGN: Dict[str, ModuleType] = {}
+FOREIGN_TO: Set[str] = set()
 # of each module the folders that it stands in, as long as there is the module: it is asked at each turn of an agent
 STANDS_IN: "weakref.WeakKeyDictionary[ModuleType, FrozenSet[str]]" = weakref.WeakKeyDictionary()
 
@@ -31,9 +34,18 @@ def is_beside(module: ModuleType, folders: Collection[str]) -> bool:
 def own_names(folders: Collection[str], shared: Collection[str] = ()) -> List[str]:
     """The names of the loaded modules that stand in these folders, and of what is in them if they are packages; none of
     the lab's, and none of the shared files."""
-    tops = {name for name, module in list(sys.modules.items()) if "." not in name and name != "lab"
-            and is_beside(module, folders) and getattr(module, "__file__", None) not in shared}
-    return [name for name in sys.modules if name.partition(".")[0] in tops]
+    if folders is FOLDERS and len(FOREIGN_TO) != len(FOLDERS):
+        # what stands in none of the folders so far may stand in a new one
+        FOREIGN.clear()
+        FOREIGN_TO.update(FOLDERS)
+    tops = set()
+    for name, module in list(sys.modules.items()):
+        if FOREIGN.get(name) is not module and "." not in name and name != "lab":
+            if is_beside(module, folders) and getattr(module, "__file__", None) not in shared:
+                tops.add(name)
+            elif FOREIGN_TO.issuperset(folders) and not is_beside(module, FOREIGN_TO):
+                FOREIGN[name] = module
+    return [name for name in sys.modules if name.partition(".")[0] in tops] if tops else []
 
 
 def random_from(seed: int) -> ModuleType:
@@ -67,6 +79,10 @@ class OwnModules:
         self._shared.update({name: sys.modules.pop(name) for name in own_names(FOLDERS, files)})
         self._own = {RANDOM: self.random}
         self._put(self._own)
+
+    def own(self) -> Dict[str, ModuleType]:
+        """The modules of the agent, by their names."""
+        return self._own
 
     def __enter__(self) -> "OwnModules":
         LOADING.acquire()

@@ -10,7 +10,8 @@ from typing import Any, Callable, Dict, List, NamedTuple, Optional, Tuple
 from lab.rules.engines import Refused, text_of_fault
 from lab.rules.fixtures import Fixture, write_tournament
 from lab.rules.model import spelled
-from lab.search.machines import SLEEP, WAKES, Machines
+from lab.search.machines import Machines
+from lab.search.seats import SLEEP, WAKES
 
 SOLVES, COMES, FAILS, BREAKS, ENDLESS, EXCEEDS = "solves", "comes", "fails", "breaks", "endless", "exceeds"
 TOO_MANY = "states"

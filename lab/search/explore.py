@@ -3,6 +3,7 @@
 Two matches go on alike once each agent has met the same and each whiteboard says the same. A step that neither reads
 nor writes a whiteboard meets nobody, and is taken at once.
 """
+import math
 import time
 from array import array
 from typing import Any, Dict, Iterator, List, NamedTuple, Optional, Sequence, Set, Tuple
@@ -41,6 +42,7 @@ class Explorer:
     def __init__(self, fixture: Fixture, team: Team, scripts: List[Any], most: int) -> None:
         self.fixture = fixture
         self.worst: Optional[End] = None
+        self.most_lost = 0
         self._most = most
         self._match = Match(fixture.setup)
         self._held = set(fixture.held)
@@ -144,6 +146,7 @@ class Explorer:
         ended = [own.closed(past) if past.state == TRAVELS else past for own, past in zip(self._pasts, state.pasts)]
         has_failed = verdict.outcome != "solved" or stuck or any(past.fault for past in ended)
         end = End(has_failed, verdict, number)
+        self.most_lost = max(self.most_lost, lost)
         if self.worst is None or end.rank() > self.worst.rank():
             self.worst = end
         return has_failed
@@ -189,9 +192,9 @@ def tried(game: Game, states: int, shown: Any) -> Iterator[Explored]:
 
 
 def explored(fixture: Fixture, agents: Sequence[AgentWords], shown: Any, states: int = MOST_STATES,
-             limit: float = LIMIT) -> Explored:
-    """Tries the schedules of one match."""
-    team, started = Team(fixture.keys, {}, limit), time.monotonic()
+             limit: float = LIMIT, seconds: float = math.inf) -> Explored:
+    """Tries the schedules of one match, for this many seconds of a processor."""
+    team, started, until = Team(fixture.keys, {}, limit), time.monotonic(), time.process_time() + seconds
     team.start()
     try:
         scripts = [agent.script(fixture.setup) for agent in agents]
@@ -200,6 +203,8 @@ def explored(fixture: Fixture, agents: Sequence[AgentWords], shown: Any, states:
         try:
             for count in explorer.explore():
                 shown.update(count)
+                if time.process_time() > until:
+                    raise TooMany
         except (TooMany, KeyboardInterrupt):
             is_whole = False
         explorer.forget()

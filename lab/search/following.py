@@ -9,8 +9,9 @@ from lab.play.teams import AgentWords, Together
 from lab.rules.fixtures import Fixture
 from lab.rules.model import AWAY, ENDED
 from lab.rules.rehearsal import Rehearsal
-from lab.search.machines import SLEEP, WAKES, Machines, Step
+from lab.search.machines import Machines
 from lab.search.pasts import NoFunction
+from lab.search.seats import SLEEP, STOP, WAKES, Step
 
 
 class Followed:
@@ -33,9 +34,12 @@ class Followed:
             return
         self.memory = self._machines.next(self.memory, news)
 
-    def compare(self, step_number: int, is_blind: bool) -> None:
+    def compare(self, step_number: int, is_blind: bool, has_ended: bool) -> None:
         """Compares what the program does next with what was answered. Who sees nothing may still sleep."""
         player, step = self.player, self._machines.steps[self.memory]
+        if has_ended and step.does == STOP:
+            # nobody answers what it still says
+            return
         if player.state == SLEEPS and not is_blind:
             does = Step(SLEEP)
         elif player.state == WAITS and player.line is not None:
@@ -69,6 +73,7 @@ def follow(fixture: Fixture, agents: List[AgentWords], machines: Machines, seed:
                 one.go_on(WAKES)
             steps += 1
             if one.player.state != DONE:
-                one.compare(steps, run.match.agents[choice.agent].standing in (AWAY, ENDED))
+                standing = run.match.agents[choice.agent].standing
+                one.compare(steps, standing in (AWAY, ENDED), standing == ENDED)
     finally:
         team.stop()

@@ -11,13 +11,15 @@ from lab.play.agent_files import Script
 from lab.play.matches import IS_REFUSED, MOST_REFUSED, REFUSED
 from lab.play.players import DONE, SLEEPS, TRAVELS, WAITS, Player, Team
 from lab.rules.fixtures import Fixture, enters_as_another
-from lab.rules.model import AWAY, GONE, OVER, AgentState, Place, command_of, spelled, text_of
+from lab.rules.model import AWAY, ENDED, GONE, OVER, AgentState, Place, command_of, spelled, text_of
 from lab.rules.rehearsal import Rehearsal
 from lab.support.faults import Fault
 
 # how many programs are left where they wait, to go on from there
 MOST_LEFT = 4096
 READS = ("enter", "look", "write")
+# of an agent that sends more lines than it waits for answers
+EARLY = "agent {} sends a line before it has arrived: explore needs agents that wait for each answer"
 
 
 class NoFunction(Fault):
@@ -82,7 +84,7 @@ class Pasts:
         return found
 
     def _taken(self, past: Past, board: str) -> Tuple[Past, str]:
-        if past.state == SLEEPS:
+        if past.state == SLEEPS or is_unanswered(past):
             return self._next(past, (), past.agent, past.is_seated), board
         alone, number = self._alone, self._number
         ahead = self.node_ahead(past)
@@ -92,6 +94,8 @@ class Pasts:
             said = alone.draw(0)
         elif past.line is None:
             said = alone.end(number)
+        elif past.agent.standing == AWAY:
+            raise NoFunction(EARLY.format(number))
         elif not past.is_seated and enters_as_another(self._fixture, number, past.line):
             raise NoFunction(f"agent {number} enters with the key of another agent")
         else:
@@ -118,7 +122,7 @@ class Pasts:
     def _note(self, past: Past, before: Past) -> None:
         """Notes what the last step shows of the agent."""
         match = self._alone.match
-        if before.state != SLEEPS:
+        if before.state != SLEEPS and not is_unanswered(before):
             past.accused += tuple(match.accused)
             past.reached |= frozenset(match.reached)
             past.moves += sum(event["do"] == "depart" and event["reply"] == GONE for event in match.log)
@@ -168,12 +172,20 @@ class Pasts:
         return player
 
 
+def is_unanswered(past: Past) -> bool:
+    """Whether an agent says something once it has ended: nobody answers it."""
+    return past.state == WAITS and past.line is not None and past.agent.standing == ENDED
+
+
 def move(player: Player, before: Past, heard: Tuple[str, ...]) -> None:
     """Lets a player go on from a past by what it hears, or by waking."""
     if before.state == SLEEPS:
         player.go_on()
     elif before.state == WAITS and before.line is None:
         player.state = DONE
+    elif before.state == WAITS:
+        # its line is taken, also if nobody answers, as once the agent has ended
+        player.line = None
     for line in heard:
         player.hear(line)
 

@@ -333,7 +333,7 @@ class Exploring(InExplore):
         for leaves_out in (False, True):
             with self.subTest(leaves_out=leaves_out), contextlib.ExitStack() as stack:
                 if leaves_out:
-                    line_alone = mock.patch("lab.search.machines.memory_of",
+                    line_alone = mock.patch("lab.search.seats.memory_of",
                                             lambda thread, *_: thread.gr_frame.f_lineno)
                     stack.enter_context(line_alone)
                 machines = Machines(fixture, game.agents, 5)

@@ -1,0 +1,82 @@
+"""How `explore` checks that agents are the machines for which the lab takes them: the merges of their histories, drawn
+schedules that the agents play, and on small matches the Python model's search, which merges nothing."""
+from typing import Any, Optional
+
+from lab.play.teams import INSIDE, Game
+from lab.rules.engines import Differs
+from lab.rules.fixtures import Fixture
+from lab.search.asking import BREAKS, COMES, ENDLESS, FAILS, SOLVES, Found
+from lab.search.explore import Explored, explored
+from lab.search.following import follow
+from lab.search.machines import Machines
+from lab.search.pasts import NoFunction
+
+# for how many seconds of a processor the Python model searches a match beside the program, and how many states
+SECONDS, STATES = 1.0, 20_000
+
+
+class Checks:
+    """What was checked of a search. `str` says what, and that it agreed."""
+
+    def __init__(self, machines: Machines, game: Game, schedules: int, matches: int) -> None:
+        """Of this many schedules each match gets its part."""
+        self._machines, self._game, self._wanted, self._matches = machines, game, schedules, matches
+        self._seen = self._schedules = self._searched = 0
+        # whether the Python model's search of each match has come to an end in time so far
+        self._is_small = all(agent.kind == INSIDE for agent in game.agents)
+
+    def check(self, fixture: Fixture, found: Optional[Found], shown: Any) -> None:
+        """Checks a match of which the program has found this."""
+        before, self._seen = self._seen, self._seen + 1
+        if not self._wanted or found is None:
+            return
+        if found["found"] in (SOLVES, COMES):
+            first, last = (self._wanted * it // self._matches for it in (before, self._seen))
+            for seed in range(first, last):
+                follow(fixture, self._game.agents, self._machines, seed, self._game.limit)
+            self._schedules += last - first
+        if found["found"] != COMES and self._is_small:
+            self._is_small = self._is_searched(fixture, found, shown)
+            self._searched += self._is_small
+
+    def _is_searched(self, fixture: Fixture, found: Found, shown: Any) -> bool:
+        """Whether the Python model's search comes to an end in time; then it must come to the same."""
+        try:
+            beside = explored(fixture, self._game.agents, shown, STATES, self._game.limit, SECONDS)
+        except NoFunction:
+            # it refuses agents that enter as another one, of which the program says that they fail
+            if found["found"] == SOLVES:
+                raise
+            return False
+        finally:
+            shown.clear()
+        return compared(fixture, found, beside)
+
+    def __str__(self) -> str:
+        merges = f"{self._machines.beside.checked} of {self._machines.beside.merged} merges of histories"
+        if not self._wanted:
+            return f"nothing was checked: {merges}"
+        said = [merges, f"{self._schedules} drawn schedules"]
+        if self._searched:
+            said.append(f"the Python model's search of {self._searched} of {self._seen} matches")
+        return f"checked, and all agree: {', '.join(said)}"
+
+
+def compared(fixture: Fixture, found: Found, beside: Explored) -> bool:
+    """Whether the Python model's search was as far as to be compared with what the program found; they must agree."""
+    worst = beside.explorer.worst
+    has_failed, fails = worst is not None and worst.has_failed, found["found"] in (FAILS, BREAKS, ENDLESS)
+    if not beside.is_whole and not has_failed:
+        return False
+    if has_failed != fails:
+        raise Differs(f"home {fixture.setup.home} holes {fixture.setup.holes}: {'a' if fails else 'no'} schedule fails "
+                      f"by the program, and {'one' if has_failed else 'none'} by the Python model's search: {ODD}")
+    most = (worst.verdict.moves if worst else 0, 0 if fixture.held else beside.explorer.most_lost)
+    told = (found["moves"], 0 if fixture.held else found["lost"]) if found["found"] == SOLVES else most
+    if not fails and most != told:
+        raise Differs(f"home {fixture.setup.home} holes {fixture.setup.holes}: by the program the most moves and lost "
+                      f"agents are {told}, and {most} by the Python model's search: {ODD}")
+    return True
+
+
+ODD = "the agents are no functions of what they are told, or the lab has a mistake, of which we would like to hear"

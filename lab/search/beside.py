@@ -1,0 +1,99 @@
+"""Merges are checked. When a program comes to a memory to which another one has come before, the two are taken for
+one from then on. `Beside` keeps the second, tells it what the first is told, and compares what it holds then with what
+the first held, for some steps."""
+import collections
+from typing import Any, Dict, List, NamedTuple
+
+from lab.search.pasts import NoFunction
+from lab.search.seats import Seated, Way
+
+# of so many merges all are checked, then one of many, and of each place in a program this many at least; for how many
+# steps a program goes on beside another
+MERGES, ONE_OF, OF_EACH, STEPS = 1000, 16, 8, 4
+
+
+class Second(NamedTuple):
+    """A program that came to a memory second, how it came there, and for how many steps it still goes on."""
+
+    one: Seated
+    way: Way
+    steps: int
+
+
+class Beside:
+    """The programs that go on beside those that came to their memories first."""
+
+    def __init__(self, machines: Any, merges: int, most_waiting: int) -> None:
+        """Of this many merges at least all are checked, unless too many programs wait beside others."""
+        self._machines, self._merges, self._most_waiting = machines, merges, most_waiting
+        self.merged = self.checked = self.compared = 0
+        self._waiting: Dict[int, List[Second]] = {}
+        self._count = 0
+        self._of_each: Dict[Any, int] = collections.Counter()
+
+    def stop(self) -> None:
+        for waiting in self._waiting.values():
+            for second in waiting:
+                second.one.player.stop()
+        self._waiting = {}
+
+    def takes(self, memory: int, one: Seated, way: Way) -> bool:
+        """Whether this program, which has come to a memory second, goes on beside the first."""
+        if way == self._machines.ways[memory] or one.is_over():
+            return False
+        self.merged += 1
+        if not self._is_chosen(one):
+            return False
+        self.checked += 1
+        self._go_on(memory, Second(one, way, STEPS))
+        return True
+
+    def _is_chosen(self, one: Seated) -> bool:
+        """All are, while there are few; then one of many, and some of each place in each program."""
+        if not self._merges or self._count >= self._most_waiting:
+            return False
+        if self.checked < self._merges or self.merged % ONE_OF == 0:
+            return True
+        place = one.place()
+        self._of_each[place] += 1
+        return self._of_each[place] <= OF_EACH
+
+    def answered(self, memory: int, news: str, after: int) -> None:
+        """Tells those who wait at a memory what the first was told there."""
+        waiting = self._waiting.pop(memory, None)
+        if waiting:
+            self._count -= len(waiting)
+            for second in waiting:
+                self._step(memory, second, news, after)
+
+    def _go_on(self, memory: int, second: Second) -> None:
+        """Goes on by what was answered, or waits until something is."""
+        if not second.steps or second.one.is_over():
+            self._machines.leave(memory, second.one)
+            return
+        told = self._machines.told_at(memory)
+        if told is None:
+            self._waiting.setdefault(memory, []).append(second)
+            self._count += 1
+        else:
+            self._step(memory, second, *told)
+
+    def _step(self, memory: int, second: Second, news: str, after: int) -> None:
+        """Tells the second what the first was told at a memory, and compares what comes of it."""
+        machines = self._machines
+        machines.tell(second.one, news)
+        self.compared += 1
+        if machines.name_of(second.one, (memory, news)) != machines.names[after]:
+            raise NoFunction(self._difference(second, after))
+        self._go_on(after, second._replace(steps=second.steps - 1))
+
+    def _difference(self, second: Second, after: int) -> str:
+        """What is said of two programs that came to one memory and go on in two ways."""
+        machines, came = self._machines, second.way
+        agent, first = machines.way_to(after)
+        step, wanted = second.one.step(), machines.steps[after]
+        does = f"both {step}, and hold different things" if step == wanted else f"one {wanted}, the other {step}"
+        other = [*machines.way_to(came[0])[1], came[1]] if came[0] >= 0 else []
+        return (f"agent {agent} came to one memory in two ways, and goes on in two: {does}. What names its memory "
+                "leaves something out, or it is no function of what it holds. The ways: "
+                f"{' '.join(first) or 'nothing'}; {' '.join(other) or 'nothing'}")

@@ -1,0 +1,259 @@
+"""Names what one program holds: values, frames, functions, classes and modules. An object that two places share is
+named by the first of them."""
+import builtins
+import itertools
+import operator
+import sys
+import types
+from importlib.machinery import ModuleSpec, SourceFileLoader
+from typing import Any, Dict, Iterable, Iterator, List, NamedTuple, Optional, Protocol, Set, Tuple
+
+from lab.search.codes import Name, code_name, variables_of
+from lab.search.cpython import NOTHING, function_places, has_attributes, is_made_in_python, said_at, slots_of
+from lab.search.kinds import (NAMES, Plan, complex_name, exception_name, is_abstract, number_name, parts_name,
+                              plan_of)
+from lab.search.live import may_be_read
+from lab.search.still import Shared, is_still
+from lab.search.unnamed import Unnamed, an, instead_of
+
+# of a class these say nothing that is not named besides
+OF_CLASSES = {"__dict__", "__weakref__", "__module__"}
+# what a class says of itself
+SAYS = {"__doc__", "__annotations__"}
+MOST_BITS = 10_000
+
+
+class Knows(Protocol):
+    """What is known of a program whose values are named: see `Known`."""
+
+    labels: Dict[int, str]
+    key: str
+    shared: Shared
+    caches: Any
+    plans: Dict[int, Plan]
+    reflects: bool
+
+    def is_own(self, variables: Dict[str, Any]) -> bool: ...
+    def draws_by(self, variables: Dict[str, Any]) -> bool: ...
+    def standing(self, variables: Dict[str, Any]) -> Any: ...
+    def apart(self) -> "Knows": ...
+
+
+class Namer:
+    """Names the values that one program holds."""
+
+    def __init__(self, known: Knows) -> None:
+        self._known, self._labels = known, known.labels
+        self._seen: Dict[int, int] = {}
+        # keeps what is named, so that no other value gets its identity
+        self._kept: List[Any] = []
+        self._waiting: Set[int] = set()
+
+    def name(self, value: Any) -> Name:
+        kind = type(value)
+        if kind is str or value is None or kind is bytes:
+            return value
+        if kind is int:
+            return value if value.bit_length() < MOST_BITS else ("int", hex(value))
+        if kind is bool or kind is float:
+            return number_name(value)
+        if kind is complex:
+            return complex_name(value)
+        if kind is tuple:
+            return ("tuple", *map(self.name, value))
+        if id(value) in self._labels:
+            return ("known", self._labels[id(value)])
+        if id(value) in self._seen:
+            return ("again", self._seen[id(value)])
+        if value is Ellipsis or value is NotImplemented or value is NOTHING:
+            return ("constant", repr(value))
+        self._seen[id(value)] = len(self._seen)
+        self._kept.append(value)
+        names = NAMES.get(kind)
+        if names is not None:
+            return names(self, value)
+        return ("typing", repr(value)) if is_alias(value) else self._other(kind, value)
+
+    def names(self, values: Iterable[Tuple[Any, Any]]) -> Iterator[Name]:
+        return ((self.name(key), self.name(value)) for key, value in values)
+
+    # frames
+
+    def frames(self, frames: List[types.FrameType]) -> Iterator[Name]:
+        self._waiting.update(map(id, frames))
+        return map(self.frame, frames)
+
+    def is_waiting(self, frame: types.FrameType) -> bool:
+        """Whether a frame is one of those that the program waits in."""
+        return id(frame) in self._waiting
+
+    def frame(self, frame: types.FrameType) -> Name:
+        """A frame: its place in its code, its variables, its stack, and the variables of its module."""
+        code, named, names = frame.f_code, [], variables_of(frame.f_code)
+        for place, value in enumerate(slots_of(frame)):
+            try:
+                if type(value) is str and value == self._known.key and place < len(names) and not may_be_read(
+                        code, frame.f_lasti, names[place]):
+                    named.append(("key",))
+                else:
+                    named.append(self.name(value))
+            except Unnamed as what:
+                raise what.at(f"the variable {names[place]} of {code.co_qualname}" if place < len(names) else
+                              f"an unfinished expression of {code.co_qualname}")
+        return (code_name(code), frame.f_lasti, self.globals(frame.f_globals), *named)
+
+    # modules
+
+    def globals(self, variables: Dict[str, Any]) -> Name:
+        """The variables of a module that is the agent's own, each module once; else the module's name."""
+        module = variables.get("__name__")
+        if id(variables) in self._seen:
+            return ("module again", self._seen[id(variables)])
+        is_own = self._known.is_own(variables)
+        loaded = sys.modules.get(module) if isinstance(module, str) else None
+        if not is_own and loaded is not None and vars(loaded) is variables:
+            return self.module_of(loaded)
+        self._seen[id(variables)] = len(self._seen)
+        self._kept.append(variables)
+        if self._known.draws_by(variables):
+            return ("random",)
+        standing = self._known.standing(variables)
+        return ("module", module, standing.names, *map(self.told, standing.caches),
+                *map(self._variable, itertools.repeat(variables), standing.others))
+
+    def told(self, cache: Any) -> Name:
+        """What of a cache is to be named."""
+        told = self._known.caches.told_of(cache, self._known)
+        if told is None:
+            raise Unnamed(f"a cache of {cache.__wrapped__.__qualname__}, which may hold more than what follows from "
+                          "its arguments", instead="keep what it computes in a dict")
+        return tuple(self.names(told))
+
+    def _variable(self, variables: Dict[str, Any], name: str) -> Name:
+        try:
+            return name, self.name(variables[name])
+        except Unnamed as what:
+            raise what.at(f"the variable {name} of the module {variables.get('__name__')}")
+
+    def module_of(self, value: types.ModuleType) -> Name:
+        """A module that all programs share."""
+        self._known.shared.watch_module(value)
+        return ("module", value.__name__)
+
+    # objects
+
+    def _other(self, kind: type, value: Any) -> Name:
+        """What is of no type that is named here: a class, a module, or an object of a class in Python."""
+        if isinstance(value, type):
+            return self.kind(value)
+        if isinstance(value, types.ModuleType):
+            return self.globals(vars(value))
+        if isinstance(value, BaseException):
+            return (exception_name(self, value), self.name(kind), self._parts(kind, value))
+        if not is_made_in_python(kind):
+            raise Unnamed(an(kind), not is_still(kind.__module__), instead_of(kind))
+        return ("object", self.name(kind), self._parts(kind, value))
+
+    def _parts(self, kind: type, value: Any) -> Name:
+        plan = self._known.plans.get(id(kind)) if id(kind) in self._labels else None
+        if plan is None:
+            plan = plan_of(kind)
+            if id(kind) in self._labels:
+                self._known.plans[id(kind)] = plan
+        return parts_name(self, plan, value)
+
+    def kind(self, value: type) -> Name:
+        """A class: one that others see too by its name, one of the agent's own by all that stands in it."""
+        if is_found_in_modules(value):
+            self._known.shared.watch_class(value)
+            return ("class", value.__module__, value.__qualname__)
+        return ("class", value.__module__, value.__qualname__, value.__name__, self.name(type(value)),
+                *map(self.name, value.__bases__),
+                *((it, self.name(part)) for it, part in vars(value).items()
+                  if it not in OF_CLASSES and (self._known.reflects or it not in SAYS)
+                  and not is_abstract(value, part)))
+
+    def function(self, value: types.FunctionType) -> Name:
+        """A function. One of a module that programs share is named once, and again if it has changed."""
+        if type(self) is not Namer or self._known.is_own(value.__globals__) or not is_simple(value):
+            return self._function_by_parts(value)
+        found = self._known.shared.functions.get(id(value))
+        says = said_at(function_places(value))
+        if found is None or found.says != says:
+            name = Namer(self._known.apart())._function_by_parts(value)
+            found = self._known.shared.functions[id(value)] = SharedFunction(value, says, name)
+        return found.name
+
+    def _function_by_parts(self, value: types.FunctionType) -> Name:
+        return ("function", code_name(value.__code__), value.__name__, value.__qualname__, value.__module__,
+                *map(self.name, (value.__defaults__, value.__kwdefaults__)), *map(self.name, value.__closure__ or ()),
+                *(self._says(value) if self._known.reflects else ()),
+                *(self.names(vars(value).items()) if has_attributes(value) else ()), self.globals(value.__globals__))
+
+    def _says(self, value: types.FunctionType) -> Iterator[Name]:
+        """What a function says of itself, which a program may change: what it is about, and its annotations."""
+        yield self.name(value.__doc__)
+        yield from ((name, annotation_name(self, it)) for name, it in value.__annotations__.items())
+
+    def cell(self, value: Any) -> Name:
+        try:
+            return ("cell", self.name(value.cell_contents))
+        except ValueError:
+            return ("cell",)
+
+
+class SharedFunction(NamedTuple):
+    """A function of a module that programs share, what its parts were, and its name."""
+
+    function: types.FunctionType
+    says: bytes
+    name: Name
+
+
+def is_given(name: str, value: Any) -> bool:
+    """Whether a variable of a module is one that Python gives it, as it gave it."""
+    if name == "__builtins__":
+        return value is builtins or value is vars(builtins)
+    if name == "__spec__":
+        return type(value) is ModuleSpec and not vars(value).keys() - SPEC
+    return name == "__loader__" and type(value) is SourceFileLoader and not vars(value).keys() - {"name", "path"}
+
+
+SPEC = vars(ModuleSpec("one", None)).keys() | {"_uninitialized_submodules"}
+
+
+def annotation_name(namer: Namer, value: Any) -> Name:
+    """What stands at a parameter: mostly a class."""
+    if isinstance(value, type) and is_found_in_modules(value):
+        return (value.__module__, value.__qualname__)
+    return namer.name(value)
+
+
+def is_alias(value: Any) -> bool:
+    """Whether this is what `typing` makes, such as `Dict[str, int]`, without attributes that others gave it."""
+    kind = type(value)
+    return kind.__module__ == "typing" and not isinstance(value, type) and (
+        hasattr(value, "__origin__") or ALIAS.issuperset(getattr(value, "__dict__", ())))
+
+
+# the attributes of what `typing` makes
+ALIAS = {"_name", "_inst", "_getitem", "__doc__", "__module__", "__bound__", "__constraints__", "__covariant__",
+         "__contravariant__", "__name__"}
+
+
+def is_simple(function: types.FunctionType) -> bool:
+    """Whether a function has no closure, no attributes, and defaults that are plain."""
+    held = (*(function.__defaults__ or ()), *(function.__kwdefaults__ or {}).values())
+    return not function.__closure__ and not has_attributes(function) and all(
+        type(it) in (int, str, bytes, bool, float, type(None)) for it in held)
+
+
+def is_found_in_modules(kind: type) -> bool:
+    """Whether a class is the one that its module has for all."""
+    module: Optional[types.ModuleType] = sys.modules.get(kind.__module__)
+    if module is None:
+        return False
+    try:
+        return operator.attrgetter(kind.__qualname__)(module) is kind
+    except AttributeError:
+        return not is_made_in_python(kind)

@@ -1,0 +1,227 @@
+"""The programs of agents, each by itself: how they begin, what they do next once they are told something, and what they
+hold then."""
+import collections
+import hashlib
+import json
+import pathlib
+from typing import Any, Dict, List, NamedTuple, Optional, Tuple
+
+from lab.play import programs
+from lab.play.agent_files import AGENTS, CLIENT
+from lab.play.matches import STUCK
+from lab.play.outside import notes_of
+from lab.play.players import DONE, SLEEPS, TRAVELS, WAITS, Player, Team
+from lab.play.teams import INSIDE, AgentWords
+from lab.rules.fixtures import Fixture
+from lab.rules.model import GONE, LAST, OVER as TOLD_OVER, command_of, denial, spelled, text_of
+from lab.search.caches import Caches
+from lab.search.live import may_tell_itself
+from lab.search.memories import memory_of, own_modules
+from lab.search.pasts import EARLY, NoFunction
+from lab.search.standing import Known
+from lab.search.still import Shared
+from lab.search.unnamed import Unnamed
+
+WAKES = "wakes"
+SAYS, SLEEP, STOP, FAIL, LEAVE = "says", "sleeps", "stops", "fails", b'{"do":"leave"}'
+# what an agent is told last, and that after which it sees nothing
+ENDS = {spelled(reply) for reply in LAST}
+OVER, BLIND = spelled(TOLD_OVER), ENDS | {spelled(GONE)}
+# how a memory was met first: from which memory, or from the start of which agent, and by what
+Way = Tuple[int, str]
+
+
+class Step(NamedTuple):
+    """What an agent does next: it says a line, sleeps, stops or has failed."""
+
+    does: str
+    line: bytes = b""
+
+    def __str__(self) -> str:
+        return f"says {self.line.decode(errors='replace')}" if self.does == SAYS else self.does
+
+
+class Seated:
+    """An agent's program, and whether it has entered, was denied, and has ended."""
+
+    def __init__(self, player: Any) -> None:
+        self.player = player
+        self.has_entered = False
+        self.is_denied = False
+        self.has_ended = False
+        # of a program inside the lab, what is known of it across its memories
+        self.known: Optional[Known] = None
+        # whether it may share state with others
+        self.is_alone = False
+
+    def is_over(self) -> bool:
+        """Whether nothing more comes of the program."""
+        return self.has_ended or self.is_denied or self.player.state == DONE or self.player.fault is not None
+
+    def place(self) -> Tuple[Any, ...]:
+        """Where the program waits, of an agent inside the lab."""
+        frame = self.player._thread.gr_frame if isinstance(self.player, Player) else None
+        found = []
+        while frame is not None:
+            found.append((frame.f_code.co_qualname, frame.f_lasti))
+            frame = frame.f_back
+        return (self.player.number, *found)
+
+    def step(self) -> Step:
+        """What the program does next."""
+        player, is_over = self.player, self.is_denied or self.has_ended
+        if player.fault is not None:
+            return Step(FAIL)
+        if player.state == SLEEPS and not is_over:
+            return Step(SLEEP)
+        if player.state != WAITS or is_over:
+            return Step(STOP)
+        if player.line is None:
+            return Step(SAYS, LEAVE) if self.has_entered else Step(STOP)
+        if not player.line.strip() or b"\n" in player.line:
+            raise NoFunction(f"agent {player.number} sends {player.line!r}, which is no line")
+        return Step(SAYS, player.line)
+
+
+class Seats:
+    """Begins the programs of a team's agents, tells them what happens, and names what they hold."""
+
+    def __init__(self, fixture: Fixture, agents: List[AgentWords], seconds: float) -> None:
+        self.unnamed: Dict[str, int] = collections.Counter()
+        self.shared = Shared(CLIENT)
+        self._fixture, self._agents, self._caches = fixture, agents, Caches()
+        inside = [agent for agent in agents if agent.kind == INSIDE]
+        self._scripts = {agent.words: agent.script(fixture.setup) for agent in inside}
+        self._team, self._outside = Team(fixture.keys, {}, seconds), programs.Team(fixture, {}, seconds)
+        folders = {str(folder_of(agent.words)) for agent in inside if agent.function is None}
+        self._is_own = own_modules(sorted({str(AGENTS), *folders}), CLIENT)
+        # the parts of a player that are the lab's
+        self._parts = frozenset[str]()
+        # by the words of an agent and the names of its modules, whether it is one machine for each number
+        self._is_apart: Dict[Tuple[str, ...], bool] = {}
+
+    def start(self) -> None:
+        self._team.start()
+
+    def stop(self) -> None:
+        self._team.stop()
+
+    def begun(self, agent: int) -> Seated:
+        """The program of an agent, which has begun."""
+        words, key = self._agents[agent].words, self._fixture.keys[agent]
+        if self._agents[agent].kind == INSIDE:
+            player: Any = Player(self._team, agent, key, self._scripts[words])
+            self._parts = self._parts or frozenset(vars(player))
+            one = Seated(player)
+            one.known = Known({id(player): "lines"}, self._is_own, self.shared, self._caches, player.modules.random)
+            one.known.key, one.known.own = key, player.modules.own
+            player.go_on()
+        else:
+            player = programs.Player(self._outside, agent, words, programs.Here())
+            player.start()
+            player.begin()
+            player.settle()
+            one = Seated(player)
+        self._deny(one)
+        return one
+
+    def tell(self, one: Seated, news: str) -> None:
+        """Tells a program a line, or wakes it."""
+        player = one.player
+        if player.state == DONE or one.is_denied:
+            return
+        if news == WAKES:
+            player.go_on()
+        elif player.state == WAITS and player.line is None:
+            # its input had ended, so it hears nothing
+            player.state = DONE
+        else:
+            one.has_entered = True
+            player.hear(news)
+        self._deny(one)
+        one.has_ended = one.has_ended or news in ENDS
+        if news in BLIND and news != OVER:
+            self._wake(player)
+        if news == spelled(GONE) and player.state == WAITS and player.line is not None:
+            raise NoFunction(EARLY.format(player.number))
+
+    def _wake(self, player: Any) -> None:
+        """Wakes an agent that sees nothing: what it does then depends on nothing that happens. It wakes as often as it
+        may, and is stuck if it still sleeps."""
+        for _ in range(self._fixture.naps + 1):
+            if player.state == SLEEPS:
+                player.go_on()
+        if player.state == SLEEPS:
+            player.fault = player.fault or STUCK
+
+    def _deny(self, one: Seated) -> None:
+        """Denies what a server denies: a first line that does not enter by the agent's key."""
+        player = one.player
+        if one.has_entered or player.state != WAITS or player.line is None:
+            return
+        command, own = command_of(text_of(player.line)), self._fixture.keys[player.number]
+        key = command.get("key")
+        if key in self._fixture.keys and key != own:
+            player.stop("enters with the key of another agent")
+            one.is_denied = True
+        elif denial(command, [own], []) is not None:
+            one.is_denied = True
+            player.hear(spelled(denial(command, [own], [])))
+
+    def name(self, one: Seated, way: Way) -> bytes:
+        """A name of what a program holds and does next. If that has none, its history stands for it, and the program is
+        alone if others may share what has no name."""
+        one.is_alone = False
+        player, step = one.player, one.step()
+        if step.does == FAIL:
+            held: Any = ("failed",)
+        elif step.does == STOP and (player.state != TRAVELS or one.has_ended) or player.line is None and step.line:
+            held = ("ended",)
+        elif not isinstance(player, Player):
+            declared = declared_in(step.line)
+            held = ("since", way) if declared is None else ("declared", player.number, declared)
+        else:
+            held = self._held(one) or ("since", way)
+        state = DONE if one.has_ended or step.does == FAIL else player.state
+        name = (self._agents[player.number].words, step, state, held)
+        return hashlib.blake2b(repr(name).encode("utf-8", "backslashreplace"), digest_size=24).digest()
+
+    def _held(self, one: Seated) -> Any:
+        """What the frames of a program hold, or None if that has no name."""
+        player, known = one.player, one.known
+        assert known is not None
+        try:
+            reaches = notes_of(player._thread).reaches
+            if reaches:
+                raise Unnamed(reaches, True, "keep what is to be known later in a variable")
+            more = {it: value for it, value in vars(player).items() if it not in self._parts}
+            own = [it for name, it in player.modules.own().items() if name != "random"]
+            held = memory_of(player._thread, known, more, own)
+            return ("holds", self._apart(player), held, tuple(player._heard), player._is_over, player._is_closed)
+        except Unnamed as what:
+            one.is_alone = what.is_shared
+            self.unnamed[str(what)] += 1
+            return None
+
+    def _apart(self, player: Player) -> Any:
+        """The number of an agent, if its modules may tell that but by its key."""
+        own = player.modules.own()
+        key = self._agents[player.number].words, *own
+        if key not in self._is_apart:
+            variables = [vars(it) for name, it in own.items() if name != "random"]
+            self._is_apart[key] = not variables or any(map(may_tell_itself, variables))
+        return player.number if self._is_apart[key] else None
+
+
+def folder_of(words: str) -> pathlib.Path:
+    """The folder of the file that an agent's words name."""
+    return pathlib.Path(words.split()[0].partition(":")[0]).parent.resolve()
+
+
+def declared_in(line: bytes) -> Any:
+    """What a line declares that its program holds, as it is spelled, or None."""
+    try:
+        said = json.loads(line)
+    except ValueError:
+        return None
+    return json.dumps(said["memory"], sort_keys=True) if isinstance(said, dict) and "memory" in said else None

@@ -1,0 +1,94 @@
+"""An agent that is drawn by chance, and is a function of its key and of what it has heard. It sleeps, naps, raises,
+polls, leaves, is refused, crashes when the match is over, says lines after its end, and may send a line before it
+arrives."""
+import hashlib
+import json
+
+from client import MatchOver
+
+GONE, OVER = '{"ok":"gone"}', '{"ok":"over"}'
+
+
+class Drawn:
+    """What it does next is drawn by all that it has heard."""
+
+    def __init__(self, salt, lines, sleep, is_early):
+        self._heard, self._lines, self._sleep, self._is_early = salt, lines, sleep, is_early
+
+    def draw(self, below):
+        self._heard += "."
+        return int.from_bytes(hashlib.sha256(self._heard.encode()).digest()[:4], "big") % below
+
+    def hear(self):
+        line = self._lines.receive()
+        self._heard += line
+        return line
+
+    def say(self, command):
+        """What it is answered, after its arrival if it departs. Some crash when the match is over."""
+        self._lines.send(json.dumps(command, separators=(",", ":")))
+        line = self.hear()
+        if line == GONE:
+            if self._is_early and self.draw(6) == 0:
+                return self.say_early()
+            if self.draw(4) == 0:
+                self._sleep(1)
+            line = self.hear()
+        if line == OVER:
+            if self.draw(3) == 0:
+                raise RuntimeError("the match is over")
+            raise MatchOver()
+        return json.loads(line)
+
+    def say_early(self):
+        """Says a line on its link, which waits there until it has arrived."""
+        self._lines.send('{"do":"look"}')
+        found = [self.hear(), self.hear()]
+        if OVER in found:
+            raise MatchOver()
+        return json.loads(found[1])
+
+    def end(self, command):
+        """Ends, and may say something then, which nobody answers."""
+        self.say(command)
+        if self.draw(3) == 0:
+            self._lines.send('{"do":"look"}')
+            if self.draw(2):
+                self.hear()
+
+    def act(self, board):
+        """Does one thing; None if that was the last."""
+        kind = self.draw(20)
+        if kind < 6:
+            return self.say({"do": "depart", "port": self.draw(2)})
+        if kind < 10:
+            return self.say({"do": "write", "expect": board, "put": ("", "a", "b")[self.draw(3)]})
+        if kind < 13:
+            self._sleep(1)
+            return {}
+        if kind in (15, 16):
+            return self.end({"do": "accuse", "port": self.draw(2)} if kind == 15 else {"do": "leave"})
+        if kind == 18:
+            raise ValueError("a mistake")
+        return None if kind == 19 else self.say({"do": "bad" if kind == 17 else "look"})
+
+    def run(self, key, length):
+        if self.draw(5) == 0:
+            self._sleep(1)
+        if self.draw(12) == 0:
+            return
+        board = self.say({"do": "enter", "key": key}).get("board", "")
+        for _ in range(length):
+            heard = self.act(board)
+            if heard is None:
+                return
+            board = heard.get("board", board)
+        if self.draw(2):
+            self.end({"do": "accuse", "port": self.draw(2)})
+
+
+def search(agent, key, seed, length, early, roles, sleep):
+    """Each agent of a match has a role of its own: by its key, or by what its module `random` draws."""
+    import random
+    role = (key, str(random.random()), "")[roles]
+    Drawn(f"{seed}-{role}", agent._lines, sleep, bool(early)).run(key, length)
