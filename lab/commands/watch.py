@@ -30,6 +30,9 @@ def add_words(parser: argparse.ArgumentParser) -> None:
     parser.add_argument("--port", metavar="N", type=int, default=8080, help="the port to listen on (8080)")
     parser.add_argument("--address", metavar="A", default="127.0.0.1", help="the address to listen on (127.0.0.1); "
                         "0.0.0.0 shows the page to every machine that reaches this one")
+    parser.add_argument("--host", metavar="NAME", action="append", default=[], type=str.lower, help="answer also who "
+                        "asks for this name, and more by more of these; whoever asks by an address, by localhost or by "
+                        "this machine's name is answered anyway")
     parser.add_argument("--turns", metavar="K", type=int, help="how many turns a match has, as `serve` was told")
     parser.add_argument("--pause", metavar="MS", type=int, help="the pause before each turn, as `serve` was told")
     parser.add_argument("--open", action="store_true", help="show each match as it goes, with its black holes: for "
@@ -38,5 +41,5 @@ def add_words(parser: argparse.ArgumentParser) -> None:
 
 def run(words: argparse.Namespace) -> int:
     turns = {"turns": words.turns, "pause": words.pause} if words.turns and words.pause else {}
-    show(words.tournament, words.prefix, (words.address, words.port), turns, words.open)
+    show(words.tournament, words.prefix, (words.address, words.port), turns, words.open, words.host)
     return 0

@@ -25,7 +25,7 @@ class Feed:
         self._begin()
 
     def _begin(self) -> None:
-        self.match, self._file, self._read, self._rest = None, -1, 0, b""
+        self.match, self.since, self._file, self._read, self._rest = None, None, -1, 0, b""
 
     def look(self) -> bool:
         """Reads what is new; answers whether there was anything. A replay has what its part had, so reading goes on in

@@ -1,10 +1,13 @@
 """A web server that shows a contest while it goes on, and tells no more than lab/pages/screen.py allows."""
 import asyncio
 import contextlib
+import ipaddress
 import json
 import pathlib
+import re
+import socket
 import time
-from typing import Any, Callable, Dict, List, Optional, Tuple
+from typing import Any, Callable, Collection, Dict, List, Mapping, Optional, Tuple
 
 from lab.pages.contest_pages import Shown, matches_of
 from lab.pages.feeds import Feed, feeds
@@ -171,25 +174,56 @@ def headers(policy: str) -> Dict[str, str]:
             "Referrer-Policy": "no-referrer", "Cache-Control": "no-store"}
 
 
-def application(contest: Contest, title: str, turns: Dict[str, int]) -> Any:
-    """The web server's application, which looks at the files while it serves."""
+def is_own_name(host: str, names: Collection[str]) -> bool:
+    """Whether a host that is asked for is this machine by its address or by one of these names. Another name may be one
+    that a page elsewhere has led here, to read what this machine alone may see."""
+    name = host.rpartition(":")[0] if re.search(r":\d+$", host) else host
+    with contextlib.suppress(ValueError):
+        ipaddress.ip_address(name.strip("[]"))
+        return True
+    return name.lower() in {"localhost", socket.gethostname().lower(), *names}
+
+
+def refusal(asked: Mapping[str, str], names: Collection[str]) -> str:
+    """Why a request is refused, by its headers, or nothing. A page elsewhere may lead to these pages, and not read
+    them."""
+    host, origin, site = (asked.get(name, "") for name in ("Host", "Origin", "Sec-Fetch-Site"))
+    if not is_own_name(host, names):
+        return f"this is no page of {host}: ask by the address of this machine, or name {host} by --host\n"
+    is_other = origin not in ("", f"http://{host}") or site not in ("", "none", "same-origin")
+    if is_other and asked.get("Sec-Fetch-Mode") != "navigate":
+        return "pages of other hosts may not read this one\n"
+    return ""
+
+
+def application(contest: Contest, title: str, turns: Dict[str, int], names: Collection[str] = ()) -> Any:
+    """The web server's application, which looks at the files while it serves. It answers for this machine and for hosts
+    of these names."""
     web = needed("aiohttp.web")
+
+    async def for_own_pages(request: Any, handler: Any) -> Any:
+        said = refusal(request.headers, names)
+        if said:
+            return web.Response(status=403, text=said, headers=headers(STRICT))
+        return await handler(request)
 
     async def looking(app: Any) -> Any:
         task = asyncio.create_task(contest.watch())
         yield
         task.cancel()
-    app = web.Application()
+    app = web.Application(middlewares=[web.middleware(for_own_pages)])
     app.add_routes(Pages(web, contest, title, turns).routes())
     app.cleanup_ctx.append(looking)
     return app
 
 
-def show(tournament: pathlib.Path, prefix: str, place: Tuple[str, int], turns: Dict[str, int], is_open: bool) -> None:
-    """Shows the contest of a tournament's file at an address and port until it is interrupted."""
+def show(tournament: pathlib.Path, prefix: str, place: Tuple[str, int], turns: Dict[str, int], is_open: bool,
+         names: Collection[str] = ()) -> None:
+    """Shows the contest of a tournament's file at an address and port until it is interrupted. Names of hosts are those
+    by which it may be asked for, besides addresses and this machine's name."""
     web, matches, (address, port) = needed("aiohttp.web"), matches_of(tournament), place
 
     async def made() -> Any:
-        return application(Contest(matches, prefix, is_open), tournament.stem, turns)
+        return application(Contest(matches, prefix, is_open), tournament.stem, turns, names)
     web.run_app(made(), host=address, port=port, access_log=None, shutdown_timeout=1,
                 print=lambda *_: print(f"watch http://{address}:{port}/", flush=True))

@@ -66,10 +66,10 @@ class Watching(InFolder):
         (self.folder / f"m{number}.jsonl").write_text(self.matches[number].replay(), encoding="utf-8")
         self.part(number).unlink()
 
-    def asked(self, path: str) -> "http.client.HTTPResponse":
+    def asked(self, path: str, **headers: str) -> "http.client.HTTPResponse":
         connection = http.client.HTTPConnection("127.0.0.1", self.port, timeout=SECONDS)
         self.addCleanup(connection.close)
-        connection.request("GET", path)
+        connection.request("GET", path, headers={name.replace("_", "-"): value for name, value in headers.items()})
         return connection.getresponse()
 
     def status(self, path: str) -> int:
@@ -130,6 +130,65 @@ class Watching(InFolder):
         self.matches[0], self.written[0] = Match(self.matches[0].setup), 0
         self.write(0)
         self.told(lambda rows: any(row.get("entered") == 0 for row in rows))
+
+    def test_pages_elsewhere_read_nothing(self) -> None:
+        """A page whose name leads to this machine, and one that asks from another origin."""
+        self.matches[0].tell(0, {"do": "enter"})
+        self.write(0)
+        self.watch("--open", "--host", "Projector.example")
+        self.told(lambda rows: any(row.get("entered") for row in rows))
+        here = f"127.0.0.1:{self.port}"
+        for status, given in ((403, {"Host": f"evil.example:{self.port}"}), (403, {"Host": "evil.example"}),
+                              (403, {"Host": "127.0.0.1.evil.example"}), (403, {"Origin": "http://evil.example"}),
+                              (403, {"Origin": "null"}), (403, {"Sec_Fetch_Site": "cross-site"}),
+                              (403, {"Sec_Fetch_Site": "same-site", "Sec_Fetch_Mode": "no-cors"}),
+                              (200, {}), (200, {"Host": f"localhost:{self.port}"}), (200, {"Host": "[::1]:80"}),
+                              (200, {"Host": "projector.example"}), (200, {"Origin": f"http://{here}", "Host": here}),
+                              (200, {"Sec_Fetch_Site": "same-origin"}),
+                              (200, {"Sec_Fetch_Site": "cross-site", "Sec_Fetch_Mode": "navigate"})):
+            for path in ("/match/0/data", "/", "/standings"):
+                with self.subTest(given=given, path=path):
+                    self.assertEqual(self.asked(path, **given).status, status)
+
+    def test_nothing_is_sent_while_nothing_new_is_shown(self) -> None:
+        """What an agent does in a match that runs moves no heartbeat either."""
+        for number in (0, 1):
+            self.matches[number].tell(0, {"do": "enter"})
+            self.write(number)
+        self.watch()
+        stream = self.asked("/standings")
+        while stream.readline().count(b'"entered": 1') < 2:
+            pass
+        self.assertEqual(stream.readline(), b"\n")
+        for _ in range(3):
+            self.matches[0].tell(0, {"do": "look"})
+            self.write(0)
+            time.sleep(0.7)
+        stream.fp.raw._sock.settimeout(1)  # type: ignore[union-attr]
+        with self.assertRaises(TimeoutError):
+            stream.readline()
+
+    def test_the_page_of_a_closed_match_waits_for_the_others(self) -> None:
+        self.matches[0].close()
+        for number in (0, 1):
+            self.write(number)
+        self.watch()
+        self.told(lambda rows: any(row["state"] == "is over" for row in rows))
+        self.assertEqual(self.status("/match/0"), 404)
+
+    def test_news_are_those_of_the_match(self) -> None:
+        for number in (0, 1):
+            self.matches[number].tell(0, {"do": "enter"})
+            self.write(number)
+        self.watch("--open")
+        self.told(lambda rows: all(row.get("entered") for row in rows))
+        stream = self.asked("/match/1/news")
+        first = stream.readline()
+        self.matches[1].tell(0, {"do": "look"})
+        self.write(1)
+        while not (line := stream.readline()).startswith(b"data: "):
+            pass
+        self.assertNotEqual(json.loads(first[6:])["grown"], json.loads(line[6:])["grown"])
 
     def test_an_open_match_has_its_page_at_once(self) -> None:
         self.matches[0].tell(0, {"do": "enter"})

@@ -5,7 +5,7 @@ from typing import Any, Dict, List
 
 from lab.pages.screen import NOT_BEGUN, OVER, RUNS, Watched, shown, standings
 from lab.rules.model import Match, Setup
-from lab.rules.networks import flipped_ring
+from lab.rules.networks import flipped_ring, ring
 
 Event = Dict[str, Any]
 
@@ -88,6 +88,26 @@ class Rows(unittest.TestCase):
         self.assertEqual([(row["team"], row["page"]) for row in standings(running)], [("blue", False), ("red", False)])
         self.match.close()
         self.assertEqual([(row["team"], row["page"]) for row in standings(running)], [("blue", True), ("red", True)])
+
+
+class Rows(unittest.TestCase):
+    def setUp(self) -> None:
+        self.matches = [Match(Setup(3, ring(3).links, 0, [2], 2, 10, 8)) for _ in range(2)]
+
+    def test_running_matches_stand_in_their_order(self) -> None:
+        """Whatever happens in them: the number of events is nothing that is shown."""
+        for busy in range(2):
+            for match in self.matches:
+                match.tell(0, {"do": "enter"})
+            for _ in range(5):
+                self.matches[busy].tell(0, {"do": "look"})
+            rows = standings([Watched(team, match, 7) for team, match in zip("ab", self.matches)])
+            self.assertEqual([row["match"] for row in rows], [0, 1])
+
+    def test_who_has_ended_has_entered(self) -> None:
+        self.matches[0].tell(0, {"do": "enter"})
+        self.matches[0].tell(0, {"do": "leave"})
+        self.assertEqual(shown(Watched("a", self.matches[0], 7), False)["entered"], 1)
 
 
 if __name__ == "__main__":
