@@ -5,6 +5,7 @@ from typing import Any, List, NamedTuple, Tuple
 
 from lab.commands.trying import (FAILURES, FOUND, Search, Tried, Wanted, all_tried, found_in, shown_failure,
                                  shown_schedule)
+from lab.rules.engines import Differs
 from lab.rules.fixtures import Fixture
 from lab.rules.model import Object
 from lab.search.asking import BREAKS, EXCEEDS, Draws, asked
@@ -81,6 +82,8 @@ def told(wanted: Wanted, draws: Draws, search: Search) -> int:
     if last.answered.found["found"] in FOUND:
         print(f"{counts}: a schedule fails")
         return shown_failure(wanted, last)
+    if failed:
+        raise Differs(f"the program counts {failed} drawn schedules that fail, and tells one that solves its network")
     print(f"{counts}: none of them fails, which says nothing of the others; {search.checks}")
     shown_worst(wanted, draws, tries)
     return 0
