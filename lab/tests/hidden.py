@@ -29,6 +29,7 @@ PLAIN: Dict[str, Hides] = {
     "Ellipsis": Hides("... if b else NotImplemented"), "keys of a dict": Hides("{b: 1}.keys()"),
     "values of a dict": Hides("{1: b}.values()"), "items of a dict": Hides("{1: b}.items()"),
     "a view of a dict": Hides("types.MappingProxyType({1: b})", "import types"),
+    "the order of a set": Hides("{8, 0} if b else {0, 8}"),
     "the table of a set": Hides("table(b)", "def table(b):\n    s = set(range(20)) if b else set()\n"
                                 "    [s.discard(i) for i in range(20)]\n    s.add(1)\n    return s"),
 }

@@ -7,11 +7,12 @@ import unittest
 from typing import Any, Dict, List
 from unittest import mock
 
-from lab.course import course, league, users
+from lab.course import course, grading, league, users
 from lab.course.cells import Walls
 from lab.course.course import Course, course_of
 from lab.play import programs
 from lab.play.schedulers import ANSWER, Choice, in_runs
+from lab.play.spread import Result
 from lab.search.cutting import Cut, Runs, in_words, runs_of, tidy
 from lab.sweep import tables
 from lab.sweep.grid import NoSweep
@@ -253,6 +254,18 @@ class Words(unittest.TestCase):
         self.assertIn("has used up the time of its match, 7 s in all", clock.says("has sent no line within"))
         with programs.Clock(0.01, 1) as until, clock as later:
             self.assertGreater(later - until, 3)
+
+
+class Budgets(unittest.TestCase):
+    def test_the_seconds_of_a_team_add_up_over_its_matches(self) -> None:
+        """Four matches of six seconds each, and ten seconds in all: the third and fourth come too late."""
+        budget, case = grading.Budget(10, {"red": 0.0}), mock.Mock(number=0)
+        case.team.name = "red"
+        results = (Result(grading.Timed([str(number)], 6.0), "") for number in range(4))
+        with mock.patch.object(grading, "over_processes", return_value=results):
+            job: Any = None
+            found = [it.found for it in grading.in_time(job, [case] * 4, 1, budget, lambda _: "late")]
+        self.assertEqual(found, [["0"], ["1"], "late", "late"])
 
 
 if __name__ == "__main__":
