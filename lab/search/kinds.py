@@ -14,6 +14,7 @@ import functools
 import gc
 import io
 import itertools
+import logging
 import operator
 import random
 import re
@@ -210,6 +211,18 @@ def context_name(namer: Names, value: decimal.Context) -> Name:
     return ("context", *map(namer.name, value.__reduce__()[1]))
 
 
+def logger_name(namer: Names, value: logging.Logger) -> Name:
+    """A logger, which all programs of this process share, as long as nobody gave it attributes."""
+    if vars(value).keys() - OF_LOGGER:
+        raise Unnamed("a logger with attributes, which all programs of this process share", True,
+                      "keep them in variables of your own")
+    return ("logger", value.name, value.level, value.propagate, value.disabled, namer.module_of(logging))
+
+
+# the attributes that each logger has
+OF_LOGGER = frozenset(vars(logging.Logger("one"))) | {"manager", "parent"}
+
+
 def wrapped_name(namer: Names, value: Any) -> Name:
     """A static method or one of a class, which may have attributes."""
     extra = {it: part for it, part in vars(value).items() if it not in functools.WRAPPER_ASSIGNMENTS}
@@ -263,7 +276,7 @@ NAMES: Dict[type, Naming] = {
     datetime.timezone: date_name,
     decimal.Decimal: lambda namer, it: ("decimal", str(it)),
     decimal.Context: context_name,
-    io.StringIO: stream_name, io.BytesIO: stream_name,
+    io.StringIO: stream_name, io.BytesIO: stream_name, logging.Logger: logger_name, logging.RootLogger: logger_name,
 }
 for _kinds, _naming in ((ITERATORS, reduced_name), (OF_DICTS, iterator_of_dict_name), (VIEWS, held_name),
                         ((operator.itemgetter, operator.attrgetter, operator.methodcaller), reduced_name),

@@ -4,6 +4,7 @@ import collections
 import copy
 import ctypes
 import dataclasses
+import logging
 import re
 import sys
 import types
@@ -21,7 +22,7 @@ from lab.search.unnamed import Unnamed
 MOST_CHANGES = 3
 PLAIN = (tuple, str, bytes, int, bool, float, complex, type(None))
 STAND_STILL = {CACHE, types.FunctionType, types.CellType, types.ModuleType, types.MappingProxyType, re.Pattern, range,
-               slice, types.GenericAlias, types.CodeType, *BUILT_IN}
+               slice, types.GenericAlias, types.CodeType, logging.Logger, *BUILT_IN}
 # what stands still while the words do that lie behind the head of the object
 BY_WORDS = {property, GETTER, dataclasses.Field, type(dataclasses._FIELD), type(dataclasses.MISSING),  # type: ignore
             dataclasses._DataclassParams}  # type: ignore[attr-defined]
@@ -201,7 +202,7 @@ class StillNamer(Namer):
             self.places.append(version_place(value))
         elif kind in BY_WORDS:
             self.places.append((id(value) + HEAD, kind.__basicsize__ - HEAD))
-        elif kind in WRAPPERS:
+        elif kind in WRAPPERS or kind is logging.Logger:
             self.places.append(version_place(vars(value)))
         elif not (isinstance(value, type) or kind in STAND_STILL or kind.__module__ == "typing"):
             raise Moves

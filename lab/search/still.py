@@ -32,9 +32,18 @@ LISTED: Dict[str, FrozenSet[str]] = {
         AF_INET IPPROTO_TCP SOCK_STREAM TCP_NODELAY create_connection error gaierror herror socket
         timeout""".split()),
     "_thread": frozenset(("LockType", "allocate_lock")),
+    # loggers say where they log and nothing more: what changes or shows their state is refused by its name
+    "logging": frozenset("""
+        CRITICAL DEBUG ERROR FATAL Formatter INFO Logger NOTSET NullHandler StreamHandler WARN WARNING basicConfig
+        critical debug error exception getLogger info log warning""".split()),
 }
+# the attributes of loggers by which an agent changes or sees what all programs share
+OF_LOGGERS = frozenset("""
+    _cache addFilter addHandler callHandlers disabled filters getChild handle handlers level loggerDict makeRecord
+    manager parent propagate removeFilter removeHandler root setLevel""".split())
 # what changes by itself in modules that keep no state
-BY_ITSELF = {"re._cache", "hashlib.__builtin_constructor_cache", "sys.modules", "sys.path", "sys.path_importer_cache"}
+BY_ITSELF = {"re._cache", "hashlib.__builtin_constructor_cache", "sys.modules", "sys.path", "sys.path_importer_cache",
+             "logging.root._cache", "logging.Logger.manager.loggerDict", "logging.root.manager.loggerDict"}
 # what Python notes of warnings and of the last expression of a console
 NOTED = {"__warningregistry__", "_"}
 # how deep containers of a module are looked into

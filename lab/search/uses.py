@@ -13,7 +13,7 @@ from typing import Any, Dict, FrozenSet, Iterator, List, Mapping, NamedTuple, Op
 
 from lab.play.agent_files import CLIENT, compiled
 from lab.search.codes import all_code
-from lab.search.still import LISTED, is_still
+from lab.search.still import LISTED, OF_LOGGERS, is_still
 from lab.search.unnamed import Unnamed
 
 # by which code may reach any module, whatever it imports
@@ -47,6 +47,8 @@ class Uses(NamedTuple):
     uses: FrozenSet[Use]
     reaches: FrozenSet[str]
     reflects: bool
+    # attributes by which loggers are changed or looked into, if the file logs
+    loggers: FrozenSet[str]
 
 
 def text_of(variables: Dict[str, Any]) -> Optional[Tuple[str, bytes]]:
@@ -84,7 +86,9 @@ def uses_in(text: bytes) -> Uses:
             uses |= {Use("", "." * node.level + (node.module or ""), (it.name,)) for it in node.names}
         elif isinstance(node, ast.Import):
             uses |= {Use("", it.name, PLAIN) for it in node.names}
-    return Uses(frozenset(uses), frozenset(reaches), may_reflect(tree))
+    logs = any(use.module.partition(".")[0] == "logging" for use in uses)
+    of_loggers = frozenset(it.attr for it in ast.walk(tree) if logs and isinstance(it, ast.Attribute)) & OF_LOGGERS
+    return Uses(frozenset(uses), frozenset(reaches), may_reflect(tree), of_loggers)
 
 
 def may_reflect(tree: ast.AST) -> bool:
@@ -140,6 +144,9 @@ def check(variables: Dict[str, Any], own: Mapping[str, types.ModuleType]) -> Lis
     for name in sorted(uses.reaches):
         raise Unnamed(f"the module {module} has {name}, by which it may reach any module", True,
                       "import by its name what is needed")
+    for name in sorted(uses.loggers):
+        raise Unnamed(f"the module {module} has {name}, by which it may change or see loggers that all programs share",
+                      True, "call `logging.basicConfig` at the top of the file, and let loggers log")
     used: List[types.ModuleType] = []
     for use in sorted(uses.uses):
         start = module_at(use, variables, own)

@@ -1,5 +1,6 @@
 """`explore` merges histories by what a program holds. Agents that hide one bit in something have it named, or told: no
 schedule that fails is left out. Each hides in another type, module or place whether a whiteboard said something."""
+import pathlib
 import re
 from typing import Any, Dict, NamedTuple
 from unittest import main as run_tests, mock
@@ -278,6 +279,28 @@ class Memories(InExplore):
                 assert found is not None, self.said
                 self.assertEqual(found[1], found[2])
                 self.assertGreater(int(found[1]), 20)
+
+    def test_what_students_import_is_no_reason_to_tell_histories_apart(self) -> None:
+        """As many questions as without the imports; of a module that may keep state it is told, and what it costs."""
+        text = RING.words.split()[0]
+        ring, asked = pathlib.Path(text).read_text(encoding="utf-8"), {}
+        before, found = "from typing import", re.compile(r"checked, and all agree: (\d+) of \1 merges")
+        for imports in ("", "import os, sys, json\nDEBUG = os.environ.get('DEBUG')\n", "import networkx as nx\n",
+                        "import logging\nlogging.basicConfig(level=logging.ERROR)\nlog = logging.getLogger(__name__)\n",
+                        "from pathlib import Path\nHERE = Path(__file__).parent\n", "import threading\n"):
+            with self.subTest(imports):
+                self.assertIn(before, ring)
+                (self.folder / "own.py").write_text(ring.replace(before, imports + before, 1), encoding="utf-8")
+                status = self.command("--network", "ring:4", "--hole", 2, "--agent", f"{self.folder}/own.py {{nodes}}")
+                self.assertEqual(status, 0, self.said)
+                told = found.search(self.said)
+                asked[imports] = told and told[1]
+        self.assertIsNotNone(asked[""])
+        self.assertIn("uses threading, which may keep what nobody sees", self.said)
+        self.assertEqual(asked.pop("import threading\n"), "0")
+        # who imports sys may tell by it which agent it is, so agents of the same words share no memory then
+        self.assertNotEqual(asked.pop("import os, sys, json\nDEBUG = os.environ.get('DEBUG')\n"), "0")
+        self.assertEqual(len(set(asked.values())), 1, asked)
 
     def test_a_merge_that_is_none_is_told(self) -> None:
         (self.folder / "hides.py").write_text(TEXT.format(lines="", hides="b", finds="h", good="x"), encoding="utf-8")

@@ -30,12 +30,16 @@ USED = {
     "from importlib import import_module": "has import_module",
     "import sqlite3": "uses sqlite3", "def f():\n    import tempfile": "uses tempfile",
     "import socket\ndef f(): socket.setdefaulttimeout(1)": "uses socket.setdefaulttimeout",
+    "import logging\nlog = logging.getLogger()\ndef f(it): log.setLevel(it)": "has setLevel",
+    "import logging\ndef f(): return len(logging.getLogger()._cache)": "has _cache",
+    "import logging\ndef f(it): logging.FileHandler(it)": "uses logging.FileHandler",
 }
 NOT_USED = (
     "import os\ndef f(): return os.path.join(os.getcwd(), os.environ['HOME'])",
     "import sys, json, math, heapq, socket\nfrom typing import *\nprint(sys.argv, file=sys.stderr)",
     "from collections import deque\nimport collections.abc\nimport re\ndef f(it): return re.match('x', it)",
     "try:\n    import nothing_of_this_name\nexcept ImportError:\n    pass",
+    "import logging\nlogging.basicConfig(level=logging.INFO)\nlog = logging.getLogger(__name__)\nlog.info('x')",
     "from os.path import join\nimport os.path as p\np.join('x')", "def f(os): return 1",
 )
 
