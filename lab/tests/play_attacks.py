@@ -287,6 +287,16 @@ except OSError as fault:
 """
         self.assertEqual(self.said(Walls.ALL, code, tools=[str(tools)]), ["pipe False Read-only file system"])
 
+    def test_the_machine_has_no_name(self) -> None:
+        self.assertEqual(self.said(Walls.ALL, "import socket, sys; sys.exit(socket.gethostname())"), ["cell"])
+
+    def test_the_environment_of_the_teacher_is_not_that_of_programs(self) -> None:
+        code = "import os, sys; sys.exit(str('swordfish' in str(os.environ)))"
+        with mock.patch.dict(os.environ, {"TEACHERS_SECRET": "swordfish"}):
+            for walls in ALL_WALLS:
+                with self.subTest(walls):
+                    self.assertEqual(self.said(walls, code), ["False"])
+
     def test_programs_of_a_match_have_no_file_in_common(self) -> None:
         """Each leaves a file where it may write, waits for the other, and looks for files of others."""
         code = """import os, sys, time
