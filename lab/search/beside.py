@@ -79,11 +79,14 @@ class Beside:
             self._step(memory, second, *told)
 
     def _step(self, memory: int, second: Second, news: str, after: int) -> None:
-        """Tells the second what the first was told at a memory, and compares what comes of it."""
-        machines = self._machines
-        machines.tell(second.one, news)
+        """Tells the second what the first was told at a memory, and compares what it does then, and after its last step
+        what it holds."""
+        machines, one = self._machines, second.one
+        machines.tell(one, news)
         self.compared += 1
-        if machines.name_of(second.one, (memory, news)) != machines.names[after]:
+        is_last = second.steps == 1 or one.is_over()
+        if one.step() != machines.steps[after] or is_last and machines.name_of(
+                one, (memory, news)) != machines.names[after]:
             raise NoFunction(self._difference(second, after))
         self._go_on(after, second._replace(steps=second.steps - 1))
 

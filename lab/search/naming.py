@@ -185,10 +185,15 @@ class Namer:
         return found.name
 
     def _function_by_parts(self, value: types.FunctionType) -> Name:
-        return ("function", code_name(value.__code__), value.__name__, value.__qualname__, value.__module__,
-                *map(self.name, (value.__defaults__, value.__kwdefaults__)), *map(self.name, value.__closure__ or ()),
-                *(self._says(value) if self._known.reflects else ()),
-                *(self.names(vars(value).items()) if has_attributes(value) else ()), self.globals(value.__globals__))
+        defaults, more, closure = value.__defaults__, value.__kwdefaults__, value.__closure__
+        held: List[Name] = [defaults and self.name(defaults), more and self.name(more),
+                            closure and tuple(map(self.name, closure))]
+        if self._known.reflects:
+            held += self._says(value)
+        if has_attributes(value):
+            held += self.names(vars(value).items())
+        return ("function", code_name(value.__code__), value.__name__, value.__qualname__, value.__module__, *held,
+                self.globals(value.__globals__))
 
     def _says(self, value: types.FunctionType) -> Iterator[Name]:
         """What a function says of itself, which a program may change: what it is about, and its annotations."""

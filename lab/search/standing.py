@@ -194,6 +194,8 @@ class StillNamer(Namer):
 
     def name(self, value: Any) -> Name:
         kind = type(value)
+        if kind is str or value is None:
+            return value
         if kind in PLAIN:
             return super().name(value)
         if id(value) in self._labels:
