@@ -16,6 +16,10 @@ class Versions(unittest.TestCase):
         headings = re.findall(r"^## (\S+)", (TOP / "CHANGELOG.md").read_text(), re.M)
         self.assertEqual(headings[0].rstrip(","), VERSION)
 
+    def test_who_cites_it_names_it(self) -> None:
+        cited = re.findall(r"^version: (\S+)$", (TOP / "CITATION.cff").read_text(), re.M)
+        self.assertEqual(cited, [VERSION])
+
 
 if __name__ == "__main__":
     unittest.main()
