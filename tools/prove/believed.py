@@ -26,6 +26,8 @@ HEADLINES = {
     "turns of contests: `contests::every_arrival_in_contests` of `bhs_theorems`":
         ("bhs_theorems", "ContestTime", "EqualWaitsInContests"),
     "replies to agents: `equal_pasts` of `bhs_model`": ("bhs_model", "Laws", "EqualPasts"),
+    "a search of rings by halves: `laws::the_halves_solve_all_rings` of `bhs_protocols`":
+        ("bhs_protocols", "HalvesLaws", "HalvesSolveAllRings"),
 }
 WORD = re.compile(r"[^\W\d][\w'-]*(?:\.[^\W\d][\w'-]*)*")
 BEGINS = re.compile(r"(\s*)(?:abbrev |pub |data |record )+([^\W\d][\w'-]*)")

@@ -1,0 +1,306 @@
+-- The search by halves solves every ring.
+use Rattle.std.proofs.Common.{ℕ, zero, suc, ◌+◌, ◌-◌, ◌/◌, ◌<◌, ◌≤◌, ◌≡◌, true, false, ◌==◌, [], refl, sym, ap, ◌∙◌}
+use Rattle.std.proofs.Common.{subst, nat_lt, arith}
+use Rattle.std.specs.Prelude.{◌≢◌}
+use Rattle.std.proofs.lemmas.Bool.{lt-ltb, ltb-true, true≢false, cond-true, cond-false}
+use Rattle.bhs_model.specs.declared.commands.Command.{Command}
+use Rattle.bhs_model.specs.declared.replies.Reply.TheVariants.{Over}
+use Rattle.bhs_model.proofs.StepLemmas.{by_cases}
+use Rattle.bhs_explore.specs.declared.minds.Step.TheVariants.{Says, Sleeps, Fails}
+use Rattle.bhs_explore.specs.Minds.{Heard}
+use Rattle.bhs_explore.specs.Schedules.{Trial}
+use Rattle.bhs_protocols.specs.Pictures.{Picture, blank, can_move_in, turn_in}
+use Rattle.bhs_protocols.specs.declared.halves.Memory.{Memory}
+use Rattle.bhs_protocols.specs.declared.halves.Phase.{Phase}
+use Rattle.bhs_protocols.specs.declared.halves.Phase.TheVariants.{Begins, GoesOut, Leaves, Tries, Turns, Returns}
+use Rattle.bhs_protocols.specs.declared.halves.Phase.TheVariants.{Writes, GoesHome, NearsHome, Follows, Passes, Tells}
+use Rattle.bhs_protocols.specs.declared.halves.Phase.TheVariants.{ComesHome, NearsBack, Ends}
+use Rattle.bhs_protocols.specs.Shuttle.{text_by}
+use Rattle.bhs_protocols.specs.Halving.{rounds, walks_at, most_moves}
+use Rattle.bhs_protocols.specs.Halves.{left_by, is_done, does_in, after_in, halves_trial}
+use Rattle.bhs_protocols.specs.Halving.{most_turns}
+use Rattle.bhs_protocols.proofs.HalvesDues.{mark_at, beside, last}
+use Rattle.bhs_protocols.specs.HalvesLaws.{halves_bounds, HalvesSolve}
+use Rattle.bhs_protocols.specs.Invariants.{Bounds, GoesOn, IsInvariant}
+use Rattle.bhs_protocols.proofs.SearchLemmas.{both}
+use Rattle.bhs_protocols.proofs.Principle.{invariants_solve}
+use Rattle.bhs_protocols.proofs.HalvingLemmas.{rounds_within, walks_at_within}
+use Rattle.bhs_protocols.proofs.HalvesMarks.{mark_after, mark_here, not_lt}
+use Rattle.bhs_protocols.proofs.HalvesState.{AreMarked, Game, Inv, Onward, at_turn, due, mem, rest_of, swapped}
+use Rattle.bhs_protocols.proofs.HalvesState.{trial as trial_of, turns_due}
+use Rattle.bhs_protocols.proofs.HalvesRest.{any_turn}
+use Rattle.bhs_protocols.proofs.HalvesVerdict.{at_rest, one_zero, zero_one}
+
+module _ (game : Game) where
+  open game use {n, right, left, search}
+
+  abbrev trial : Trial
+  trial = trial_of game
+
+  -- ---- no program fails, and none sleeps
+
+  says_not : {command : Command} → Says command ≢ Fails
+  says_not h = cc
+
+  says_awake : {command : Command} → Says command ≢ Sleeps
+  says_awake h = cc
+
+  never_fails : (m : Memory) (phase : Phase) → does_in n m phase ≢ Fails
+  never_fails m Begins = λ h. cc
+  never_fails m (GoesOut steps port) = by_cases (is_done m steps) (does_in n m (GoesOut steps port) ≢ Fails)
+      (λ yes. by_cases (left_by n m.mine m.theirs == 1) (does_in n m (GoesOut steps port) ≢ Fails)
+      (λ only h. says_not (sym (cond-true _ _ _ yes ∙ cond-true _ _ _ only) ∙ h))
+      (λ more h. says_not (sym (cond-true _ _ _ yes ∙ cond-false _ _ _ more) ∙ h)))
+      (λ none h. says_not (sym (cond-false _ _ _ none) ∙ h))
+  never_fails m (Leaves steps) = λ h. cc
+  never_fails m Tries = λ h. cc
+  never_fails m (Turns port) = λ h. cc
+  never_fails m Returns = λ h. cc
+  never_fails m (Writes port) = λ h. cc
+  never_fails m (GoesHome steps port) = λ h. cc
+  never_fails m (NearsHome steps) = λ h. cc
+  never_fails m (Follows steps port) = λ h. cc
+  never_fails m (Passes steps) = λ h. cc
+  never_fails m (Tells steps port) = by_cases (left_by n m.mine steps == 1)
+      (does_in n m (Tells steps port) ≢ Fails)
+      (λ only h. says_not (sym (cond-true _ _ _ only) ∙ h)) (λ more h. says_not (sym (cond-false _ _ _ more) ∙ h))
+  never_fails m (ComesHome steps port) = λ h. cc
+  never_fails m (NearsBack steps) = λ h. cc
+  never_fails m Ends = λ h. cc
+
+  never_sleeps : (m : Memory) (phase : Phase) → does_in n m phase ≢ Sleeps
+  never_sleeps m Begins = λ h. cc
+  never_sleeps m (GoesOut steps port) = by_cases (is_done m steps) (does_in n m (GoesOut steps port) ≢ Sleeps)
+      (λ yes. by_cases (left_by n m.mine m.theirs == 1) (does_in n m (GoesOut steps port) ≢ Sleeps)
+      (λ only h. says_awake (sym (cond-true _ _ _ yes ∙ cond-true _ _ _ only) ∙ h))
+      (λ more h. says_awake (sym (cond-true _ _ _ yes ∙ cond-false _ _ _ more) ∙ h)))
+      (λ none h. says_awake (sym (cond-false _ _ _ none) ∙ h))
+  never_sleeps m (Leaves steps) = λ h. cc
+  never_sleeps m Tries = λ h. cc
+  never_sleeps m (Turns port) = λ h. cc
+  never_sleeps m Returns = λ h. cc
+  never_sleeps m (Writes port) = λ h. cc
+  never_sleeps m (GoesHome steps port) = λ h. cc
+  never_sleeps m (NearsHome steps) = λ h. cc
+  never_sleeps m (Follows steps port) = λ h. cc
+  never_sleeps m (Passes steps) = λ h. cc
+  never_sleeps m (Tells steps port) = by_cases (left_by n m.mine steps == 1)
+      (does_in n m (Tells steps port) ≢ Sleeps)
+      (λ only h. says_awake (sym (cond-true _ _ _ only) ∙ h))
+      (λ more h. says_awake (sym (cond-false _ _ _ more) ∙ h))
+  never_sleeps m (ComesHome steps port) = λ h. cc
+  never_sleeps m (NearsBack steps) = λ h. cc
+  never_sleeps m Ends = λ h. cc
+
+  -- ---- before anything has happened
+
+  mark_none : (k : ℕ) → mark_at 0 0 k ≡ 0
+  mark_none zero = mark_here 0 0 0 refl
+  mark_none (suc k) = mark_after 0 0 (suc k) (omega arith)
+
+  beside_none : (k : ℕ) → beside 0 0 k ≡ 0
+  beside_none zero = mark_none 0
+  beside_none (suc k) = refl
+
+  empty_marked : (s : ℕ) → s < 2 → AreMarked game s 0 0 0 0 (λ node. [])
+  empty_marked s below k before =
+      sym ((λ i. text_by s (mark_none k i) (beside_none k i)) ∙ both (λ (j : ℕ). text_by j 0 0 ≡ []) refl refl s below)
+
+  first_numbers : (due game 0 (mem game blank 0) 0 + due game 1 (mem game blank 1) 0 ≤ most_moves n)
+      × (rounds (rest_of game 0 (mem game blank 0) 0) + rounds (rest_of game 1 (mem game blank 1) 0) ≤ rounds (n / 2))
+  first_numbers =
+      let sum : right + left ≡ n = search.sum in
+      let three : 3 ≤ n = search.ring.three in
+      let first : 0 < right = search.not_home in
+      let second : 0 < left = search.nor_around in
+      by_cases (nat_lt (n / 2) right)
+      ((due game 0 (mem game blank 0) 0 + due game 1 (mem game blank 1) 0 ≤ most_moves n)
+      × (rounds (rest_of game 0 (mem game blank 0) 0) + rounds (rest_of game 1 (mem game blank 1) 0) ≤ rounds (n / 2)))
+      (λ yes.
+      let below : n / 2 < right = ltb-true (n / 2) right yes in
+      let over : nat_lt ((n - 1) / 2) left ≡ false = not_lt ((n - 1) / 2) left (omega (arith, below, sum)) in
+      let last_0 : last (n / 2) right ≡ 0 = cond-true _ _ _ yes in
+      let last_1 : last ((n - 1) / 2) left ≡ 1 = cond-false _ _ _ over in
+      let rest_0 : rest_of game 0 (mem game blank 0) 0 ≡ n - 1 - n / 2 - 0 = cond-true _ _ _ yes in
+      let rest_1 : rest_of game 1 (mem game blank 1) 0 ≡ 1 = cond-false _ _ _ over in
+      let walks_0 : walks_at n (rest_of game 0 (mem game blank 0) 0) ≤ walks_at n (n / 2) =
+      walks_at_within n (rest_of game 0 (mem game blank 0) 0) (n / 2) (omega (arith, rest_0)) in
+      let walks_1 : walks_at n (rest_of game 1 (mem game blank 1) 0) ≡ 0 = ap (walks_at n) rest_1 in
+      let rounds_0 : rounds (rest_of game 0 (mem game blank 0) 0) ≤ rounds (n / 2) =
+      rounds_within (rest_of game 0 (mem game blank 0) 0) (n / 2) (omega (arith, rest_0)) in
+      let rounds_1 : rounds (rest_of game 1 (mem game blank 1) 0) ≡ 0 = ap rounds rest_1 in (
+        omega (arith, last_0, last_1, walks_0, walks_1, sum, first, second),
+        omega (arith, rounds_0, rounds_1),
+      ))
+      (λ none.
+      let not_below : (n / 2 < right) → ⊥ = λ h. true≢false (sym (lt-ltb (n / 2) right h) ∙ none) in
+      let before : (n - 1) / 2 < left = omega (arith, not_below, sum, three) in
+      let yes_1 : nat_lt ((n - 1) / 2) left ≡ true = lt-ltb ((n - 1) / 2) left before in
+      let last_0 : last (n / 2) right ≡ 1 = cond-false _ _ _ none in
+      let last_1 : last ((n - 1) / 2) left ≡ 0 = cond-true _ _ _ yes_1 in
+      let rest_0 : rest_of game 0 (mem game blank 0) 0 ≡ 1 = cond-false _ _ _ none in
+      let rest_1 : rest_of game 1 (mem game blank 1) 0 ≡ n - 1 - (n - 1) / 2 - 0 = cond-true _ _ _ yes_1 in
+      let walks_0 : walks_at n (rest_of game 0 (mem game blank 0) 0) ≡ 0 = ap (walks_at n) rest_0 in
+      let walks_1 : walks_at n (rest_of game 1 (mem game blank 1) 0) ≤ walks_at n (n / 2) =
+      walks_at_within n (rest_of game 1 (mem game blank 1) 0) (n / 2) (omega (arith, rest_1)) in
+      let rounds_0 : rounds (rest_of game 0 (mem game blank 0) 0) ≡ 0 = ap rounds rest_0 in
+      let rounds_1 : rounds (rest_of game 1 (mem game blank 1) 0) ≤ rounds (n / 2) =
+      rounds_within (rest_of game 1 (mem game blank 1) 0) (n / 2) (omega (arith, rest_1)) in (
+        omega (arith, last_0, last_1, walks_0, walks_1, sum, first, second),
+        omega (arith, rounds_0, rounds_1),
+      ))
+
+  first_turns : turns_due game 0 (mem game blank 0) 0 blank.shown + turns_due game 1 (mem game blank 1) 0 blank.shown
+      ≤ most_turns n
+  first_turns =
+      let dues : due game 0 (mem game blank 0) 0 + due game 1 (mem game blank 1) 0 ≤ most_moves n = first_numbers.0 in
+      let few : rounds (rest_of game 0 (mem game blank 0) 0) + rounds (rest_of game 1 (mem game blank 1) 0)
+      ≤ rounds (n / 2) =
+      first_numbers.1 in
+      let sum : right + left ≡ n = search.sum in
+      let first : 0 < right = search.not_home in
+      let second : 0 < left = search.nor_around in
+      omega (arith, dues, few, sum, first, second)
+
+  first_inv : Inv game 0 1 0 0 blank
+  first_inv =
+      let three : 3 ≤ n = search.ring.three in
+      let dues : due game 0 (mem game blank 0) 0 + due game 1 (mem game blank 1) 0 ≤ most_moves n = first_numbers.0 in
+      let turns : turns_due game 0 (mem game blank 0) 0 blank.shown + turns_due game 1 (mem game blank 1) 0 blank.shown
+      ≤ most_turns n =
+      first_turns in
+      record {
+        state = record {
+          own = record {
+            side = refl;
+            placed = (refl, refl, (λ h. refl), refl);
+            safe = search.not_home;
+            within = omega arith;
+            reachable = omega arith;
+            plain = λ h. omega (arith, h);
+            known = omega arith;
+            known_too = omega arith;
+            two = omega (arith, three);
+            half = omega (arith, three);
+            reached = λ k some far. absurd (omega (arith, some, far));
+          };
+          other = record {
+            side = refl;
+            placed = (refl, refl, (λ h. refl), refl);
+            safe = search.nor_around;
+            within = omega arith;
+            reachable = omega arith;
+            plain = λ h. omega (arith, h);
+            known = omega arith;
+            known_too = omega arith;
+            two = omega (arith, three);
+            half = omega (arith, three);
+            reached = λ k some far. absurd (omega (arith, some, far));
+          };
+          sum = omega (arith, three);
+          marked = empty_marked 0 (omega arith);
+          marked_too = empty_marked 1 (omega arith);
+        };
+        moves = omega (arith, dues);
+        used = λ k. omega (arith, turns);
+      }
+
+  -- ---- all together
+
+  abbrev pub bounds : Bounds
+  bounds = halves_bounds n
+
+  -- the invariant, with the turns that are left
+  pub record Holds (picture : Picture) (turns : ℕ) : Type 0 where
+    pub mark : ℕ
+    pub mark_too : ℕ
+    pub inv : Inv game 0 1 mark mark_too picture
+    pub total : turns_due game 0 (mem game picture 0) mark picture.shown
+        + turns_due game 1 (mem game picture 1) mark_too picture.shown ≤ turns
+
+  goes_on_by : (picture : Picture) (turns agent : ℕ) → agent < 2 → can_move_in trial picture agent ≡ true
+      → Holds picture turns → GoesOn Holds turns (turn_in trial picture agent)
+  goes_on_by picture turns zero below moves held =
+      let new : Picture = turn_in trial picture 0 in
+      let on : Onward game 0 1 held.mark held.mark_too picture new =
+      any_turn (at_turn game 0 1 held.mark held.mark_too picture (zero_one game) held.inv) moves in
+      let fewer : turns_due game 0 (mem game new 0) on.mark new.shown
+      + turns_due game 1 (mem game new 1) on.mark_too new.shown
+      < turns_due game 0 (mem game picture 0) held.mark picture.shown
+      + turns_due game 1 (mem game picture 1) held.mark_too picture.shown =
+      on.fewer in
+      let total : turns_due game 0 (mem game picture 0) held.mark picture.shown
+      + turns_due game 1 (mem game picture 1) held.mark_too picture.shown ≤ turns = held.total in
+      record {
+        rest = turns_due game 0 (mem game new 0) on.mark new.shown
+            + turns_due game 1 (mem game new 1) on.mark_too new.shown;
+        fewer = omega (arith, fewer, total);
+        holds = record { mark = on.mark; mark_too = on.mark_too; inv = on.inv; total = omega arith };
+      }
+  goes_on_by picture turns (suc zero) below moves held =
+      let new : Picture = turn_in trial picture 1 in
+      let on : Onward game 1 0 held.mark_too held.mark picture new =
+      any_turn (at_turn game 1 0 held.mark_too held.mark picture (one_zero game)
+      (swapped game 0 1 held.mark held.mark_too picture held.inv))
+      moves in
+      let fewer : turns_due game 1 (mem game new 1) on.mark new.shown
+      + turns_due game 0 (mem game new 0) on.mark_too new.shown
+      < turns_due game 1 (mem game picture 1) held.mark_too picture.shown
+      + turns_due game 0 (mem game picture 0) held.mark picture.shown =
+      on.fewer in
+      let total : turns_due game 0 (mem game picture 0) held.mark picture.shown
+      + turns_due game 1 (mem game picture 1) held.mark_too picture.shown ≤ turns = held.total in
+      record {
+        rest = turns_due game 0 (mem game new 0) on.mark_too new.shown
+            + turns_due game 1 (mem game new 1) on.mark new.shown;
+        fewer = omega (arith, fewer, total);
+        holds = record {
+          mark = on.mark_too;
+          mark_too = on.mark;
+          inv = swapped game 1 0 on.mark on.mark_too new on.inv;
+          total = omega arith;
+        };
+      }
+  goes_on_by picture turns (suc (suc k)) below moves held = absurd (omega (arith, below))
+
+  invariant : IsInvariant trial bounds Holds
+  invariant = record {
+    begins = record { mark = 0; mark_too = 0; inv = first_inv; total = first_turns };
+    goes_on = λ picture turns agent within moves held.
+        goes_on_by picture turns agent (subst (λ (k : ℕ). agent < k) search.agents within) moves held;
+    moves = λ picture turns held.
+        let moves : picture.moves + due game 0 (mem game picture 0) held.mark
+        + due game 1 (mem game picture 1) held.mark_too
+        ≤ most_moves n = held.inv.moves in
+        omega (arith, moves);
+    commands = λ picture turns agent held.
+        let used : picture.used agent + turns_due game 0 (mem game picture 0) held.mark picture.shown
+        + turns_due game 1 (mem game picture 1) held.mark_too picture.shown ≤ most_turns n = held.inv.used agent in
+        omega (arith, used);
+    fine = λ picture turns agent within held. never_fails (mem game picture agent) (mem game picture agent).phase;
+    settles = λ picture turns still held.
+        let good = at_rest game held.mark held.mark_too picture held.inv still in
+        record {
+          outcome = good.0;
+          few = good.1;
+          over = λ agent node port within at.
+              never_fails (after_in n (mem game picture agent) (mem game picture agent).phase (Heard Over))
+              (after_in n (mem game picture agent) (mem game picture agent).phase (Heard Over)).phase;
+          awake = λ agent within at. never_sleeps (mem game picture agent) (mem game picture agent).phase;
+        };
+  }
+
+pub halves_solve : HalvesSolve
+halves_solve world n right left naps ways search room enough =
+    let game : Game = record {
+      world = world;
+      n = n;
+      right = right;
+      left = left;
+      naps = naps;
+      ways = ways;
+      search = search;
+      room = room;
+      enough = enough;
+    } in
+    invariants_solve (halves_trial world naps n) (halves_bounds n) (Holds game) (invariant game)

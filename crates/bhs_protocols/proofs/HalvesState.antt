@@ -1,0 +1,310 @@
+-- The search by halves: what holds of it at each time, and what a turn has to keep.
+use Rattle.std.proofs.Common.{ℕ, ◌+◌, ◌-◌, ◌*◌, ◌<◌, ◌≤◌, ◌≡◌, ◌⊎◌, Bool, true, false, ◌==◌, Option, Some, None, List}
+use Rattle.std.proofs.Common.{sym, ap, ◌∙◌, subst, if◌then◌else◌, nat_lt, inl, inr, arith}
+use Rattle.std.specs.Prelude.{◌≢◌, bytes_eq}
+use Rattle.std.proofs.lemmas.Bool.Decides.{eqb_tells}
+use Rattle.bhs_model.specs.Worlds.{World, doomed}
+use Rattle.bhs_model.specs.Runs.{Position, Before, At, Bound, After}
+use Rattle.bhs_explore.specs.Minds.{Item}
+use Rattle.bhs_explore.specs.Schedules.{Trial}
+use Rattle.bhs_protocols.specs.Pictures.{Picture}
+use Rattle.bhs_protocols.specs.Programs.{held_after}
+use Rattle.bhs_protocols.specs.Rings.{Ways, IsSearch}
+use Rattle.bhs_protocols.specs.declared.halves.Memory.{Memory}
+use Rattle.bhs_protocols.specs.declared.halves.Phase.{Phase}
+use Rattle.bhs_protocols.specs.declared.halves.Phase.TheVariants.{Begins, GoesOut, Leaves, Tries, Turns, Returns}
+use Rattle.bhs_protocols.specs.declared.halves.Phase.TheVariants.{Writes, GoesHome, NearsHome, Follows, Passes, Tells}
+use Rattle.bhs_protocols.specs.declared.halves.Phase.TheVariants.{ComesHome, NearsBack, Ends}
+use Rattle.bhs_protocols.specs.Shuttle.{text_by}
+use Rattle.bhs_protocols.specs.Halving.{rounds, walks_at, most_moves}
+use Rattle.bhs_protocols.specs.Halves.{after_in, halves, halves_trial}
+use Rattle.bhs_protocols.proofs.HalvesDues.{Seat, owing, paces, miss, mark_at, beside, come, last, part, told}
+use Rattle.bhs_protocols.specs.Halving.{most_turns}
+use Rattle.bhs_protocols.proofs.SearchLemmas as lemmas
+use Rattle.bhs_protocols.proofs.SearchLemmas.{both, opposite, Pair, apart_from}
+use Rattle.bhs_protocols.proofs.TurnLemmas.{Becomes}
+
+-- a match that the theorem speaks of
+pub record Game : Type 0 where
+  pub world : World
+  pub n : ℕ
+  pub right : ℕ
+  pub left : ℕ
+  pub naps : ℕ
+  pub ways : Ways
+  pub search : IsSearch world n right left ways
+  pub room : 4 ≤ world.board
+  pub enough : most_turns n ≤ world.quota
+
+module _ (game : Game) where
+  open game use {world, n, right, left, naps, ways, search}
+
+  abbrev pub trial : Trial
+  trial = halves_trial world naps n
+
+  abbrev pub mem : Picture → (s : ℕ) → Memory
+  mem picture s = held_after (halves n) s (picture.history s)
+
+  abbrev pub seat : Picture → (s : ℕ) → Seat
+  seat picture s = record { memory = mem picture s; position = picture.position s; accused = picture.accused s }
+
+  -- ---- the ring
+
+  abbrev pub distance : ℕ → ℕ
+  distance = lemmas.distance world n right left ways search
+
+  pub sum_is : (s o : ℕ) → Pair s o → distance s + distance o ≡ n
+  sum_is = lemmas.sum_is world n right left ways search
+
+  pub positive : (s : ℕ) → s < 2 → 0 < distance s
+  positive = lemmas.positive world n right left ways search
+
+  pub within_n : (s : ℕ) → s < 2 → distance s < n
+  within_n = lemmas.within_n world n right left ways search
+
+  pub doomed_is : (node port target label : ℕ) → world.net.far node port ≡ (target, label)
+      → doomed world node port ≡ (ways.node 0 right == target)
+  doomed_is = lemmas.doomed_is world n right left ways search
+
+  pub hole_at : (s : ℕ) → s < 2 → ways.node s (distance s) ≡ ways.node 0 right
+  hole_at = lemmas.hole_at world n right left ways search
+
+  pub safe_before : (s steps : ℕ) → s < 2 → steps < distance s → (ways.node 0 right == ways.node s steps) ≡ false
+  safe_before = lemmas.safe_before world n right left ways search
+
+  -- ---- where agents are
+
+  -- at this node of a side
+  pub record IsAtNode (side steps : ℕ) (position : Position) : Type 0 where
+    pub came : Option ℕ
+    pub at : position ≡ At (ways.node side steps) came
+
+  -- its part is explored, and as far as it knows two nodes are left or more
+  pub record IsDoneBy (mine theirs target mark : ℕ) : Type 0 where
+    pub reached : mine ≡ target
+    pub unmarked : mark ≡ 0
+    pub two : mine + theirs + 3 ≤ n
+    pub some : 0 < mine
+
+  abbrev pub IsDone : Memory → (mark : ℕ) → Type 0
+  IsDone m mark = IsDoneBy m.mine m.theirs m.target mark
+
+  abbrev pub link : (node port : ℕ) → Option (ℕ × ℕ)
+  link node port = Some (node, port)
+
+  -- where an agent is, and whom it has accused, by what it is about; `far` nodes of the other side are safe, and `mark`
+  -- is the mark at its own last safe node
+  abbrev pub IsPlaced : (s : ℕ) → Memory → (far mark : ℕ) → Phase → Position → Option (ℕ × ℕ) → Type 0
+  IsPlaced s m far mark Begins position accused =
+      (position ≡ Before) × (m.mine ≡ 0) × (m.mine ≡ m.target → mark ≡ 0) × (accused ≡ None)
+  IsPlaced s m far mark (GoesOut steps port) position accused =
+      (steps ≤ m.mine) × (port ≡ ways.ahead s steps) × (m.mine ≡ m.target → mark ≡ 0) × IsAtNode s steps position
+      × (accused ≡ None)
+  IsPlaced s m far mark (Leaves steps) position accused =
+      (steps < m.mine) × (m.mine ≡ m.target → mark ≡ 0)
+      × (position ≡ Bound (ways.node s steps) (ways.ahead s steps)) × (accused ≡ None)
+  IsPlaced s m far mark Tries position accused =
+      (m.mine < m.target) × (position ≡ Bound (ways.node s m.mine) (ways.ahead s m.mine)) × (accused ≡ None)
+  IsPlaced s m far mark (Turns port) position accused =
+      (m.mine < m.target) × (m.mine + 1 < distance s) × (port ≡ 1 - ways.ahead s (m.mine + 1))
+      × IsAtNode s (m.mine + 1) position × (accused ≡ None)
+  IsPlaced s m far mark Returns position accused =
+      (m.mine < m.target) × (m.mine + 1 < distance s)
+      × (position ≡ Bound (ways.node s (m.mine + 1)) (1 - ways.ahead s (m.mine + 1))) × (accused ≡ None)
+  IsPlaced s m far mark (Writes port) position accused =
+      (m.mine < m.target) × (m.mine + 1 < distance s) × (port ≡ ways.ahead s m.mine) × IsAtNode s m.mine position
+      × (part n m m.own ≡ m.target) × (told m m.own ≡ m.theirs) × (accused ≡ None)
+  IsPlaced s m far mark (GoesHome steps port) position accused =
+      IsDone m mark × (0 < steps) × (steps < m.mine) × (port ≡ 1 - ways.ahead s steps) × IsAtNode s steps position
+      × (accused ≡ None)
+  IsPlaced s m far mark (NearsHome steps) position accused =
+      IsDone m mark × (0 < steps) × (steps ≤ m.mine)
+      × (position ≡ Bound (ways.node s steps) (1 - ways.ahead s steps)) × (accused ≡ None)
+  IsPlaced s m far mark (Follows steps port) position accused =
+      IsDone m mark × (steps < far) × (port ≡ ways.ahead (opposite s) steps) × IsAtNode (opposite s) steps position
+      × (accused ≡ None)
+  IsPlaced s m far mark (Passes steps) position accused =
+      IsDone m mark × (steps < far)
+      × (position ≡ Bound (ways.node (opposite s) steps) (ways.ahead (opposite s) steps)) × (accused ≡ None)
+  IsPlaced s m far mark (Tells steps port) position accused =
+      IsDone m mark × (steps ≤ far) × (port ≡ ways.ahead (opposite s) steps) × IsAtNode (opposite s) steps position
+      × (m.other ≢ 1) × (accused ≡ None)
+  IsPlaced s m far mark (ComesHome steps port) position accused =
+      (m.mine < m.target) × (0 < steps) × (steps ≤ far) × (port ≡ 1 - ways.ahead (opposite s) steps)
+      × IsAtNode (opposite s) steps position × (accused ≡ None)
+  IsPlaced s m far mark (NearsBack steps) position accused =
+      (m.mine < m.target) × (0 < steps) × (steps ≤ far)
+      × (position ≡ Bound (ways.node (opposite s) steps) (1 - ways.ahead (opposite s) steps)) × (accused ≡ None)
+  IsPlaced s m far mark Ends position accused =
+      (position ≡ After) × (m.mine + far + 2 ≡ n) × ((accused ≡ link (ways.node s m.mine) (ways.ahead s m.mine))
+      ⊎ (accused ≡ link (ways.node (opposite s) far) (ways.ahead (opposite s) far)))
+
+  -- ---- what holds of one agent, of both, and of the whiteboards
+
+  pub record Fit (s : ℕ) (a : Seat) (far mark : ℕ) (seen : ℕ → Bool) : Type 0 where
+    pub side : a.memory.side ≡ s
+    pub placed : IsPlaced s a.memory far mark a.memory.phase a.position a.accused
+    pub safe : a.memory.mine < distance s
+    pub within : a.memory.mine ≤ part n a.memory mark
+    pub reachable : a.memory.mine ≤ a.memory.target
+    pub plain : mark ≢ 1
+    pub known : a.memory.theirs ≤ far
+    pub known_too : told a.memory mark ≤ far
+    pub two : part n a.memory mark + told a.memory mark + 2 ≤ n
+    pub half : n ≤ 2 * part n a.memory mark + 2 * told a.memory mark + 2
+    pub reached : (k : ℕ) → 0 < k → k ≤ come a.memory.mine a.memory.phase → seen (ways.node s k) ≡ true
+
+  -- what whiteboards of this side show
+  abbrev pub AreMarked : (s mine far v w : ℕ) → (ℕ → List ℕ) → Type 0
+  AreMarked s mine far v w shown = (k : ℕ) → k < distance s
+      → shown (ways.node s k) ≡ text_by s (mark_at mine v k) (beside far w k)
+
+  -- v and w are the marks at the last safe nodes of both sides
+  pub record State (s o v w : ℕ) (a b : Seat) (shown : ℕ → List ℕ) (seen : ℕ → Bool) : Type 0 where
+    pub own : Fit s a b.memory.mine v seen
+    pub other : Fit o b a.memory.mine w seen
+    pub sum : part n a.memory v + part n b.memory w + 1 ≡ n
+    pub marked : AreMarked s a.memory.mine b.memory.mine v w shown
+    pub marked_too : AreMarked o b.memory.mine a.memory.mine w v shown
+
+  -- ---- what is owed
+
+  abbrev pub nodes_due : (s : ℕ) → Memory → (mark : ℕ) → ℕ
+  nodes_due s m mark = 3 * (distance s - 1 - m.mine) + last (part n m mark) (distance s)
+
+  -- of nodes that are left once the agent has explored its part, if it can
+  abbrev pub rest_of : (s : ℕ) → Memory → (mark : ℕ) → ℕ
+  rest_of s m mark =
+      if nat_lt (part n m mark) (distance s) then n - 1 - part n m mark - told m mark else 1
+
+  abbrev pub due : (s : ℕ) → Memory → (mark : ℕ) → ℕ
+  due s m mark = owing (nodes_due s m mark) (walks_at n (rest_of s m mark)) m.mine m.phase
+
+  abbrev pub stale : (s : ℕ) → Memory → Phase → (ℕ → List ℕ) → ℕ
+  stale s m (Writes port) shown = miss (bytes_eq (shown (ways.node s m.mine)) (text_by s m.own m.other))
+  stale s m (Tells steps port) shown = miss (bytes_eq (shown (ways.node (opposite s) steps)) (text_by s m.own m.other))
+  stale s m phase shown = 0
+
+  abbrev pub turns_due : (s : ℕ) → Memory → (mark : ℕ) → (ℕ → List ℕ) → ℕ
+  turns_due s m mark shown =
+      2 * due s m mark + 2 * (distance s - 1 - m.mine) + 2 * rounds (rest_of s m mark) + paces m.phase
+      + stale s m m.phase shown
+
+  pub record Inv (s o v w : ℕ) (picture : Picture) : Type 0 where
+    pub state : State s o v w (seat picture s) (seat picture o) picture.shown picture.reached
+    pub moves : picture.moves + due s (mem picture s) v + due o (mem picture o) w ≤ most_moves n
+    pub used : (k : ℕ) → picture.used k + turns_due s (mem picture s) v picture.shown
+        + turns_due o (mem picture o) w picture.shown ≤ most_turns n
+
+  pub swapped : (s o v w : ℕ) (picture : Picture) → Inv s o v w picture → Inv o s w v picture
+  swapped s o v w picture it =
+      let moves : picture.moves + due s (mem picture s) v + due o (mem picture o) w ≤ most_moves n = it.moves in
+      let sum : part n (mem picture s) v + part n (mem picture o) w + 1 ≡ n = it.state.sum in
+      record {
+        state = record {
+          own = it.state.other;
+          other = it.state.own;
+          sum = omega (arith, sum);
+          marked = it.state.marked_too;
+          marked_too = it.state.marked;
+        };
+        moves = omega (arith, moves);
+        used = λ k.
+            let used : picture.used k + turns_due s (mem picture s) v picture.shown
+            + turns_due o (mem picture o) w picture.shown ≤ most_turns n = it.used k in
+            omega (arith, used);
+      }
+
+  -- ---- one turn more
+
+  pub record Onward (s o v w : ℕ) (old new : Picture) : Type 0 where
+    pub mark : ℕ
+    pub mark_too : ℕ
+    pub inv : Inv s o mark mark_too new
+    pub fewer : turns_due s (mem new s) mark new.shown + turns_due o (mem new o) mark_too new.shown
+        < turns_due s (mem old s) v old.shown + turns_due o (mem old o) w old.shown
+
+  -- all that a turn of an agent has to keep
+  pub record Keeps (s o v w : ℕ) (old : Picture) (a : Seat) (costs moved mark mark_too : ℕ) (shown : ℕ → List ℕ)
+      (seen : ℕ → Bool) : Type 0 where
+    pub state : State s o mark mark_too a (seat old o) shown seen
+    pub once : costs ≤ 1
+    pub dues : moved + due s a.memory mark + due o (mem old o) mark_too ≤ due s (mem old s) v + due o (mem old o) w
+    pub fewer : turns_due s a.memory mark shown + turns_due o (mem old o) mark_too shown
+        < turns_due s (mem old s) v old.shown + turns_due o (mem old o) w old.shown
+
+  pub assembled : (s o v w : ℕ) (old new : Picture) (after : Memory) (place : Position) (news : Item) (costs moved : ℕ)
+      (accused : Option (ℕ × ℕ)) (mark mark_too : ℕ) (shown : ℕ → List ℕ) (seen : ℕ → Bool) → Pair s o
+      → Inv s o v w old → Becomes old new s place news costs moved accused shown seen
+      → after_in n (mem old s) (mem old s).phase news ≡ after
+      → Keeps s o v w old (record { memory = after; position = place; accused = accused }) costs moved mark mark_too
+      shown seen → Onward s o v w old new
+  assembled s o v w old new after place news costs moved accused mark mark_too shown seen pair inv becomes is keeps =
+      let apart : (o == s) ≡ false = apart_from s o pair in
+      let own_mem : mem new s ≡ after = ap (held_after (halves n) s) becomes.news ∙ is in
+      let other_mem : mem new o ≡ mem old o = ap (held_after (halves n) o) (becomes.other_news o apart) in
+      let a : Seat = record { memory = after; position = place; accused = accused } in
+      let own_seat : seat new s ≡ a =
+      λ i. record { memory = own_mem i; position = becomes.place i; accused = becomes.accused i } in
+      let other_seat : seat new o ≡ seat old o =
+      λ i. record {
+        memory = other_mem i;
+        position = becomes.other_place o apart i;
+        accused = becomes.other_accused o apart i;
+      } in
+      let turns : turns_due s (mem new s) mark new.shown + turns_due o (mem new o) mark_too new.shown
+      ≡ turns_due s after mark shown + turns_due o (mem old o) mark_too shown =
+      λ i. turns_due s (own_mem i) mark (becomes.shown i) + turns_due o (other_mem i) mark_too (becomes.shown i) in
+      let dues_are : due s (mem new s) mark + due o (mem new o) mark_too
+      ≡ due s after mark + due o (mem old o) mark_too =
+      λ i. due s (own_mem i) mark + due o (other_mem i) mark_too in
+      let moves : new.moves ≡ old.moves + moved = becomes.moves in
+      let was : old.moves + due s (mem old s) v + due o (mem old o) w ≤ most_moves n = inv.moves in
+      let dues : moved + due s after mark + due o (mem old o) mark_too
+      ≤ due s (mem old s) v + due o (mem old o) w = keeps.dues in
+      let fewer : turns_due s after mark shown + turns_due o (mem old o) mark_too shown
+      < turns_due s (mem old s) v old.shown + turns_due o (mem old o) w old.shown = keeps.fewer in
+      let once : costs ≤ 1 = keeps.once in
+      record {
+        mark = mark;
+        mark_too = mark_too;
+        inv = record {
+          state = subst (λ (x : Seat). State s o mark mark_too x (seat new o) new.shown new.reached) (sym own_seat)
+              (subst (λ (x : Seat). State s o mark mark_too a x new.shown new.reached) (sym other_seat)
+              (subst (λ (f : ℕ → List ℕ). State s o mark mark_too a (seat old o) f new.reached) (sym becomes.shown)
+              (subst (λ (f : ℕ → Bool). State s o mark mark_too a (seat old o) shown f) (sym becomes.reached)
+              keeps.state)));
+          moves = omega (arith, moves, was, dues, dues_are);
+          used = λ k.
+              let before : old.used k + turns_due s (mem old s) v old.shown + turns_due o (mem old o) w old.shown
+              ≤ most_turns n = inv.used k in
+              elim (eqb_tells k s) [
+                | inl h ↦
+                    let mine : new.used s ≡ old.used s + costs = becomes.used in
+                    let here : new.used k ≡ old.used k + costs =
+                    subst (λ (j : ℕ). new.used j ≡ old.used j + costs) (sym h.1) mine in
+                    omega (arith, before, here, turns, fewer, once)
+                | inr h ↦
+                    let here : new.used k ≡ old.used k = becomes.other_used k h.0 in
+                    omega (arith, before, here, turns, fewer)
+              ];
+        };
+        fewer = omega (arith, turns, fewer);
+      }
+
+  pub agents_two : (s : ℕ) → s < 2 → s < world.agents
+  agents_two s below = subst (λ (k : ℕ). s < k) (sym search.agents) below
+
+  -- a turn of agent s, with v and w the marks at the last safe nodes of both sides
+  pub record Turn : Type 0 where
+    pub s : ℕ
+    pub o : ℕ
+    pub v : ℕ
+    pub w : ℕ
+    pub picture : Picture
+    pub pair : Pair s o
+    pub inv : Inv s o v w picture
+
+  abbrev pub at_turn : (s o v w : ℕ) (picture : Picture) → Pair s o → Inv s o v w picture → Turn
+  at_turn s o v w picture pair inv =
+      record { s = s; o = o; v = v; w = w; picture = picture; pair = pair; inv = inv }

@@ -1,0 +1,331 @@
+-- Searches of a ring by two agents: their whiteboards, where the black hole is, and when a match is solved.
+use Rattle.std.proofs.Common.{ℕ, zero, suc, ◌+◌, ◌-◌, ◌*◌, ◌/◌, ◌%◌, ◌<◌, ◌≤◌, ◌≡◌, ◌⊎◌, Bool, true, false, not, ◌&&◌}
+use Rattle.std.proofs.Common.{◌||◌}
+use Rattle.std.proofs.Common.{◌==◌, None, List, [], ◌∷◌, length, refl, sym, ap, ◌∙◌, subst, if◌then◌else◌}
+use Rattle.std.proofs.Common.{nat_lt, inl, inr, arith}
+use Rattle.std.specs.Prelude.{◌≢◌, bytes_eq, cond, find, count_by}
+use Rattle.std.specs.List.{list_any, range_with_len}
+use Rattle.std.proofs.lemmas.List.Recursion.{is_count_by}
+use Rattle.std.proofs.lemmas.Bool.{lt-ltb, ltb-true, true≢false, eq-eqb, cond-false}
+use Rattle.std.proofs.lemmas.Bool.Decides.{eqb_tells}
+use Rattle.std.proofs.lemmas.Slice.Eq.{bytes_eq-Decides}
+use Rattle.bhs_model.specs.Worlds.{World, doomed, is_hole, is_dark}
+use Rattle.bhs_model.specs.Runs.{After, is_doomed}
+use Rattle.bhs_model.proofs.StepLemmas.{by_cases}
+use Rattle.bhs_referee.specs.declared.verdicts.Outcome.TheVariants.{Solved}
+use Rattle.bhs_referee.specs.Verdicts.{passes, accuses, is_over_dark, is_right}
+use Rattle.bhs_referee.specs.Verdicts.{is_silent, is_present, is_unfinished, is_unreached, first_unreached}
+use Rattle.bhs_referee.specs.Verdicts.{guess_or_solved}
+use Rattle.bhs_protocols.specs.Pictures.{Picture, found_in, outcome_in}
+use Rattle.bhs_protocols.specs.Pictures.{doomed_in}
+use Rattle.bhs_protocols.specs.Rings.{Ways, IsSearch}
+use Rattle.bhs_protocols.specs.Shuttle.{board_text, right_in, left_in, other_in, text_by}
+
+-- ---- the whiteboard
+
+pub digits : (k : ℕ) → (32 + k / 64 - 32) * 64 + (32 + k % 64 - 32) ≡ k
+digits k = omega arith
+
+pub right_of : (right left : ℕ) → right_in (board_text right left) ≡ right
+right_of zero zero = refl
+right_of zero (suc left) = digits 0
+right_of (suc right) zero = digits (suc right)
+right_of (suc right) (suc left) = digits (suc right)
+
+pub left_of : (right left : ℕ) → left_in (board_text right left) ≡ left
+left_of zero zero = refl
+left_of zero (suc left) = digits (suc left)
+left_of (suc right) zero = digits 0
+left_of (suc right) (suc left) = digits (suc left)
+
+pub text_short : (right left : ℕ) → length (board_text right left) ≤ 4
+text_short zero zero = omega arith
+text_short zero (suc left) = omega arith
+text_short (suc right) zero = omega arith
+text_short (suc right) (suc left) = omega arith
+
+-- ---- the two sides
+
+abbrev pub opposite : ℕ → ℕ
+opposite zero = 1
+opposite (suc k) = 0
+
+-- an agent and the other one
+pub record Pair (s o : ℕ) : Type 0 where
+  pub own : s < 2
+  pub other : o < 2
+  pub is : o ≡ opposite s
+  pub was : s ≡ opposite o
+
+pub swapped_pair : (s o : ℕ) → Pair s o → Pair o s
+swapped_pair s o pair = record { own = pair.other; other = pair.own; is = pair.was; was = pair.is }
+
+-- what holds of 0 and of 1 holds of both agents
+pub both : (P : ℕ → Type 0) → P 0 → P 1 → (s : ℕ) → s < 2 → P s
+both P zeroth first zero below = zeroth
+both P zeroth first (suc zero) below = first
+both P zeroth first (suc (suc k)) below = absurd (omega (arith, below))
+
+pub others_are : (s o : ℕ) → Pair s o → (s == o) ≡ false
+others_are s o pair =
+    subst (λ (k : ℕ). (s == k) ≡ false) (sym pair.is)
+    (both (λ (k : ℕ). (k == opposite k) ≡ false) refl refl s pair.own)
+
+pub apart_from : (s o : ℕ) → Pair s o → (o == s) ≡ false
+apart_from s o pair = others_are o s (swapped_pair s o pair)
+
+pub text_other : (s o a b : ℕ) → Pair s o → text_by o b a ≡ text_by s a b
+text_other s o a b pair =
+    subst (λ (k : ℕ). text_by k b a ≡ text_by s a b) (sym pair.is)
+    (both (λ (k : ℕ). text_by (opposite k) b a ≡ text_by k a b) refl refl s pair.own)
+
+pub read_other : (s a b : ℕ) → s < 2 → other_in s (text_by s a b) ≡ b
+read_other s a b below = both (λ (k : ℕ). other_in k (text_by k a b) ≡ b) (left_of a b) (right_of b a) s below
+
+pub text_fits : (s a b : ℕ) → s < 2 → length (text_by s a b) ≤ 4
+text_fits s a b below =
+    both (λ (k : ℕ). length (text_by k a b) ≤ 4) (text_short a b) (text_short b a) s below
+
+pub bytes_same : (xs : List ℕ) → bytes_eq xs xs ≡ true
+bytes_same xs = (bytes_eq-Decides xs xs).1 refl
+
+-- who expects what was shown earlier sees that it has changed
+pub bytes_other : (s a b c : ℕ) → s < 2 → b ≢ c → bytes_eq (text_by s a b) (text_by s a c) ≡ false
+bytes_other s a b c below other = by_cases (bytes_eq (text_by s a b) (text_by s a c))
+    (bytes_eq (text_by s a b) (text_by s a c) ≡ false)
+    (λ yes. absurd (other (sym (read_other s a b below)
+    ∙ ap (other_in s) ((bytes_eq-Decides (text_by s a b) (text_by s a c)).0 yes) ∙ read_other s a c below)))
+    (λ none. none)
+
+module _ (world : World) (n right left : ℕ) (ways : Ways) (search : IsSearch world n right left ways) where
+  -- how many steps from the home base the black hole is on each side
+  abbrev pub distance : ℕ → ℕ
+  distance zero = right
+  distance (suc k) = left
+
+  pub sum_is : (s o : ℕ) → Pair s o → distance s + distance o ≡ n
+  sum_is s o pair =
+      let sum : right + left ≡ n = search.sum in
+      subst (λ (k : ℕ). distance s + distance k ≡ n) (sym pair.is)
+      (both (λ (k : ℕ). distance k + distance (opposite k) ≡ n) sum (omega (arith, sum)) s pair.own)
+
+  pub positive : (s : ℕ) → s < 2 → 0 < distance s
+  positive s below = both (λ (k : ℕ). 0 < distance k) search.not_home search.nor_around s below
+
+  pub within_n : (s : ℕ) → s < 2 → distance s < n
+  within_n s below =
+      let sum : right + left ≡ n = search.sum in let first : 0 < right = search.not_home in
+      let second : 0 < left = search.nor_around in
+      both (λ (k : ℕ). distance k < n) (omega (arith, sum, first, second)) (omega (arith, sum, first, second)) s below
+
+  -- ---- the ring
+
+  -- what a link destroys by, where this node is at its far end
+  pub doomed_is : (node port target label : ℕ) → world.net.far node port ≡ (target, label)
+      → doomed world node port ≡ (ways.node 0 right == target)
+  doomed_is node port target label far =
+      (λ i. is_hole (search.hole i) (far i).0 || is_dark world.net.far (search.none_dark i) node port)
+      ∙ or_none (ways.node 0 right == target)
+    where
+      or_none : (b : Bool) → ((b || false) || false) ≡ b
+      or_none true = refl
+      or_none false = refl
+
+  pub hole_at : (s : ℕ) → s < 2 → ways.node s (distance s) ≡ ways.node 0 right
+  hole_at s below =
+      let sum : right + left ≡ n = search.sum in
+      both (λ (k : ℕ). ways.node k (distance k) ≡ ways.node 0 right) refl
+      (search.ring.around left right (omega (arith, sum)) search.nor_around search.not_home) s below
+
+  -- before the black hole there is none
+  pub safe_right : (steps : ℕ) → steps < right → (ways.node 0 right == ways.node 0 steps) ≡ false
+  safe_right steps before = elim (eqb_tells (ways.node 0 right) (ways.node 0 steps)) [
+    | inl h ↦
+        let below : right < n = within_n 0 (omega arith) in
+        let same : right ≡ steps = search.ring.apart right steps below (omega (arith, before, below)) h.1 in
+        absurd (omega (arith, same, before))
+    | inr h ↦ h.0
+  ]
+
+  pub safe_left : (steps : ℕ) → steps < left → (ways.node 0 right == ways.node 1 steps) ≡ false
+  safe_left zero before =
+      subst (λ (k : ℕ). (ways.node 0 right == k) ≡ false) (search.ring.home 0 ∙ sym (search.ring.home 1))
+      (safe_right 0 search.not_home)
+  safe_left (suc steps) before = elim (eqb_tells (ways.node 0 right) (ways.node 1 (suc steps))) [
+    | inl h ↦
+        let sum : right + left ≡ n = search.sum in
+        let first : 0 < right = search.not_home in
+        let same : right ≡ n - suc steps = search.ring.apart right (n - suc steps) (omega (arith, sum, before))
+        (omega (arith, sum, before)) (h.1
+        ∙ search.ring.around (suc steps) (n - suc steps) (omega (arith, sum, before)) (omega arith)
+        (omega (arith, sum, before))) in
+        absurd (omega (arith, same, sum, before))
+    | inr h ↦ h.0
+  ]
+
+  pub safe_before : (s steps : ℕ) → s < 2 → steps < distance s → (ways.node 0 right == ways.node s steps) ≡ false
+  safe_before zero steps below before = safe_right steps before
+  safe_before (suc zero) steps below before = safe_left steps before
+  safe_before (suc (suc k)) steps below before = absurd (omega (arith, below))
+
+  -- ---- the verdict
+
+  pub edge_far : (s mine : ℕ) → s < 2 → mine + 1 ≡ distance s
+      → world.net.far (ways.node s mine) (ways.ahead s mine) ≡ (ways.node s (mine + 1), 1 - ways.ahead s (mine + 1))
+  edge_far s mine below edge =
+      let within : distance s < n = within_n s below in
+      search.ring.out s mine below (omega (arith, edge, within))
+
+  pub edge_hole : (s mine : ℕ) → s < 2 → mine + 1 ≡ distance s → ways.node 0 right ≡ ways.node s (mine + 1)
+  edge_hole s mine below edge = sym (hole_at s below) ∙ ap (ways.node s) (sym edge)
+
+  pub edge_right : (s mine : ℕ) → s < 2 → mine + 1 ≡ distance s
+      → is_right world (ways.node s mine, ways.ahead s mine) ≡ true
+  edge_right s mine below edge =
+      doomed_is (ways.node s mine) (ways.ahead s mine) (ways.node s (mine + 1)) (1 - ways.ahead s (mine + 1))
+      (edge_far s mine below edge)
+      ∙ eq-eqb (ways.node 0 right) (ways.node s (mine + 1)) (edge_hole s mine below edge)
+
+  pub or_true : (b : Bool) → (b || true) ≡ true
+  or_true true = refl
+  or_true false = refl
+
+  pub accuses_two : (picture : Picture) (test : ℕ × ℕ → Bool) → accuses world (found_in picture) test
+      ≡ (passes test (picture.accused 0) || (passes test (picture.accused 1) || false))
+  accuses_two picture test =
+      ap (λ (k : ℕ). list_any (λ agent. passes test (picture.accused agent)) (range_with_len 0 k)) search.agents
+
+  pub accuses_by : (picture : Picture) (test : ℕ × ℕ → Bool) (s : ℕ) → s < 2 → passes test (picture.accused s) ≡ true
+      → accuses world (found_in picture) test ≡ true
+  accuses_by picture test s below =
+      both (λ (k : ℕ). passes test (picture.accused k) ≡ true → accuses world (found_in picture) test ≡ true)
+      (λ h. accuses_two picture test ∙ ap (λ (b : Bool). b || (passes test (picture.accused 1) || false)) h)
+      (λ h. accuses_two picture test
+      ∙ ap (λ (b : Bool). passes test (picture.accused 0) || (b || false)) h
+      ∙ or_true (passes test (picture.accused 0)))
+      s below
+
+  pub accuses_none : (picture : Picture) (test : ℕ × ℕ → Bool)
+      → ((s : ℕ) → s < 2 → passes test (picture.accused s) ≡ false)
+      → accuses world (found_in picture) test ≡ false
+  accuses_none picture test none =
+      accuses_two picture test ∙ (λ i. none 0 (omega arith) i || (none 1 (omega arith) i || false))
+
+  pub unfinished_none : (picture : Picture) → ((s : ℕ) → s < 2 → is_present (picture.position s) ≡ false)
+      → is_unfinished world picture.position ≡ false
+  unfinished_none picture none =
+      ap (λ (k : ℕ). list_any (λ agent. is_present (picture.position agent)) (range_with_len 0 k)) search.agents
+      ∙ (λ i. none 0 (omega arith) i || (none 1 (omega arith) i || false))
+
+  pub solved_by : (picture : Picture) → accuses world (found_in picture) (λ link. not (is_right world link)) ≡ false
+      → is_silent world (found_in picture) ≡ false → is_unfinished world picture.position ≡ false
+      → first_unreached world (found_in picture) ≡ None → outcome_in world picture ≡ Solved
+  solved_by picture right_ones spoken finished reached =
+      cond-false _ _ _ right_ones ∙ cond-false _ _ _ spoken ∙ cond-false _ _ _ finished
+      ∙ either_way (accuses world (found_in picture) (λ link. not (is_over_dark world link)))
+    where
+      either_way : (b : Bool)
+          → (if b then guess_or_solved (first_unreached world (found_in picture)) else Solved) ≡ Solved
+      either_way true = ap guess_or_solved reached
+      either_way false = refl
+
+  -- ---- each node was reached
+
+  pub find_none : (test : ℕ → Bool) (start count : ℕ) → ((k : ℕ) → start ≤ k → k < start + count → test k ≡ false)
+      → find test (range_with_len start count) ≡ None
+  find_none test start zero none = refl
+  find_none test start (suc count) none =
+      cond-false _ _ _ (none start (omega arith) (omega arith))
+      ∙ find_none test (start + 1) count (λ k after before. none k (omega (arith, after)) (omega (arith, before)))
+
+  -- all nodes of both sides but the black hole are known to be safe
+  pub record IsAllKnown (picture : Picture) : Type 0 where
+    pub known : (s k : ℕ) → s < 2 → 0 < k → k < distance s → picture.reached (ways.node s k) ≡ true
+
+  pub reached_all : (picture : Picture) → IsAllKnown picture → first_unreached world (found_in picture) ≡ None
+  reached_all picture all =
+      ap (λ (k : ℕ). find (is_unreached world (found_in picture)) (range_with_len 0 k)) search.ring.size
+      ∙ find_none (is_unreached world (found_in picture)) 0 n (λ node after before.
+      let it = search.ring.all node (omega (arith, before)) in
+      subst (λ (k : ℕ). is_unreached world (found_in picture) k ≡ false) it.2 (by_steps it.0 it.1))
+    where
+      none_by_home : (a b c : Bool) → a ≡ true → (not a && (not b && not c)) ≡ false
+      none_by_home a b c h = ap (λ (x : Bool). not x && (not b && not c)) h
+
+      none_by_hole : (a b c : Bool) → b ≡ true → (not a && (not b && not c)) ≡ false
+      none_by_hole true b c h = refl
+      none_by_hole false b c h = ap (λ (x : Bool). not x && not c) h
+
+      none_by_arrival : (a b c : Bool) → c ≡ true → (not a && (not b && not c)) ≡ false
+      none_by_arrival true b c h = refl
+      none_by_arrival false true c h = refl
+      none_by_arrival false false c h = ap not h
+
+      or_false : (b : Bool) → b ≡ true → (b || false) ≡ true
+      or_false b h = ap (λ (x : Bool). x || false) h
+
+      by_steps : (steps : ℕ) → steps < n → is_unreached world (found_in picture) (ways.node 0 steps) ≡ false
+      by_steps zero within = none_by_home (ways.node 0 zero == world.home) _ _
+          (eq-eqb (ways.node 0 zero) world.home (search.ring.home 0))
+      by_steps (suc k) within = elim (eqb_tells (suc k) right) [
+        | inl h ↦ none_by_hole (ways.node 0 (suc k) == world.home) (is_hole world.holes (ways.node 0 (suc k)))
+            (picture.reached (ways.node 0 (suc k)))
+            (ap (λ (holes : List ℕ). is_hole holes (ways.node 0 (suc k))) search.hole
+            ∙ or_false (ways.node 0 right == ways.node 0 (suc k))
+            (eq-eqb (ways.node 0 right) (ways.node 0 (suc k)) (ap (ways.node 0) (sym h.1))))
+        | inr h ↦ none_by_arrival (ways.node 0 (suc k) == world.home) (is_hole world.holes (ways.node 0 (suc k)))
+            (picture.reached (ways.node 0 (suc k)))
+            (by_cases (nat_lt (suc k) right) (picture.reached (ways.node 0 (suc k)) ≡ true)
+            (λ yes. all.known 0 (suc k) (omega arith) (omega arith) (ltb-true (suc k) right yes))
+            (λ none.
+            let sum : right + left ≡ n = search.sum in
+            let first : 0 < right = search.not_home in
+            let not_below : (suc k < right) → ⊥ = λ b. true≢false (sym (lt-ltb (suc k) right b) ∙ none) in
+            let above : right < suc k = omega (arith, not_below, h.1) in
+            ap picture.reached (sym (search.ring.around (n - suc k) (suc k) (omega (arith, within))
+            (omega (arith, within)) (omega arith)))
+            ∙ all.known 1 (n - suc k) (omega arith) (omega (arith, within)) (omega (arith, sum, above, within))))
+      ]
+
+  -- ---- few are lost
+
+  pub number_of : (ℕ → Bool) → List ℕ → ℕ
+  number_of p [] = 0
+  number_of p (x ∷ xs) = cond (p x) (1 + number_of p xs) (number_of p xs)
+
+  pub counted_two : (p : ℕ → Bool) → (p 0 ≡ false) ⊎ (p 1 ≡ false) → number_of p (0 ∷ 1 ∷ []) ≤ 1
+  unfolding number_of
+  counted_two p spared = elim spared [
+    | inl h ↦ rw h (one_at_most (p 1))
+    | inr h ↦ rw h (one_at_most (p 0))
+  ]
+    where
+      one_at_most : (b : Bool) → cond b (1 + 0) 0 ≤ 1
+      one_at_most true = omega arith
+      one_at_most false = omega arith
+
+  pub number_is : (p : ℕ → Bool) (xs : List ℕ) → number_of p xs ≡ count_by p xs
+  unfolding number_of
+  number_is p xs = is_count_by (number_of p) p refl (λ x others. refl) xs
+
+  pub few_doomed : (picture : Picture) (s : ℕ) → s < 2 → picture.position s ≡ After → doomed_in world picture ≤ 1
+  few_doomed picture s below at =
+      let test : ℕ → Bool = λ agent. is_doomed world (picture.position agent) in
+      let spared : test s ≡ false = ap (is_doomed world) at in
+      let either_one : (test 0 ≡ false) ⊎ (test 1 ≡ false) =
+      both (λ (k : ℕ). test k ≡ false → (test 0 ≡ false) ⊎ (test 1 ≡ false)) (λ h. inl h) (λ h. inr h) s below spared in
+      let same : doomed_in world picture ≡ count_by test (0 ∷ 1 ∷ []) =
+      ap (λ (k : ℕ). count_by test (range_with_len 0 k)) search.agents in
+      let number : number_of test (0 ∷ 1 ∷ []) ≡ count_by test (0 ∷ 1 ∷ []) = number_is test (0 ∷ 1 ∷ []) in
+      let few : number_of test (0 ∷ 1 ∷ []) ≤ 1 = counted_two test either_one in
+      omega (arith, same, number, few)
+
+  -- ---- two agents
+
+  pub each : (s o : ℕ) → Pair s o → (P : ℕ → Type 0) → P s → P o → (k : ℕ) → k < 2 → P k
+  each s o pair P mine theirs =
+      both (λ (k : ℕ). P k → P (opposite k) → (j : ℕ) → j < 2 → P j) (λ p q. both P p q) (λ p q. both P q p) s pair.own
+      mine (subst P pair.is theirs)
+
+  pub zero_one : Pair 0 1
+  zero_one = record { own = omega arith; other = omega arith; is = refl; was = refl }

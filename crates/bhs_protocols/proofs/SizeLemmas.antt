@@ -1,0 +1,308 @@
+-- On a ring with one node more the same happens, as long as nobody comes past its last safe nodes: then an accusation
+-- is right for one of two nodes at most.
+use Rattle.std.proofs.Common.{ℕ, zero, suc, ◌+◌, ◌-◌, ◌<◌, ◌≤◌, ◌≡◌, ◌⊎◌, Bool, true, false, not, ◌||◌, ◌==◌, Option}
+use Rattle.std.proofs.Common.{Some}
+use Rattle.std.proofs.Common.{None, List, [], ◌∷◌, refl, sym, ap, ◌∙◌, subst, if◌then◌else◌, nat_lt, inl, inr, arith}
+use Rattle.std.specs.Prelude.{◌≢◌}
+use Rattle.std.specs.List.{list_any, range_with_len}
+use Rattle.std.proofs.lemmas.Bool.{true≢false, eq-eqb, cond-true, cond-false, eqb-true}
+use Rattle.std.proofs.lemmas.Bool.Decides.{eqb_tells}
+use Rattle.bhs_model.specs.declared.commands.Command.{Command}
+use Rattle.bhs_model.specs.declared.commands.Command.TheVariants.{Enter, Look, Write, Depart, Accuse, Leave, Bad}
+use Rattle.bhs_model.specs.declared.events.Event.TheVariants.{Tell, Deliver, Close}
+use Rattle.bhs_model.specs.Worlds.{World, doomed}
+use Rattle.bhs_model.specs.Runs.{Position, Before, At, Bound, After, changed, position_after}
+use Rattle.bhs_model.proofs.StepLemmas.{by_cases}
+use Rattle.bhs_model.proofs.LegalLemmas.{either}
+use Rattle.bhs_referee.specs.declared.verdicts.Outcome.{Outcome}
+use Rattle.bhs_referee.specs.declared.verdicts.Outcome.TheVariants.{Solved, Wrong, Silent}
+use Rattle.bhs_referee.specs.declared.verdicts.Verdict.{Verdict}
+use Rattle.bhs_referee.specs.Verdicts.{passes, accuses, is_right, is_silent}
+use Rattle.bhs_explore.specs.Minds.{Minds}
+use Rattle.bhs_explore.specs.Schedules.{Trial, Deed, Makes, Wakes, Rests, under}
+use Rattle.bhs_explore.proofs.Turns.{verdict_is}
+use Rattle.bhs_protocols.specs.Pictures.{Picture, picture_of, blank, deed_in, is_heard, told_at, refused_in, said_in}
+use Rattle.bhs_protocols.specs.Pictures.{arrived_in, delivered_in, done_in, turn_in, turns_in, found_in, outcome_in}
+use Rattle.bhs_protocols.specs.LastWord.{SolvesFor}
+use Rattle.bhs_protocols.specs.Sizes.{ring_net, Terms, played_on, NoTeamSolvesTwoSizes}
+use Rattle.bhs_protocols.proofs.PictureLemmas.{pictures_follow}
+use Rattle.bhs_protocols.proofs.LastWordLemmas.{right_after}
+
+not_equal : (a b : ℕ) → a ≢ b → (a == b) ≡ false
+not_equal a b apart = elim (eqb_tells a b) [
+  | inl h ↦ absurd (apart h.1)
+  | inr h ↦ h.0
+]
+
+record IsSome (test : ℕ → Bool) (start count : ℕ) : Type 0 where
+  place : ℕ
+  before : place < start + count
+  passed : test place ≡ true
+
+any_some : (test : ℕ → Bool) (start count : ℕ) → list_any test (range_with_len start count) ≡ true
+    → IsSome test start count
+any_some test start zero any = absurd (true≢false (sym any))
+any_some test start (suc count) any = by_cases (test start) (IsSome test start (suc count))
+    (λ here. record { place = start; before = omega arith; passed = here })
+    (λ not_here.
+    let rest : IsSome test (start + 1) count = any_some test (start + 1) count
+    (sym (ap (λ (b : Bool). b || list_any test (range_with_len (start + 1) count)) not_here) ∙ any) in
+    let before : rest.place < start + 1 + count = rest.before in
+    record { place = rest.place; before = omega (arith, before); passed = rest.passed })
+
+module _ (n : ℕ) (three : 3 ≤ n) (terms : Terms) (minds : Minds) (hole : ℕ) (beyond : n - 1 ≤ hole)
+  where
+    -- the ring of n nodes whose last node is the black hole, and that of one node more
+    abbrev small : Trial
+    small = played_on (ring_net n) terms minds 0 (n - 1)
+
+    abbrev great : Trial
+    great = played_on (ring_net (n + 1)) terms minds 0 hole
+
+    -- nobody is where the two differ
+    abbrev IsInside : Position → Type 0
+    IsInside (At node came) = node < n - 1
+    IsInside (Bound node port) = node < n - 1
+    IsInside position = Unit {0}
+
+    abbrev AreInside : Picture → Type 0
+    AreInside picture = (k : ℕ) → IsInside (picture.position k)
+
+    doomed_small : (node port : ℕ) → doomed small.world node port ≡ (n - 1 == (small.world.net.far node port).0)
+    doomed_small node port = or_none (n - 1 == (small.world.net.far node port).0)
+      where
+        or_none : (b : Bool) → ((b || false) || false) ≡ b
+        or_none true = refl
+        or_none false = refl
+
+    doomed_great : (node port : ℕ) → doomed great.world node port ≡ (hole == (great.world.net.far node port).0)
+    doomed_great node port = or_none (hole == (great.world.net.far node port).0)
+      where
+        or_none : (b : Bool) → ((b || false) || false) ≡ b
+        or_none true = refl
+        or_none false = refl
+
+    -- a link that does not lead to the black hole leads to the same node of both
+    same_far : (node port : ℕ) → node < n - 1 → doomed small.world node port ≡ false
+        → (great.world.net.far node port ≡ small.world.net.far node port) × ((small.world.net.far node port).0 < n - 1)
+    same_far node port inside safe = by_port (port == 0) refl
+      where
+        spared : (target label : ℕ) → small.world.net.far node port ≡ (target, label) → n - 1 ≢ target
+        spared target label far same = true≢false (sym (ap (λ (e : ℕ × ℕ). n - 1 == e.0) far
+            ∙ eq-eqb (n - 1) target same) ∙ (sym (doomed_small node port) ∙ safe))
+
+        by_port : (b : Bool) → (port == 0) ≡ b
+            → (great.world.net.far node port ≡ small.world.net.far node port)
+            × ((small.world.net.far node port).0 < n - 1)
+        by_port true is =
+            let apart : node + 1 ≢ n = λ h. omega (arith, h, inside) in
+            let apart_too : node + 1 ≢ n + 1 = λ h. omega (arith, h, inside) in
+            let one : small.world.net.far node port ≡ (node + 1, 1) =
+            cond-true _ _ _ is ∙ ap (λ (k : ℕ). let end : ℕ × ℕ = (k, 1) in end)
+            (cond-false _ _ _ (not_equal (node + 1) n apart)) in
+            let two : great.world.net.far node port ≡ (node + 1, 1) =
+            cond-true _ _ _ is ∙ ap (λ (k : ℕ). let end : ℕ × ℕ = (k, 1) in end)
+            (cond-false _ _ _ (not_equal (node + 1) (n + 1) apart_too)) in
+            let not_hole : n - 1 ≢ node + 1 = spared (node + 1) 1 one in (
+              two ∙ sym one,
+              subst (λ (k : ℕ). k < n - 1) (sym (ap (λ (e : ℕ × ℕ). e.0) one))
+                  (omega (arith, inside, not_hole)),
+            )
+        by_port false is = elim (eqb_tells node 0) [
+          | inl h ↦
+              let one : small.world.net.far node port ≡ (n - 1, 0) =
+              cond-false _ _ _ is ∙ ap (λ (k : ℕ). let end : ℕ × ℕ = (k, 0) in end) (cond-true _ _ _ h.0) in
+              absurd (spared (n - 1) 0 one refl)
+          | inr h ↦
+              let one : small.world.net.far node port ≡ (node - 1, 0) =
+              cond-false _ _ _ is ∙ ap (λ (k : ℕ). let end : ℕ × ℕ = (k, 0) in end) (cond-false _ _ _ h.0) in
+              let two : great.world.net.far node port ≡ (node - 1, 0) =
+              cond-false _ _ _ is ∙ ap (λ (k : ℕ). let end : ℕ × ℕ = (k, 0) in end) (cond-false _ _ _ h.0) in
+              (two ∙ sym one, subst (λ (k : ℕ). k < n - 1) (sym (ap (λ (e : ℕ × ℕ). e.0) one)) (omega (arith, inside)))
+        ]
+
+    -- ---- one turn
+
+    record IsAlike (picture after : Picture) (in_great : Picture) : Type 0 where
+      inside : AreInside after
+      either_way : (in_great ≡ after) ⊎ (after ≡ picture)
+
+    told_inside : (place : Position) (command : Command) → IsInside place
+        → IsInside (position_after small.world place command)
+    told_inside Before Enter inside = omega (arith, three)
+    told_inside Before Look inside = tt
+    told_inside Before (Write expect put) inside = tt
+    told_inside Before (Depart port) inside = tt
+    told_inside Before (Accuse port) inside = tt
+    told_inside Before Leave inside = tt
+    told_inside Before Bad inside = tt
+    told_inside (At node came) Enter inside = omega (arith, three)
+    told_inside (At node came) Look inside = inside
+    told_inside (At node came) (Write expect put) inside = inside
+    told_inside (At node came) (Depart port) inside =
+        either IsInside (nat_lt port 2) (Bound node port) (At node came) inside inside
+    told_inside (At node came) (Accuse port) inside = either IsInside (nat_lt port 2) After (At node came) tt inside
+    told_inside (At node came) Leave inside = tt
+    told_inside (At node came) Bad inside = inside
+    told_inside (Bound node way) Enter inside = omega (arith, three)
+    told_inside (Bound node way) Look inside = inside
+    told_inside (Bound node way) (Write expect put) inside = inside
+    told_inside (Bound node way) (Depart port) inside = inside
+    told_inside (Bound node way) (Accuse port) inside = inside
+    told_inside (Bound node way) Leave inside = tt
+    told_inside (Bound node way) Bad inside = inside
+    told_inside After Enter inside = omega (arith, three)
+    told_inside After Look inside = tt
+    told_inside After (Write expect put) inside = tt
+    told_inside After (Depart port) inside = tt
+    told_inside After (Accuse port) inside = tt
+    told_inside After Leave inside = tt
+    told_inside After Bad inside = tt
+
+    changed_inside : (position : ℕ → Position) (agent : ℕ) (place : Position) → ((k : ℕ) → IsInside (position k))
+        → IsInside place → (k : ℕ) → IsInside (changed position agent place k)
+    changed_inside position agent place all here k = either IsInside (k == agent) place (position k) here (all k)
+
+    said_alike : (picture : Picture) (agent : ℕ) (command : Command) → AreInside picture →
+        IsAlike picture (said_in small.world picture agent command) (said_in great.world picture agent command)
+    said_alike picture agent command inside = record {
+      inside = by_cases (is_heard small.world picture agent command)
+          ((k : ℕ) → IsInside ((said_in small.world picture agent command).position k))
+          (λ yes k. subst (λ (p : Picture). IsInside (p.position k))
+          (sym (cond-true _ (told_at small.world picture agent (picture.position agent) command)
+          (refused_in picture agent command) yes))
+          (changed_inside picture.position agent (position_after small.world (picture.position agent) command) inside
+          (told_inside (picture.position agent) command (inside agent)) k))
+          (λ deaf k. subst (λ (p : Picture). IsInside (p.position k))
+          (sym (cond-false _ (told_at small.world picture agent (picture.position agent) command)
+          (refused_in picture agent command) deaf)) (inside k));
+      either_way = inl refl;
+    }
+
+    delivered_alike : (picture : Picture) (agent : ℕ) (position : Position) → AreInside picture → IsInside position →
+        IsAlike picture (delivered_in small.world picture agent position)
+        (delivered_in great.world picture agent position)
+    delivered_alike picture agent (Bound node port) inside here = by_cases (doomed small.world node port)
+        (IsAlike picture (delivered_in small.world picture agent (Bound node port))
+        (delivered_in great.world picture agent (Bound node port)))
+        (λ yes.
+        let is : delivered_in small.world picture agent (Bound node port) ≡ picture = cond-true _ _ _ yes in
+        record {
+          inside = λ k. subst (λ (p : Picture). IsInside (p.position k)) (sym is) (inside k);
+          either_way = inr is;
+        })
+        (λ none.
+        let it = same_far node port here none in
+        let target : ℕ = (small.world.net.far node port).0 in
+        let label : ℕ = (small.world.net.far node port).1 in
+        let arrived : Picture = arrived_in small.world picture agent target label in
+        let is : delivered_in small.world picture agent (Bound node port) ≡ arrived =
+        cond-false _ picture arrived none in
+        let far_off : hole ≢ target = λ same. omega (arith, it.1, beyond, same) in
+        let safe : doomed great.world node port ≡ false =
+        doomed_great node port ∙ ap (λ (e : ℕ × ℕ). hole == e.0) it.0 ∙ not_equal hole target far_off in
+        let in_great : delivered_in great.world picture agent (Bound node port) ≡ arrived =
+        cond-false _ _ _ safe ∙ ap (λ (e : ℕ × ℕ). arrived_in small.world picture agent e.0 e.1) it.0 in
+        record {
+          inside = λ k. subst (λ (p : Picture). IsInside (p.position k)) (sym is)
+              (changed_inside picture.position agent (At target (Some label)) inside it.1 k);
+          either_way = inl (in_great ∙ sym is);
+        })
+    delivered_alike picture agent Before inside here = record { inside = inside; either_way = inl refl }
+    delivered_alike picture agent (At place came) inside here = record { inside = inside; either_way = inl refl }
+    delivered_alike picture agent After inside here = record { inside = inside; either_way = inl refl }
+
+    done_alike : (picture : Picture) (agent : ℕ) (it : Deed) → AreInside picture →
+        IsAlike picture (done_in small picture agent it) (done_in great picture agent it)
+    done_alike picture agent (Makes (Tell other command)) inside = said_alike picture other command inside
+    done_alike picture agent (Makes (Deliver other)) inside =
+        delivered_alike picture other (picture.position other) inside (inside other)
+    done_alike picture agent (Makes Close) inside = record { inside = inside; either_way = inl refl }
+    done_alike picture agent Wakes inside = record { inside = inside; either_way = inl refl }
+    done_alike picture agent Rests inside = record { inside = inside; either_way = inl refl }
+
+    -- ---- and a schedule
+
+    record IsSameRun (picture : Picture) (schedule : List ℕ) : Type 0 where
+      other : List ℕ
+      same : turns_in great picture other ≡ turns_in small picture schedule
+
+    same_run : (schedule : List ℕ) (picture : Picture) → AreInside picture → IsSameRun picture schedule
+    same_run [] picture inside = record { other = []; same = refl }
+    same_run (agent ∷ schedule) picture inside =
+        let it = done_alike picture agent (deed_in small picture agent) inside in
+        let rest : IsSameRun (turn_in small picture agent) schedule =
+        same_run schedule (turn_in small picture agent) it.inside in
+        elim it.either_way [
+          | inl h ↦ record {
+            other = agent ∷ rest.other;
+            same = ap (λ (p : Picture). turns_in great p rest.other) h ∙ rest.same;
+          }
+          | inr h ↦ record {
+            other = rest.other;
+            same = ap (λ (p : Picture). turns_in great p rest.other) (sym h) ∙ rest.same;
+          }
+        ]
+
+    -- so an accusation on the small ring is one on the great ring, and right there
+    right_in_great : (schedule : List ℕ) (k : ℕ) (link : ℕ × ℕ) → SolvesFor great → k < terms.agents
+        → (turns_in small blank schedule).accused k ≡ Some link → hole ≡ (great.world.net.far link.0 link.1).0
+    right_in_great schedule k link solves within accused =
+        let run : IsSameRun blank schedule = same_run schedule blank (λ j. tt) in
+        let here : (turns_in great blank run.other).accused k ≡ Some link =
+        ap (λ (p : Picture). p.accused k) run.same ∙ accused in
+        let right : is_right great.world link ≡ true = right_after great run.other k link solves within here in
+        eqb-true hole (great.world.net.far link.0 link.1).0 (sym (doomed_great link.0 link.1) ∙ right)
+
+-- who has solved has accused
+spoken_at_rest : (world : World) (picture : Picture) → outcome_in world picture ≡ Solved
+    → accuses world (found_in picture) (λ link. true) ≡ true
+spoken_at_rest world picture solved =
+    by_cases (accuses world (found_in picture) (λ link. true)) (accuses world (found_in picture) (λ link. true) ≡ true)
+    (λ yes. yes)
+    (λ none. absurd (not_silent (accuses world (found_in picture) (λ link. not (is_right world link)))
+    (is_silent world (found_in picture)) _ (silent _ _ _ none) solved))
+  where
+    silent : (a b c : Bool) → a ≡ false → (not a || b || c) ≡ true
+    silent true b c h = cc
+    silent false b c h = refl
+
+    not_silent : (a b : Bool) (x : Outcome) → b ≡ true → (if a then Wrong else (if b then Silent else x)) ≡ Solved → ⊥
+    not_silent true b x silent h = cc
+    not_silent false true x silent h = cc
+    not_silent false false x silent h = cc
+
+record HasLink (accused : Option (ℕ × ℕ)) : Type 0 where
+  link : ℕ × ℕ
+  is : accused ≡ Some link
+
+has_link : (accused : Option (ℕ × ℕ)) → passes (λ link. true) accused ≡ true → HasLink accused
+has_link None h = cc
+has_link (Some link) h = record { link = link; is = refl }
+
+pub no_team_solves_two_sizes : NoTeamSolvesTwoSizes
+no_team_solves_two_sizes n terms minds three one two =
+    let trial : Trial = played_on (ring_net n) terms minds 0 (n - 1) in
+    let solves : SolvesFor trial = one (n - 1) (omega (arith, three)) (omega (arith, three)) in
+    let rest = solves.rests [] in
+    let schedule : List ℕ = rest.0 in
+    let follows : picture_of trial (under trial schedule) ≡ turns_in trial blank schedule =
+    pictures_follow trial schedule in
+    let solved : outcome_in trial.world (turns_in trial blank schedule) ≡ Solved =
+    ap (outcome_in trial.world) (sym follows)
+    ∙ sym (ap (λ (v : Verdict). v.outcome) (verdict_is trial (under trial schedule)))
+    ∙ (solves.solves schedule rest.1).outcome in
+    let some : IsSome (λ k. passes (λ link. true) ((turns_in trial blank schedule).accused k)) 0 terms.agents =
+    any_some (λ k. passes (λ link. true) ((turns_in trial blank schedule).accused k)) 0 terms.agents
+    (spoken_at_rest trial.world (turns_in trial blank schedule) solved) in
+    let accuser : HasLink ((turns_in trial blank schedule).accused some.place) =
+    has_link ((turns_in trial blank schedule).accused some.place) some.passed in
+    let before : some.place < 0 + terms.agents = some.before in
+    let within : some.place < terms.agents = omega (arith, before) in
+    let last : n - 1 ≡ ((ring_net (n + 1)).far accuser.link.0 accuser.link.1).0 =
+    right_in_great n three terms minds (n - 1) (omega arith) schedule some.place accuser.link
+    (two (n - 1) (omega (arith, three)) (omega (arith, three))) within accuser.is in
+    let very_last : n ≡ ((ring_net (n + 1)).far accuser.link.0 accuser.link.1).0 =
+    right_in_great n three terms minds n (omega arith) schedule some.place accuser.link
+    (two n (omega (arith, three)) (omega arith)) within accuser.is in
+    omega (arith, last, very_last, three)

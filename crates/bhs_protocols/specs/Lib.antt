@@ -1,0 +1,17 @@
+pub mod Pictures
+pub mod Invariants
+pub mod Programs
+pub mod Rings
+pub mod Shuttle
+pub mod Laws
+pub mod StandardRings
+pub mod Alone
+pub mod AllRings
+pub mod LastWord
+pub mod Sizes
+pub mod Open
+pub mod Endless
+pub mod Halving
+pub mod Halves
+pub mod HalvesExamples
+pub mod HalvesLaws

@@ -1,0 +1,99 @@
+//! What holds under every schedule, of protocols and of any team. The functions do nothing: their contracts are laws.
+
+ghost use Rattle.bhs_protocols.specs.AllRings.{RingsAreRings, ShuttleSolvesAllRings};
+ghost use Rattle.bhs_protocols.specs.Alone.{OneAloneFails, OneAloneFailsOnNetworks};
+ghost use Rattle.bhs_protocols.specs.Endless.{LookersDoNotRest, LookersSolveAtRest};
+ghost use Rattle.bhs_protocols.specs.HalvesExamples.{OnFive, OnFour, OnThree};
+ghost use Rattle.bhs_protocols.specs.HalvesLaws.{HalvesSolve, HalvesSolveAllRings, TurnsAreFew};
+ghost use Rattle.bhs_protocols.specs.Halving.{LastWaysArePaid, MovesAre, MovesAreFew, RoundsAreLeast, RoundsReach};
+ghost use Rattle.bhs_protocols.specs.Halving.{WaysArePaid};
+ghost use Rattle.bhs_protocols.specs.LastWord.{AccusationsComeLast};
+ghost use Rattle.bhs_protocols.specs.Laws.{InvariantsSolve, PicturesFollow, ShuttleSolves};
+ghost use Rattle.bhs_protocols.specs.Sizes.{NoTeamSolvesTwoSizes};
+ghost use Rattle.bhs_protocols.specs.StandardRings.{MovesAreSquares, ShuttleSolvesStandardRings, StandardRings};
+ghost use Rattle.bhs_protocols.specs.StandardRings.{TheTriangleIsSolved};
+
+/// A match that is played can be followed without its events and without pasts.
+pub fn pictures_follow()
+    ensures { PicturesFollow }
+{}
+
+/// An invariant with a number that falls shows that agents solve a match under every schedule.
+pub fn invariants_solve()
+    ensures { InvariantsSolve }
+{}
+
+/// The shuttle solves every ring, within bounds by the distances of the black hole.
+pub fn the_shuttle_solves()
+    ensures { ShuttleSolves }
+{}
+
+/// The standard ring of each size is a ring, so the shuttle solves it, in fewer moves than the squares of the distances
+/// of the black hole make together.
+pub fn the_shuttle_solves_standard_rings()
+    ensures are_rings { StandardRings }
+    ensures solves { ShuttleSolvesStandardRings }
+    ensures moves { MovesAreSquares }
+{}
+
+/// The shuttle on a triangle, worked out by hand.
+pub fn worked_examples()
+    ensures { TheTriangleIsSolved }
+{}
+
+/// One agent alone that comes to rest does not solve the match with every black hole.
+pub fn one_alone_fails()
+    ensures fails { OneAloneFails }
+    ensures on_networks { OneAloneFailsOnNetworks }
+{}
+
+/// The shuttle solves each network of a file whose nodes have two links each, however its ports are numbered.
+pub fn the_shuttle_solves_all_rings()
+    ensures are_rings { RingsAreRings }
+    ensures solves { ShuttleSolvesAllRings }
+{}
+
+/// A team that solves the match whichever node is the black hole has reached all the others before it accuses.
+pub fn accusations_come_last()
+    ensures { AccusationsComeLast }
+{}
+
+/// A team that is not told how many nodes a ring has does not solve rings of two sizes that follow each other.
+pub fn no_team_solves_two_sizes()
+    ensures { NoTeamSolvesTwoSizes }
+{}
+
+/// Agents that look for ever solve a match under every schedule that comes to rest, so `IsSolved` also says that
+/// schedules end.
+pub fn lookers_solve()
+    ensures said { LookersSolveAtRest }
+    ensures but { LookersDoNotRest }
+{}
+
+/// What a search by halves costs: each way is paid for, and all that is paid for is order n log n.
+pub fn halving_costs()
+    ensures paid { WaysArePaid }
+    ensures last { LastWaysArePaid }
+    ensures all { MovesAre }
+    ensures few { MovesAreFew }
+    ensures least { RoundsAreLeast }
+    ensures reach { RoundsReach }
+{}
+
+/// The search by halves on small rings, worked out.
+pub fn halves_examples()
+    ensures three { OnThree }
+    ensures four { OnFour }
+    ensures five { OnFive }
+{}
+
+/// The search by halves solves every ring, in order n log n moves.
+pub fn the_halves_solve()
+    ensures solves { HalvesSolve }
+    ensures few { TurnsAreFew }
+{}
+
+/// The search by halves solves each network of a file whose nodes have two links each, however its ports are numbered.
+pub fn the_halves_solve_all_rings()
+    ensures { HalvesSolveAllRings }
+{}
