@@ -9,6 +9,12 @@ schedule that was found after which the team fails on the same network. The same
 on every run, if the programs are functions of what they are told. Interrupted, the same command goes on behind the last
 row.
 
+A solved match counts only if it repeats. When all matches have been played, the lab starts each agent of it again,
+alone in a new cell, and tells it what it was told: the agent must say what it said. What another program signalled past
+the whiteboards is not there to be heard. The first difference stands on the team's page, `repeats.csv` has a row for
+each solved match, and `solved` has the replays. A program may use what it is told and the number in ARENA_SEED, and
+nothing else: no clock, and no other random numbers. With `--no-repeat` the lab leaves that out.
+
 A program that crashes, hangs, or sends rubbish fails its own matches, and so does one that is handed in with too much
 or takes too long. Each program runs in a folder of its own, and what else keeps it apart depends on the machine; the
 command says on standard error what does not. With Debian's bubblewrap and python3-seccomp a program sees neither other
@@ -40,6 +46,8 @@ def add_words(parser: argparse.ArgumentParser) -> None:
     parser.add_argument("--out", metavar="FOLDER", type=pathlib.Path, required=True, help="write everything there")
     parser.add_argument("--secret", metavar="FILE", type=pathlib.Path, help="take the secret that this file has, such "
                         "as the `secret.txt` of other results, to play the same matches")
+    parser.add_argument("--no-repeat", action="store_true", help="count all solved matches, also those whose agents "
+                        "would say something else when they are told the same again")
     add_workers(parser)
     add_engine(parser)
 
@@ -58,5 +66,6 @@ def run(words: argparse.Namespace) -> int:
     program = program_of(words)
     with tables.alone_in(words.out):
         secret = course.secret_in(words.out, words.secret)
-        graded = Graded(read.text, path.parent, secret, program, Yard(strongest, read.tools), words.out)
+        graded = Graded(read.text, path.parent, secret, program, Yard(strongest, read.tools), words.out,
+                        not words.no_repeat)
         return graded_in(graded, words.workers)

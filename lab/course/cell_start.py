@@ -1,8 +1,8 @@
-"""Starts a program in its cell (lab/course/cells.py): `python3 cell_start.py CHANNEL FILES PORT WORD ..`
+"""Starts a program in its cell (lab/course/cells.py): `python3 cell_start.py CHANNEL FILES PORT SEED WORD ..`
 
 Unpacks the team's files, a tar archive that stands open as FILES, into its folder; opens the port to which the program
 will connect, and sends it over the channel, which is a socket; and becomes the program. In the words {port} stands for
-the port, of which 0 asks for any that is free.
+the port, of which 0 asks for any that is free. The program finds SEED in ARENA_SEED.
 """
 import array
 import os
@@ -50,14 +50,14 @@ def listen(channel: int, port: int) -> int:
         return opened
 
 
-def main(channel: str, files: str, port: str, *words: str) -> None:
+def main(channel: str, files: str, port: str, seed: str, *words: str) -> None:
     limit()
     unpack(int(files))
     opened = str(listen(int(channel), int(port)))
     command: List[str] = [word.replace("{port}", opened) for word in words]
     here = os.getcwd()
     environment = {"PATH": os.environ["PATH"], "HOME": here, "TMPDIR": os.environ.get("TMPDIR", here), "USER": "agent",
-                   "LANG": "C.UTF-8", "PYTHONHASHSEED": "0", "PYTHONDONTWRITEBYTECODE": "1"}
+                   "LANG": "C.UTF-8", "ARENA_SEED": seed, "PYTHONHASHSEED": seed, "PYTHONDONTWRITEBYTECODE": "1"}
     try:
         os.execvpe(command[0], command, environment)
     except OSError as fault:

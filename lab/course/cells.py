@@ -72,7 +72,7 @@ class Cell:
         self._first: Optional[int] = None
         self._fault = ""
 
-    def start(self, words: Sequence[str], errors: Any) -> Started:
+    def start(self, words: Sequence[str], seed: int, errors: Any) -> Started:
         """Starts a program."""
         ours, theirs = socket.socketpair()
         with theirs, contextlib.ExitStack() as held:
@@ -83,7 +83,7 @@ class Cell:
                 given.append(held.enter_context(in_memory(walls.system_filter())))
                 command += [*walls.words(self.yard.tools), "--seccomp", str(given[-1])]
             command += [python(), "-I", "-S", "-c", STARTER.read_text(encoding="utf-8"), str(theirs.fileno()),
-                        str(files), str(port), *words]
+                        str(files), str(port), str(seed), *words]
             path = PATH if self.user is not None else os.environ.get("PATH", PATH)
             child = self._child = subprocess.Popen(
                 command, pass_fds=given, stdin=subprocess.DEVNULL, stdout=subprocess.DEVNULL, stderr=errors,
@@ -185,7 +185,7 @@ def cells(yard: Yard, files: bytes, count: int, facts: Dict[str, str]) -> Iterat
 def try_out(yard: Yard) -> None:
     """Starts a program that does nothing; if even that cannot be started, NoCell says why."""
     with cells(yard, NOTHING, 1, {}) as made, tempfile.TemporaryFile() as errors:
-        child, listener_of = made[0].start(["true"], errors)
+        child, listener_of = made[0].start(["true"], 0, errors)
         listener_of().close()
         if child.wait() != 0:
             raise NoCell(f"a program that does nothing has ended with status {child.returncode}")

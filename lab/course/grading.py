@@ -3,11 +3,12 @@ results."""
 import contextlib
 import hashlib
 import pathlib
+import random
 import sys
 import time
 from typing import Any, Callable, Dict, Iterator, List, NamedTuple, Optional, Sequence, Tuple
 
-from lab.course import cells, course, league, walls
+from lab.course import cells, course, league, repeating, walls
 from lab.course.cells import Walls, Yard
 from lab.course.course import Course
 from lab.course.hand_in import NETWORK
@@ -38,6 +39,8 @@ DIFFERS = ("under the same schedule the match went another way when it was playe
 TIME_IS_UP = "the time for this was up, so there may be a smaller one"
 # faults of the machine or of the course's file, which end the command: all others are of a match alone
 OF_ALL = (Impossible, Missing, NoAgent, NoCell, NoProgram, NoUser, OSError)
+# the replays of solved matches, and what came of repeating them
+SOLVED, REPEATS, REPEATS_HEAD = "solved", "repeats.csv", ("run", "team", "fault")
 
 
 class NotSmaller(Exception):
@@ -61,6 +64,8 @@ class Graded(NamedTuple):
     program: Optional[str]
     yard: Yard
     out: pathlib.Path
+    # whether a solved match counts only if its agents say the same when they are repeated alone
+    repeats: bool = True
 
     @property
     def course(self) -> Course:
@@ -85,6 +90,9 @@ class Graded(NamedTuple):
         cells.remove(place)
         if played.has_failed() or row[tables.COLUMNS.index("outcome")] != "solved":
             finds.write_find(place, schedule, played, self.program)
+        else:
+            self.replay_of(case).parent.mkdir(exist_ok=True)
+            self.replay_of(case).write_bytes(played.replay)
         return row
 
     def digests(self) -> Dict[str, str]:
@@ -95,6 +103,20 @@ class Graded(NamedTuple):
         """Where a failed match is written."""
         return self.out / league.folder_of(case.team.name, case.number)
 
+    def replay_of(self, case: Case) -> pathlib.Path:
+        """Where the replay of a solved match is written."""
+        return self.out / SOLVED / f"{case.team.name}-{case.number}.jsonl"
+
+    def repeat(self, case: Case, agent: int) -> str:
+        """Repeats an agent of a solved match alone; gives what it says otherwise, or nothing."""
+        past = repeating.past_of(self.replay_of(case).read_text(encoding="utf-8"), agent)
+        fixture, limits = self.course.fixture(case), self.course.limits
+        with self._grounds(case, fixture, 1) as grounds:
+            team = programs.Team(fixture, {agent: case.team.words.words}, limits.line, {agent: grounds[0]},
+                                 limits.match)
+            found = repeating.repeated(team, past)
+        return str(found or "")
+
     def match(self, case: Case, scheduler: Scheduler, program: Optional[str]) -> Tuple[Schedule, Played]:
         """Plays a match by this scheduler."""
         fixture, limits = self.course.fixture(case), self.course.limits
@@ -102,23 +124,23 @@ class Graded(NamedTuple):
         files = self.course.hand_in(case.team.name).digests(case.team.words.words)
         origin = f"{case.scheduler} {self.course.seed(case)} on {case.network}"
         empty = schedule_of(fixture, agents, origin, [])._replace(files=files)
-        with self._grounds(case, fixture) as grounds:
+        with self._grounds(case, fixture, fixture.setup.agents) as grounds:
             commands = {number: agent.words for number, agent in enumerate(agents)}
-            team = programs.Team(fixture, commands, limits.line, grounds, limits.match)
+            team = programs.Team(fixture, commands, limits.line, dict(enumerate(grounds)), limits.match)
             played = play(finds.engine_of(empty, program), team, scheduler, fixture)
         return empty._replace(choices=played.choices), played
 
     @contextlib.contextmanager
-    def _grounds(self, case: Case, fixture: Fixture) -> Iterator[Sequence[programs.Ground]]:
-        """Where a match's programs run: each in a cell, unless their hand-in is refused."""
-        handed_in, agents = self.course.hand_in(case.team.name), fixture.setup.agents
+    def _grounds(self, case: Case, fixture: Fixture, count: int) -> Iterator[Sequence[programs.Ground]]:
+        """Where this number of a match's programs run: each in a cell, unless their hand-in is refused."""
+        handed_in = self.course.hand_in(case.team.name)
         if handed_in.refusal:
-            yield [programs.Nowhere(f"the hand-in is refused: {handed_in.refusal}")] * agents
+            yield [programs.Nowhere(f"the hand-in is refused: {handed_in.refusal}")] * count
             return
         network = networks.text_of(networks.Network(fixture.setup.nodes, fixture.setup.links)).encode()
         has_map = "{network}" in case.team.words.words
         files = handed_in.archive(**({NETWORK: network} if has_map else {}))
-        with cells.cells(self.yard, files, agents, {"network": NETWORK} if has_map else {}) as made:
+        with cells.cells(self.yard, files, count, {"network": NETWORK} if has_map else {}) as made:
             yield made
 
 
@@ -133,6 +155,33 @@ def unplayed(played: Course, case: Case, fault: str) -> List[str]:
     found = (case.number, case.network, setup.nodes, len(setup.links), setup.home, case.hole, case.team.name,
              setup.agents, case.scheduler, case.seed, league.UNPLAYED, 0, 0, 0, 0, "", "", " ".join(fault.split()))
     return tables.checked(list(map(str, found)))
+
+
+class Repetition(NamedTuple):
+    """An agent of a solved match that is to be repeated alone."""
+
+    case: Case
+    agent: int
+
+
+class Repeating(NamedTuple):
+    """Repeats agents alone."""
+
+    graded: Graded
+
+    def play(self, it: Repetition) -> Timed:
+        """The match's number, and what the agent says otherwise, or nothing."""
+        began = time.monotonic()
+        try:
+            said = self.graded.repeat(it.case, it.agent)
+        except OF_ALL:
+            raise
+        except Exception as fault:
+            said = f"{league.LAB_FAILED} when it was to repeat agent {it.agent}: {in_a_line(fault)}"
+        return Timed((it.case.number, said), time.monotonic() - began)
+
+    def digests(self) -> Dict[str, str]:
+        return self.graded.digests()
 
 
 class Cutting(NamedTuple):
@@ -168,6 +217,7 @@ class Cutting(NamedTuple):
 
     def _smallest(self, case: Case, began: float) -> str:
         """Writes the smallest schedule that was found after which the team fails; gives what is said of it."""
+        check_solved(self.faults[case.number])
         check_hangs(self.faults[case.number])
         numbers: List[int] = []
         graded, place = self.graded, self.graded.place(case)
@@ -192,6 +242,12 @@ class Cutting(NamedTuple):
         _, played = self.graded.match(case, in_runs(runs), None)
         check_hangs("; ".join(played.faults))
         return played.has_failed()
+
+
+def check_solved(faults: str) -> None:
+    """Refuses to make a schedule smaller under which the team solves its network, but does not repeat."""
+    if any(what in faults for what in league.KINDS_OF_FAULTS[league.OTHERWISE]):
+        raise NotSmaller("the match was solved when it was played")
 
 
 def check_hangs(faults: str) -> None:
@@ -243,10 +299,18 @@ class Budget(NamedTuple):
         return f"the matches of the team have taken the {self.limit} s that it has"
 
 
-def in_time(job: Job, left: Sequence[Case], workers: int, budget: Budget, instead: Callable[[Case], Any]
-            ) -> Iterator[Result]:
-    """The results of a team's matches; those that come when the team's time is up are others instead."""
-    results, count, name = over_processes(job, left, workers, 1), 0, left[0].team.name
+class Limited(NamedTuple):
+    """The time of a team, and what comes instead of a result once it is up."""
+
+    budget: Budget
+    team: str
+    instead: Callable[[Any], Any]
+
+
+def in_time(job: Job, left: Sequence[Any], workers: int, limited: Limited) -> Iterator[Result]:
+    """The results of a team's matches, or of repetitions; those that come when the team's time is up are others
+    instead."""
+    results, count, (budget, name, instead) = over_processes(job, left, workers, 1), 0, limited
     while budget.spent[name] <= budget.limit and count < len(left):
         result = next(results)
         count += 1
@@ -260,16 +324,53 @@ def in_time(job: Job, left: Sequence[Case], workers: int, budget: Budget, instea
         yield Result(instead(case), "")
 
 
+def repeated_in_time(graded: Graded, solved: List[Case], workers: int) -> Dict[int, str]:
+    """Repeats the agents of solved matches alone; gives what one of them says otherwise, by the numbers of matches.
+
+    While an agent is repeated no other agent of its match may run, which could signal to it. So there are rounds: in
+    each of them one agent of each match is repeated, in an order that no program can know. Once an agent of a match
+    differs, the others are not repeated. A team has as much time for its repetitions as for its matches."""
+    chance, given = random.Random(f"rounds of {graded.secret}"), graded.course
+    budget = Budget(given.limits.team, {team.name: 0.0 for team in given.grid.teams})
+    counts = {case.number: given.fixture(case).setup.agents for case in solved}
+    orders = {number: chance.sample(range(count), count) for number, count in counts.items()}
+    found: Dict[int, str] = {}
+
+    def results() -> Iterator[Result]:
+        for turn in range(max(counts.values(), default=0)):
+            due = [Repetition(case, orders[case.number][turn]) for case in solved
+                   if turn < counts[case.number] and case.number not in found]
+            yield from one_round(graded, chance.sample(due, len(due)), workers, budget)
+
+    for result in along(results(), sum(counts.values()), "repetition"):
+        if result.fault:
+            raise NoSweep(result.fault)
+        number, said = result.found
+        if said:
+            found[number] = said
+    return found
+
+
+def one_round(graded: Graded, due: List[Repetition], workers: int, budget: Budget) -> Iterator[Result]:
+    """The results of a round, team by team."""
+    def instead(it: Repetition) -> Tuple[int, str]:
+        return it.case.number, f"agent {it.agent}: {league.NOT_REPEATED}: {budget.says()}"
+    for name in dict.fromkeys(it.case.team.name for it in due):
+        left = [it for it in due if it.case.team.name == name]
+        yield from in_time(Repeating(graded), left, workers, Limited(budget, name, instead))
+
+
 def played_in_time(graded: Graded, left: Sequence[Case], workers: int, budget: Budget) -> Iterator[Result]:
     """The rows of a team's matches."""
     def instead(case: Case) -> List[str]:
         return unplayed(graded.course, case, f"{league.UNPLAYED}: {budget.says()}")
-    return in_time(graded, left, workers, budget, instead)
+    return in_time(graded, left, workers, Limited(budget, left[0].team.name, instead))
 
 
 def told(graded: Graded, cases: List[Case], workers: int, budget: Budget) -> int:
     """Makes the schedules of failed matches small, and writes the table and the pages."""
     rows = tables.rows_in(graded.out / tables.RUNS)
+    repeat_all(graded, cases, rows, workers)
     failures = cut_down(graded, [cases[int(row["run"])] for row in rows if not report.is_solved(row)], rows,
                         workers, budget)
     engine = name_of(graded.program)
@@ -285,6 +386,21 @@ def told(graded: Graded, cases: List[Case], workers: int, budget: Budget) -> int
         print(f"lab: the lab could not play {len(broken)} matches, such as {broken[0]}: the teams' pages say why",
               file=sys.stderr)
     return 1 if broken else 0
+
+
+def repeat_all(graded: Graded, cases: List[Case], rows: List[Row], workers: int) -> None:
+    """Repeats the solved matches, writes what came of that, and notes a fault in the row of each that does not repeat.
+    The file of rows keeps how they were played."""
+    path = graded.out / REPEATS
+    path.unlink(missing_ok=True)
+    if not graded.repeats:
+        return
+    solved = [cases[int(row["run"])] for row in rows if report.is_solved(row)]
+    found = repeated_in_time(graded, solved, workers)
+    lines = [REPEATS_HEAD, *((str(case.number), case.team.name, found.get(case.number, "")) for case in solved)]
+    path.write_text("".join(map(tables.line_of, lines)), encoding="utf-8")
+    for number, said in found.items():
+        rows[number] = {**rows[number], "fault": said, report.FAULTS: [said]}
 
 
 def cut_down(graded: Graded, failed: List[Case], rows: List[Row], workers: int, budget: Budget) -> Dict[int, Failure]:
@@ -310,4 +426,4 @@ def cut_in_time(cutting: Cutting, failed: List[Case], workers: int, budget: Budg
     for name in budget.spent:
         left = [case for case in failed if case.team.name == name]
         if left:
-            yield from in_time(cutting, left, workers, budget, instead)
+            yield from in_time(cutting, left, workers, Limited(budget, name, instead))

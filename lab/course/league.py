@@ -15,7 +15,11 @@ MATCH_HEAD = ("match", "network", "black hole", "scheduler", "seed", "came to", 
 # how a match may fail besides by its verdict, each by what its first fault says
 UNPLAYED, LAB_FAILED = "not played", "not played, as the lab failed"
 CRASHED, HUNG, RUDE, SILENT = "crashed", "hung", "broke a rule", "silent"
+OTHERWISE = "does not repeat"
+SAYS_OTHERWISE, NOT_REPEATED = "says something else when it is told the same again", "is not repeated"
 KINDS_OF_FAULTS = {
+    # the first, as its fault also tells how the program ended
+    OTHERWISE: (SAYS_OTHERWISE, NOT_REPEATED),
     CRASHED: ("has ended with status", "cannot be started", "has taken more than"),
     HUNG: (programs.SENT_NOTHING, programs.READ_NOTHING, programs.USED_UP),
     UNPLAYED: (UNPLAYED,),
@@ -24,6 +28,8 @@ KINDS_OF_FAULTS = {
 KINDS = {
     CRASHED: ("crashed", "a program ended by a fault of its own, or took too much memory"),
     HUNG: ("hung", "a program let the lab wait too long"),
+    OTHERWISE: ("rude", "solved, but an agent says something else when it is alone and told the same again, or there "
+                "was no time to repeat it"),
     RUDE: ("rude", "a program said what the rules do not allow"),
     "wrong": ("wrong", "an agent accused a link that leads to no black hole"),
     "guess": ("wrong", "the accusation was right, but could not be known to be"),

@@ -8,6 +8,7 @@ breaks the rules ends its own play, and a line names it.
 
 What a program has sent counts, also if it ends before it is answered, as for `arena serve`.
 """
+import hashlib
 import math
 import os
 import shlex
@@ -57,8 +58,8 @@ class Ground(Protocol):
     @property
     def facts(self) -> Mapping[str, str]: ...
 
-    def start(self, words: Sequence[str], errors: Any) -> Started:
-        """Starts a program. The port of its listener stands for `{port}`."""
+    def start(self, words: Sequence[str], seed: int, errors: Any) -> Started:
+        """Starts a program, which finds the seed in ARENA_SEED. The port of its listener stands for `{port}`."""
 
     def kill(self, child: "subprocess.Popen[bytes]") -> None:
         """Ends a program that was started, and all that it has started."""
@@ -75,13 +76,12 @@ class Here:
 
     facts: Mapping[str, str] = {}
 
-    def start(self, words: Sequence[str], errors: Any) -> Started:
+    def start(self, words: Sequence[str], seed: int, errors: Any) -> Started:
         listener = socket.create_server((HOST, 0))
         command = [word.replace("{port}", str(listener.getsockname()[1])) for word in words]
         try:
-            # sets of texts have the same order on each run, as the program is to be a function of what it is told
             return subprocess.Popen(command, stdin=subprocess.DEVNULL, stdout=subprocess.DEVNULL, stderr=errors,
-                                    env={**os.environ, "PYTHONHASHSEED": "0"}, start_new_session=True), lambda: listener
+                                    env={**os.environ, **seeds(seed)}, start_new_session=True), lambda: listener
         except OSError:
             listener.close()
             raise
@@ -106,7 +106,7 @@ class Nowhere(NamedTuple):
     why: str
     facts: Mapping[str, str] = {}
 
-    def start(self, words: Sequence[str], errors: Any) -> Started:
+    def start(self, words: Sequence[str], seed: int, errors: Any) -> Started:
         raise NoStart(self.why)
 
     def kill(self, child: "subprocess.Popen[bytes]") -> None:
@@ -203,7 +203,8 @@ class Player:
         """Starts the program. It is the first of a group of its own, so that all that it starts can be ended."""
         words = command_of(self.words, self._team.fixture, self.number, self._ground.facts)
         try:
-            self._child, self._listener_of = self._ground.start(words, self._errors)
+            seed = seed_of(self._team.fixture.keys[self.number])
+            self._child, self._listener_of = self._ground.start(words, seed, self._errors)
         except NoStart as fault:
             self._end(f"cannot be started: {fault}")
         except OSError as fault:
@@ -359,6 +360,18 @@ class Player:
             self._ground.kill(self._child)
 
 
+def seed_of(key: str) -> int:
+    """The number from which a program may draw its chance. It comes from the agent's key, so it is the same when a
+    match is played again. It fits in an int of C, and Python takes it as the seed of its hashes."""
+    return int(hashlib.sha256(key.encode(errors="replace")).hexdigest()[:7], 16)
+
+
+def seeds(seed: int) -> Dict[str, str]:
+    """The variables that tell a program its seed. With them Python goes through sets of texts in the same order on each
+    run."""
+    return {"ARENA_SEED": str(seed), "PYTHONHASHSEED": str(seed)}
+
+
 def plain(text: str) -> str:
     """A text without characters that are not seen but do something, such as those that colour a terminal, hide what
     stands before them or turn the direction of writing: the code of each stands in its place."""
@@ -408,7 +421,8 @@ class Team:
     """The programs of a match, with a limit of seconds for each line and one for the whole match."""
 
     def __init__(self, fixture: Fixture, commands: Mapping[int, str], seconds: float,
-                 grounds: Optional[Sequence[Ground]] = None, in_all: float = math.inf) -> None:
+                 grounds: Optional[Mapping[int, Ground]] = None, in_all: float = math.inf) -> None:
+        """The commands are by the numbers of agents, and the grounds too."""
         self.fixture = fixture
         self.clock = Clock(seconds, in_all)
         self.players: List[Player] = [Player(self, number, words, grounds[number] if grounds else Here())

@@ -169,7 +169,68 @@ class Grading(InFolder):
         page = self.folder / "out" / "team-dice.html"
         self.assertIn("something else although they are told the same", page.read_text())
 
+    def test_a_match_counts_only_if_each_agent_says_the_same_alone(self) -> None:
+        for name, drawn in (("dice", "secrets.token_hex(8)"), ("seeded", "os.environ['ARENA_SEED']")):
+            (self.folder / f"{name}.py").write_text(LONE.replace("DRAWN", drawn))
+        file = self.folder / "course.toml"
+        file.write_text(HEAD + "".join(team(name, [f"{name}.py"], f"python3 {name}.py {{port}} {{key}}", 1)
+                                       for name in ("dice", "seeded")))
+        said = self.graded(file, "out", "--engine", "model")
+        self.assertEqual([line.split()[1:3] for line in said.splitlines()[1:3]], [["seeded", "1"], ["dice", "0"]])
+        page = (self.folder / "out" / "team-dice.html").read_text()
+        self.assertIn("says something else when it is told the same again, at command 2: in the match `write", page)
+        self.assertIn("the match was solved when it was played", page)
+        lines = (self.folder / "out" / "repeats.csv").read_text().splitlines()
+        self.assertEqual([line[:9] for line in lines], ["run,team,", "0,dice,\"a", "1,seeded,"])
+        said = self.graded(file, "again", "--engine", "model", "--no-repeat")
+        self.assertEqual([line.split()[2] for line in said.splitlines()[1:3]], ["1", "1"])
 
+    def test_a_signal_of_a_living_agent_wins_nothing(self) -> None:
+        """Without walls agents meet at a socket, and their match is solved. Repeated alone nobody meets them there; a
+        body that repeats them together would let them win."""
+        (self.folder / "meets.py").write_text(MEETS)
+        file = self.folder / "course.toml"
+        file.write_text(HEAD + team("meets", ["meets.py"], f"python3 meets.py {{port}} {{key}} {self.folder.name}"))
+        with mock.patch.object(cells, "strongest", return_value=Walls.NONE):
+            for out, solved, more in (("alone", "0", []), ("trusted", "1", ["--no-repeat"])):
+                said = self.graded(file, out, "--engine", "model", "--workers", "2", *more)
+                self.assertEqual(said.splitlines()[1].split()[2], solved, said)
+        page = (self.folder / "alone" / "team-meets.html").read_text()
+        self.assertIn("at command 3: in the match `depart port 1`, alone `leave`", page)
+
+
+# one agent that solves a ring of four nodes, and writes something on the whiteboard
+LONE = """import json, os, secrets, socket, sys
+server = socket.create_connection(("127.0.0.1", int(sys.argv[1]))).makefile("rw")
+moves = [{"do": "depart", "port": port} for port in (0, 1, 1)]
+for command in ({"do": "enter", "key": sys.argv[2]}, {"do": "write", "expect": "", "put": DRAWN}, *moves,
+                {"do": "accuse", "port": 1}):
+    server.write(json.dumps(command) + "\\n")
+    server.flush()
+    if "gone" in server.readline():
+        server.readline()
+"""
+# two agents that solve a ring of four nodes, if the second one meets the first one at a socket
+MEETS = """import json, socket, sys
+server = socket.create_connection(("127.0.0.1", int(sys.argv[1]))).makefile("rw")
+place = socket.socket(socket.AF_UNIX)
+def ask(**command):
+    server.write(json.dumps(command) + "\\n")
+    server.flush()
+    line = server.readline()
+    return server.readline() if "gone" in line else line
+ask(do="enter", key=sys.argv[2])
+if "written" in ask(do="write", expect="", put="A"):
+    place.bind("\\0" + sys.argv[3])
+    place.listen()
+    ask(do="depart", port=0)
+    ask(do="depart", port=0)
+elif place.connect_ex("\\0" + sys.argv[3]) == 0:
+    ask(do="depart", port=1)
+    ask(do="accuse", port=1)
+else:
+    ask(do="leave")
+"""
 # an agent that writes a number by chance on the whiteboard
 DICE = """import json, secrets, socket, sys
 server = socket.create_connection(("127.0.0.1", int(sys.argv[1])))

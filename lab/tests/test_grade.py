@@ -259,12 +259,12 @@ class Words(unittest.TestCase):
 class Budgets(unittest.TestCase):
     def test_the_seconds_of_a_team_add_up_over_its_matches(self) -> None:
         """Four matches of six seconds each, and ten seconds in all: the third and fourth come too late."""
-        budget, case = grading.Budget(10, {"red": 0.0}), mock.Mock(number=0)
-        case.team.name = "red"
+        budget = grading.Budget(10, {"red": 0.0})
         results = (Result(grading.Timed([str(number)], 6.0), "") for number in range(4))
         with mock.patch.object(grading, "over_processes", return_value=results):
             job: Any = None
-            found = [it.found for it in grading.in_time(job, [case] * 4, 1, budget, lambda _: "late")]
+            limited = grading.Limited(budget, "red", lambda _: "late")
+            found = [it.found for it in grading.in_time(job, range(4), 1, limited)]
         self.assertEqual(found, [["0"], ["1"], "late", "late"])
 
 

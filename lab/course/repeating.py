@@ -1,0 +1,139 @@
+"""Repeats an agent of a match alone, to see whether it says the same when it is told the same again.
+
+An agent's past decides what it says, if its program uses what it is told and the number in ARENA_SEED, and nothing
+else. That is tested for the match at hand. The agent's cell is a new one, no other agent of its match runs, and each
+line is told at once. So what another agent signalled past the whiteboards, by whatever channel, is not there to be
+heard. No pauses are made either, as a program that listens for pauses would hear them as signals. If all agents of a
+match repeat, then each of them said what it says when it hears no signals.
+
+The past is taken from the replay alone. It has no lines that changed nothing and were not heard (entering twice, and
+commands beyond the quota): these are answered as the rules say.
+"""
+import json
+from typing import List, NamedTuple, Optional, Sequence
+
+from lab.course.league import SAYS_OTHERWISE
+from lab.play import programs
+from lab.play.matches import MOST_REFUSED
+from lab.play.players import WAITS
+from lab.rules.model import GONE, OVER, Object, command_of, objects_of, spelled, text_of
+
+ENTER: Object = {"do": "enter"}
+LEAVE: Object = {"do": "leave"}
+# what does not count towards the quota
+FREE = ("enter", "leave")
+RULE = "a program may use what it is told and the number in ARENA_SEED, and nothing else"
+
+
+class Said(NamedTuple):
+    """A command of an agent, and the lines that it was told next, in order."""
+
+    command: Object
+    told: List[Object]
+
+
+class Otherwise(NamedTuple):
+    """The first command of an agent that is another one when the agent is told the same again. Commands are counted
+    from 1. The program's own fault, if it has one, may be the reason."""
+
+    agent: int
+    number: int
+    in_match: Object
+    alone: Object
+    fault: str
+
+    def __str__(self) -> str:
+        fault = f" (the program {self.fault})" if self.fault else ""
+        return (f"agent {self.agent}: {SAYS_OTHERWISE}, at command {self.number}: in the match "
+                f"`{in_words(self.in_match)}`, alone `{in_words(self.alone)}`{fault}; {RULE}")
+
+
+def in_words(command: Object) -> str:
+    """A command as a reader has it, such as `depart port 1`, and of a long one the beginning."""
+    words = [f"{name} {json.dumps(value, ensure_ascii=False)}" for name, value in command.items()
+             if name not in ("do", "key")]
+    return programs.plain(" ".join([str(command["do"]), *words]))[:programs.WORDS]
+
+
+def past_of(replay: str, agent: int) -> List[Said]:
+    """What an agent of a match said and was told."""
+    found: List[Said] = []
+    for event in objects_of(replay)[1:]:
+        if event.get("agent") != agent:
+            continue
+        if event["do"] == "deliver":
+            # a destroyed agent is told nothing before the close
+            found[-1].told.append(event["reply"] or OVER)
+        else:
+            command = {name: value for name, value in event.items() if name not in ("agent", "reply")}
+            found.append(Said(command, [event["reply"]]))
+    if found and found[-1].told == [GONE]:
+        # nobody delivered it: its link is held
+        found[-1].told.append(OVER)
+    return found
+
+
+class Alone:
+    """An agent that is told its past again."""
+
+    def __init__(self, player: programs.Player, key: str, quota: int) -> None:
+        self._player = player
+        self._key = key
+        self._quota = quota
+        self._used = 0
+        self._has_entered = False
+
+    def otherwise(self, past: Sequence[Said]) -> Optional[Otherwise]:
+        """The first difference, if there is one."""
+        for number, said in enumerate(past, 1):
+            alone = self._said()
+            if alone != said.command:
+                return self._differs(number, said.command, alone)
+            self._has_entered = True
+            self._used += alone["do"] not in FREE
+            if not self._hears(said.told):
+                return None
+        if not past and self._said() == ENTER:
+            return self._differs(1, LEAVE, ENTER)
+        return None
+
+    def _differs(self, number: int, in_match: Object, alone: Object) -> Otherwise:
+        return Otherwise(self._player.number, number, in_match, alone, self._player.fault or "")
+
+    def _hears(self, told: Sequence[Object]) -> bool:
+        """Tells the agent what it was told; gives whether its input goes on."""
+        for reply in told:
+            if self._player.line is None and self._player.state == WAITS:
+                return False
+            self._player.hear(spelled(reply))
+        return True
+
+    def _said(self) -> Object:
+        """The agent's next command that a replay has. What a replay does not have is answered."""
+        for _ in range(MOST_REFUSED):
+            if self._player.line is None:
+                return LEAVE
+            command = command_of(text_of(self._player.line))
+            refusal = self._refusal(command)
+            if refusal is None:
+                return ENTER if command.get("key") == self._key else command
+            self._player.hear(spelled({"no": refusal}))
+        return LEAVE
+
+    def _refusal(self, command: Object) -> Optional[str]:
+        """Why a command is not heard."""
+        if not self._has_entered:
+            return None
+        if command["do"] == "enter":
+            return "twice"
+        return "spent" if self._used == self._quota and command["do"] != "leave" else None
+
+
+def repeated(team: programs.Team, past: Sequence[Said]) -> Optional[Otherwise]:
+    """Repeats the only agent of a team, which is told this past; gives the first difference, if there is one."""
+    player, fixture = team.players[0], team.fixture
+    try:
+        team.start()
+        return Alone(player, fixture.keys[player.number], fixture.setup.quota).otherwise(past)
+    finally:
+        team.stop()
