@@ -6,6 +6,7 @@ Debian's Python sees.
 """
 import errno
 import fcntl
+import socket
 import sys
 
 import seccomp
@@ -29,9 +30,11 @@ REFUSED = (
     "io_uring_setup", "io_uring_enter", "io_uring_register",
     # what lies in the machine's memory of a file that others read too
     "mincore", "readahead",
+    # a bound that all programs of the machine share, so that one sees how much of it others use
+    "io_setup",
 )
-# those that C libraries do without if the kernel has none
-ABSENT = ("preadv2", "clone3")
+# those that C libraries do without if the kernel has none; a process as a file has a number of the whole machine
+ABSENT = ("preadv2", "clone3", "pidfd_open", "pidfd_send_signal", "pidfd_getfd")
 # those that say that all is well, and do nothing: times of files such as /dev/null, which all programs may write, and
 # what is kept in memory of a file
 IDLE = ("utime", "utimes", "futimesat", "utimensat", "fadvise64")
@@ -40,8 +43,15 @@ LATER = range(449, 520)
 # of fcntl: locks of processes and of open files, leases, notes of a folder, hints on how a file is written
 ON_FILES = (fcntl.F_GETLK, fcntl.F_SETLK, fcntl.F_SETLKW, 36, 37, 38, fcntl.F_SETLEASE, fcntl.F_GETLEASE,
             fcntl.F_NOTIFY, 1035, 1036, 1037, 1038)
-# of ioctl: what file systems keep for a file, whose codes have this letter; the kernel looks at 32 bits of a code
-OF_FILES, LETTER, CODE = ord("f") << 8, 0xFF00, 0xFFFFFFFF
+# of getsockopt: numbers that the machine gives to sockets and networks, one after the other
+COOKIES = (57, 71)
+# the kinds of sockets that programs need, in the order of their numbers; all others have names that the machine shares.
+# One of the last kind tells C libraries which addresses the machine has, and nothing else
+FAMILIES = (socket.AF_UNIX, socket.AF_INET, socket.AF_INET6, socket.AF_NETLINK)
+# of ioctl: what file systems keep for a file, whose codes have this letter
+OF_FILES, LETTER = ord("f") << 8, 0xFF00
+# the bits of an argument that is an int, as the kernel looks at no others; and how many protocols netlink has
+INT, PROTOCOLS = 0xFFFFFFFF, 32
 
 
 def made() -> "seccomp.SyscallFilter":
@@ -51,9 +61,29 @@ def made() -> "seccomp.SyscallFilter":
         for call in calls:
             found.add_rule(seccomp.ERRNO(kind), call)
     for command in ON_FILES:
-        found.add_rule(seccomp.ERRNO(errno.EPERM), "fcntl", seccomp.Arg(1, seccomp.MASKED_EQ, CODE, command))
+        found.add_rule(seccomp.ERRNO(errno.EPERM), "fcntl", is_int(1, command))
     found.add_rule(seccomp.ERRNO(errno.ENOTTY), "ioctl", seccomp.Arg(1, seccomp.MASKED_EQ, LETTER, OF_FILES))
+    add_sockets(found)
     return found
+
+
+def add_sockets(found: "seccomp.SyscallFilter") -> None:
+    """Adds what is refused of sockets. Families and protocols are refused one by one, as a rule can look at an argument
+    once."""
+    for call in ("socket", "socketpair"):
+        for family in set(range(max(FAMILIES))) - set(FAMILIES):
+            found.add_rule(seccomp.ERRNO(errno.EAFNOSUPPORT), call, is_int(0, family))
+        found.add_rule(seccomp.ERRNO(errno.EAFNOSUPPORT), call, seccomp.Arg(0, seccomp.GT, max(FAMILIES)))
+        for protocol in range(1, PROTOCOLS):
+            found.add_rule(seccomp.ERRNO(errno.EPROTONOSUPPORT), call, is_int(0, socket.AF_NETLINK),
+                           is_int(2, protocol))
+    for number in COOKIES:
+        found.add_rule(seccomp.ERRNO(errno.ENOPROTOOPT), "getsockopt", is_int(1, socket.SOL_SOCKET), is_int(2, number))
+
+
+def is_int(argument: int, value: int) -> "seccomp.Arg":
+    """The condition that an argument of a call is this int."""
+    return seccomp.Arg(argument, seccomp.MASKED_EQ, INT, value)
 
 
 if __name__ == "__main__":

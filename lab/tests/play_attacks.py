@@ -246,6 +246,13 @@ ways = {
     "flags": lambda: call(16, file, 0x80086601, buffer), "touch": touches("/dev/null"),
     "touch input": touches(0), "touch output": touches(1),
     "abstract socket": lambda: socket.socket(socket.AF_UNIX).connect("\0lab"),
+    "aio": lambda: call(206, 1, ctypes.byref(ctypes.c_ulong(0))),
+    "process as a file": lambda: call(434, os.getpid(), 0),
+    "vsock": lambda: socket.socket(socket.AF_VSOCK), "packets": lambda: socket.socket(38),
+    "netlink": lambda: socket.socket(socket.AF_NETLINK, socket.SOCK_RAW, 4),
+    "netlink past a filter": lambda: call(41, (1 << 32) + 16, 3, (1 << 32) + 4),
+    "cookie": lambda: socket.socket(socket.AF_UNIX).getsockopt(socket.SOL_SOCKET, 57, 8),
+    "network's cookie": lambda: socket.socket(socket.AF_UNIX).getsockopt(socket.SOL_SOCKET, 71, 8),
 }
 found = []
 for name, way in ways.items():
@@ -270,7 +277,8 @@ class Talking(Course):
         said = self.said(Walls.USER if IS_ROOT else Walls.NONE, WAYS)[0]
         self.assertRegex(said, "^[345][0-9] open")
         shut = set(said.partition("shut are ")[2].split(", "))
-        self.assertFalse(shut & {"flock", "lock", "inotify", "shared memory", "load", "counts", "memfd", "touch"})
+        self.assertFalse(shut & {"flock", "lock", "inotify", "shared memory", "load", "counts", "memfd", "touch",
+                                  "aio", "netlink", "cookie"})
 
     def test_pipes_and_sockets_among_tools(self) -> None:
         """A pipe can be written to where files cannot."""
