@@ -66,6 +66,6 @@ def run(words: argparse.Namespace) -> int:
     program = program_of(words)
     with tables.alone_in(words.out):
         secret = course.secret_in(words.out, words.secret)
-        graded = Graded(read.text, path.parent, secret, program, Yard(strongest, read.tools), words.out,
-                        not words.no_repeat)
+        yard = Yard(strongest, read.tools, read.has_proc)
+        graded = Graded(read.text, path.parent, secret, program, yard, words.out, not words.no_repeat)
         return graded_in(graded, words.workers)

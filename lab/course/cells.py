@@ -51,10 +51,12 @@ class Walls(enum.Enum):
 
 
 class Yard(NamedTuple):
-    """What all cells of a course share: what keeps programs apart, and which folders they see besides the system's."""
+    """What all cells of a course share: what keeps programs apart, which folders they see besides the system's, and
+    whether they see /proc."""
 
     walls: Walls
     tools: Tuple[str, ...] = ()
+    has_proc: bool = False
 
 
 class Cell:
@@ -81,7 +83,7 @@ class Cell:
             if self.place is None:
                 port = PORT
                 given.append(held.enter_context(in_memory(walls.system_filter())))
-                command += [*walls.words(self.yard.tools), "--seccomp", str(given[-1])]
+                command += [*walls.words(self.yard.tools, self.yard.has_proc), "--seccomp", str(given[-1])]
             command += [python(), "-I", "-S", "-c", STARTER.read_text(encoding="utf-8"), str(theirs.fileno()),
                         str(files), str(port), str(seed), *words]
             path = PATH if self.user is not None else os.environ.get("PATH", PATH)

@@ -22,6 +22,7 @@
     team_limit    how many seconds all matches of a team may take (600, or 5 for each match if that is more)
     tries         how many schedules are tried to make that of a failed match small (100)
     tools         folders that programs see to read, besides the system's, such as ["/opt/jdk-21"]
+    proc          true if programs need /proc, as those in Java do (false)
 
 Each [[team]] has a `name`, of 1 to 16 characters out of a to z, 0 to 9 and -; `agents`, a number or "degree" for one
 more than the network's greatest degree (2); `files`, a list of files and folders, whose copies each of its programs
@@ -56,7 +57,7 @@ from lab.sweep import grid
 from lab.sweep.grid import Case, Grid, NoSweep, is_count, is_text, is_texts, taken
 
 FILES = "files"
-KEYS = grid.KEYS - {"bound"} | {"limit", "match_limit", "team_limit", "tries", "tools"}
+KEYS = grid.KEYS - {"bound"} | {"limit", "match_limit", "team_limit", "tries", "tools", "proc"}
 TEAM_KEYS = {"name", "agents", OUTSIDE, FILES}
 LIMIT, TRIES = 20, 100
 # seconds of a match, of all matches of a team, and of these for each match
@@ -77,6 +78,7 @@ class Course(NamedTuple):
     limits: "Limits"
     tries: int
     tools: Tuple[str, ...]
+    has_proc: bool
 
     def cases(self) -> List[Case]:
         """All matches, team by team."""
@@ -164,6 +166,7 @@ def course_of(text: str, folder: pathlib.Path, secret: str) -> Course:
         ("limit", LIMIT), ("match_limit", MATCH_LIMIT), ("team_limit", TEAM_LIMIT)))
     tries = taken(found, "tries", grid.is_number, "a whole number", TRIES)
     tools = tools_of(taken(found, "tools", lambda it: it == [] or is_texts(it), "a list of folders", []))
+    has_proc = taken(found, "proc", lambda it: isinstance(it, bool), "true or false", False)
     files = {}
     for row in taken(found, "team", grid.is_tables, "given: write [[team]] and its keys below it"):
         name = check_team(row)
@@ -171,7 +174,7 @@ def course_of(text: str, folder: pathlib.Path, secret: str) -> Course:
     played = grid.grid_in(found, folder)
     count = sum(1 for _ in played.cases()) // len(played.teams)
     limits = Limits(line, match, team if "team_limit" in found else max(team, FOR_A_MATCH * count))
-    return Course(text, folder, secret, played, files, limits, tries, tools)
+    return Course(text, folder, secret, played, files, limits, tries, tools, has_proc)
 
 
 def tools_of(names: List[str]) -> Tuple[str, ...]:

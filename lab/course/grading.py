@@ -282,7 +282,7 @@ def graded_in(graded: Graded, workers: int) -> int:
 def prepare(graded: Graded) -> None:
     """Does once what each process that plays would do: they are copies of this one."""
     if graded.yard.walls is Walls.ALL:
-        walls.words(graded.yard.tools)
+        walls.words(graded.yard.tools, graded.yard.has_proc)
     for network in graded.course.grid.networks.values():
         with contextlib.suppress(Missing):
             page.layout({"nodes": network.nodes, "links": network.links})

@@ -29,13 +29,13 @@ class NoCell(Fault):
     """A program cannot be kept apart; says what to change."""
 
 
-def words(tools: Sequence[str]) -> List[str]:
+def words(tools: Sequence[str], has_proc: bool) -> List[str]:
     """The command of bubblewrap that puts up walls, up to the command that is to run behind them. These folders are
-    seen besides the system's."""
+    seen besides the system's, and /proc if the course asks for it."""
     found = ["bwrap", "--unshare-all", "--unshare-user", "--disable-userns", "--uid", USER, "--gid", USER,
              "--hostname", "cell", "--die-with-parent", "--new-session", "--clearenv", "--setenv", "PATH", PATH,
              "--setenv", "TMPDIR", "/tmp", "--setenv", "COUNTED", "yes"]
-    found += [*disk_words(), "--proc", "/proc", *proc_words(), "--dev", "/dev"]
+    found += [*disk_words(), *(proc_words() if has_proc else ["--dir", "/proc"]), "--dev", "/dev"]
     for path in SPACES:
         found += ["--size", str(SPACE), "--tmpfs", path]
     for path in tools:
@@ -69,8 +69,8 @@ def disk_words() -> List[str]:
 
 
 def proc_words() -> List[str]:
-    """What hides all of /proc that is of no process."""
-    found = []
+    """What shows /proc and hides all of it that is of no process."""
+    found = ["--proc", "/proc"]
     for name in sorted(os.listdir("/proc")):
         if not name.isdigit() and name not in PROCESSES:
             path = f"/proc/{name}"

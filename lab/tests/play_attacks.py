@@ -70,17 +70,19 @@ class Course(unittest.TestCase):
         self.team = self.folder / "evil"
         self.team.mkdir()
 
-    def played(self, walls: Walls, code: str, agents: int = 1, head: str = HEAD, tools: Any = ()) -> Played:
+    def played(self, walls: Walls, code: str, agents: int = 1, head: str = HEAD, tools: Any = (),
+               has_proc: bool = False) -> Played:
         """A match of the team."""
         (self.team / "evil.py").write_text(code)
         course.read_once.cache_clear()
         text = head + team("evil", ["evil"], EVIL, agents)
-        graded = Graded(text, self.folder, SECRET, None, Yard(walls, tuple(tools)), self.folder / "out")
+        yard = Yard(walls, tuple(tools), has_proc)
+        graded = Graded(text, self.folder, SECRET, None, yard, self.folder / "out")
         return graded.match(graded.course.cases()[0], schedulers.fair(0), None)[1]
 
-    def said(self, walls: Walls, code: str, agents: int = 1, tools: Any = ()) -> List[str]:
+    def said(self, walls: Walls, code: str, agents: int = 1, tools: Any = (), has_proc: bool = False) -> List[str]:
         """The last words of the team's programs, each of which ends before it connects."""
-        faults = self.played(walls, code, agents, tools=tools).faults
+        faults = self.played(walls, code, agents, tools=tools, has_proc=has_proc).faults
         return [fault.partition("before it connected: ")[2] for fault in faults]
 
     def graded(self, text: str, out: str = "out", status: int = 0) -> Dict[str, List[Dict[str, Any]]]:
@@ -270,7 +272,13 @@ class Talking(Course):
     """Agents of a team, each behind walls, have nothing in common by which they could talk."""
 
     def test_ways_are_closed(self) -> None:
-        self.assertEqual(self.said(Walls.ALL, WAYS), ["all are shut"])
+        for has_proc in (False, True):
+            self.assertEqual(self.said(Walls.ALL, WAYS, has_proc=has_proc), ["all are shut"])
+
+    def test_proc_is_seen_if_the_course_asks_for_it(self) -> None:
+        code = "import os, sys; sys.exit(str(os.path.exists('/proc/self')))"
+        for has_proc in (False, True):
+            self.assertEqual(self.said(Walls.ALL, code, has_proc=has_proc), [str(has_proc)])
 
     def test_the_ways_are_good_ones(self) -> None:
         """Without walls they are open, so that the test above would show it if one were."""

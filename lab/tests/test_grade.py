@@ -70,6 +70,7 @@ class Files(Folder):
                 ("match_limit = 0\n", TEAM, "match_limit must be"), ("team_limit = 0\n", TEAM, "team_limit must be"),
                 ("tools = ['opt']\n", TEAM, "tools has opt, which is no folder that programs may see"),
                 ("tools = ['/']\n", TEAM, "tools has /, which is no folder that programs may see"),
+                ("proc = 1\n", TEAM, "proc must be true or false"),
                 ("tries = -1\n", TEAM, "tries must be a whole number"), ("ports = 'some'\n", TEAM, "ports must be"),
                 ("holes = [4]\n", TEAM, "holes has 4, and a black hole of ring:4"),
                 ("", TEAM + TEAM, "two teams have the same name"),
