@@ -9,14 +9,15 @@ import os
 import resource
 import socket
 import sys
-from typing import List
+from typing import List, NoReturn
 
 HOST = "127.0.0.1"
 READY = b"ready"
 # bytes of a file, bytes of memory, open files, processes with their threads
 LIMITS = {resource.RLIMIT_CORE: 0, resource.RLIMIT_FSIZE: 64 << 20, resource.RLIMIT_DATA: 2 << 30,
           resource.RLIMIT_NOFILE: 256, resource.RLIMIT_NPROC: 256}
-
+# bytes of a script's first line that the kernel looks at
+LONGEST = 256
 # bytes that wait at the port for the lab, so that what a program sends before it ends is not lost
 AHEAD = 4 << 20
 
@@ -50,6 +51,26 @@ def listen(channel: int, port: int) -> int:
         return opened
 
 
+def hint(name: str) -> str:
+    """What to change in a team's file that cannot be started, as far as the file shows it."""
+    try:
+        with open(name, "rb") as file:
+            first = file.readline(LONGEST)
+    except OSError:
+        return ""
+    if first.startswith(b"#!") and first.rstrip(b"\n").endswith(b"\r"):
+        return f"its lines end as on Windows: hand it in after `sed -i 's/\\r$//' {name}`"
+    if not os.access(name, os.X_OK):
+        return f"it may not be run: hand it in after `chmod +x {name}`"
+    return ""
+
+
+def fail(name: str, why: str) -> NoReturn:
+    """Ends without a program, as a shell does."""
+    print(f"{name}: {why}", file=sys.stderr, flush=True)
+    os._exit(127)
+
+
 def main(channel: str, files: str, port: str, seed: str, *words: str) -> None:
     limit()
     unpack(int(files))
@@ -58,11 +79,13 @@ def main(channel: str, files: str, port: str, seed: str, *words: str) -> None:
     here = os.getcwd()
     environment = {"PATH": os.environ["PATH"], "HOME": here, "TMPDIR": os.environ.get("TMPDIR", here), "USER": "agent",
                    "LANG": "C.UTF-8", "ARENA_SEED": seed, "PYTHONHASHSEED": seed, "PYTHONDONTWRITEBYTECODE": "1"}
+    wrong = hint(command[0]) if "/" in command[0] else ""
+    if wrong:
+        fail(command[0], wrong)
     try:
         os.execvpe(command[0], command, environment)
     except OSError as fault:
-        print(f"{command[0]}: {fault.strerror}", file=sys.stderr, flush=True)
-        os._exit(127)
+        fail(command[0], str(fault.strerror))
 
 
 if __name__ == "__main__":

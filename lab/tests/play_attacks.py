@@ -415,6 +415,19 @@ os._exit(0)
 
 
 class Saying(Course):
+    def test_a_script_that_cannot_be_started_says_what_to_change(self) -> None:
+        script = "#!/bin/sh\nexit 3\n"
+        for text, mode, said in (
+                (script.replace("\n", "\r\n"), 0o755, "./go.sh: its lines end as on Windows: hand it in after `sed -i"),
+                (script, 0o644, "./go.sh: it may not be run: hand it in after `chmod +x ./go.sh`"),
+                (script, 0o755, "has ended with status 3 before it connected")):
+            with self.subTest(said):
+                (self.team / "go.sh").write_text(text, newline="")
+                (self.team / "go.sh").chmod(mode)
+                course.read_once.cache_clear()
+                found = self.graded(HEAD + team("evil", ["evil"], "./go.sh {port} {key}"), f"out-{mode}-{len(text)}")
+                self.assertIn(said, found["evil"][0]["fault"])
+
     def test_last_words_are_one_fault_and_do_nothing_to_a_terminal(self) -> None:
         code = ('import os, sys\nsys.stderr.buffer.write("first\\n\\x1b]0;it\\x07\\x9b31m\\u202e\\x00; agent 1: forged'
                 '\\r\\u2028".encode() + b"\\xff\\n")\nsys.exit(3)')
