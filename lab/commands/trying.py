@@ -166,7 +166,7 @@ def told(wanted: Wanted, search: Search) -> int:
     most = "no more agents lost than" if last.fixture.held else "most agents lost"
     print(f"most moves {max(moves)}, {most} {max(lost)}{more}")
     if any(tried.answered.unwoken for tried in tries):
-        print("warning: some agents still sleep after so many naps, and what they do when they wake once more is not "
+        print(f"warning: some agents still sleep after {naps} naps, and what they do when they wake once more is not "
               f"known: try --naps {naps + 1}")
     return 0
 

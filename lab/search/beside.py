@@ -7,8 +7,8 @@ from typing import Any, Dict, List, NamedTuple
 from lab.search.pasts import NoFunction
 from lab.search.seats import Seated, Way
 
-# of so many merges all are checked, then one of many, and of each place in a program this many at least; for how many
-# steps a program goes on beside another
+# how many merges are all checked, which one of those that follow is, and how many at least of each place in a program;
+# for how many steps a program goes on beside another
 MERGES, ONE_OF, OF_EACH, STEPS = 1000, 16, 8, 4
 
 
