@@ -6,7 +6,6 @@ Each case serves a contest in a temporary folder; with TEXT only those whose tit
 since most of them wait. A line for each says how it went, and the last line reads `N passed, M failed`. It takes about
 a minute, which is how long the line of a minute takes.
 """
-import concurrent.futures
 import contextlib
 import os
 import pathlib
@@ -14,12 +13,12 @@ import re
 import socket
 import subprocess
 import sys
-import tempfile
 import time
-from typing import Callable, Dict, Iterator, List, Sequence, Tuple
+from typing import Iterator, Sequence, Tuple
 
+from tools.hostile.cases import Cases, Wrong
 from tools.hostile.session_lines import HERE, LOOK, OVER
-from tools.hostile.spoilers import TEAMS, Server, Wrong, answer, enter, serving, tournament, wants
+from tools.hostile.spoilers import TEAMS, Server, answer, enter, serving, tournament, wants
 
 # turns that no test waits for
 LONG = 1_000_000
@@ -30,15 +29,8 @@ LAST_ROW = "  2 "
 BESIDE = 12
 FULL = b'{"no":"full"}\n'
 
-Case = Callable[[str, pathlib.Path], None]
-CASES: Dict[str, Case] = {}
-
-
-def case(title: str) -> Callable[[Case], Case]:
-    def add(one: Case) -> Case:
-        CASES[title] = one
-        return one
-    return add
+CASES = Cases(BESIDE)
+case = CASES.case
 
 
 def heard(program: str, folder: pathlib.Path, *options: str, **more: object) -> "contextlib.AbstractContextManager":
@@ -329,30 +321,5 @@ def turns_of_each_match(program: str, folder: pathlib.Path) -> None:
           ["match0.turns", "match0.turns.old", "match1.turns", "match1.turns.old"])
 
 
-def try_case(program: str, title: str) -> Tuple[str, str]:
-    """The title of a case, and what was wrong, if something was."""
-    with tempfile.TemporaryDirectory() as folder:
-        try:
-            CASES[title](program, pathlib.Path(folder))
-        except (Wrong, OSError, StopIteration, subprocess.SubprocessError) as wrong:
-            return title, f"{type(wrong).__name__}: {str(wrong)[-600:]}"
-    return title, ""
-
-
-def main(given: Sequence[str]) -> int:
-    if len(given) not in (1, 2) or given[0] in ("-h", "--help"):
-        print(__doc__.strip())
-        return 2
-    program = str(pathlib.Path(given[0]).resolve())
-    chosen: List[str] = [title for title in CASES if len(given) == 1 or given[1] in title]
-    with concurrent.futures.ThreadPoolExecutor(BESIDE) as pool:
-        failed = 0
-        for title, wrong in pool.map(lambda title: try_case(program, title), chosen):
-            failed += bool(wrong)
-            print(f"{'FAILED' if wrong else 'ok'}: {title}{': ' * bool(wrong)}{wrong}", flush=True)
-    print(f"{len(chosen) - failed} passed, {failed} failed", flush=True)
-    return int(failed != 0)
-
-
 if __name__ == "__main__":
-    sys.exit(main(sys.argv[1:]))
+    sys.exit(CASES.command(__doc__, sys.argv[1:]))

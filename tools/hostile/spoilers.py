@@ -1,9 +1,9 @@
 """Tries to spoil contests as somebody without a key would, or a machine that lacks something.
 
-    python3 -m tools.hostile.spoilers PROGRAM
+    python3 -m tools.hostile.spoilers PROGRAM [TEXT]
 
-Each case serves a contest of two teams on a ring in a temporary folder. A line for each says how it went, and the last
-line reads `N passed, M failed`. It takes about a minute.
+Each case serves a contest of two teams on a ring in a temporary folder; with TEXT only those whose titles have it. A
+line for each says how it went, and the last line reads `N passed, M failed`. It takes about a minute.
 """
 import contextlib
 import fcntl
@@ -17,13 +17,13 @@ import signal
 import socket
 import subprocess
 import sys
-import tempfile
 import termios
 import threading
 import time
-from typing import Callable, Dict, Iterator, List, Optional, Sequence, Tuple
+from typing import Callable, Iterator, List, Optional, Sequence, Tuple
 
 from lab.support.ports import free_port
+from tools.hostile.cases import Cases, Wrong
 from tools.hostile.session_lines import HERE, LOOK, NO_FULL, NO_LATE, NO_MEMORY, OVER
 
 HOST = "127.0.0.1"
@@ -33,10 +33,6 @@ PATIENCE = 20.0
 WAITING, FIRST_LINE = 256, 10.0
 REFUSED, NO_THREADS = 6, 7
 TEAMS = ("red", "blue")
-
-
-class Wrong(Exception):
-    """Something is not as it should be."""
 
 
 def tournament(folder: pathlib.Path, quota: int = 1000) -> None:
@@ -100,15 +96,8 @@ class Server:
         return self.child.returncode, (self.first + printed).decode(), (told or b"").decode(errors="replace")
 
 
-Case = Callable[[str, pathlib.Path], None]
-CASES: Dict[str, Case] = {}
-
-
-def case(title: str) -> Callable[[Case], Case]:
-    def add(one: Case) -> Case:
-        CASES[title] = one
-        return one
-    return add
+CASES = Cases()
+case = CASES.case
 
 
 @contextlib.contextmanager
@@ -600,27 +589,5 @@ def shown_names(program: str, folder: pathlib.Path) -> None:
     wants("the fault", told, r"a\u{9b}\u{202e}\u{2066}b: read")
 
 
-def try_case(program: str, title: str) -> bool:
-    with tempfile.TemporaryDirectory() as name:
-        try:
-            CASES[title](program, pathlib.Path(name))
-        except (Wrong, OSError, subprocess.TimeoutExpired) as fault:
-            print(f"{title}: {fault}", flush=True)
-            return False
-    print(f"{title}: as it should be", flush=True)
-    return True
-
-
-def main(given: Sequence[str]) -> int:
-    if len(given) not in (1, 2) or given[0] in ("-h", "--help"):
-        print(__doc__.strip())
-        return 2
-    program = str(pathlib.Path(given[0]).resolve())
-    chosen = [title for title in CASES if len(given) == 1 or given[1] in title]
-    passed = sum(try_case(program, title) for title in chosen)
-    print(f"{passed} passed, {len(chosen) - passed} failed", flush=True)
-    return int(passed != len(chosen))
-
-
 if __name__ == "__main__":
-    sys.exit(main(sys.argv[1:]))
+    sys.exit(CASES.command(__doc__, sys.argv[1:]))
