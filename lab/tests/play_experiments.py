@@ -48,7 +48,8 @@ class Experiments(unittest.TestCase):
     def test_small_parts_of_the_sweeps(self) -> None:
         for name, (file, networks) in SMALL.items():
             spec = grid.read(make.EXPERIMENTS / f"{file}.toml")._replace(names=networks)
-            rows = [sweeping.row_of(Work("", None), spec, case) for case in spec.cases()]
+            work = Work("", None)
+            rows = [sweeping.row_for(case, *sweeping.played_case(work, spec, case), None) for case in spec.cases()]
             groups = report.groups_of([dict(zip(tables.COLUMNS, row)) for row in rows], spec)
             given = rows_by_network(name)
             hunted = hunted_in(given) if name == "rings" else {}
