@@ -10,10 +10,11 @@ on every run, if the programs are functions of what they are told. Interrupted, 
 row.
 
 A solved match counts only if it repeats. When all matches have been played, the lab starts each agent of it again,
-alone in a new cell, and tells it what it was told: the agent must say what it said. What another program signalled past
-the whiteboards is not there to be heard. The first difference stands on the team's page, `repeats.csv` has a row for
-each solved match, and `solved` has the replays. A program may use what it is told and the number in ARENA_SEED, and
-nothing else: no clock, and no other random numbers. With `--no-repeat` the lab leaves that out.
+alone in a new cell, and tells it what it was told: the agent must say what it said. What another program signals past
+the whiteboards only while it runs is not there to be heard. The first difference stands on the team's page,
+`repeats.csv` has a row for each solved match, and `solved` has the replays. A program may use what it is told and the
+number in ARENA_SEED, and nothing else: no clock, and no other random numbers. With `--no-repeat` the lab leaves that
+out.
 
 A program that crashes, hangs, or sends rubbish fails its own matches, and so does one that is handed in with too much
 or takes too long. Each program runs in a folder of its own, and what else keeps it apart depends on the machine; the

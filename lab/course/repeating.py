@@ -2,9 +2,9 @@
 
 An agent's past decides what it says, if its program uses what it is told and the number in ARENA_SEED, and nothing
 else. That is tested for the match at hand. The agent's cell is a new one, no other agent of its match runs, and each
-line is told at once. So what another agent signalled past the whiteboards, by whatever channel, is not there to be
-heard. No pauses are made either, as a program that listens for pauses would hear them as signals. If all agents of a
-match repeat, then each of them said what it says when it hears no signals.
+line is told at once. So what another agent signals past the whiteboards only while it runs is not there to be heard.
+What it has left in the kernel may be. No pauses are made either, as a program that listens for pauses would hear them
+as signals. If all agents of a match repeat, then each of them said what it says when it hears no such signals.
 
 The past is taken from the replay alone. It has no lines that changed nothing and were not heard (entering twice, and
 commands beyond the quota): these are answered as the rules say.
