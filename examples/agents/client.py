@@ -11,7 +11,8 @@ Each call sends one line and reads its answer. An answer that refuses is an exce
 import json
 import socket
 import sys
-from typing import Any, Callable, Dict, NamedTuple, Optional
+import time
+from typing import Any, Callable, Dict, NamedTuple, Optional, Tuple
 
 
 class Refused(Exception):
@@ -24,6 +25,10 @@ class Disconnected(Refused):
 
 class MatchOver(Refused):
     """The match has ended. The agent can do nothing more."""
+
+
+class NoRoom(Refused):
+    """The server has no room yet, or the first line came late. The key is not used up: try again."""
 
 
 class UnknownKey(Refused):
@@ -69,7 +74,10 @@ class TooLong(Refused):
 REFUSALS = {
     "key": UnknownKey, "taken": KeyTaken, "enter": NotEntered, "outside": NotEntered, "twice": EnteredTwice,
     "ended": Ended, "spent": Spent, "away": Away, "line": BadLine, "port": NoSuchPort, "long": TooLong,
+    "full": NoRoom, "late": NoRoom, "memory": NoRoom,
 }
+# how often a client tries to enter again while there is no room, and how many seconds it waits before
+TRIES, FIRST_PAUSE, LONGEST_PAUSE = 20, 0.05, 2.0
 
 
 class Here(NamedTuple):
@@ -128,6 +136,22 @@ class Agent:
     @classmethod
     def connect(cls, host: str, port: int) -> "Agent":
         return cls(Lines(host, port))
+
+    @classmethod
+    def join(cls, host: str, port: int, key: str) -> "Tuple[Agent, Here]":
+        """Connects and enters. Tries again if the server has no room yet."""
+        pause = FIRST_PAUSE
+        for left in range(TRIES, -1, -1):
+            agent = cls.connect(host, port)
+            try:
+                return agent, agent.enter(key)
+            except NoRoom:
+                agent.close()
+                if left == 0:
+                    raise
+            time.sleep(pause)
+            pause = min(2 * pause, LONGEST_PAUSE)
+        raise AssertionError("the last try returns or raises")
 
     def close(self) -> None:
         """Closes the connection. An agent that is still in the match leaves it."""

@@ -19,8 +19,10 @@ PACKAGES = ["python3-greenlet", "python3-hypothesis", "python3-tqdm", "python3-n
             "python3-jinja2",
             # what keeps programs of a course apart
             "bubblewrap", "python3-seccomp",
-            # what looks at the lab's types
-            "mypy"]
+            # what looks at the lab's types, and at lines of agents
+            "mypy", "python3-jsonschema",
+            # what plays the kits of agents
+            "gcc", "libc6-dev", "make", "nodejs"]
 # runs the tests, and says how many passed
 TESTS = """
 import sys, unittest

@@ -1,0 +1,3 @@
+module arena/careful
+
+go 1.19
