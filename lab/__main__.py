@@ -28,6 +28,7 @@ class Command(NamedTuple):
 
 COMMANDS = {
     "new": Command("lab.commands.new", "begin an agent in Python, JavaScript, Java, C, C++, Rust or Go", ()),
+    "play": Command("lab.commands.play", "be the agents yourself, in the terminal or on a page", PAGES + ("aiohttp",)),
     "run": Command("lab.commands.run", "play a team under schedules of a scheduler", PLAYS + PAGES),
     "hunt": Command("lab.commands.hunt", "look for a schedule after which the team fails, or moves most",
                     PLAYS + PAGES + ("hypothesis",)),
