@@ -28,6 +28,7 @@ class Command(NamedTuple):
 
 COMMANDS = {
     "new": Command("lab.commands.new", "begin an agent in Python, JavaScript, Java, C, C++, Rust or Go", ()),
+    "examples": Command("lab.commands.examples", "say where the examples stand, or copy them", ()),
     "play": Command("lab.commands.play", "be the agents yourself, in the terminal or on a page", PAGES + ("aiohttp",)),
     "run": Command("lab.commands.run", "play a team under schedules of a scheduler", PLAYS + PAGES),
     "hunt": Command("lab.commands.hunt", "look for a schedule after which the team fails, or moves most",
@@ -75,7 +76,7 @@ def parser(name_of_lab: str = BY_PYTHON) -> argparse.ArgumentParser:
                                     formatter_class=argparse.RawDescriptionHelpFormatter)
         module.add_words(words)
         call_by(name_of_lab, words)
-        words.set_defaults(run=module.run)
+        words.set_defaults(run=module.run, refuse=words.error)
     return made
 
 
@@ -97,7 +98,10 @@ def end(*_: object) -> None:
 
 def main(given: Optional[List[str]] = None, name: str = BY_PYTHON) -> int:
     lab.called = name
-    words = parser(name).parse_args(given)
+    words, strange = parser(name).parse_known_args(given)
+    if strange:
+        # with the usage of the command, where argparse has that of the lab
+        words.refuse(f"unrecognized arguments: {' '.join(strange)}")
     # whoever ends the lab ends what it started
     signal.signal(signal.SIGTERM, end)
     try:

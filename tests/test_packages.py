@@ -153,8 +153,9 @@ class Wheels(unittest.TestCase):
             self.assertEqual(archive.namelist(), [
                 "arena_lab-1.2.3.data/data/share/man/man1/arena.1", "arena_lab-1.2.3.dist-info/METADATA",
                 "arena_lab-1.2.3.dist-info/WHEEL", "arena_lab-1.2.3.dist-info/entry_points.txt", "lab/README.md",
-                "lab/examples/agents/ring.py", "lab/program/BUILD", "lab/program/PROVED.txt",
-                "lab/program/arena", "lab/support/built.py", "arena_lab-1.2.3.dist-info/RECORD"])
+                "lab/docs/PROOFS.md", "lab/examples/agents/ring.py", "lab/examples/contest.py", "lab/program/BUILD",
+                "lab/program/PROVED.txt", "lab/program/arena", "lab/support/built.py",
+                "arena_lab-1.2.3.dist-info/RECORD"])
             self.assertEqual(archive.getinfo("lab/program/arena").external_attr >> 16, 0o100755)
             told = archive.read("arena_lab-1.2.3.dist-info/METADATA").decode()
             for line in ("Name: arena-lab", "Version: 1.2.3", "Requires-Python: >=3.11", "Requires-Dist: greenlet",

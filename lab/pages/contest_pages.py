@@ -41,10 +41,12 @@ def page_of(title: str, matches: List[Shown]) -> str:
 
 def write_pages(program: Optional[str], tournament: pathlib.Path, prefix: str, folder: pathlib.Path) -> pathlib.Path:
     """Writes the pages of a contest; gives the page that lists the others."""
+    all_matches, matches = matches_of(tournament), []
+    replays = [pathlib.Path(f"{prefix}{shown.number}.jsonl") for shown in all_matches]
+    if not any(it.exists() for it in replays):
+        raise NoNetwork(f"{prefix}: no match has a replay, as {prefix}0.jsonl: name what `serve` was told by --replay")
     folder.mkdir(parents=True, exist_ok=True)
-    matches = []
-    for shown in matches_of(tournament):
-        replay = pathlib.Path(f"{prefix}{shown.number}.jsonl")
+    for shown, replay in zip(all_matches, replays):
         if replay.exists():
             shown = shown._replace(verdict=verdict_of(program, replay))
             write_page(program, replay, folder / f"match{shown.number}.html")

@@ -15,7 +15,7 @@ PROVED = TOP / "crates" / "bhs_main" / "out" / "bhs_main"
 # where a release has its program, and where a wheel has it
 RELEASED, PACKAGED = TOP / "bin" / "arena", LAB / "program" / "arena"
 # what each start of a program without a proof says on standard error; by these words it is told from a proved one
-SAID = "arena: this build is not proved, and slow; ./arena at the top of the repository proves and builds the program"
+SAID = "arena: this build is not proved, and slow; in a clone of the repository ./arena proves and builds the program"
 
 # what says that a program is proved, by its SHA-256: what was written beside it when it was built of proved crates, or
 # the record of a release

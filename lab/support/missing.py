@@ -1,8 +1,9 @@
 """Debian's packages that parts of the lab need, and a clear line if some are missing."""
 import importlib
 import importlib.util
+import sys
 from types import ModuleType
-from typing import Iterable
+from typing import Iterable, Sequence
 
 import lab
 from lab.support.faults import Fault
@@ -23,10 +24,25 @@ class Missing(Fault):
         self.modules = list(dict.fromkeys(modules))
         is_one = len(self.modules) == 1
         said = f"module {self.modules[0]} is" if is_one else f"modules {', '.join(self.modules)} are"
-        packages = " ".join(PACKAGES[name] for name in self.modules)
-        by = f"{DEBIANS_PYTHON} -m lab" if lab.called == lab.BY_PYTHON else lab.called
-        super().__init__(f"the Python {said} missing: install Debian's package{'' if is_one else 's'} by `apt-get "
-                         f"install {packages}`, and run the lab by Debian's Python, `{by}`")
+        how = by_pip(self.modules) if in_environment() else by_debian(self.modules)
+        super().__init__(f"the Python {said} missing: {how}")
+
+
+def in_environment() -> bool:
+    """Whether this Python is that of a virtual environment, which does not see Debian's packages."""
+    return sys.prefix != sys.base_prefix
+
+
+def by_pip(modules: Sequence[str]) -> str:
+    what = "it" if len(modules) == 1 else "them"
+    return f"install {what} here by `{sys.executable} -m pip install {' '.join(modules)}`"
+
+
+def by_debian(modules: Sequence[str]) -> str:
+    packages = " ".join(PACKAGES[name] for name in modules)
+    by = f"{DEBIANS_PYTHON} -m lab" if lab.called == lab.BY_PYTHON else lab.called
+    return (f"install Debian's package{'' if len(modules) == 1 else 's'} by `apt-get install {packages}`, and run the "
+            f"lab by Debian's Python, `{by}`")
 
 
 def needed(name: str) -> ModuleType:

@@ -10,9 +10,8 @@ from typing import Dict, List, NamedTuple, Tuple
 
 RUNNABLE, READABLE = 0o755, 0o644
 NAME = "arena_lab"
-# where the program, and what is said of it, stand in the package, and where examples do
-PROGRAM, EXAMPLES = "lab/program/", "lab/examples/"
-EXAMPLES_TAKEN = ("examples/agents/", "examples/adversaries.py", "examples/notebook.ipynb")
+# where the program, and what is said of it, stand in the package, and what stands beside the lab there
+PROGRAM, BESIDE = "lab/program/", ("examples/", "experiments/", "docs/")
 
 
 class File(NamedTuple):
@@ -36,11 +35,9 @@ def tag_of(glibc: str) -> str:
 
 
 def files_of(released: Files, extra: Files) -> Files:
-    """The files of the package: those of the lab, the program with what is said of it, and examples."""
+    """The files of the package: those of the lab, the program with what is said of it, examples and documents."""
     found = {path: file for path, file in released.items() if path.startswith("lab/")}
-    for path, file in released.items():
-        if path.startswith(EXAMPLES_TAKEN):
-            found[EXAMPLES + path[len("examples/"):]] = file
+    found.update({f"lab/{path}": file for path, file in released.items() if path.startswith(BESIDE)})
     for path in ("bin/arena", "BUILD", "PROVED.txt", "UNPROVED.txt"):
         if path in released:
             found[PROGRAM + path.rpartition("/")[2]] = released[path]
