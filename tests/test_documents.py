@@ -76,13 +76,13 @@ class Links(unittest.TestCase):
                         self.assertTrue((TOP / found).exists())
 
 
-if __name__ == "__main__":
-    unittest.main()
-
-
 class Replays(unittest.TestCase):
     def test_the_replay_of_the_formats_is_spelled_as_one(self) -> None:
         section = (TOP / "docs" / "FORMATS.md").read_text(encoding="utf-8").partition("\n## Replays\n")[2]
         lines = re.findall(r"^    (.*\n)", section.partition("\nIn the head")[0], re.MULTILINE)
         self.assertEqual(len(lines), 5)
         self.assertEqual(played("".join(lines)).replay(), "".join(lines))
+
+
+if __name__ == "__main__":
+    unittest.main()
