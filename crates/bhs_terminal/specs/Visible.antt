@@ -15,6 +15,10 @@ controls character =
     || (is_between 0x200e 0x200f character || (is_between 0x202a 0x202e character
     || is_between 0x2066 0x2069 character))))
 
+-- a byte of printable ASCII, which is a character of its own and controls nothing
+abbrev pub is_plain : (byte : ℕ) → Bool
+is_plain byte = is_between 0x20 0x7e byte
+
 -- a hexadecimal digit
 abbrev pub hex_digit : ℕ → ℕ
 hex_digit n = if nat_lt n 10 then 48 + n else 97 + (n - 10)

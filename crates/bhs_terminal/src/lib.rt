@@ -2,7 +2,8 @@
 #![tactic(auto)]
 
 ghost use Rattle.std.specs.Prelude.{◌≡◌, ◌<◌, ◌/◌, ◌%◌, ◌^◌, [], ◌∷◌, ◌++◌, IfOk, IsTrue, OnOk, string_bytes};
-ghost use Rattle.bhs_terminal.specs.Visible.{controls, escaped, hex_digit, visible, visible_character};
+ghost use Rattle.std.specs.List.{list_all};
+ghost use Rattle.bhs_terminal.specs.Visible.{controls, escaped, hex_digit, is_plain, visible, visible_character};
 ghost use Rattle.bhs_terminal.specs.Visible.{WorkedExamples};
 
 use std::alloc::{AllocError, Global};
@@ -27,6 +28,24 @@ pub fn controls(character: char) -> bool
 /// Lines in which each character that controls a terminal is spelled as JSON may spell it in a string: `\u` and four
 /// hexadecimal digits. So JSON stays the same JSON. All other characters stay as they are, and so do line feeds.
 pub fn visible(alloc: Global, text: &str) -> Result<String, AllocError>
+    ensures { IfOk result (λ shown. string_bytes shown ≡ visible text.now) }
+{
+    if is_plain(text) {
+        return String::from_str(alloc, text);
+    }
+    visible_by_character(alloc, text)
+}
+
+// Whether a text is of printable ASCII, as most lines are. Bytes are looked at several times faster than characters.
+fn is_plain(text: &str) -> bool
+    ensures { result ≡ list_all is_plain text.now }
+{
+    text.as_bytes()
+        .iter()
+        .all(|byte| matches!(*byte, b' '..=b'~'))
+}
+
+fn visible_by_character(alloc: Global, text: &str) -> Result<String, AllocError>
     ensures { IfOk result (λ shown. string_bytes shown ≡ visible text.now) }
 {
     let mut shown = String::new(alloc);

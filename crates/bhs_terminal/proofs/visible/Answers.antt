@@ -1,39 +1,38 @@
-use Rattle.std.proofs.Common.{◌≡◌, ℕ, ◌+◌, ◌<◌, List, [], ◌∷◌, length, get_or, drop, sym, ap, ◌++◌, ◌∙◌, append_assoc}
-use Rattle.std.proofs.Common.{append-nil, arith}
-use Rattle.std.proofs.lemmas.Iterator.{YieldsList-from_chars}
-use Rattle.std.proofs.lemmas.List.{at_drop_more, at_drop_all, length_push}
-use Rattle.std.proofs.lemmas.Iterator.Consumers.{YieldsList-turn, YieldsList-end}
-use Rattle.std.specs.String.{string_bytes}
-use Rattle.std.specs.Str.{chars}
-use Rattle.bhs_terminal.specs.Visible.{visible_all, visible_character}
+use Rattle.std.proofs.Common.{◌≡◌, ◌∙◌, ap, sym, refl, ℕ, ◌<◌, true, false, List, [], ◌∷◌, arith}
+use Rattle.std.specs.List.{list_all}
+use Rattle.std.specs.Str.{IsAscii}
+use Rattle.std.proofs.lemmas.Bool.{and_parts}
+use Rattle.std.proofs.lemmas.Bool.Decides.{nat_tests}
+use Rattle.std.proofs.lemmas.Str.{chars-IsAscii, encode_ascii}
+use Rattle.std.proofs.lemmas.Str.Ascii.{IsAscii-nil, IsAscii-cons}
+use Rattle.bhs_terminal.specs.Visible.{controls, is_plain, visible, visible_all, visible_character}
 use Rattle.bhs_terminal.proofs.visible.Goals as goal
 
-visible_all-drop : (cs : List ℕ) (n c : ℕ) → (n < length cs) × (c ≡ get_or cs n c)
-    → visible_all (drop n cs) ≡ visible_character c ++ visible_all (drop (n + 1) cs)
-visible_all-drop cs n c h =
-    at_drop_more visible_all cs n c h.0 ∙ ap (λ x. visible_character x ++ visible_all (drop (n + 1) cs)) (sym h.1)
+plain_below : (byte : ℕ) → is_plain byte ≡ true → byte < 128
+plain_below byte plain = grind (arith, nat_tests, plain)
 
--- one character more is shown
-goes_on : (shown shown' cs ys : List ℕ) (c : ℕ) → shown ++ visible_all (drop (length ys) cs) ≡ visible_all cs
-    → (length ys < length cs) × (c ≡ get_or cs (length ys) c) → shown' ≡ shown ++ visible_character c
-    → shown' ++ visible_all (drop (length (ys ++ c ∷ [])) cs) ≡ visible_all cs
-goes_on shown shown' cs ys c before turn more =
-    let others = visible_all (drop (length ys + 1) cs) in
-    let e = visible_all-drop cs (length ys) c turn in
-    rw (length_push ys c, more)
-    (append_assoc shown (visible_character c) others ∙ (ap (λ x. shown ++ x) (sym e) ∙ before))
+plain_is_ascii : (text : List ℕ) → list_all is_plain text ≡ true → IsAscii text
+plain_is_ascii [] plain = IsAscii-nil
+plain_is_ascii (byte ∷ bytes) plain =
+    let parts = and_parts (is_plain byte) (list_all is_plain bytes) plain in
+    IsAscii-cons byte bytes (plain_below byte parts.0) (plain_is_ascii bytes parts.1)
 
-pub loop-character-preserved : goal.loop-character-preserved
-loop-character-preserved c =
-    goes_on _ _ _ c.loop-character.yielded c.in-Some.character c.loop-character.invariant
-    (YieldsList-turn (YieldsList-from_chars c.args.text.now c.utf8.text cc) c.loop-character.yielded _
-    c.loop-character.yielded_by _ _ c.in-Some.character c.in-Some.is c.next.ensures.steps)
-    c.in_ok-push.ensures
+controls_nothing : (byte : ℕ) → is_plain byte ≡ true → controls byte ≡ false
+controls_nothing byte plain = grind (arith, nat_tests, plain)
 
-pub returns : goal.returns
-returns c =
-    let end = YieldsList-end (YieldsList-from_chars c.args.text.now c.utf8.text cc) c.loop-character.yielded _
-    c.loop-character.yielded_by _ _ c.in-None.is c.next.ensures.steps in
-    let none = at_drop_all visible_all (chars c.args.text.now) (length c.loop-character.yielded)
-    (omega (arith, end.1)) in
-    sym (append-nil _) ∙ (ap (λ x. string_bytes c.loop-character.shown ++ x) (sym none) ∙ c.loop-character.invariant)
+stays : (byte : ℕ) → is_plain byte ≡ true → visible_character byte ≡ byte ∷ []
+stays byte plain = rw (controls_nothing byte plain) (encode_ascii byte (plain_below byte plain))
+
+all_stay : (text : List ℕ) → list_all is_plain text ≡ true → visible_all text ≡ text
+all_stay [] plain = refl
+all_stay (byte ∷ bytes) plain =
+    let parts = and_parts (is_plain byte) (list_all is_plain bytes) plain in
+    rw (stays byte parts.0) (ap (λ others. byte ∷ others) (all_stay bytes parts.1))
+
+plain_text : (text : List ℕ) → list_all is_plain text ≡ true → visible text ≡ text
+plain_text text plain =
+    ap visible_all (chars-IsAscii text (plain_is_ascii text plain)) ∙ all_stay text plain
+
+pub returns-then-is_plain : goal.returns-then-is_plain
+returns-then-is_plain c =
+    rw (plain_text c.args.text.now (sym c.is_plain.ensures ∙ c.if-is_plain.true)) c.from_str.ensures.ok
