@@ -3,6 +3,7 @@
 use bhs_net::Memory;
 use std::alloc::Global;
 use std::sync::{Condvar, Mutex, Wait};
+use std::thread;
 use std::time::{Clock, Duration};
 
 // How far a match is.
@@ -102,6 +103,13 @@ impl Progress {
         };
         let mut going = stage.going.lock(rt);
         going.turns = turns;
+        if pause.is_zero() {
+            let goes_on = !going.is_called_off;
+            drop(going);
+            // between two turns the agents may have the processor
+            thread::yield_now();
+            return goes_on;
+        }
         let going = stage
             .changed
             .wait_timeout_while(rt, going, pause, |going| !going.is_called_off)
