@@ -17,25 +17,37 @@ Its parameters behind the agent and its key may be `nodes`, `links`, `home`, `ne
 all of a team of `count`; a list names each. A scheduler is a name, or a function of the seed that gives a function of
 (choices, state). `engine` is "model" for the Python model, of which nothing is proved, "program" for the program that
 `python3 -m lab` takes, or the path of a program.
+
+    proof = lab.explore("ring:8", "examples/agents/ring.py {nodes}", engine="program")
+    proof.solves, proof.most_moves          # a theorem about agents that are functions of what they are told
+    pandas.DataFrame(proof.rows)            # a row for each black hole
 """
 import contextlib
 import pathlib
-from typing import Any, Callable, Iterable, List, NamedTuple, Optional, Sequence, Union
+from typing import Any, Callable, Dict, Iterable, List, NamedTuple, Optional, Sequence, Union
 
 from lab.play import finds
 from lab.play.agent_files import NoAgent, client_module
 from lab.play.games import Asked, Record, Row, SchedulerName, rows_of
 from lab.play.schedulers import NAMED as SCHEDULERS
+from lab.play.schedules import schedule_of
 from lab.play.teams import BOARD, INSIDE, LIMIT, NAPS, OUTSIDE, QUOTA, AgentWords, Game, filled
 from lab.rules import networks
 from lab.rules.engines import MODEL, PROGRAM, name_of, program_at
+from lab.rules.fixtures import Fixture
 from lab.rules.model import Place, Verdict
 from lab.rules.networks import Network
-from lab.search import explore as exploring, hunt as hunting
+from lab.search import asking, explore as exploring, hunt as hunting
+from lab.search.asking import BREAKS, COMES, SOLVES, Draws
+from lab.search.machines import Machines
+from lab.search.proving import CHECKED, FOUND, Proving, Tried, choices_of, found_in
 from lab.support.progress import bar
 
-__all__ = ["SCHEDULERS", "Exploration", "Found", "Game", "Network", "Record", "Row", "client", "engine_name", "explore",
-           "game", "hunt", "play", "program"]
+__all__ = ["SCHEDULERS", "Draws", "Exploration", "Found", "Game", "Network", "Proof", "Record", "Row", "client",
+           "engine_name", "explore", "game", "hunt", "play", "program"]
+
+# what is found of a match that was tried as a whole
+WHOLE = (SOLVES, COMES, *FOUND)
 
 AgentLike = Union[str, AgentWords, Callable[..., None]]
 NetworkLike = Union[str, Network, Any]
@@ -137,11 +149,71 @@ class Exploration(NamedTuple):
         return f"<p>{self}</p>{self.worst._repr_html_() if self.worst else ''}"
 
 
+class Proof(NamedTuple):
+    """What the program found of all schedules of some matches, or of those that it drew: a row for each match, what was
+    checked of how agents are taken for machines, and the match that fails, if one does. A match that was not tried as a
+    whole has no `found`."""
+
+    rows: List[Dict[str, Any]]
+    checked: str
+    failure: Optional[Record]
+    is_drawn: bool
+
+    @property
+    def fails(self) -> bool:
+        return self.failure is not None
+
+    @property
+    def is_whole(self) -> bool:
+        return all(row["found"] in WHOLE for row in self.rows)
+
+    @property
+    def solves(self) -> bool:
+        """Whether it is proved of these matches that no schedule fails. Nothing is proved of schedules not drawn."""
+        return all(row["found"] == SOLVES for row in self.rows)
+
+    @property
+    def states(self) -> int:
+        return sum(row["states"] or 0 for row in self.rows)
+
+    @property
+    def seconds(self) -> float:
+        return float(sum(row["seconds"] for row in self.rows))
+
+    @property
+    def most_moves(self) -> Optional[int]:
+        return max((row["moves"] for row in self.rows if row["moves"] is not None), default=None)
+
+    @property
+    def most_lost(self) -> Optional[int]:
+        return max((row["lost"] for row in self.rows if row["lost"] is not None), default=None)
+
+    def __str__(self) -> str:
+        if self.fails:
+            said = f"a schedule fails; {said_of(self.failure)}" if self.failure else ""
+        elif not self.is_whole:
+            said = "stopped before all were visited; no schedule failed until then"
+        else:
+            what = "no drawn schedule fails, which says nothing of the others" if self.is_drawn else \
+                "every schedule solves: a theorem about agents that are functions of what they are told"
+            said = f"{what}; most moves {self.most_moves}, most agents lost {self.most_lost}; {self.checked}"
+        return f"{self.states} states in {self.seconds:.1f} s: {said}"
+
+    def _repr_html_(self) -> str:
+        return f"<p>{self}</p>{self.failure._repr_html_() if self.failure else ''}"
+
+
 def explore(network: NetworkLike, agents: Union[AgentLike, Sequence[AgentLike]], *,
-            states: int = exploring.MOST_STATES, engine: str = MODEL, **more: Any) -> Exploration:
+            states: int = exploring.MOST_STATES, engine: str = MODEL, draws: Optional[Draws] = None,
+            check: int = CHECKED, **more: Any) -> Union[Exploration, Proof]:
     """Tries every schedule, with each node but the home base as the black hole unless something that destroys is named.
-    The Python model is explored; the engine plays what is kept."""
+    The program proves what it finds; with `draws` it draws schedules instead. The engine "model" searches without a
+    proof. Of `check` drawn schedules the agents play, what they do is compared with what they answered."""
     asked, path = game(network, agents, **more), path_of(engine)
+    if path is not None:
+        return proved(asked, path, Wanted(states, draws, check))
+    if draws is not None:
+        raise ValueError("draws need a program: name it by engine, or hunt")
     with bar(None, "state") as shown:
         found = list(exploring.tried(asked, states, shown))
     worst, record = max(found, key=exploring.Explored.rank), None
@@ -150,6 +222,48 @@ def explore(network: NetworkLike, agents: Union[AgentLike, Sequence[AgentLike]],
         record = Record(schedule, finds.played_again(schedule, path, asked.limit), path)
     return Exploration(sum(one.explorer.states() for one in found), all(one.is_whole for one in found),
                        worst.rank()[0], sum(one.seconds for one in found), record)
+
+
+class Wanted(NamedTuple):
+    """How many states of a match are visited, which schedules are drawn instead of trying all, and how many are played
+    as a check."""
+
+    states: int
+    draws: Optional[Draws]
+    check: int
+
+
+def proved(given: Game, path: str, wanted: Wanted) -> Proof:
+    """What the program finds of the schedules of a game."""
+    def one(machines: Machines, fixture: Fixture, shown: Any) -> Tried:
+        return Tried(fixture, asking.asked(path, fixture, machines, wanted.states, shown.update,
+                                           shown.set_postfix_str, wanted.draws))
+    proving = Proving(given, wanted.check)
+    with bar(None, "answer") as shown:
+        rows = [row_of(tried) for tried in proving.tried(one, shown)]
+    last, failure = proving.tries[-1], None
+    if last.has_failed():
+        found = found_in(last)
+        turns, breaks = found["schedule"] + found.get("round", []), found["agent"] if found["found"] == BREAKS else None
+        choices = choices_of(last.fixture, given.agents, turns, breaks, given.limit)
+        schedule = schedule_of(last.fixture, given.agents, f"explore{given.origin}", choices)
+        failure = Record(schedule, finds.played_again(schedule, path, given.limit), path)
+    return Proof(rows, str(proving.checks), failure, wanted.draws is not None)
+
+
+def row_of(tried: Tried) -> Dict[str, Any]:
+    """A match that was tried, as a row: what was found, in how many states, and the most moves and lost agents. What
+    the program does not say is None."""
+    setup, answered, found = tried.fixture.setup, tried.answered, tried.answered.found or {}
+    return {"nodes": setup.nodes, "home": setup.home, "holes": setup.holes, "found": found.get("found"),
+            "states": answered.counts.get("states"), "moves": found.get("moves"), "lost": found.get("lost"),
+            "turns": found.get("turns"), "drawn": drawn_of(answered.counts), "seconds": answered.seconds,
+            "why": answered.why}
+
+
+def drawn_of(counts: Dict[str, Any]) -> Optional[int]:
+    """How many schedules were drawn, if some were."""
+    return counts["solved"] + counts["failed"] if "solved" in counts else None
 
 
 class Found(NamedTuple):

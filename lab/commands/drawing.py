@@ -3,14 +3,14 @@ agents do (lab/search/asking.py). The worst schedule is kept, and the agents pla
 import statistics
 from typing import Any, List, NamedTuple, Tuple
 
-from lab.commands.trying import (FAILURES, FOUND, Search, Tried, Wanted, all_tried, found_in, shown_failure,
-                                 shown_schedule)
+from lab.commands.trying import FAILURES, Search, Wanted, all_tried, shown_failure, shown_schedule
 from lab.rules.engines import Differs
 from lab.rules.fixtures import Fixture
 from lab.rules.model import Object
 from lab.search.asking import BREAKS, EXCEEDS, Draws, asked
 from lab.search.machines import Machines
 from lab.search.pasts import NoFunction
+from lab.search.proving import FOUND, Tried, found_in
 
 Pairs = List[Tuple[int, int]]
 

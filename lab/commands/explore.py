@@ -52,12 +52,11 @@ from lab.play.teams import Game
 from lab.rules.engines import MODEL, PROGRAM, program_at
 from lab.search.asking import Draws
 from lab.search.explore import MOST_STATES, check_inside, tried
+from lab.search.proving import CHECKED
 from lab.support.faults import Fault
 from lab.support.progress import bar
 
 FOLDER = finds.FOLDER
-# how many drawn schedules of a search are played by the agents
-CHECKED = 20
 # whose turn it is in drawn schedules, and what is hunted for
 PACES, HUNTS = ("fair", "last-departed", "starved", "slow-agents", "slow-links"), ("moves", "lost")
 

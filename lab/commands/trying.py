@@ -1,23 +1,20 @@
 """`explore` by the program: it tries the schedules, and the lab answers what agents do (lab/search/asking.py). Where
 the program says nothing, as an agent may use more than its quota, the Python model's search takes over, and says so."""
 import pathlib
-from typing import Any, Callable, List, NamedTuple, Optional, Sequence, Tuple
+from typing import Any, Callable, List, NamedTuple, Optional, Tuple
 
-from lab.commands.checking import Checks
 from lab.play import finds
-from lab.play.matches import Run
-from lab.play.schedulers import ANSWER, ARRIVE, WAKE, Choice
+from lab.play.schedulers import Choice
 from lab.play.schedules import schedule_of
-from lab.play.teams import INSIDE, AgentWords, Game, Together
+from lab.play.teams import INSIDE, Game
 from lab.rules.engines import name_of
 from lab.rules.fixtures import Fixture
-from lab.rules.model import AWAY, ENDED, OUTSIDE, Object
-from lab.rules.rehearsal import Rehearsal
-from lab.search.asking import BREAKS, ENDLESS, EXCEEDS, FAILS, SOLVES, Answered, asked
+from lab.search.asking import BREAKS, ENDLESS, EXCEEDS, FAILS, SOLVES, asked
+from lab.search.checking import Checks
 from lab.search.explore import Explored, explored
-from lab.search.beside import MERGES
 from lab.search.machines import Machines
 from lab.search.pasts import NoFunction
+from lab.search.proving import Proving, Tried, Try, bounds_of, choices_of, found_in
 from lab.support import built
 from lab.support.progress import bar
 
@@ -25,27 +22,8 @@ THEOREM = "every schedule solves (a theorem about programs that are functions of
 # how an agent fails under a schedule that the program tells
 FAILURES = {"program": "fails", "close": "fails when it is told that the match is over",
             "asleep": "sleeps, and nothing changes any more"}
-FOUND = (FAILS, BREAKS, ENDLESS)
 # whether each agent that can move throughout a round has a turn in it
 FAIRNESS = {True: "and it is fair", False: "and it is not fair: an agent that can move never has a turn"}
-
-
-class Tried(NamedTuple):
-    """A match whose schedules were tried by the program, and by the Python model if the program says nothing of it."""
-
-    fixture: Fixture
-    answered: Answered
-    beside: Optional[Explored] = None
-
-    def has_failed(self) -> bool:
-        if self.beside is not None:
-            return self.beside.rank()[0]
-        return self.answered.found is not None and self.answered.found["found"] in FOUND
-
-    def is_whole(self) -> bool:
-        if self.beside is not None:
-            return self.beside.is_whole
-        return self.answered.found is not None and self.answered.found["found"] != EXCEEDS
 
 
 class Wanted(NamedTuple):
@@ -58,10 +36,6 @@ class Wanted(NamedTuple):
     states: int
     check: int
     keep: pathlib.Path
-
-
-# tries the schedules of one match, whose agents are these machines, and shows that it does
-Try = Callable[[Machines, Fixture, Any], Tried]
 
 
 class Search(NamedTuple):
@@ -83,28 +57,13 @@ def run(wanted: Wanted) -> int:
 
 def all_tried(wanted: Wanted, one: Try, line: Callable[[Tried], str]) -> Search:
     """Tries the matches of a game, and prints a line for each."""
-    game, fixtures, found = wanted.game, wanted.game.fixtures(), []
-    machines = Machines(fixtures[0], game.agents, game.limit, MERGES if wanted.check else 0)
-    checks = Checks(machines, game, wanted.check, len(fixtures))
-    machines.start()
-    try:
-        with bar(None, "answer") as shown:
-            for fixture in fixtures:
-                tried = one(machines, fixture, shown)
-                shown.clear()
-                found.append(tried)
-                print(line(tried), flush=True)
-                if tried.beside is None and tried.is_whole():
-                    checks.check(fixture, tried.answered.found, shown)
-                if not tried.is_whole() or tried.has_failed():
-                    break
-        if not found[-1].has_failed():
-            machines.check_shared()
-    finally:
-        machines.stop()
-    for what, count in machines.unnamed.items():
+    search = Proving(wanted.game, wanted.check)
+    with bar(None, "answer") as shown:
+        for tried in search.tried(one, shown):
+            print(line(tried), flush=True)
+    for what, count in search.machines.unnamed.items():
         print(f"{count} times history stands for what a program holds: {what}")
-    return Search(found, checks)
+    return Search(search.tries, search.checks)
 
 
 def beside(wanted: Wanted, tried: Tried, shown: Any) -> Tried:
@@ -113,12 +72,12 @@ def beside(wanted: Wanted, tried: Tried, shown: Any) -> Tried:
     if found is None or found["found"] != EXCEEDS:
         return tried
     why = f"agent {found['agent']} may use {found['commands']} commands"
-    if any(agent.kind != INSIDE for agent in wanted.game.agents):
+    game = wanted.game
+    if any(agent.kind != INSIDE for agent in game.agents):
         raise NoFunction(f"{why}, and the Python model's search, which takes over then, plays agents inside the lab "
                          "alone")
     print(f"{why}: the Python model's search takes over, of which nothing is proved", flush=True)
     try:
-        game = wanted.game
         return tried._replace(beside=explored(tried.fixture, game.agents, shown, wanted.states, game.limit))
     finally:
         shown.clear()
@@ -171,22 +130,6 @@ def told(wanted: Wanted, search: Search) -> int:
     return 0
 
 
-def bounds_of(tried: Tried) -> Tuple[int, int]:
-    """The most moves of a match, and the most agents lost."""
-    if tried.beside is not None:
-        worst = tried.beside.explorer.worst
-        assert worst is not None, "a match whose schedules were all tried has an end"
-        return worst.verdict.moves, worst.verdict.lost
-    found = found_in(tried)
-    return found["moves"], found["lost"]
-
-
-def found_in(tried: Tried) -> Object:
-    """What the program found of a match that it has tried as a whole."""
-    assert tried.answered.found is not None, "the program says what it found"
-    return tried.answered.found
-
-
 def shown_failure(wanted: Wanted, tried: Tried) -> int:
     """Writes the schedule that fails, once the agents have played it."""
     found, setup, game = found_in(tried), tried.fixture.setup, wanted.game
@@ -220,35 +163,6 @@ def keep(wanted: Wanted, tried: Tried, choices: List[Choice], verdict: Optional[
     if found["found"] == BREAKS and not played.faults or verdict and come_to[:same] != verdict[:same]:
         raise NoFunction("played again it comes to something else: explore needs agents that are functions of what "
                          "they hold")
-
-
-def choices_of(fixture: Fixture, agents: Sequence[AgentWords], turns: List[int], breaks: Optional[int],
-               seconds: float) -> List[Choice]:
-    """What the agents do that have these turns, one after the other. Who sleeps and sees nothing is woken at once, and
-    an agent that breaks and has not entered is denied. In the end the lost arrive where they are lost."""
-    team = Together(agents, fixture, seconds)
-    run = Run(Rehearsal(fixture), team, fixture)
-    team.start()
-    try:
-        for agent in turns:
-            choice = next((it for it in run.may_happen() if it.agent == agent), None)
-            if choice is None:
-                raise NoFunction(f"agent {agent} does nothing at choice {len(run.choices) + 1}, where it did something")
-            run.happen(choice)
-            wake(run, agent)
-        for choice in run.may_happen():
-            is_denied = choice.agent == breaks and run.match.agents[choice.agent].standing == OUTSIDE
-            if choice.do == ARRIVE or is_denied and choice.do == ANSWER:
-                run.happen(choice)
-        return run.choices
-    finally:
-        team.stop()
-
-
-def wake(run: Run, agent: int) -> None:
-    """Wakes an agent that sleeps on a link, or once it has ended, as often as it may."""
-    while run.match.agents[agent].standing in (AWAY, ENDED) and Choice(WAKE, agent) in run.may_happen():
-        run.happen(Choice(WAKE, agent))
 
 
 # what the Python model's search found

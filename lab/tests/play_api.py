@@ -157,6 +157,31 @@ class Api(InFolder):
         with self.assertRaisesRegex(ValueError, "look for failure, moves or lost"):
             lab.hunt("ring:5", RING.words, "time")
 
+    def test_the_program_proves(self) -> None:
+        proof = lab.explore("ring:5", RING.words, engine=program())
+        self.assertTrue(proof.solves and proof.is_whole and not proof.fails)
+        self.assertEqual((proof.most_moves, proof.most_lost), (14, 1))
+        self.assertEqual([row["holes"] for row in proof.rows], [[1], [2], [3], [4]])
+        model = lab.explore("ring:5", RING.words)
+        self.assertNotEqual(proof.states, model.states)
+        self.assertIn("every schedule solves: a theorem about agents that are functions", str(proof))
+        self.assertIn("checked, and all agree", str(proof))
+        wrong = lab.explore("ring:3", counter, holes=[2], engine=program())
+        self.assertTrue(wrong.fails and not wrong.solves)
+        self.assertEqual(wrong.failure.verdict.outcome, "silent")
+        few = lab.explore("ring:6", RING.words, states=10, engine=program())
+        self.assertFalse(few.is_whole or few.solves or few.fails)
+
+    def test_the_program_draws_schedules(self) -> None:
+        draws = lab.Draws(500, 3, "fair", "moves")
+        found = lab.explore("ring:8", RING.words, holes=[4], engine=program(), draws=draws)
+        self.assertTrue(found.is_whole and not found.solves and not found.fails)
+        self.assertEqual([row["drawn"] for row in found.rows], [500])
+        self.assertLessEqual(found.most_moves, lab.explore("ring:8", RING.words, holes=[4]).most_moves)
+        self.assertIn("no drawn schedule fails, which says nothing of the others", str(found))
+        with self.assertRaisesRegex(ValueError, "draws need a program"):
+            lab.explore("ring:8", RING.words, draws=draws)
+
     def test_programs_are_hunted(self) -> None:
         text = (TOP / "lab" / "mutants" / "accuses_at_once.py").read_text()
         for name in ("client.py", "ring.py"):

@@ -1,4 +1,4 @@
-"""The kits of three languages are written, built and played; `/usr/bin/python3 -m tools.play.kits PROGRAM` plays all."""
+"""The kits of three languages are written, built and played; `python3 -m tools.play.kits PROGRAM` plays all."""
 import pathlib
 import tempfile
 import unittest

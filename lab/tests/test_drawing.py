@@ -6,12 +6,13 @@ from typing import Any, List
 from unittest import mock
 
 from lab.commands import drawing
-from lab.commands.trying import Search, Tried
+from lab.commands.trying import Search
 from lab.rules.engines import Differs
 from lab.rules.fixtures import Fixture
 from lab.rules.model import Setup
 from lab.rules.networks import ring
 from lab.search.asking import Answered, Draws
+from lab.search.proving import Tried
 
 
 def tried(hole: int, moves: int, lost: int, solved: int = 7, failed: int = 0) -> Tried:
