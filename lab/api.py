@@ -156,12 +156,12 @@ class Proof(NamedTuple):
 
     rows: List[Dict[str, Any]]
     checked: str
-    failure: Optional[Record]
+    worst: Optional[Record]
     is_drawn: bool
 
     @property
     def fails(self) -> bool:
-        return self.failure is not None
+        return self.worst is not None
 
     @property
     def is_whole(self) -> bool:
@@ -190,7 +190,7 @@ class Proof(NamedTuple):
 
     def __str__(self) -> str:
         if self.fails:
-            said = f"a schedule fails; {said_of(self.failure)}" if self.failure else ""
+            said = f"a schedule fails; {said_of(self.worst)}" if self.worst else ""
         elif not self.is_whole:
             said = "stopped before all were visited; no schedule failed until then"
         else:
@@ -200,7 +200,7 @@ class Proof(NamedTuple):
         return f"{self.states} states in {self.seconds:.1f} s: {said}"
 
     def _repr_html_(self) -> str:
-        return f"<p>{self}</p>{self.failure._repr_html_() if self.failure else ''}"
+        return f"<p>{self}</p>{self.worst._repr_html_() if self.worst else ''}"
 
 
 def explore(network: NetworkLike, agents: Union[AgentLike, Sequence[AgentLike]], *,
@@ -241,14 +241,14 @@ def proved(given: Game, path: str, wanted: Wanted) -> Proof:
     proving = Proving(given, wanted.check)
     with bar(None, "answer") as shown:
         rows = [row_of(tried) for tried in proving.tried(one, shown)]
-    last, failure = proving.tries[-1], None
+    last, worst = proving.tries[-1], None
     if last.has_failed():
         found = found_in(last)
         turns, breaks = found["schedule"] + found.get("round", []), found["agent"] if found["found"] == BREAKS else None
         choices = choices_of(last.fixture, given.agents, turns, breaks, given.limit)
         schedule = schedule_of(last.fixture, given.agents, f"explore{given.origin}", choices)
-        failure = Record(schedule, finds.played_again(schedule, path, given.limit), path)
-    return Proof(rows, str(proving.checks), failure, wanted.draws is not None)
+        worst = Record(schedule, finds.played_again(schedule, path, given.limit), path)
+    return Proof(rows, str(proving.checks), worst, wanted.draws is not None)
 
 
 def row_of(tried: Tried) -> Dict[str, Any]:

@@ -1,9 +1,9 @@
 """`explore --draws` by the program: it draws schedules of matches that have too many to try, and the lab answers what
 agents do (lab/search/asking.py). The worst schedule is kept, and the agents play it."""
 import statistics
-from typing import Any, List, NamedTuple, Tuple
+from typing import Any, List, NamedTuple, Sequence, Tuple
 
-from lab.commands.trying import FAILURES, Search, Wanted, all_tried, shown_failure, shown_schedule
+from lab.commands.trying import FAILURES, Search, Wanted, all_tried, in_turn, shown_failure, shown_schedule
 from lab.rules.engines import Differs
 from lab.rules.fixtures import Fixture
 from lab.rules.model import Object
@@ -41,12 +41,15 @@ def at(pairs: Pairs, place: int) -> int:
     raise IndexError(place)
 
 
-def run(wanted: Wanted, draws: Draws) -> int:
-    """Draws schedules of all matches, up to the first match in which one fails."""
-    def one(machines: Machines, fixture: Fixture, shown: Any) -> Tried:
-        return Tried(fixture, asked(wanted.program, fixture, machines, wanted.states, shown.update,
-                                    shown.set_postfix_str, draws))
-    return told(wanted, draws, all_tried(wanted, one, line_of))
+def run(all_wanted: Sequence[Wanted], draws: Draws) -> int:
+    """Draws schedules of all matches of some games, up to the first game in which one fails."""
+    def drawn(wanted: Wanted) -> Tuple[int, Search]:
+        def one(machines: Machines, fixture: Fixture, shown: Any) -> Tried:
+            return Tried(fixture, asked(wanted.program, fixture, machines, wanted.states, shown.update,
+                                        shown.set_postfix_str, draws))
+        search = all_tried(wanted, one, line_of)
+        return told(wanted, draws, search), search
+    return in_turn(all_wanted, drawn)
 
 
 def line_of(tried: Tried) -> str:

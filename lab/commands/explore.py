@@ -2,6 +2,9 @@
 
     python3 -m lab explore --network ring:6 --agent "examples/agents/ring.py {nodes}"
 
+With several networks, such as --network ring:3..8 or more than one --network, a table says in the end what each came
+to; the first that does not end well ends it.
+
 If you name neither a black hole nor a dark link, each node but the home base is the black hole in turn. The command
 says how many states there are and the most moves of all schedules. It stops at the first schedule that fails, and
 writes that one to a folder. The exit status is 1 if a schedule fails.
@@ -46,7 +49,7 @@ import pathlib
 from typing import Optional
 
 from lab.commands import drawing, trying
-from lab.commands.words import add_engine, add_match, at_least_one, game_of, not_negative, program_of
+from lab.commands.words import add_engine, add_match, at_least_one, games_of, not_negative, program_of
 from lab.play import finds
 from lab.play.teams import Game
 from lab.rules.engines import MODEL, PROGRAM, program_at
@@ -63,7 +66,7 @@ PACES, HUNTS = ("fair", "last-departed", "starved", "slow-agents", "slow-links")
 
 def add_words(parser: argparse.ArgumentParser) -> None:
     """The words of the command `explore`."""
-    add_match(parser)
+    add_match(parser, several=True)
     parser.add_argument("--states", metavar="N", type=at_least_one, default=MOST_STATES, help="the most states of a "
                         f"match to visit ({MOST_STATES}); a million take about half a gigabyte")
     parser.add_argument("--draws", metavar="N", type=at_least_one, help="draw this many schedules of each match "
@@ -84,15 +87,15 @@ def add_words(parser: argparse.ArgumentParser) -> None:
 
 
 def run(words: argparse.Namespace) -> int:
-    game, engine = game_of(words), program_of(words)
+    games, engine = games_of(words), program_of(words)
     draws = draws_of(words)
     if (words.search or words.engine) == PROGRAM:
         program = engine or program_at(words.program)
-        wanted = trying.Wanted(game, program, engine, words.states, words.check, words.keep)
+        wanted = [trying.Wanted(game, program, engine, words.states, words.check, words.keep) for game in games]
         return drawing.run(wanted, draws) if draws else trying.run(wanted)
     if draws:
         raise Fault("--draws needs the program's search: give no --search model, or use `lab hunt`")
-    return searched(words, game)
+    return max(searched(words, game) for game in games)
 
 
 def draws_of(words: argparse.Namespace) -> Optional[Draws]:

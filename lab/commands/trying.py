@@ -1,7 +1,7 @@
 """`explore` by the program: it tries the schedules, and the lab answers what agents do (lab/search/asking.py). Where
 the program says nothing, as an agent may use more than its quota, the Python model's search takes over, and says so."""
 import pathlib
-from typing import Any, Callable, List, NamedTuple, Optional, Tuple
+from typing import Any, Callable, List, NamedTuple, Optional, Sequence, Tuple
 
 from lab.play import finds
 from lab.play.schedulers import Choice
@@ -22,6 +22,8 @@ THEOREM = "every schedule solves (a theorem about programs that are functions of
 # how an agent fails under a schedule that the program tells
 FAILURES = {"program": "fails", "close": "fails when it is told that the match is over",
             "asleep": "sleeps, and nothing changes any more"}
+# of the table of several networks
+COLUMNS = ("network", "matches", "states", "moves", "lost", "seconds")
 # whether each agent that can move throughout a round has a turn in it
 FAIRNESS = {True: "and it is fair", False: "and it is not fair: an agent that can move never has a turn"}
 
@@ -46,13 +48,51 @@ class Search(NamedTuple):
     checks: Checks
 
 
-def run(wanted: Wanted) -> int:
-    """Tries the schedules of all matches, up to the first that fails."""
+def run(all_wanted: Sequence[Wanted]) -> int:
+    """Tries the schedules of all matches of some games, up to the first game in which one fails or is not tried."""
+    return in_turn(all_wanted, tried_one)
+
+
+def tried_one(wanted: Wanted) -> Tuple[int, Search]:
+    """Tries the schedules of all matches of a game, up to the first that fails."""
     def one(machines: Machines, fixture: Fixture, shown: Any) -> Tried:
         found = asked(wanted.program, fixture, machines, wanted.states, shown.update, shown.set_postfix_str)
         shown.clear()
         return beside(wanted, Tried(fixture, found), shown)
-    return told(wanted, all_tried(wanted, one, line_of))
+    search = all_tried(wanted, one, line_of)
+    return told(wanted, search), search
+
+
+def in_turn(all_wanted: Sequence[Wanted], one: Callable[[Wanted], Tuple[int, Search]]) -> int:
+    """Tries games one after the other, until one does not end well. If there are several, a table says in the end what
+    they came to."""
+    rows: List[Tuple[str, ...]] = [COLUMNS]
+    status = 0
+    for wanted in all_wanted:
+        if len(all_wanted) > 1:
+            print(f"{wanted.game.name}:", flush=True)
+        status, search = one(wanted)
+        if status:
+            break
+        rows.append(cells_of(wanted.game.name, search))
+    if len(all_wanted) > 1 and len(rows) > 1:
+        print("\n".join(table_of(rows)))
+    return status
+
+
+def cells_of(name: str, search: Search) -> Tuple[str, ...]:
+    """A row of the table: what the matches on a network came to."""
+    moves, lost = zip(*(bounds_of(tried) for tried in search.tries))
+    answered = [tried.answered for tried in search.tries]
+    return (name, str(len(answered)), str(sum(it.counts.get("states", 0) for it in answered)), str(max(moves)),
+            str(max(lost)), f"{sum(it.seconds for it in answered):.1f}")
+
+
+def table_of(rows: Sequence[Sequence[str]]) -> List[str]:
+    """The lines of a table: names to the left, numbers to the right."""
+    widths = [max(map(len, column)) for column in zip(*rows)]
+    return [" ".join([row[0].ljust(widths[0]), *(cell.rjust(width) for cell, width in zip(row[1:], widths[1:]))])
+            for row in rows]
 
 
 def all_tried(wanted: Wanted, one: Try, line: Callable[[Tried], str]) -> Search:

@@ -2,7 +2,7 @@
 import argparse
 import os
 import re
-from typing import List, Optional
+from typing import List, Optional, Set
 
 from lab.play.agent_files import NoAgent
 from lab.play.teams import BOARD, LIMIT, NAPS, NETWORK, QUOTA, AgentWords, Game, filled
@@ -44,12 +44,27 @@ class Kinds(argparse.Action):
         words.team = [*(words.team or []), AgentWords(option.strip("-"), value)]
 
 
-def add_match(parser: argparse.ArgumentParser) -> None:
-    """The words that name a match and its team."""
+class Once(argparse.Action):
+    """Takes an option that may be given once: the last one would win in silence."""
+
+    def __call__(self, parser, words, value, option=None) -> None:  # type: ignore[no-untyped-def]
+        given: Set[str] = getattr(words, "given_once", set())
+        if option in given:
+            parser.error(f"{option} is given twice: name one")
+        words.given_once = given | {option}
+        setattr(words, self.dest, value)
+
+
+def add_match(parser: argparse.ArgumentParser, several: bool = False) -> None:
+    """The words that name a match and its team, or the matches on several networks."""
     match = parser.add_argument_group("the match", networks.__doc__)
     match.add_argument("--tournament", metavar="T", help="take the match of a tournament's file")
     match.add_argument("--match", metavar="M", type=int, default=0, help="which match of the tournament (0)")
-    match.add_argument("--network", metavar="NAME", default=NETWORK, help=f"the network ({NETWORK})")
+    if several:
+        match.add_argument("--network", metavar="NAME", action="append", dest="networks", help=f"the network "
+                           f"({NETWORK}), and more by more of these; ring:3..8 names those of all sizes between")
+    else:
+        match.add_argument("--network", metavar="NAME", action=Once, default=NETWORK, help=f"the network ({NETWORK})")
     match.add_argument("--home", metavar="V", type=int, default=0, help="the home base (0)")
     match.add_argument("--hole", metavar="V", type=int, action="append", help="a black hole, and more by more of "
                        "these; if nothing that destroys is named, each seed has a black hole of its own")
@@ -84,6 +99,12 @@ def game_of(words: argparse.Namespace) -> Game:
     network = Network(match.setup.nodes, match.setup.links) if match else networks.named(words.network)
     return Game(words.tournament or words.network, network, team_of(words), words.home, words.hole or [], words.dark,
                 words.quota, words.board, words.naps, words.limit, match, origin_of(words, ""))
+
+
+def games_of(words: argparse.Namespace) -> List[Game]:
+    """The games that the words of a command name, one for each network."""
+    names = [name for given in words.networks or [NETWORK] for name in networks.in_range(given)]
+    return [game_of(argparse.Namespace(**{**vars(words), "network": name})) for name in names]
 
 
 def origin_of(words: argparse.Namespace, how: str) -> str:

@@ -214,6 +214,17 @@ def named(name: str) -> Network:
     return network
 
 
+def in_range(name: str) -> List[str]:
+    """The names that a word names: `ring:3..8` is those of all sizes from 3 to 8."""
+    found = re.fullmatch(r"(\w+):(\d+)\.\.(\d+)", name)
+    if not found:
+        return [name]
+    first, last = int(found[2]), int(found[3])
+    if first > last:
+        raise NoNetwork(f"{name}: the first size is the smaller one, as in {found[1]}:{last}..{first}")
+    return [f"{found[1]}:{size}" for size in range(first, last + 1)]
+
+
 MADE: Dict[str, Callable[..., Network]] = {
     "ring": ring, "hypercube": hypercube, "complete": complete, "torus": torus, "ccc": cube_connected_cycles,
     "random": lambda *sizes: regular(*sizes) if len(sizes) == 3 else drawn(random.Random(*sizes)),

@@ -4,7 +4,7 @@ import io
 from typing import Callable, List, Optional, Tuple
 
 from lab.__main__ import main, parser
-from lab.commands.words import game_of
+from lab.commands.words import games_of
 from lab.play.teams import AgentWords, Game
 from lab.rules.fixtures import Fixture
 from lab.search.asking import Answered, Draws, asked, silent
@@ -28,7 +28,7 @@ class InExplore(InFolder):
 
     def game(self, *words: str) -> Tuple[Game, Fixture]:
         """A game, and its one match."""
-        game = game_of(parser().parse_args(["explore", *words]))
+        (game,) = games_of(parser().parse_args(["explore", *words]))
         (fixture,) = game.fixtures()
         return game, fixture
 

@@ -168,7 +168,7 @@ class Api(InFolder):
         self.assertIn("checked, and all agree", str(proof))
         wrong = lab.explore("ring:3", counter, holes=[2], engine=program())
         self.assertTrue(wrong.fails and not wrong.solves)
-        self.assertEqual(wrong.failure.verdict.outcome, "silent")
+        self.assertEqual(wrong.worst.verdict.outcome, "silent")
         few = lab.explore("ring:6", RING.words, states=10, engine=program())
         self.assertFalse(few.is_whole or few.solves or few.fails)
 

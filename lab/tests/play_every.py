@@ -192,6 +192,14 @@ class Exploring(InExplore):
                 self.assertNotIn("history stands", self.said)
                 self.assertNotIn("warning", self.said)
 
+    def test_several_networks_end_in_a_table(self) -> None:
+        status = self.command("--network", "ring:3..4", "--network", "torus:3x3", "--agent", RING.words, "--check", 2)
+        self.assertEqual(status, 1, self.said)
+        table = self.said.partition("network matches states moves lost seconds\n")[2].split("\n")
+        self.assertEqual([row.split()[:5] for row in table[:2]],
+                         [["ring:3", "2", "270", "4", "1"], ["ring:4", "3", "1667", "9", "1"]])
+        self.assertNotIn("torus", "".join(table))
+
     def test_other_sample_agents(self) -> None:
         for words in (["--network", "hypercube:2", "--hole", "3", "--agent", KNOWN_MAP.words],
                       ["--network", "ring:3", "--hole", "2", "--agents", "2", "--naps", "0", "--agent", MAP.words]):

@@ -10,7 +10,7 @@ from unittest import mock
 
 from lab.__main__ import main, parser
 from lab.commands import mutants
-from lab.commands.words import game_of
+from lab.commands.words import games_of
 from lab.play import finds
 from lab.play.matches import play
 from lab.play.schedulers import Choice
@@ -81,7 +81,7 @@ class Searches(unittest.TestCase):
 class Exploring(Searches):
     def explored(self, *words: str) -> explore.Explorer:
         given: argparse.Namespace = parser().parse_args(["explore", *words])
-        game = game_of(given)
+        (game,) = games_of(given)
         return explore.explored(game.fixtures()[-1], game.agents, mock.Mock()).explorer
 
     def test_the_most_moves_on_rings(self) -> None:

@@ -10,7 +10,7 @@ from typing import Dict, List
 from unittest import mock
 
 from lab.__main__ import main, parser
-from lab.commands.words import game_of
+from lab.commands.words import games_of
 from lab.search import explore
 from lab.tests.playing import FAULTY, RING
 
@@ -131,7 +131,7 @@ class Sleepers(unittest.TestCase):
     def worst(self, names: List[str], *words: str) -> explore.End:
         """The worst end of a match of these agents."""
         given: argparse.Namespace = parser().parse_args(["explore", *WITHOUT_NAPS, *words, *self.agents(names)])
-        game = game_of(given)
+        (game,) = games_of(given)
         end = explore.explored(game.fixtures()[-1], game.agents, mock.Mock()).explorer.worst
         assert end is not None
         return end
@@ -179,7 +179,7 @@ class Sleepers(unittest.TestCase):
     def test_the_most_moves_for_each_black_hole(self) -> None:
         most: Dict[int, int] = {}
         given: argparse.Namespace = parser().parse_args(["explore", "--network", "ring:6", "--agent", RING.words])
-        game = game_of(given)
+        (game,) = games_of(given)
         for fixture in game.fixtures():
             end = explore.explored(fixture, game.agents, mock.Mock()).explorer.worst
             assert end is not None and not end.has_failed

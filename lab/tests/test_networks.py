@@ -1,11 +1,14 @@
 """Networks by name, and how their ports are numbered."""
 import argparse
+import contextlib
+import io
 import random
 import unittest
 
+from lab.__main__ import main
 from lab.commands.network import ports_seed
-from lab.rules import networks
 from lab.commands.tournament import number_or, team_name
+from lab.rules import networks
 
 NAMES = ("ring:5", "hypercube:3", "torus:3x4", "complete:5", "ccc:3", "ccc:5", "random:7")
 
@@ -57,6 +60,21 @@ class Networks(unittest.TestCase):
                            ("random:5000:deg3:seed1", "3 to 4096 nodes")):
             with self.subTest(name), self.assertRaisesRegex(networks.NoNetwork, said):
                 networks.named(name)
+
+
+class Ranges(unittest.TestCase):
+    def test_a_range_names_all_sizes(self) -> None:
+        self.assertEqual(["ring:3", "ring:4", "ring:5"], networks.in_range("ring:3..5"))
+        for name in ("torus:3x4", "random:6:deg3:seed1", "ring.toml"):
+            self.assertEqual([name], networks.in_range(name))
+        with self.assertRaisesRegex(networks.NoNetwork, "as in ring:3..5"):
+            networks.in_range("ring:5..3")
+
+    def test_a_second_network_is_refused_and_not_taken_in_silence(self) -> None:
+        said = io.StringIO()
+        with contextlib.redirect_stderr(said), self.assertRaises(SystemExit):
+            main(["run", "--network", "ring:3", "--network", "ring:4", "--agent", "examples/agents/ring.py 4"])
+        self.assertIn("--network is given twice: name one", said.getvalue())
 
 
 class Words(unittest.TestCase):
