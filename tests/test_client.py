@@ -5,6 +5,7 @@ import socket
 import subprocess
 import sys
 import tempfile
+import threading
 import time
 import unittest
 from typing import List
@@ -61,6 +62,40 @@ class Served(unittest.TestCase):
         agent = Agent.connect("127.0.0.1", port)
         self.addCleanup(agent.close)
         return agent
+
+
+class Crowded(unittest.TestCase):
+    """A server that has no room for the first connections."""
+
+    def serve(self, answers: List[bytes]) -> int:
+        """Gives each connection one of these answers, and answers the port."""
+        listener = socket.create_server(("127.0.0.1", 0))
+        self.addCleanup(listener.close)
+
+        def run() -> None:
+            for text in answers:
+                with listener.accept()[0] as connection:
+                    connection.recv(1000)
+                    connection.sendall(text)
+
+        thread = threading.Thread(target=run)
+        thread.start()
+        self.addCleanup(thread.join)
+        return listener.getsockname()[1]
+
+    def connect(self, port: int) -> Agent:
+        agent = Agent.connect("127.0.0.1", port)
+        self.addCleanup(agent.close)
+        return agent
+
+    def test_an_agent_connects_again_while_there_is_no_room(self) -> None:
+        refused = [b'{"no":"%b"}\n' % why for why in (b"full", b"late", b"memory")]
+        port = self.serve([*refused, b"", b'{"board":"","from":null,"ok":"here","ports":2}\n'])
+        self.assertEqual(self.connect(port).enter("ka"), Here(2, None, ""))
+
+    def test_a_key_that_is_used_up_is_not_tried_again(self) -> None:
+        port = self.serve([b"", b'{"no":"taken"}\n'])
+        self.assertRaises(client.KeyTaken, self.connect(port).enter, "ka")
 
 
 class Clients(Served):

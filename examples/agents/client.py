@@ -9,6 +9,7 @@
 Each call sends one line and reads its answer. An answer that refuses is an exception of its own: see `Refused`.
 """
 import json
+import random
 import socket
 import sys
 import time
@@ -102,7 +103,11 @@ class Lines:
     """Lines to and from the server over a socket."""
 
     def __init__(self, host: str, port: int) -> None:
-        self._socket = socket.create_connection((host, port))
+        self._address = (host, port)
+        self._connect()
+
+    def _connect(self) -> None:
+        self._socket = socket.create_connection(self._address)
         self._socket.setsockopt(socket.IPPROTO_TCP, socket.TCP_NODELAY, 1)
         self._reader = self._socket.makefile("r", encoding="utf-8", newline="\n")
 
@@ -122,6 +127,13 @@ class Lines:
             raise Disconnected("the server has closed the connection")
         return line[:-1]
 
+    def connect_again(self) -> None:
+        self.close()
+        try:
+            self._connect()
+        except OSError as fault:
+            raise Disconnected(str(fault)) from fault
+
     def close(self) -> None:
         self._reader.close()
         self._socket.close()
@@ -139,27 +151,30 @@ class Agent:
 
     @classmethod
     def join(cls, host: str, port: int, key: str) -> "Tuple[Agent, Here]":
-        """Connects and enters. Tries again if the server has no room yet."""
-        pause = FIRST_PAUSE
-        for left in range(TRIES, -1, -1):
-            agent = cls.connect(host, port)
-            try:
-                return agent, agent.enter(key)
-            except NoRoom:
-                agent.close()
-                if left == 0:
-                    raise
-            time.sleep(pause)
-            pause = min(2 * pause, LONGEST_PAUSE)
-        raise AssertionError("the last try returns or raises")
+        """Connects and enters."""
+        agent = cls.connect(host, port)
+        try:
+            return agent, agent.enter(key)
+        except Refused:
+            agent.close()
+            raise
 
     def close(self) -> None:
         """Closes the connection. An agent that is still in the match leaves it."""
         self._lines.close()
 
     def enter(self, key: str) -> Here:
-        """Enters the match of this key at its home base. The first command of an agent."""
-        return self._here(self._ask({"do": "enter", "key": key}))
+        """Enters the match of this key at its home base. The first command of an agent. While the server has no room,
+        or drops the connection, it connects again: the key is not used up."""
+        pause, command = FIRST_PAUSE, {"do": "enter", "key": key}
+        for _ in range(TRIES):
+            try:
+                return self._here(self._ask(command))
+            except (NoRoom, Disconnected):
+                time.sleep(random.uniform(pause / 2, pause))
+                self._lines.connect_again()
+            pause = min(2 * pause, LONGEST_PAUSE)
+        return self._here(self._ask(command))
 
     def look(self) -> Here:
         """Looks at the node where the agent is."""

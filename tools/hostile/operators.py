@@ -14,11 +14,11 @@ import socket
 import subprocess
 import sys
 import time
-from typing import Iterator, Sequence, Tuple
+from typing import Iterator, List, Sequence, Tuple
 
 from tools.hostile.cases import Cases, Wrong
 from tools.hostile.session_lines import HERE, LOOK, OVER
-from tools.hostile.spoilers import TEAMS, Server, answer, enter, serving, tournament, wants
+from tools.hostile.spoilers import TEAMS, WAITING, Server, answer, enter, serving, tournament, wants
 
 # turns that no test waits for
 LONG = 1_000_000
@@ -27,7 +27,7 @@ LEAVE, ACCUSE = b'{"do":"leave"}\n', b'{"do":"accuse","port":1}\n'
 LAST_ROW = "  2 "
 # how many cases run beside each other
 BESIDE = 12
-FULL = b'{"no":"full"}\n'
+FULL, LATE = b'{"no":"full"}\n', b'{"no":"late"}\n'
 
 CASES = Cases(BESIDE)
 case = CASES.case
@@ -147,6 +147,76 @@ def own_numbers(program: str, folder: pathlib.Path) -> None:
         server.hears(b"close\n")
         told = server.ended()[2]
     wants("the numbers of those who came", re.findall(r"serve: session (\d+) from", told), ["0", "1", "2", "3"])
+
+
+# ---- floods
+
+# a network of strangers, and one of agents
+STRANGERS, HOMES = "127.0.1.%d", "127.0.2.%d"
+
+
+def flood(stack: contextlib.ExitStack, server: Server, count: int, places: int = 200) -> List[socket.socket]:
+    """Silent clients of one network, from this many addresses."""
+    return [stack.enter_context(server.connect(source=STRANGERS % (client % places + 1))) for client in range(count)]
+
+
+@case("a flood cuts off no client of another network, however slow its first line is")
+def slow_beside_flood(program: str, folder: pathlib.Path) -> None:
+    with serving(program, folder, turns=LONG) as server, contextlib.ExitStack() as stack:
+        slow = stack.enter_context(server.connect(source=HOMES % 1))
+        flood(stack, server, WAITING + 200)
+        time.sleep(2)
+        slow.sendall(enter("red-0"))
+        wants("the slow agent", answer(slow, len(HERE)), HERE)
+        quick = stack.enter_context(server.connect(enter("red-1"), HOMES % 2))
+        wants("an agent that comes later", answer(quick, len(HERE)), HERE)
+
+
+@case("in a network the flood of one address cuts off no client of another")
+def one_address(program: str, folder: pathlib.Path) -> None:
+    with serving(program, folder, turns=LONG) as server, contextlib.ExitStack() as stack:
+        slow = stack.enter_context(server.connect(source=STRANGERS % 9))
+        flood(stack, server, WAITING + 50, places=1)
+        slow.sendall(enter("red-0"))
+        wants("the slow agent", answer(slow, len(HERE)), HERE)
+
+
+@case("those who wait take no room of those who play")
+def apart(program: str, folder: pathlib.Path) -> None:
+    with serving(program, folder, turns=LONG, sessions=4) as server, contextlib.ExitStack() as stack:
+        slow = stack.enter_context(server.connect())
+        flood(stack, server, 100)
+        for key in ("red-1", "blue-0", "blue-1"):
+            client = stack.enter_context(server.connect(enter(key)))
+            wants(key, answer(client, len(HERE)), HERE)
+        slow.sendall(enter("red-0"))
+        wants("the agent that came first", answer(slow, len(HERE)), HERE)
+
+
+@case("when as many play as may, one that waited is told that there is no room, and its key is not used up")
+def no_room_to_play(program: str, folder: pathlib.Path) -> None:
+    with serving(program, folder, turns=LONG, sessions=1) as server, server.connect() as waits:
+        with server.connect(enter("red-0")) as plays:
+            wants("the agent that plays", answer(plays, len(HERE)), HERE)
+            waits.sendall(enter("red-1"))
+            wants("the agent that waited", answer(waits, len(FULL)), FULL)
+        time.sleep(0.5)
+        with server.connect(enter("red-1")) as again:
+            wants("its next try", answer(again, len(HERE)), HERE)
+
+
+@case("an address from which an agent entered keeps room for one client while others flood from there")
+def kept_room(program: str, folder: pathlib.Path) -> None:
+    with serving(program, folder, turns=LONG) as server, contextlib.ExitStack() as stack:
+        with server.connect(enter("red-0"), STRANGERS % 1) as first:
+            wants("an agent", answer(first, len(HERE)), HERE)
+        slow = stack.enter_context(server.connect(source=STRANGERS % 1))
+        strangers = flood(stack, server, WAITING - 1, places=1)
+        time.sleep(1.6)
+        strangers += flood(stack, server, 20, places=1)
+        slow.sendall(enter("red-1"))
+        wants("the slow agent", answer(slow, len(HERE)), HERE)
+        wants("the oldest stranger", answer(strangers[0], len(LATE)), LATE)
 
 
 # ---- what is told

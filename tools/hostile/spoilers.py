@@ -64,8 +64,8 @@ class Server:
                                       preexec_fn=before, stderr=subprocess.PIPE if log is None else log)
         self.first = self.child.stdout.readline()
 
-    def connect(self, said: bytes = b"") -> socket.socket:
-        client = socket.create_connection((HOST, self.port), PATIENCE)
+    def connect(self, said: bytes = b"", source: str = HOST) -> socket.socket:
+        client = socket.create_connection((HOST, self.port), PATIENCE, (source, 0))
         client.sendall(said)
         return client
 
@@ -151,10 +151,14 @@ def wrong_keys(program: str, folder: pathlib.Path) -> None:
             wants("an agent that comes after them", answer(client, len(HERE)), HERE)
 
 
-@case("silent clients make room, the oldest first, and are told why")
+@case("silent clients of one address make room after a second, the oldest first, and are told why")
 def silent(program: str, folder: pathlib.Path) -> None:
     with serving(program, folder, sessions=1000, turns=2000) as server, contextlib.ExitStack() as stack:
-        clients = [stack.enter_context(server.connect()) for _ in range(WAITING + 20)]
+        clients = [stack.enter_context(server.connect()) for _ in range(WAITING)]
+        with server.connect(enter("blue-0")) as client:
+            wants("one that comes at once", answer(client, 100), NO_FULL)
+        time.sleep(1.6)
+        clients += [stack.enter_context(server.connect()) for _ in range(20)]
         with server.connect(enter("blue-0")) as client:
             wants("an agent that comes after them", answer(client, len(HERE)), HERE)
         wants("the oldest", answer(clients[0], 100), NO_LATE)

@@ -486,11 +486,13 @@ what the lines are. Each is answered by a line, and an arrival comes as a line
 too. While the agent is on a link its lines wait.
 
 A client that has not entered uses up nothing. At most 256 of them wait to be
-let in, each for 10 seconds at most, and the oldest is cut off for one that
-comes. At most SESSIONS clients are connected. A client that is not served is
-told why in a line: `full` if SESSIONS agents are connected, `late` if its first
-line did not come in time, `memory` if there is no memory or thread for one
-more.
+let in, each for 10 seconds at most. If more come, one is cut off in the network
+and at the address where most wait, but not the only one that waits at an
+address from which an agent has entered before. At most SESSIONS agents play at
+a time. A client that is not served is told why in a line, and may come again:
+`full` if SESSIONS agents play or too many wait where it comes from, `late` if
+its first line did not come in time, `memory` if there is no memory or thread
+for one more.
 
 Without --gather all matches begin at once, when the server listens. In each
 match a turn comes every PAUSE milliseconds: one of the agents on a link
@@ -565,7 +567,7 @@ Exit status:
 
 pub(crate) const PORT: &str = "The port to listen on, 1 to 65535";
 
-pub(crate) const SESSIONS: &str = "How many clients may be connected at most, 1 to 1024";
+pub(crate) const SESSIONS: &str = "How many agents may play at a time, 1 to 1024";
 
 pub(crate) const TURNS: &str = "After how many turns each match is closed";
 

@@ -4,3 +4,4 @@ pub mod ExchangeLemmas
 pub mod KnownLemmas
 pub mod ServedLemmas
 pub mod WaitingLemmas
+pub mod CrowdLemmas

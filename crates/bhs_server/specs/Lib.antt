@@ -5,3 +5,4 @@ pub mod Exchanges
 pub mod Written
 pub mod Unserved
 pub mod Waiting
+pub mod Crowds

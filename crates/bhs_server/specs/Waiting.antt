@@ -1,5 +1,5 @@
 -- Who waits to be let in, and who of them is cut off.
-use Rattle.std.specs.Prelude.{ℕ, ◌+◌, ◌-◌, ◌^◌, min, nat_le, Bool, true, false, Option, Some, None, List, position}
+use Rattle.std.specs.Prelude.{ℕ, ◌+◌, ◌-◌, ◌^◌, min, nat_le, Bool, true, false, Option, Some, None, List}
 use Rattle.std.specs.Prelude.{[], ◌∷◌, zero, suc, if◌then◌else◌}
 use Rattle.bhs_server.specs.declared.waiting.Known.{Known}
 use Rattle.bhs_server.specs.declared.waiting.Stand.{Stand}
@@ -30,7 +30,3 @@ cut_at clients None = clients
 cut_at [] (Some place) = []
 cut_at (client ∷ clients) (Some zero) = record client { stand = IsCut } ∷ clients
 cut_at (client ∷ clients) (Some (suc place)) = client ∷ cut_at clients (Some place)
-
--- the clients after one of them made room: the oldest that waits, if one does, is cut off, and nobody else is another
-abbrev pub with_room : List Known → List Known
-with_room clients = cut_at clients (position waits clients)

@@ -1,93 +1,142 @@
-//! Who is connected to a server. The number of clients is bounded: those that have not entered make room for others,
-//! the oldest first.
+//! Who is connected to a server. Those who wait to be let in and those who play are bounded apart, so that a flood
+//! takes no room of an agent's: it makes room for others where most wait.
 
 ghost use Rattle.std.specs.Prelude.{◌≡◌, map};
-ghost use Rattle.bhs_server.specs.Waiting.{older, with_room};
+ghost use Rattle.bhs_server.specs.Waiting.{older};
+ghost use Rattle.bhs_server.specs.Crowds.{with_room};
 
+use crate::crowds::first_cut;
+use crate::origins::Origin;
 use crate::unserved::{Unserved, turn_away};
-use crate::waiting::{Known, Stand, grow_older, oldest_waiting};
+use crate::waiting::{Known, Stand, grow_older};
 use bhs_net::Memory;
 use std::alloc::Global;
 use std::net::{Shutdown, TcpStream};
 use std::sync::Arc;
 
-// How many clients may be connected at most that have not entered.
+// How many clients may wait at most to be let in.
 const WAITING: usize = 256;
 
-/// The clients that are connected, in the order in which they came.
+// How many clients whose agents have not entered are connected at most, with those that were cut off and are about to
+// go.
+const OUTSIDE: usize = 512;
+
+// A client whose agent has entered.
+#[derive(Drop)]
+struct Player {
+    session: u32,
+    socket: Arc<TcpStream, Global>,
+}
+
+/// The clients that are connected.
 #[derive(Drop)]
 pub(crate) struct Clients {
+    /// Those whose agents have not entered, in the order in which they came.
     known: Vec<Known>,
     /// The socket of each, at the same place.
     sockets: Vec<Arc<TcpStream, Global>>,
-    /// How many may be connected at most.
+    /// Those whose agents have entered.
+    players: Vec<Player>,
+    /// The addresses from which agents have entered.
+    origins: Vec<Origin>,
+    /// How many agents may have entered at most.
     most: usize,
 }
 
 impl Clients {
-    /// Nobody is connected, and at most this many may be.
+    /// Nobody is connected, and at most this many agents may have entered at a time.
     pub(crate) fn new(alloc: Global, most: u32) -> Result<Clients, Memory> {
         let most = most as usize;
-        let room = most.saturating_add(WAITING);
         Ok(Clients {
-            known: Vec::with_capacity(alloc, room)?,
-            sockets: Vec::with_capacity(alloc, room)?,
+            known: Vec::with_capacity(alloc, OUTSIDE)?,
+            sockets: Vec::with_capacity(alloc, OUTSIDE)?,
+            players: Vec::with_capacity(alloc, most)?,
+            origins: Vec::with_capacity(alloc, most)?,
             most,
         })
     }
 
-    /// Adds the client of a session. If there is no room for it, the oldest that waits to be let in is cut off.
+    /// Adds the client of a session. If too many wait to be let in, one of them is cut off; if that is this one, it is
+    /// not added.
     pub(crate) fn add(
         &mut self,
         session: u32,
+        origin: Origin,
         socket: &Arc<TcpStream, Global>,
     ) -> Result<(), Unserved> {
         let Ok(kept) = Arc::try_clone(socket) else {
             return Err(Unserved::Memory);
         };
-        let are_many = self.known.len() >= self.most.saturating_add(WAITING);
-        if are_many || (!self.has_room() && !self.make_room()) {
+        if self.are_all_in() || self.known.len() >= OUTSIDE {
             return Err(Unserved::Full);
         }
         let client = Known {
             session,
+            origin,
             stand: Stand::Waits,
+            has_room: self.keeps_room(origin),
             looks: 0,
         };
         if self.known.reserve(1).is_err() || self.sockets.push(kept).is_err() {
             return Err(Unserved::Memory);
         }
-        match self.known.push(client) {
-            Ok(()) => Ok(()),
-            Err(_) => Err(Unserved::Memory),
+        if self.known.push(client).is_err() {
+            return Err(Unserved::Memory);
         }
+        if self.are_too_many() {
+            self.make_room();
+        }
+        if self.are_too_many() || !self.waits(session) {
+            self.remove(session);
+            return Err(Unserved::Full);
+        }
+        Ok(())
     }
 
-    // Whether one more may be connected, beside those that are cut off.
-    fn has_room(&self) -> bool {
-        let mut waiting: usize = 0;
-        let mut open: usize = 0;
+    // Whether as many agents have entered, or are about to, as may.
+    fn are_all_in(&self) -> bool {
+        let mut all = self.players.len();
         for client in self.known.iter() {
-            if client.stand != Stand::IsCut {
-                open = open.saturating_add(1);
+            if client.stand == Stand::Enters {
+                all = all.saturating_add(1);
             }
-            if client.stand == Stand::Waits {
+        }
+        all >= self.most
+    }
+
+    // Whether more clients wait to be let in than may.
+    fn are_too_many(&self) -> bool {
+        let mut waiting: usize = 0;
+        for client in self.known.iter() {
+            if client.waits() {
                 waiting = waiting.saturating_add(1);
             }
         }
-        waiting < WAITING && open < self.most
+        waiting > WAITING
     }
 
-    /// Cuts off the oldest client that waits to be let in, if one does, and nobody else. Answers whether one did.
-    pub(crate) fn make_room(&mut self) -> bool
+    // Whether a client of this address gets the room that is kept for it: an agent has entered from there, and nobody
+    // else has that room.
+    fn keeps_room(&self, origin: Origin) -> bool {
+        let is_taken = self
+            .known
+            .iter()
+            .any(|client| client.has_room && client.origin == origin);
+        !is_taken && self.origins.iter().any(|one| *one == origin)
+    }
+
+    /// Cuts off the client that is to make room for others, if one may be, and nobody else.
+    pub(crate) fn make_room(&mut self)
         ensures { self.new.known.items ≡ with_room self.old.known.items }
     {
-        let Some(place) = oldest_waiting(&self.known) else {
-            return false;
+        let Some(place) = first_cut(&self.known) else {
+            return;
         };
+        if place >= self.known.len() {
+            return;
+        }
         self.known[place].stand = Stand::IsCut;
         self.hear_no_more(place);
-        true
     }
 
     // Ends the input of the client at this place, so that its session ends.
@@ -102,14 +151,36 @@ impl Clients {
         self.stands(session, Stand::Waits)
     }
 
-    /// The first line of the client of a session is being read: whether it is not cut off.
-    pub(crate) fn enters(&mut self, session: u32) -> bool {
-        self.stands(session, Stand::Enters)
+    /// The first line of the client of a session is being read, unless it is cut off or there is no room for its agent.
+    pub(crate) fn enters(&mut self, session: u32) -> Result<(), Unserved> {
+        if !self.stands(session, Stand::Waits) {
+            return Err(Unserved::Late);
+        }
+        if self.are_all_in() {
+            return Err(Unserved::Full);
+        }
+        self.stands(session, Stand::Enters);
+        Ok(())
     }
 
     /// The agent of the client of a session has entered.
     pub(crate) fn is_in(&mut self, session: u32) {
-        self.stands(session, Stand::IsIn);
+        let Some(place) = self.place_of(session) else {
+            return;
+        };
+        if place >= self.known.len() || place >= self.sockets.len() {
+            return;
+        }
+        if self.players.reserve(1).is_err() {
+            // it stands as one that enters, and is not cut off before the end
+            return;
+        }
+        let origin = self.known.remove(place).origin;
+        let socket = self.sockets.remove(place);
+        let _ = self.players.push(Player { session, socket });
+        if !self.origins.iter().any(|one| *one == origin) {
+            let _ = self.origins.push(origin);
+        }
     }
 
     // Has the client of a session stand so, unless it is cut off: whether it is not.
@@ -141,9 +212,10 @@ impl Clients {
                 let _gone = self.sockets.remove(place);
             }
         }
+        self.players.retain(|player| player.session != session);
     }
 
-    // The place of the client of a session.
+    // The place of the client of a session whose agent has not entered.
     fn place_of(&self, session: u32) -> Option<usize> {
         self.known
             .iter()
@@ -169,6 +241,9 @@ impl Clients {
         }
         for socket in self.sockets.iter() {
             let _ = socket.shutdown(Shutdown::Both);
+        }
+        for player in self.players.iter() {
+            let _ = player.socket.shutdown(Shutdown::Both);
         }
     }
 }

@@ -41,7 +41,7 @@ pub(crate) struct Connection {
     held: RefCell<Vec<u8>>,
     has_failed: Cell<bool>,
     is_in: Cell<bool>,
-    is_late: Cell<bool>,
+    unserved: Cell<Option<Unserved>>,
 }
 
 impl Connection {
@@ -52,13 +52,13 @@ impl Connection {
             held: RefCell::new(Vec::with_capacity(alloc, ROOM)?),
             has_failed: Cell::new(false),
             is_in: Cell::new(false),
-            is_late: Cell::new(false),
+            unserved: Cell::new(None),
         })
     }
 
-    /// Whether the client was cut off before its agent had entered.
-    pub(crate) fn is_late(&self) -> bool {
-        self.is_late.get()
+    /// Why the client was cut off before its agent had entered, if it was.
+    pub(crate) fn unserved(&self) -> Option<Unserved> {
+        self.unserved.get()
     }
 
     /// Which denial is held back, if one is.
@@ -199,30 +199,34 @@ impl<'c, R: Wait> Incoming<'c, R> {
         ensures { IfOk result (λ count. IsPrefixLen count buffer.new) }
     {
         if self.first >= FIRST || !self.ending.waits(self.rt, self.session) {
-            self.gives_no_more();
+            self.gives_no_more(Unserved::Late);
             return Ok(0);
         }
         let count = self.reader.read(buffer)?;
-        if self.goes_on(buffer, count) {
-            return Ok(count);
+        if let Err(why) = self.goes_on(buffer, count) {
+            self.gives_no_more(why);
+            return Ok(0);
         }
-        self.gives_no_more();
-        Ok(0)
+        Ok(count)
     }
 
-    // Whether a client that gave these bytes is not cut off.
-    fn goes_on(&mut self, buffer: &[u8], count: usize) -> bool {
+    // Sees that a client that gave these bytes is not cut off.
+    fn goes_on(&mut self, buffer: &[u8], count: usize) -> Result<(), Unserved> {
         self.first = self.first.saturating_add(count);
         if buffer.iter().take(count).any(|byte| *byte == b'\n') {
             self.ending.enters(self.rt, self.session)
+        } else if self.ending.waits(self.rt, self.session) {
+            Ok(())
         } else {
-            self.ending.waits(self.rt, self.session)
+            Err(Unserved::Late)
         }
     }
 
     // The client is cut off before its agent has entered.
-    fn gives_no_more(&self) {
-        self.connection.is_late.set(!self.ending.is_over());
+    fn gives_no_more(&self, why: Unserved) {
+        if !self.ending.is_over() {
+            self.connection.unserved.set(Some(why));
+        }
     }
 }
 

@@ -1,13 +1,14 @@
 //! The end of a contest: once its matches are closed, its sessions have some time left and are then cut off.
 
 use crate::clients::Clients;
+use crate::origins::origin_of;
 use crate::unserved::Unserved;
 use crate::watching::Watch;
 use bhs_lock::Cell;
 use bhs_net::Memory;
 use libc::net::{SHUT_RDWR, shutdown};
 use std::alloc::Global;
-use std::net::{Shutdown, TcpListener, TcpStream};
+use std::net::{Shutdown, SocketAddr, TcpListener, TcpStream};
 use std::os::fd::AsRawFd;
 use std::sync::atomic::{AtomicBool, Ordering};
 use std::sync::{Arc, Condvar, Mutex, Wait};
@@ -39,7 +40,7 @@ pub(crate) struct Ending {
 }
 
 impl Ending {
-    /// With this many matches open, this many sessions to wait for, and at most this many clients connected.
+    /// With this many matches open, this many sessions to wait for, and at most this many that go on at a time.
     pub(crate) fn new(
         alloc: Global,
         matches: usize,
@@ -90,16 +91,17 @@ impl Ending {
         &self,
         rt: &R,
         session: u32,
+        peer: SocketAddr,
         socket: &Arc<TcpStream, Global>,
     ) -> Result<(), Unserved> {
         let mut going = self.going.lock(rt);
         if going.is_over {
             let _ = socket.shutdown(Shutdown::Both);
         }
-        going.clients.add(session, socket)
+        going.clients.add(session, origin_of(peer.ip()), socket)
     }
 
-    /// Cuts off the oldest client that waits to be let in, if one does.
+    /// Cuts off a client that waits to be let in, if one may be.
     pub(crate) fn make_room<R: Wait>(&self, rt: &R) {
         self.going.lock(rt).clients.make_room();
     }
@@ -109,8 +111,8 @@ impl Ending {
         self.going.lock(rt).clients.waits(session)
     }
 
-    /// The first line of the client of a session is being read: whether it is not cut off.
-    pub(crate) fn enters<R: Wait>(&self, rt: &R, session: u32) -> bool {
+    /// The first line of the client of a session is being read, unless it is cut off or there is no room for its agent.
+    pub(crate) fn enters<R: Wait>(&self, rt: &R, session: u32) -> Result<(), Unserved> {
         self.going.lock(rt).clients.enters(session)
     }
 

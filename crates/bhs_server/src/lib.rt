@@ -3,10 +3,12 @@
 
 mod clients;
 mod connections;
+mod crowds;
 mod dealing;
 mod ending;
 mod holding;
 mod lacks;
+mod origins;
 mod pacing;
 mod ports;
 mod running;

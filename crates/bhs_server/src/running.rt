@@ -13,15 +13,20 @@ use crate::welcoming::Host;
 use bhs_deal::Dealer;
 use bhs_lineup::Keys;
 use bhs_lock::{Cell, Gate};
+use libc::net::listen;
 use std::alloc::Global;
 use std::net::{SocketAddr, TcpListener, TcpStream};
+use std::os::fd::AsRawFd;
 use std::sync::{Arc, Wait};
 use std::thread;
 use std::thread::Threads;
 use std::time::{Clock, Duration};
 
 /// How many milliseconds the server pauses after an accept that failed.
-const PAUSE: u64 = 50;
+const PAUSE: u64 = 5;
+
+// How many connections the system is to keep for the server until it accepts them.
+const QUEUE: i32 = 4096;
 
 /// What the threads of a contest share.
 pub(crate) struct Running<'a, R, P, G, W> {
@@ -88,6 +93,8 @@ pub(crate) fn all_sessions<
         if !are_all {
             return Err(Lack::Thread);
         }
+        // A listener may be told anew how long its queue is.
+        let _ = listen(listener.as_raw_fd(), QUEUE);
         let mut next: u32 = 0;
         for _ in rt.forever() {
             let Some((stream, peer)) = accepted(rt, listener, ending) else {
@@ -96,7 +103,8 @@ pub(crate) fn all_sessions<
             let session = next;
             next = next.wrapping_add(1);
             watch.came(session, peer);
-            let Some(socket) = welcomed(rt, alloc, session, stream, ending, watch) else {
+            let client = Client { session, peer };
+            let Some(socket) = welcomed(rt, alloc, client, stream, ending, watch) else {
                 continue;
             };
             let started = scope.spawn(move || {
@@ -131,21 +139,29 @@ fn agents_of(cells: &[Cell]) -> u32 {
     agents
 }
 
+// A client that connected: the number of its session, and from where it comes.
+#[derive(Clone, Copy)]
+struct Client {
+    session: u32,
+    peer: SocketAddr,
+}
+
 // The socket of a client that connected, if it can be served. Otherwise it is told why not.
 fn welcomed<R: Wait, W: Watch>(
     rt: &R,
     alloc: Global,
-    session: u32,
+    client: Client,
     stream: TcpStream,
     ending: &Ending,
     watch: &W,
 ) -> Option<Arc<TcpStream, Global>> {
+    let Client { session, peer } = client;
     let _ = stream.set_nodelay(true);
     let Ok(socket) = Arc::new(alloc, stream) else {
         watch.left_outside(session, Outside::Unserved(Unserved::Memory));
         return None;
     };
-    if let Err(why) = ending.come(rt, session, &socket) {
+    if let Err(why) = ending.come(rt, session, peer, &socket) {
         turn_away(&socket, why);
         watch.left_outside(session, Outside::Unserved(why));
         return None;
@@ -153,7 +169,7 @@ fn welcomed<R: Wait, W: Watch>(
     Some(socket)
 }
 
-// The next connection, or None once the contest is over. If none can be accepted, who waits longest to be let in makes
+// The next connection, or None once the contest is over. If none can be accepted, one that waits to be let in makes
 // room.
 fn accepted<R: Wait + Clock>(
     rt: &R,

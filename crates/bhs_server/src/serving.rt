@@ -32,7 +32,7 @@ pub struct Contest {
 /// How long a contest is served, and to how many.
 #[derive(Clone, Copy, Debug)]
 pub struct Limits {
-    /// How many clients may be connected at most.
+    /// How many sessions may go on at a time.
     pub sessions: u32,
     /// How long sessions may last once all matches are closed.
     pub grace: Duration,
@@ -53,15 +53,15 @@ pub struct Served {
 
 /// Serves a contest within limits. It accepts connections, and serves each on a thread of its own; each match has a
 /// thread that takes its turns at this pace and then closes it. Once all matches are closed, it waits until the
-/// sessions of all agents have ended, or as many as may be connected, but no longer than the grace period; then it
+/// sessions of all agents have ended, or as many as may go on at a time, but no longer than the grace period; then it
 /// accepts no more connections, and cuts off the clients that are still there. Once all threads have ended, each match
 /// is settled with the passes of its sessions, and under the oblivious schedule the turns of its deliveries are
 /// compared with the words; if one match is refused, the others settle nevertheless.
 ///
-/// A session is one whose agent was let in. Clients whose agents have not entered use up nothing: the number of those
-/// that are connected is bounded, each has some seconds, and the oldest is cut off for one that comes. A client that is
-/// not served is told why; no line of this depends on a match. When an accept fails, it pauses and accepts again. If a
-/// thread for a match cannot be started, no match begins.
+/// A session is one whose agent was let in. Clients whose agents have not entered use up nothing: they are bounded
+/// apart, each has some seconds, and if too many wait, one is cut off in the network and at the address where most do.
+/// A client that is not served is told why; no line of this depends on a match. When an accept fails, it pauses and
+/// accepts again. If a thread for a match cannot be started, no match begins.
 pub fn run_server<
     R: Threads + Wait + Clock + Sync,
     P: Pace + Sync,

@@ -9,9 +9,9 @@ use std::net::{Shutdown, TcpStream};
 /// Why a client is not served.
 #[derive(Clone, Copy, Debug, PartialEq, Eq)]
 pub enum Unserved {
-    /// As many connections are open as may be, and the agents of all have entered.
+    /// As many agents have entered as may, or most of those that wait to be let in are where it comes from.
     Full,
-    /// Its first line was too long in coming: others wait to be let in.
+    /// Its first line was too long in coming, or it made room for another.
     Late,
     /// There was no memory or no thread for it.
     Memory,

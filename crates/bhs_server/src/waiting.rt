@@ -1,36 +1,40 @@
-//! Who waits to be let in, and who of them is cut off. Nobody else is: not who plays, and not who enters.
+//! Who waits to be let in, and who of them is cut off. Nobody else is: who plays is kept elsewhere, and who enters is
+//! not cut off.
 
-ghost use Rattle.std.specs.Prelude.{◌≡◌, ◌<◌, length, map, position, IfSome, IsTrue, slice_index_or};
+ghost use Rattle.std.specs.Prelude.{◌≡◌, map};
 ghost use Rattle.bhs_server.specs.Waiting.{older, waits};
+
+use crate::origins::Origin;
 
 // After how many looks a client that has not entered is cut off. There are two looks a second.
 const LOOKS: u32 = 20;
 
-/// Where a client stands.
+/// Where a client stands whose agent has not entered.
 #[derive(Clone, Copy, Debug, PartialEq, Eq)]
 pub(crate) enum Stand {
     /// Its first line is still to come.
     Waits,
     /// Its first line is being read, and it is not cut off meanwhile.
     Enters,
-    /// Its agent has entered.
-    IsIn,
     /// It is cut off, and its session is about to end.
     IsCut,
 }
 
-/// What is known of a client that is connected.
+/// What is known of a client whose agent has not entered.
 #[derive(Clone, Copy, Debug)]
 pub(crate) struct Known {
     pub(crate) session: u32,
+    pub(crate) origin: Origin,
     pub(crate) stand: Stand,
+    /// Whether it has the room that is kept for its address, since an agent has entered from there before.
+    pub(crate) has_room: bool,
     /// How many looks it has waited to be let in.
     pub(crate) looks: u32,
 }
 
 impl Known {
-    // Whether it waits to be let in.
-    fn waits(&self) -> bool
+    /// Whether it waits to be let in.
+    pub(crate) fn waits(&self) -> bool
         ensures { result ≡ waits self.now }
     {
         match self.stand {
@@ -54,17 +58,12 @@ impl Known {
         };
         Known {
             session: self.session,
+            origin: self.origin,
             stand,
+            has_room: self.has_room,
             looks,
         }
     }
-}
-
-/// The place of the oldest client that waits to be let in.
-pub(crate) fn oldest_waiting(clients: &[Known]) -> Option<usize>
-    ensures { result ≡ position waits clients.now }
-{
-    clients.iter().position(|client| client.waits())
 }
 
 /// There was a look: who has waited too long to be let in is cut off, and nobody else.

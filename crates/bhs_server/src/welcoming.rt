@@ -81,11 +81,18 @@ impl<R: Wait, G: Gate, W: Watch> Host<'_, R, G, W> {
                 self.ending.session_ended(self.rt);
             }
             (None, Some(denial)) => self.outside(session, Outside::Denied(denial)),
-            (None, None) if connection.is_late() => {
-                connection.turn_away(Unserved::Late);
-                self.outside(session, Outside::Unserved(Unserved::Late));
+            (None, None) => self.leave(session, connection, ended),
+        }
+    }
+
+    // Ends the session of a client whose agent has not entered and that was not denied.
+    fn leave(&self, session: u32, connection: &Connection, ended: Ended) {
+        match connection.unserved() {
+            Some(why) => {
+                connection.turn_away(why);
+                self.outside(session, Outside::Unserved(why));
             }
-            (None, None) => self.outside(session, Outside::Ended(ended)),
+            None => self.outside(session, Outside::Ended(ended)),
         }
     }
 

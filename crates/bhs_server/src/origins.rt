@@ -1,0 +1,31 @@
+//! Where clients connect from.
+
+use std::net::IpAddr;
+
+/// An address, as a network and a place in it: the first 24 bits of an address of IPv4 and the others, or the first 64
+/// bits of one of IPv6 and the others.
+#[derive(Clone, Copy, Debug, PartialEq, Eq)]
+pub(crate) struct Origin {
+    pub(crate) network: u64,
+    pub(crate) place: u64,
+}
+
+/// The origin of who connects from an address. An address of IPv4 that is written as one of IPv6 is one of IPv4.
+pub(crate) fn origin_of(address: IpAddr) -> Origin {
+    match address.to_canonical() {
+        IpAddr::V4(address) => {
+            let [a, b, c, d] = address.octets();
+            Origin {
+                network: u64::from_be_bytes([0, 0, 0, 0, 0, a, b, c]),
+                place: u64::from(d),
+            }
+        }
+        IpAddr::V6(address) => {
+            let [a, b, c, d, e, f, g, h, i, j, k, l, m, n, o, p] = address.octets();
+            Origin {
+                network: u64::from_be_bytes([a, b, c, d, e, f, g, h]),
+                place: u64::from_be_bytes([i, j, k, l, m, n, o, p]),
+            }
+        }
+    }
+}
