@@ -362,14 +362,66 @@ def heads_of_parts(program: str, folder: pathlib.Path) -> None:
         wants(f"the head of match {match}", f'"holes":[{hole}]' in recovered.split("\n")[0], True)
 
 
-@case("a lock that a killed server has left keeps nobody out")
-def lock_left_behind(program: str, folder: pathlib.Path) -> None:
+@case("a part that a killed server has left keeps nobody out, and is kept")
+def part_left_behind(program: str, folder: pathlib.Path) -> None:
     with serving(program, folder, turns=LONG):
         pass
-    wants("the lock that is left", (folder / "match.lock").exists(), True)
+    wants("the part that is left", (folder / "match0.jsonl.part").exists(), True)
     server = Server(program, folder, turns=1)
     wants("the next server", server.ended()[0], 0)
-    wants("the lock at the end", (folder / "match.lock").exists(), False)
+    wants("the files", sorted(path.name for path in folder.glob("match0*")), ["match0.jsonl", "match0.jsonl.part.old"])
+
+
+@case("two prefixes whose files meet are not served beside each other, and no file is touched")
+def prefixes_that_meet(program: str, folder: pathlib.Path) -> None:
+    with played(program, folder, tournament_of([f"t{match}" for match in range(12)])) as server:
+        with server.connect(enter("t10-0") + LOOK) as client:
+            wants("an agent", answer(client, 2 * len(HERE)), HERE + HERE)
+            time.sleep(1.5)
+            before = (folder / "match10.jsonl.part").read_bytes()
+            (folder / "match12.jsonl").write_text("of another evening")
+            status, printed, told = Server(program, folder, prefix="match1", turns=1).ended()
+        wants("the second server", (status, printed), (6, ""))
+        wants("what it told", told.splitlines()[-1], "match10.jsonl.part: busy")
+        wants("the part", (folder / "match10.jsonl.part").read_bytes(), before)
+        wants("another file", (folder / "match12.jsonl").read_text(), "of another evening")
+        server.hears(b"close\n")
+        wants("the first server", server.ended()[0], 0)
+    wants("the looks of match 10", (folder / "match10.jsonl").read_text().count('"do":"look"'), 1)
+
+
+@case("a match that is closed has its replay while others go on, and it is there after a kill")
+def replay_at_close(program: str, folder: pathlib.Path) -> None:
+    with heard(program, folder) as server, server.connect(enter("red-0") + ACCUSE) as client:
+        answer(client, 2 * len(HERE))
+        server.hears(b"close 0\n")
+        time.sleep(2)
+        wants("the files of match 0", sorted(path.name for path in folder.glob("match0*")), ["match0.jsonl"])
+        other = Server(program, folder, turns=1).ended()[2].splitlines()[-1]
+        wants("what another server told", other, "match0.jsonl.part: busy")
+    rows = subprocess.run([program, "table", "red=match0.jsonl"], cwd=folder, text=True, stdout=subprocess.PIPE)
+    wants("the row of red", rows.stdout.splitlines()[1].split()[1:3], ["red", "wrong"])
+
+
+@case("what stands in a replay when its match closes is what stands there at the end")
+def replay_stays(program: str, folder: pathlib.Path) -> None:
+    with heard(program, folder) as server, server.connect(enter("red-0") + LOOK * 100 + LEAVE) as client:
+        answer(client, 101 * len(HERE))
+        server.hears(b"close 0\n")
+        time.sleep(2)
+        closed = (folder / "match0.jsonl").read_bytes()
+        server.hears(b"close\n")
+        wants("the status", server.ended()[0], 0)
+    wants("the replay at the end", (folder / "match0.jsonl").read_bytes(), closed)
+    wants("the files", sorted(path.name for path in folder.glob("match*")), ["match0.jsonl", "match1.jsonl"])
+
+
+@case("a file of the user's with the name of a prefix is left alone")
+def lock_of_the_user(program: str, folder: pathlib.Path) -> None:
+    tournament(folder)
+    (folder / "match.lock").write_text("mine")
+    wants("the server", Server(program, folder, turns=1).ended()[0], 0)
+    wants("the file", (folder / "match.lock").read_text(), "mine")
 
 
 @case("each match can be appealed with the turns of its number, and earlier turns are kept")

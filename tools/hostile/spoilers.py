@@ -55,10 +55,10 @@ class Server:
 
     def __init__(self, program: str, folder: pathlib.Path, *options: str, turns: int = 400, sessions: int = 100,
                  log: Optional[int] = None, before: Callable[[], None] = lambda: None, pause: int = 5,
-                 says: int = subprocess.DEVNULL, grace: int = 300) -> None:
+                 says: int = subprocess.DEVNULL, grace: int = 300, prefix: str = "match") -> None:
         self.port = free_port()
         words = [program, "serve", "cup.toml", "--port", self.port, "--sessions", sessions, "--turns", turns,
-                 "--pause", pause, "--grace", grace, "--replay", "match", *options]
+                 "--pause", pause, "--grace", grace, "--replay", prefix, *options]
         self.begun = time.monotonic()
         self.child = subprocess.Popen([*map(str, words)], cwd=folder, stdin=says, stdout=subprocess.PIPE,
                                       preexec_fn=before, stderr=subprocess.PIPE if log is None else log)
@@ -288,7 +288,7 @@ def two_servers(program: str, folder: pathlib.Path) -> None:
         second = Server(program, folder)
         status, printed, told = second.ended()
         wants("the status of the second", (status, printed), (REFUSED, ""))
-        if "match.lock: busy" not in told:
+        if "match0.jsonl.part: busy" not in told:
             raise Wrong(f"the second told {told!r}")
         after = sorted((path.name, path.read_bytes()) for path in folder.glob("match*") if path.suffix != ".part")
         wants("the files", after, before)

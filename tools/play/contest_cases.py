@@ -18,6 +18,11 @@ from tools.play.program_rows import DONE, FAILED_STREAM, PATIENCE, REFUSED_TEXT,
 TOP = pathlib.Path(__file__).resolve().parents[2]
 TWO_TEAMS = SEED + MATCH.format(network="tri.toml", key="r") + MATCH.format(network="tri.toml", key="b").replace(
     '"red"', '"blue"')
+IN_TURNS = TWO_TEAMS.replace("version = 2\n", """version = 3
+schedule = "oblivious"
+delay_scales = 0
+delay_odds = 1
+""")
 # seconds: what the matches last, what sessions have left then, and within which the server is to have ended
 LASTS, GRACE, SOON = 0.2, 0.5, 2.0
 MANY = 40
@@ -234,7 +239,7 @@ def old_files(stage: Stage) -> None:
         begun = names(stage)
         server.ended()
     kept = ["match0.jsonl.old", "match0.turns.old", "match0.turns.old2", "match1.jsonl.part.old"]
-    if begun != sorted([*kept, "match.lock", "match0.jsonl.part", "match1.jsonl.part"]):
+    if begun != sorted([*kept, "match0.jsonl.part", "match1.jsonl.part"]):
         raise Wrong(f"at the beginning there are {begun}")
     if names(stage) != sorted([*kept, "match0.jsonl", "match1.jsonl"]):
         raise Wrong(f"at the end there are {names(stage)}")
@@ -243,12 +248,37 @@ def old_files(stage: Stage) -> None:
             raise Wrong(f"the earlier file {name} is another")
 
 
+@case("files that appear while a contest goes on get other names at its end")
+def files_meanwhile(stage: Stage) -> None:
+    with served(stage, cup=IN_TURNS, grace=0) as server:
+        for name in ("match0.jsonl", "match0.turns"):
+            (stage.folder / name).write_text(name)
+        server.ended()
+    for name in ("match0.jsonl", "match0.turns"):
+        if (stage.folder / f"{name}.old").read_text() != name or (stage.folder / name).read_text() == name:
+            raise Wrong(f"what appeared as {name} is lost")
+
+
+@case("only their owner may read the files of a contest, whatever stood under their names")
+def private_files(stage: Stage) -> None:
+    for name in ("match0.jsonl.new", "match1.turns.new"):
+        (stage.folder / name).write_text(name)
+        (stage.folder / name).chmod(0o666)
+    with served(stage, cup=IN_TURNS, grace=0) as server:
+        parts = [(stage.folder / f"match{match}.jsonl.part").stat().st_mode & 0o777 for match in (0, 1)]
+        server.ended()
+    modes = {name: (stage.folder / name).stat().st_mode & 0o777 for name in names(stage)}
+    wanted = ("match0.jsonl", "match0.turns", "match1.jsonl", "match1.turns")
+    if parts != [0o600, 0o600] or modes != dict.fromkeys(wanted, 0o600):
+        raise Wrong(f"the modes of the parts are {parts}, those of the files {modes}")
+
+
 @case("a folder that is missing is told before the server says that it listens")
 def no_folder(stage: Stage) -> None:
     writes(stage, cup=TWO_TEAMS, tri=TRIANGLE)
     words = ["serve", "cup.toml", "--port", str(free_port()), "--sessions", "4", "--turns", "1", "--pause", "1",
              "--replay", "none/match"]
-    expect(stage.run(words), b"", b"none/match.lock: write\n", FAILED_STREAM)
+    expect(stage.run(words), b"", b"none/match0.jsonl.part: write\n", FAILED_STREAM)
 
 
 @case("a server on a port that is in use leaves the files of the first alone")
@@ -257,7 +287,7 @@ def two_servers(stage: Stage) -> None:
         words = ["serve", "cup.toml", "--port", str(server.port), "--sessions", "4", "--turns", "1", "--pause", "1",
                  "--replay", "match"]
         expect(stage.run(words), b"", b"serve: listen\n", FAILED_STREAM)
-        if names(stage) != ["match.lock", "match0.jsonl.part", "match1.jsonl.part"]:
+        if names(stage) != ["match0.jsonl.part", "match1.jsonl.part"]:
             raise Wrong(f"there are {names(stage)}")
 
 

@@ -89,12 +89,13 @@ def traced(stage: Stage, cup: str, turns: int, *says: bytes, prefix: str = "matc
 RED, BLUE = (MATCH.format(network="tri.toml", key=key) for key in "rb")
 
 
-@case("a replay gets its name once its text is on the disk, and its part goes after that")
+@case("a part gets the name of its replay, and the replay its own, once its text is on the disk")
 def put_in_place(stage: Stage) -> None:
     steps = steps_of(traced(stage, SEED + RED, 1))
-    wanted = [("write", "match0.jsonl.new"), ("sync", "match0.jsonl.new"),
-              ("rename", "match0.jsonl.new", "match0.jsonl"), ("sync", "."), ("remove", "match0.jsonl.part")]
-    if [step for step in steps if step in wanted or "match0.jsonl" in step] != wanted:
+    part, new = "match0.jsonl.part", "match0.jsonl.new"
+    wanted = [("write", part), ("sync", part), ("rename", part, "match0.jsonl"), ("sync", "."),
+              ("write", new), ("sync", new), ("rename", new, "match0.jsonl"), ("sync", ".")]
+    if [step for step in steps if step in wanted or "match0.jsonl" in step][-len(wanted):] != wanted:
         raise Wrong(f"the calls were {steps}")
 
 

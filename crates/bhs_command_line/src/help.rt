@@ -517,8 +517,9 @@ is killed. At the end the replay is written to PREFIXM.jsonl, and the part is
 removed. Earlier files of these names are never replaced: before the contest
 begins they get .old behind their names, or .old2 and so on if that is there.
 Then each match is judged, and the table is printed as `arena table` prints it.
-Meanwhile the server locks the file PREFIX.lock, so that no other one writes
-files of these names.
+Files that appear meanwhile are not replaced either. The server locks each part,
+so that no other one writes files of these names. Only the owner may read parts
+and replays, since they name the black holes: chmod a+r shows them to others.
 
 Memory: until the end the server keeps each command as it came, twice, and each
 answer with the whiteboard that it shows. A line has up to 64 KiB. So a match of
@@ -531,7 +532,7 @@ is wrong with the server as `serve: FAULT`:
 
   listen       ADDRESS is not an address of this machine, or another program
                listens on the port
-  busy         Another server has locked PREFIX.lock: give another --replay
+  busy         Another server writes this part: give another --replay
   write        A part or a replay could not be written
   threads      The system has no thread for each match: end other programs, or
                let this user have more of them

@@ -17,10 +17,6 @@ part_name prefix number = prefix ++ (decimal number ++ codes ".jsonl.part")
 abbrev pub new_name : (name : List ℕ) → List ℕ
 new_name name = name ++ codes ".new"
 
--- the file that a server locks while it writes replays of a prefix
-abbrev pub lock_name : (prefix : List ℕ) → List ℕ
-lock_name prefix = prefix ++ codes ".lock"
-
 -- the name that the file of an earlier contest gets; the first of these that is free
 abbrev pub old_name : (name : List ℕ) → (number : ℕ) → List ℕ
 old_name name number = if number == 1 then name ++ codes ".old" else name ++ (codes ".old" ++ decimal number)

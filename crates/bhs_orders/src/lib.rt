@@ -20,6 +20,7 @@ mod links;
 mod names;
 mod parts;
 mod playing;
+mod private_files;
 mod rehearsing;
 mod replays;
 mod showing;
@@ -42,15 +43,16 @@ pub use faults::{Fault, report};
 pub use interactive::{MAX_READS, rehearse_interactively};
 pub use judging::{print_verdict, verdict_line};
 pub use laws::{answers_are_transcripts, known_answers, worked_turns};
-pub use parts::{begin_parts, lock_name, part_name, print_recovered};
+pub use parts::{part_name, print_recovered, put_aside, put_earlier_aside};
+pub use private_files::private_options;
 pub use rehearsing::rehearse;
-pub use replays::{first_status, write_sealed};
+pub use replays::{file_name, first_status, put_in_place, write_sealed};
 pub use showing::{show_made, show_text};
 pub use statuses::{
     DONE, FAILED_STREAM, FAILING, NO_MEMORY, NO_THREADS, REFUSED_MATCH, REFUSED_TEXT, REFUSED_WORDS,
 };
 pub use tabling::print_table;
-pub use turn_files::write_turns;
+pub use turn_files::{turns_name, write_turns};
 pub use turns::{turns_in, turns_text};
 pub use twinning::print_twin;
 pub use whole_interactive::rehearse_interactively_named;

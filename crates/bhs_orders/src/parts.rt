@@ -1,25 +1,22 @@
 //! Parts: what stands in files of the replays of matches that go on, so that a server that is killed loses no results.
 
-ghost use Rattle.std.specs.Prelude.{◌≡◌, IfOk, IfErr, string_bytes};
+ghost use Rattle.std.specs.Prelude.{◌≡◌, IfOk, string_bytes};
 ghost use Rattle.bhs_replay.specs.Parts.{IsOfPart};
-ghost use Rattle.bhs_orders.specs.Fault.{IsOfFault};
 ghost use Rattle.bhs_orders.specs.Parts.{IsRecovered};
-ghost use Rattle.bhs_orders.specs.Naming.{lock_name, old_name, part_name};
+ghost use Rattle.bhs_orders.specs.Naming.{old_name, part_name};
 ghost use Rattle.bhs_orders.specs.Showing.{PrintsByLine, Reports};
 
 use crate::faults::{Fault, report};
 use crate::line_by_line::passed_on;
 use crate::replays::{file_name, write_match};
 use crate::turn_files::turns_name;
-use bhs_lineup::Ready;
 use bhs_match::Sealed;
 use bhs_model::MAX_TURNS;
 use bhs_net::Memory;
-use bhs_replay::{head_of, read_part};
+use bhs_replay::read_part;
 use bhs_stream::Output;
 use std::alloc::Global;
 use std::fs;
-use std::fs::OpenFile;
 use std::io::{ErrorKind, Write};
 use std::rt::Files;
 
@@ -30,79 +27,24 @@ pub fn part_name(alloc: Global, prefix: &str, number: usize) -> Result<String, M
     format!(in alloc; "{prefix}{number}.jsonl.part")
 }
 
-/// The name of the file that a server locks while it writes replays of a prefix.
-pub fn lock_name(alloc: Global, prefix: &str) -> Result<String, Memory>
-    ensures { IfOk result (λ name. string_bytes name ≡ lock_name prefix.now) }
-{
-    format!(in alloc; "{prefix}.lock")
-}
-
-/// Begins the part of each match's replay with the head of the replay. Files of an earlier contest under the names of
-/// the replays, turns and parts first get `.old` behind their names, or `.old2`, or the next number that is free: so
-/// none is taken for a new one, and none is ever replaced. The first fault goes to `errors` and ends it: the answer is
-/// then its exit status.
-pub fn begin_parts<F: Files, E: Write>(
-    alloc: Global,
-    files: &F,
-    prefix: &str,
-    ready: &[Ready],
-    errors: &mut E,
-) -> Result<(), u8>
-    ensures { IfErr result IsOfFault }
-{
-    for (number, one) in ready.iter().enumerate() {
-        begin_named(alloc, files, prefix, number, one, errors)?;
-    }
-    Ok(())
-}
-
-// Begins the part of the replay of the match of this number, or reports why it cannot be begun.
-fn begin_named<F: Files, E: Write>(
+/// Renames the files of an earlier contest under the names of a match's replay, turns and part. They get `.old` behind
+/// their names, or `.old2`, or the next number that is free: so none is taken for a new one, and none is ever replaced.
+pub fn put_earlier_aside<F: Files>(
     alloc: Global,
     files: &F,
     prefix: &str,
     number: usize,
-    ready: &Ready,
-    errors: &mut E,
-) -> Result<(), u8>
-    ensures { IfErr result IsOfFault }
-{
-    let Ok(name) = part_name(alloc, prefix, number) else {
-        return Err(report(prefix, Fault::Memory, errors));
-    };
-    match begin(alloc, files, prefix, number, ready) {
-        Ok(()) => Ok(()),
-        Err(fault) => Err(report(name.as_str(), fault, errors)),
-    }
-}
-
-fn begin<F: Files>(
-    alloc: Global,
-    files: &F,
-    prefix: &str,
-    number: usize,
-    ready: &Ready,
 ) -> Result<(), Fault> {
     put_aside(alloc, files, file_name(alloc, prefix, number)?.as_str())?;
     put_aside(alloc, files, turns_name(alloc, prefix, number)?.as_str())?;
-    let name = part_name(alloc, prefix, number)?;
-    put_aside(alloc, files, name.as_str())?;
-    let mut line = head_of(alloc, ready.game.net(), ready.game.setup())?;
-    line.push('\n')?;
-    let Ok(mut file) = fs::create(files, name.as_str()) else {
-        return Err(Fault::Write);
-    };
-    if file.write_all(line.as_bytes()).is_err() || file.sync_all().is_err() {
-        return Err(Fault::Write);
-    }
-    Ok(())
+    put_aside(alloc, files, part_name(alloc, prefix, number)?.as_str())
 }
 
 // How many earlier contests with one prefix are kept at most.
 const EARLIER: u32 = 1_000_000;
 
-// Renames a file, if it is there. It gets the first name that is free.
-fn put_aside<F: Files>(alloc: Global, files: &F, name: &str) -> Result<(), Fault> {
+/// Renames a file, if it is there. It gets the first name that is free.
+pub fn put_aside<F: Files>(alloc: Global, files: &F, name: &str) -> Result<(), Fault> {
     if is_free(files, name)? {
         return Ok(());
     }

@@ -17,6 +17,7 @@ ghost use Rattle.bhs_orders.specs.declared.statuses.TheConstants.{DONE};
 
 use crate::faults::{Fault, report};
 use crate::parts::remove_part;
+use crate::private_files::made;
 use crate::statuses::DONE;
 use bhs_lineup::Ready;
 use bhs_match::Sealed;
@@ -141,7 +142,7 @@ fn write_numbered<F: Files, E: Write>(
 }
 
 /// The name of the file of a match's replay.
-pub(crate) fn file_name(alloc: Global, prefix: &str, number: usize) -> Result<String, Memory>
+pub fn file_name(alloc: Global, prefix: &str, number: usize) -> Result<String, Memory>
     ensures { IfOk result (λ name. string_bytes name ≡ replay_name prefix.now number) }
 {
     format!(in alloc; "{prefix}{number}.jsonl")
@@ -181,8 +182,8 @@ pub(crate) fn put_or_removed<F: Files>(
     }
 }
 
-// Gives a file that was written its name, once its text is on the disk, and sees that the name is there too.
-fn put_in_place<F: Files>(files: &F, new: &str, name: &str) -> Result<(), Fault> {
+/// Gives a file that was written its name, once its text is on the disk, and sees that the name is there too.
+pub fn put_in_place<F: Files>(files: &F, new: &str, name: &str) -> Result<(), Fault> {
     let Ok(file) = fs::open(files, new) else {
         return Err(Fault::Write);
     };
@@ -217,10 +218,7 @@ fn folder_of(name: &str) -> &str {
 fn write_new<F: Files>(alloc: Global, files: &F, name: &str, sealed: &Sealed) -> Result<(), Fault>
     ensures { OnOk result (Took (known_takes F.File.contents) (replay_of sealed.now)) }
 {
-    let mut file = match fs::create(files, name) {
-        Ok(file) => file,
-        Err(_) => return Err(Fault::Write),
-    };
+    let mut file = made(files, name)?;
     write_match(alloc, sealed, &mut file)
 }
 

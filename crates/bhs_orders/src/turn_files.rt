@@ -9,6 +9,7 @@ ghost use Rattle.bhs_orders.specs.Turns.{turns_text};
 ghost use Rattle.bhs_orders.specs.declared.statuses.TheConstants.{DONE};
 
 use crate::faults::{Fault, report};
+use crate::private_files::made;
 use crate::replays::{new_name, put_or_removed};
 use crate::statuses::DONE;
 use crate::turns::{turns_in, turns_text};
@@ -46,7 +47,7 @@ pub fn write_turns<F: Files, E: Write>(
 }
 
 /// The name of the file of the turns of a match's events.
-pub(crate) fn turns_name(alloc: Global, prefix: &str, number: usize) -> Result<String, Memory>
+pub fn turns_name(alloc: Global, prefix: &str, number: usize) -> Result<String, Memory>
     ensures { IfOk result (λ name. string_bytes name ≡ turns_name prefix.now number) }
 {
     format!(in alloc; "{prefix}{number}.turns")
@@ -66,9 +67,7 @@ fn write_new<F: Files>(alloc: Global, files: &F, name: &str, turns: &[u32]) -> R
     ensures { OnOk result (Took (known_takes F.File.contents) (turns_text turns.now)) }
 {
     let text = turns_text(alloc, turns)?;
-    let Ok(mut file) = fs::create(files, name) else {
-        return Err(Fault::Write);
-    };
+    let mut file = made(files, name)?;
     send(&mut file, text.as_str().as_bytes())?;
     Ok(())
 }

@@ -13,7 +13,7 @@ use crate::log::Log;
 use crate::machines::Machine;
 use crate::manners::Manner;
 use crate::operator::Operator;
-use crate::parts::parts_of;
+use crate::parts::Parts;
 use crate::recording::{Recorder, Scene};
 use crate::standing::Standings;
 use bhs_host::{Hosted, Steady, contest_of};
@@ -31,15 +31,22 @@ use std::thread;
 use std::thread::Threads;
 use std::time::{Clock, Duration};
 
-/// Serves a contest to the agents that connect to a listener, until all its matches and sessions have ended; no session
+/// Where a contest is held: the socket on which its agents connect, and the parts of its replays, which it locks.
+#[derive(Drop)]
+pub struct Stage {
+    pub(crate) listener: TcpListener,
+    pub(crate) parts: Parts,
+}
+
+/// Serves a contest to the agents that connect, until all its matches and sessions have ended; no session
 /// lasts longer than the grace period after the last match was closed. Then the replay of each match that settled is
 /// written, and if all settled, their table goes to `writer`, even if a replay could not be written. The answer is the
-/// exit status: that of the first that failed. Meanwhile the parts of the replays are written on, which `begin_parts`
-/// has begun.
+/// exit status: that of the first that failed. Meanwhile the parts of the replays are written on, and a match that is
+/// closed has its replay.
 pub fn host<R: Machine, W: Output, E: Write>(
     alloc: Global,
     rt: &R,
-    listener: &TcpListener,
+    stage: &Stage,
     lineup: Lineup,
     manner: &Manner<'_>,
     writer: &mut W,
@@ -49,8 +56,11 @@ pub fn host<R: Machine, W: Output, E: Write>(
     ensures { Hosts (known_takes R.File.contents) W.takes W.flushes lineup.seed lineup.schedule lineup.ready.items
         writer.old writer.new result }
 {
-    match served(alloc, rt, listener, lineup, manner) {
-        Ok(finished) => finish(alloc, rt, manner.prefix, finished, writer, errors),
+    match served(alloc, rt, stage, lineup, manner) {
+        Ok(finished) => {
+            stage.parts.make_way(rt, alloc, &finished.settled);
+            finish(alloc, rt, manner.prefix, finished, writer, errors)
+        }
         Err(fault) => report("serve", fault, errors),
     }
 }
@@ -59,7 +69,7 @@ pub fn host<R: Machine, W: Output, E: Write>(
 fn served<R: Machine>(
     alloc: Global,
     rt: &R,
-    listener: &TcpListener,
+    stage: &Stage,
     lineup: Lineup,
     manner: &Manner<'_>,
 ) -> Result<Finished, Fault>
@@ -74,7 +84,7 @@ fn served<R: Machine>(
     let Ok(Hosted { teams, contest }) = contest_of(alloc, lineup) else {
         return Err(Fault::Memory);
     };
-    match settled(alloc, rt, listener, contest, manner, &teams) {
+    match settled(alloc, rt, stage, contest, manner, &teams) {
         Ok(settled) => Ok(Finished {
             schedule,
             teams,
@@ -89,7 +99,7 @@ fn served<R: Machine>(
 fn settled<R: Machine>(
     alloc: Global,
     rt: &R,
-    listener: &TcpListener,
+    stage: &Stage,
     contest: Contest,
     manner: &Manner<'_>,
     teams: &[Text],
@@ -106,8 +116,7 @@ fn settled<R: Machine>(
         operator: &operator,
     };
     let standings = Standings::new(alloc, &contest.cells)?;
-    let parts = parts_of(alloc, manner.prefix, contest.cells.len())?;
-    let recorder = Recorder::new(rt, alloc, scene, standings, parts);
+    let recorder = Recorder::new(rt, alloc, scene, standings, &stage.parts);
     let pace = Steady::new(rt, operator.progress(), manner.turns, manner.pause);
     let limits = Limits {
         sessions: manner.sessions,
@@ -116,7 +125,14 @@ fn settled<R: Machine>(
         early: manner.early,
     };
     let served = run_server(
-        rt, alloc, listener, contest, limits, &pace, &Open, &recorder,
+        rt,
+        alloc,
+        &stage.listener,
+        contest,
+        limits,
+        &pace,
+        &Open,
+        &recorder,
     )?;
     log.finish(rt);
     Ok(served.settled)

@@ -21,10 +21,11 @@ mod telling;
 mod words;
 
 pub use console::{Console, Heard};
-pub use hosting::host;
+pub use hosting::{Stage, host};
 pub use keeping::Keep;
 pub use log::Log;
 pub use machines::Machine;
 pub use manners::{Manner, manner_of};
 pub use orders::run;
+pub use parts::Parts;
 pub use words::words_of;

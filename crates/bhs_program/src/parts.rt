@@ -1,29 +1,43 @@
-//! The parts of replays, which are written on while their matches go on.
+//! The parts of replays, which are written on while their matches go on. Once a match is closed its part is the replay.
 
-ghost use Rattle.std.specs.Prelude.{◌≡◌, IfOk, string_bytes};
-ghost use Rattle.bhs_program.specs.Recording.{full_line, lines_of};
+ghost use Rattle.std.specs.Prelude.{◌≡◌, IfOk, IfErr, string_bytes};
+ghost use Rattle.bhs_replay.specs.Replay.{end_line};
+ghost use Rattle.bhs_orders.specs.Fault.{IsOfFault};
+ghost use Rattle.bhs_program.specs.Recording.{full_end_line, full_line, lines_of};
 
-use crate::judged::FEW;
+use crate::judged::{FEW, TIMES};
 use crate::keeping::Keep;
 use crate::log::Log;
 use crate::telling::{part_goes_on_line, part_waits_line};
+use bhs_lineup::Ready;
 use bhs_lock::{Cell, Copied};
+use bhs_model::Event;
 use bhs_net::Memory;
-use bhs_orders::{Fault, part_name};
-use bhs_replay::line_of;
+use bhs_orders::{Fault, file_name, part_name, put_earlier_aside, report, turns_name};
+use bhs_replay::{head_of, line_of};
+use bhs_server::Settled;
 use std::alloc::Global;
 use std::fs::File;
 use std::io::Write;
-use std::sync::Wait;
+use std::rt::Files;
+use std::sync::{Mutex, Wait};
 use std::time::Clock;
+
+/// The parts of the matches of a contest, by their numbers. Each is locked until the contest has ended, under both its
+/// names, so that no other server puts it aside, whatever its prefix is.
+#[derive(Drop)]
+pub struct Parts {
+    /// Only the thread that looks at the matches takes this lock, so nobody waits for the disk.
+    all: Mutex<Vec<Part>>,
+}
 
 /// How far the part of a match is. Its file stays open, so that it is written on while descriptors are used up.
 #[derive(Drop)]
-pub(crate) struct Part {
+struct Part {
     /// The number of its match.
     game: usize,
-    name: String,
-    file: Option<File>,
+    names: Names,
+    file: File,
     /// How many bytes of the file are whole lines. What stands behind them is cut away before more is written.
     bytes: u64,
     /// How many events it has.
@@ -32,45 +46,177 @@ pub(crate) struct Part {
     synced: usize,
     /// Whether it could not be written on when that was tried last.
     has_failed: bool,
+    state: State,
 }
 
-/// The parts of this number of matches, which have no event yet.
-pub(crate) fn parts_of(alloc: Global, prefix: &str, matches: usize) -> Result<Vec<Part>, Memory> {
-    let mut parts = Vec::with_capacity(alloc, matches)?;
-    for game in 0..matches {
-        parts.push(Part::new(game, part_name(alloc, prefix, game)?))?;
+// The names of the files of a match.
+#[derive(Drop)]
+struct Names {
+    part: String,
+    replay: String,
+    turns: String,
+}
+
+// How far the part of a match is on its way to be the replay.
+#[derive(Clone, Copy, Debug, PartialEq, Eq)]
+enum State {
+    /// More events may come.
+    GoesOn,
+    /// It has the close, and lacks the end line.
+    IsClosed,
+    /// It is the whole replay, and has the name of a part.
+    IsWhole,
+    /// It has the name of the replay.
+    IsNamed,
+}
+
+/// Begins the part of each match's replay with the head of the replay, and locks it. Files of an earlier contest get
+/// other names before. If another server writes one of the parts, all files are left alone. The first fault goes to
+/// `errors` and ends it: the answer is then its exit status.
+pub(crate) fn begin_parts<R: Files + Keep, E: Write>(
+    alloc: Global,
+    rt: &R,
+    prefix: &str,
+    ready: &[Ready],
+    errors: &mut E,
+) -> Result<Parts, u8>
+    ensures { IfErr result IsOfFault }
+{
+    for number in 0..ready.len() {
+        if let Err(fault) = seen_free(alloc, rt, prefix, number) {
+            return Err(report_part(alloc, prefix, number, fault, errors));
+        }
     }
-    Ok(parts)
+    let Ok(mut all) = Vec::with_capacity(alloc, ready.len()) else {
+        return Err(report(prefix, Fault::Memory, errors));
+    };
+    for (number, one) in ready.iter().enumerate() {
+        let added = match begun(alloc, rt, prefix, number, one) {
+            Ok(part) => all.push(part).is_ok(),
+            Err(fault) => return Err(report_part(alloc, prefix, number, fault, errors)),
+        };
+        if !added {
+            return Err(report(prefix, Fault::Memory, errors));
+        }
+    }
+    Ok(Parts {
+        all: Mutex::new(all),
+    })
 }
 
-impl Part {
-    // The part of a match, with no event yet.
-    fn new(game: usize, name: String) -> Part {
-        Part {
-            game,
-            name,
-            file: None,
-            bytes: 0,
-            events: 0,
-            synced: 0,
-            has_failed: false,
+// Reports why the part of the match of this number cannot be begun. The answer is the exit status.
+fn report_part<E: Write>(
+    alloc: Global,
+    prefix: &str,
+    number: usize,
+    fault: Fault,
+    errors: &mut E,
+) -> u8
+    ensures { IsOfFault result }
+{
+    match part_name(alloc, prefix, number) {
+        Ok(name) => report(name.as_str(), fault, errors),
+        Err(_) => report(prefix, Fault::Memory, errors),
+    }
+}
+
+fn names_of(alloc: Global, prefix: &str, number: usize) -> Result<Names, Memory> {
+    Ok(Names {
+        part: part_name(alloc, prefix, number)?,
+        replay: file_name(alloc, prefix, number)?,
+        turns: turns_name(alloc, prefix, number)?,
+    })
+}
+
+// Sees that no other server writes the part of the match of this number, under either name.
+fn seen_free<K: Keep>(alloc: Global, rt: &K, prefix: &str, number: usize) -> Result<(), Fault> {
+    let names = names_of(alloc, prefix, number)?;
+    let _replay = rt.lock(names.replay.as_str())?;
+    let _part = rt.lock(names.part.as_str())?;
+    Ok(())
+}
+
+// Begins the part of the match of this number. Those of an earlier contest are locked while they get other names.
+fn begun<R: Files + Keep>(
+    alloc: Global,
+    rt: &R,
+    prefix: &str,
+    number: usize,
+    ready: &Ready,
+) -> Result<Part, Fault> {
+    let names = names_of(alloc, prefix, number)?;
+    let mut head = head_of(alloc, ready.game.net(), ready.game.setup())?;
+    head.push('\n')?;
+    let _replay = rt.lock(names.replay.as_str())?;
+    let _part = rt.lock(names.part.as_str())?;
+    put_earlier_aside(alloc, rt, prefix, number)?;
+    let mut file = rt.begin(names.part.as_str())?;
+    if file.write_all(head.as_bytes()).is_err() || file.sync_all().is_err() {
+        return Err(Fault::Write);
+    }
+    Ok(Part {
+        game: number,
+        names,
+        file,
+        bytes: head.len() as u64,
+        events: 0,
+        synced: 0,
+        has_failed: false,
+        state: State::GoesOn,
+    })
+}
+
+impl Parts {
+    /// Writes what the matches have newly kept to their parts. They take turns, so that none waits for one that has
+    /// much. The part of a match that is closed becomes the replay.
+    pub(crate) fn write_on<R: Keep + Wait + Clock>(
+        &self,
+        rt: &R,
+        alloc: Global,
+        cells: &[Cell],
+        log: &Log,
+    ) {
+        let mut guard = self.all.lock(rt);
+        let parts = &mut *guard;
+        for _ in 0..TIMES {
+            let mut is_done = true;
+            for (part, cell) in parts.iter_mut().zip(cells) {
+                let has_more = part.write_on(rt, alloc, cell, log);
+                is_done = is_done && !has_more;
+            }
+            if is_done {
+                break;
+            }
+        }
+        for part in parts.iter_mut() {
+            part.sync(rt, alloc, log);
+            part.end(rt, alloc, log);
         }
     }
 
-    /// How many events it has.
-    pub(crate) fn events(&self) -> usize {
-        self.events
+    /// Makes way for the files of matches that ended so: files of others under their names are put aside, and a match
+    /// that did not settle has a part and no replay.
+    pub(crate) fn make_way<R: Keep + Wait>(&self, rt: &R, alloc: Global, settled: &[Settled]) {
+        let mut guard = self.all.lock(rt);
+        let parts = &mut *guard;
+        for (part, one) in parts.iter_mut().zip(settled) {
+            part.make_way(rt, alloc, one.is_ok());
+        }
     }
 
-    /// Writes a few events that its match has newly kept. If that fails it is told, once, and tried again at the next
-    /// look. Answers whether the match may have more.
-    pub(crate) fn write_on<R: Keep + Wait + Clock>(
-        &mut self,
-        rt: &R,
-        alloc: Global,
-        cell: &Cell,
-        log: &Log,
-    ) -> bool {
+    /// How many events the part of the match of this number has.
+    pub(crate) fn events<R: Wait>(&self, rt: &R, game: usize) -> usize {
+        match self.all.lock(rt).get(game) {
+            Some(part) => part.events,
+            None => 0,
+        }
+    }
+}
+
+impl Part {
+    // Writes a few events that its match has newly kept. If that fails it is told, once, and tried again at the next
+    // look. Answers whether the match may have more.
+    fn write_on<R: Wait + Clock>(&mut self, rt: &R, alloc: Global, cell: &Cell, log: &Log) -> bool {
         match self.appended(rt, alloc, cell) {
             Ok(0) => false,
             Ok(_) => {
@@ -84,15 +230,12 @@ impl Part {
         }
     }
 
-    /// Sees that what was written is on the disk.
-    pub(crate) fn sync<R: Wait + Clock>(&mut self, rt: &R, alloc: Global, log: &Log) {
+    // Sees that what was written is on the disk.
+    fn sync<R: Wait + Clock>(&mut self, rt: &R, alloc: Global, log: &Log) {
         if self.synced == self.events {
             return;
         }
-        let Some(file) = &self.file else {
-            return;
-        };
-        if file.sync_data().is_ok() {
+        if self.file.sync_data().is_ok() {
             self.synced = self.events;
         } else {
             self.fails(rt, alloc, log);
@@ -100,50 +243,64 @@ impl Part {
     }
 
     // Appends a few events that its match has newly kept, and answers how many.
-    fn appended<R: Keep + Wait + Clock>(
-        &mut self,
-        rt: &R,
-        alloc: Global,
-        cell: &Cell,
-    ) -> Result<usize, Fault> {
-        self.open(rt)?;
+    fn appended<R: Wait>(&mut self, rt: &R, alloc: Global, cell: &Cell) -> Result<usize, Fault> {
         let found = cell.copies(rt, alloc, self.events, FEW)?;
         if found.is_empty() {
             return Ok(0);
         }
         let lines = lines_of(alloc, &found)?;
         self.append(lines.as_bytes())?;
+        if found.iter().any(|one| is_close(&one.event)) {
+            self.state = State::IsClosed;
+        }
         self.events = self.events.saturating_add(found.len());
         Ok(found.len())
     }
 
-    // Opens its file, if it is not open.
-    fn open<R: Keep>(&mut self, rt: &R) -> Result<(), Fault> {
-        if self.file.is_some() {
-            return Ok(());
-        }
-        let file = rt.open(self.name.as_str())?;
-        let Ok(found) = file.metadata() else {
-            return Err(Fault::Write);
-        };
-        self.bytes = found.len();
-        self.file = Some(file);
-        Ok(())
-    }
-
     // Appends bytes to its file, behind the lines that are whole.
     fn append(&mut self, bytes: &[u8]) -> Result<(), Fault> {
-        let Some(file) = &mut self.file else {
-            return Err(Fault::Write);
-        };
-        if self.has_failed && file.set_len(self.bytes).is_err() {
+        if self.has_failed && self.file.set_len(self.bytes).is_err() {
             return Err(Fault::Write);
         }
-        if file.write_all(bytes).is_err() {
+        if self.file.write_all(bytes).is_err() {
             return Err(Fault::Write);
         }
         self.bytes = self.bytes.saturating_add(bytes.len() as u64);
         Ok(())
+    }
+
+    // The part of a match that is closed gets its end line and the name of the replay. If that fails it is told, once,
+    // and tried again at the next look.
+    fn end<R: Keep + Wait + Clock>(&mut self, rt: &R, alloc: Global, log: &Log) {
+        if self.state == State::GoesOn || self.state == State::IsNamed {
+            return;
+        }
+        match self.named(rt, alloc) {
+            Ok(()) => self.goes_on(rt, alloc, log),
+            Err(_) => self.fails(rt, alloc, log),
+        }
+    }
+
+    fn named<R: Keep>(&mut self, rt: &R, alloc: Global) -> Result<(), Fault> {
+        if self.state == State::IsClosed {
+            let line = full_end_line(alloc, self.events)?;
+            self.append(line.as_bytes())?;
+            self.state = State::IsWhole;
+        }
+        rt.rename(alloc, self.names.part.as_str(), self.names.replay.as_str())?;
+        self.state = State::IsNamed;
+        Ok(())
+    }
+
+    // Makes way for the files of its match, which settled or did not. What cannot be put aside cannot be replaced
+    // either, so its faults are told by who writes these files.
+    fn make_way<R: Keep>(&mut self, rt: &R, alloc: Global, has_settled: bool) {
+        let replay = self.names.replay.as_str();
+        if self.state == State::IsNamed && !has_settled {
+            let _ = rt.rename(alloc, replay, self.names.part.as_str());
+        }
+        let _ = rt.put_others_aside(alloc, replay, &self.file);
+        let _ = rt.put_others_aside(alloc, self.names.turns.as_str(), &self.file);
     }
 
     // It could not be written on, which is told once.
@@ -181,4 +338,26 @@ fn full_line(alloc: Global, one: &Copied) -> Result<String, Memory>
     let mut line = line_of(alloc, &one.event, &one.reply)?;
     line.push('\n')?;
     Ok(line)
+}
+
+fn is_close(event: &Event) -> bool {
+    match event {
+        Event::Close => true,
+        _ => false,
+    }
+}
+
+// The end line of a replay with this number of events.
+fn end_line(alloc: Global, events: usize) -> Result<String, Memory>
+    ensures { IfOk result (λ text. string_bytes text ≡ end_line events) }
+{
+    format!(in alloc; "{{\"end\":{events}}}")
+}
+
+fn full_end_line(alloc: Global, events: usize) -> Result<String, Memory>
+    ensures { IfOk result (λ text. string_bytes text ≡ full_end_line events) }
+{
+    let mut text = end_line(alloc, events)?;
+    text.push('\n')?;
+    Ok(text)
 }

@@ -1,10 +1,10 @@
 //! What is kept and told of a contest while it goes on: the parts of its replays in files, and lines for the operator.
 
-use crate::judged::{TIMES, judged, judged_now};
+use crate::judged::{judged, judged_now};
 use crate::keeping::Keep;
 use crate::log::Log;
 use crate::operator::Operator;
-use crate::parts::Part;
+use crate::parts::Parts;
 use crate::standing::{Standing, Standings};
 use crate::telling::{
     closed_line, judged_line, missing_line, open_line, outsiders_line, played_line, plays_line,
@@ -51,9 +51,7 @@ pub(crate) struct Recorder<'a, R> {
     alloc: Global,
     scene: Scene<'a>,
     standings: Standings,
-    /// The parts, by the numbers of their matches. Only the thread that looks at the matches takes this lock, so nobody
-    /// waits for the disk.
-    parts: Mutex<Vec<Part>>,
+    parts: &'a Parts,
     going: Mutex<Going>,
 }
 
@@ -76,14 +74,14 @@ impl<'a, R> Recorder<'a, R> {
         alloc: Global,
         scene: Scene<'a>,
         standings: Standings,
-        parts: Vec<Part>,
+        parts: &'a Parts,
     ) -> Recorder<'a, R> {
         Recorder {
             rt,
             alloc,
             scene,
             standings,
-            parts: Mutex::new(parts),
+            parts,
             going: Mutex::new(Going {
                 sessions: 0,
                 looks: 0,
@@ -110,26 +108,6 @@ impl<R: Keep + Wait + Clock> Recorder<'_, R> {
         }
     }
 
-    // Writes what the matches have newly kept to their parts. They take turns, so that none waits for one that has
-    // much.
-    fn write_parts(&self, cells: &[Cell]) {
-        let mut guard = self.parts.lock(self.rt);
-        let parts = &mut *guard;
-        for _ in 0..TIMES {
-            let mut is_done = true;
-            for (part, cell) in parts.iter_mut().zip(cells) {
-                let has_more = part.write_on(self.rt, self.alloc, cell, self.scene.log);
-                is_done = is_done && !has_more;
-            }
-            if is_done {
-                break;
-            }
-        }
-        for part in parts.iter_mut() {
-            part.sync(self.rt, self.alloc, self.scene.log);
-        }
-    }
-
     // Tells how far the matches are, and who has not entered.
     fn tell_stand(&self, sessions: u32) {
         let log = self.scene.log;
@@ -146,9 +124,8 @@ impl<R: Keep + Wait + Clock> Recorder<'_, R> {
             }
         }
         log.tell(self.rt, sessions_line(self.alloc, sessions, missing, open));
-        let parts = self.parts.lock(self.rt);
-        for (game, (part, standing)) in parts.iter().zip(standings.iter()).enumerate() {
-            self.tell_match(game, part.events(), standing);
+        for (game, standing) in standings.iter().enumerate() {
+            self.tell_match(game, self.parts.events(self.rt, game), standing);
         }
     }
 
@@ -275,7 +252,8 @@ impl<R: Keep + Wait + Clock> Watch for Recorder<'_, R> {
     }
 
     fn look(&self, cells: &[Cell]) {
-        self.write_parts(cells);
+        self.parts
+            .write_on(self.rt, self.alloc, cells, self.scene.log);
         let counted = self.counted();
         if counted.looks % COUNTED == 0 && counted.outside > OUTSIDERS {
             self.tell(outsiders_line(self.alloc, counted.outside.saturating_sub(OUTSIDERS)));

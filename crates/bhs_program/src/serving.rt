@@ -5,31 +5,28 @@ ghost use Rattle.bhs_stream.specs.Streams.{known_takes};
 ghost use Rattle.bhs_orders.specs.Fault.{IsOfFault};
 ghost use Rattle.bhs_program.specs.Contests.{Serves, listening};
 
-use crate::hosting::host;
-use crate::keeping::Keep;
+use crate::hosting::{Stage, host};
 use crate::machines::Machine;
 use crate::manners::manner_of;
+use crate::parts::{Parts, begin_parts};
 use bhs_command_line::Hosting;
 use bhs_lineup::Ready;
 use bhs_net::Memory;
-use bhs_orders::{DONE, Fault, begin_parts, lineup_of, lock_name, report, show_made};
+use bhs_orders::{DONE, Fault, lineup_of, report, show_made};
 use bhs_server::can_start;
 use bhs_stream::Output;
 use std::alloc::Global;
-use std::fs;
-use std::fs::File;
 use std::io::{ErrorKind, Write};
 use std::net::{IpAddr, Net, SocketAddr, TcpListener, TcpStream};
-use std::rt::Files;
 
 // How many threads a contest has beside those of its matches and sessions: those that end it, look at it, write its log
 // and hear its operator, and one for a client.
 const OTHERS: usize = 5;
 
-/// Reads a tournament and its networks, listens on a port of this machine, locks the prefix of the replays, begins
-/// their parts, says that it listens, and hosts the contest. The answer is the exit status. A port that is in use, a
-/// prefix that another server has, and a lack of threads leave all files alone, so that a second server does not touch
-/// those of the first.
+/// Reads a tournament and its networks, listens on a port of this machine, begins the parts of the replays and locks
+/// them, says that it listens, and hosts the contest. The answer is the exit status. A port that is in use, a part that
+/// another server writes, and a lack of threads leave all files alone, so that a second server does not touch those of
+/// the first.
 pub(crate) fn serve_named<
     R: Machine + Net<Listener = TcpListener, Stream = TcpStream>,
     W: Output,
@@ -51,18 +48,16 @@ pub(crate) fn serve_named<
         Ok(listener) => listener,
         Err(fault) => return report("serve", fault, errors),
     };
-    let lock = match begun(alloc, rt, manner.prefix, &lineup.ready, errors) {
-        Ok(lock) => lock,
+    let parts = match begun(alloc, rt, manner.prefix, &lineup.ready, errors) {
+        Ok(parts) => parts,
         Err(status) => return status,
     };
     let status = show_made(listening(alloc, hosting.port), writer, errors);
     if status != DONE {
-        unlock(alloc, rt, manner.prefix, lock);
         return status;
     }
-    let ended = host(alloc, rt, &listener, lineup, &manner, writer, errors);
-    unlock(alloc, rt, manner.prefix, lock);
-    ended
+    let stage = Stage { listener, parts };
+    host(alloc, rt, &stage, lineup, &manner, writer, errors)
 }
 
 // Tells the operator if fewer sessions may go on beside each other than there are agents.
@@ -79,54 +74,21 @@ fn warn<E: Write>(sessions: u32, ready: &[Ready], errors: &mut E) {
     }
 }
 
-// Sees that there are threads for the matches, locks the prefix of the replays, and begins the parts: the lock, or the
-// exit status of a fault that was reported.
+// Sees that there are threads for the matches, and begins the parts of their replays: these, or the exit status of a
+// fault that was reported.
 fn begun<R: Machine, E: Write>(
     alloc: Global,
     rt: &R,
     prefix: &str,
     ready: &[Ready],
     errors: &mut E,
-) -> Result<File, u8>
+) -> Result<Parts, u8>
     ensures { IfErr result IsOfFault }
 {
     if !can_start(rt, ready.len().saturating_add(OTHERS)) {
         return Err(report("serve", Fault::Threads, errors));
     }
-    let lock = locked(alloc, rt, prefix, errors)?;
-    match begin_parts(alloc, rt, prefix, ready, errors) {
-        Ok(()) => Ok(lock),
-        Err(status) => {
-            unlock(alloc, rt, prefix, lock);
-            Err(status)
-        }
-    }
-}
-
-// The lock of a prefix, or the exit status of a fault that was reported.
-fn locked<R: Keep, E: Write>(
-    alloc: Global,
-    rt: &R,
-    prefix: &str,
-    errors: &mut E,
-) -> Result<File, u8>
-    ensures { IfErr result IsOfFault }
-{
-    let Ok(name) = lock_name(alloc, prefix) else {
-        return Err(report("serve", Fault::Memory, errors));
-    };
-    match rt.lock(name.as_str()) {
-        Ok(lock) => Ok(lock),
-        Err(fault) => Err(report(name.as_str(), fault, errors)),
-    }
-}
-
-// Removes the file that was locked, and gives up its lock.
-fn unlock<F: Files>(alloc: Global, files: &F, prefix: &str, lock: File) {
-    if let Ok(name) = lock_name(alloc, prefix) {
-        let _ = fs::remove_file(files, name.as_str());
-    }
-    drop(lock);
+    begin_parts(alloc, rt, prefix, ready, errors)
 }
 
 // Listens on a port of an address of this machine.

@@ -25,4 +25,4 @@ returns g c = serves_on c.in-Ok.lineup c.in-Ok.ensures.made c.show_made-status.n
     (heard g.W.Output.takes g.W.Output.flushes c.args.hosting.now.port _ _ c.show_made-status.result string_bytes
     c.listening.result c.listening.ensures c.show_made-status.ensures.shown c.show_made-status.ensures.lacks
     c.if-status-ne-DONE.false)
-    c.host-ended.ensures
+    c.host.ensures
