@@ -286,7 +286,8 @@ def two_servers(stage: Stage) -> None:
     with served(stage, turns=LONG) as server:
         words = ["serve", "cup.toml", "--port", str(server.port), "--sessions", "4", "--turns", "1", "--pause", "1",
                  "--replay", "match"]
-        expect(stage.run(words), b"", b"serve: listen\n", FAILED_STREAM)
+        told = b"serve: listen\n  another program listens on this port: end it, or give another --port\n"
+        expect(stage.run(words), b"", told, FAILED_STREAM)
         if names(stage) != ["match0.jsonl.part", "match1.jsonl.part"]:
             raise Wrong(f"there are {names(stage)}")
 
@@ -361,7 +362,9 @@ def address(stage: Stage) -> None:
     writes(stage, cup=TWO_TEAMS, tri=TRIANGLE)
     words = ["serve", "cup.toml", "--port", str(free_port()), "--sessions", "4", "--turns", "1", "--pause", "1",
              "--replay", "match", "--grace", "0", "--address"]
-    expect(stage.run([*words, "localhost"]), b"", b"serve: listen\n", FAILED_STREAM)
+    told = b"serve: listen\n  this machine has no such address: give another --address, 0.0.0.0 for all of IPv4\n"
+    for address in ("localhost", "192.0.2.7"):
+        expect(stage.run([*words, address]), b"", told, FAILED_STREAM)
     run = stage.run([*words, "::1"])
     if run.status != DONE:
         raise Wrong(f"the server ended with {run}")

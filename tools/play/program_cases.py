@@ -419,7 +419,8 @@ def refused_contests(stage: Stage) -> None:
     writes(stage, cup=CUP, tri=TRIANGLE)
     with socket.create_server(("127.0.0.1", 0)) as taken:
         port = taken.getsockname()[1]
-        expect(stage.run(serve("cup.toml", port)), b"", b"serve: listen\n", FAILED_STREAM)
+        told = b"serve: listen\n  another program listens on this port: end it, or give another --port\n"
+        expect(stage.run(serve("cup.toml", port)), b"", told, FAILED_STREAM)
         expect(stage.run(serve("none.toml", port)), b"", b"none.toml: read\n", FAILED_STREAM)
         expect(stage.run(serve("tri.toml", port)), b"", b"tri.toml: missing seed\n", REFUSED_TEXT)
 

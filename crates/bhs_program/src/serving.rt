@@ -44,9 +44,9 @@ pub(crate) fn serve_named<
     if manner.log {
         warn(manner.sessions, &lineup.ready, errors);
     }
-    let listener = match listener_on(rt, hosting.address.as_str(), hosting.port) {
+    let listener = match listener_on(rt, hosting.address.as_str(), hosting.port, errors) {
         Ok(listener) => listener,
-        Err(fault) => return report("serve", fault, errors),
+        Err(status) => return status,
     };
     let parts = match begun(alloc, rt, manner.prefix, &lineup.ready, errors) {
         Ok(parts) => parts,
@@ -91,19 +91,48 @@ fn begun<R: Machine, E: Write>(
     begin_parts(alloc, rt, prefix, ready, errors)
 }
 
-// Listens on a port of an address of this machine.
-fn listener_on<R: Net<Listener = TcpListener, Stream = TcpStream>>(
+// Listens on a port of an address of this machine: the listener, or the exit status of a fault that was reported.
+fn listener_on<R: Net<Listener = TcpListener, Stream = TcpStream>, E: Write>(
     rt: &R,
     address: &str,
     port: u16,
-) -> Result<TcpListener, Fault> {
+    errors: &mut E,
+) -> Result<TcpListener, u8>
+    ensures { IfErr result IsOfFault }
+{
     let Ok(address) = address.parse::<IpAddr>() else {
-        return Err(Fault::Listen);
+        return Err(report_unheard(ErrorKind::AddrNotAvailable, errors));
     };
     match TcpListener::bind(rt, SocketAddr::from((address, port))) {
         Ok(listener) => Ok(listener),
-        Err(error) if error.kind() == ErrorKind::OutOfMemory => Err(Fault::Memory),
-        Err(_) => Err(Fault::Listen),
+        Err(error) => Err(report_unheard(error.kind(), errors)),
+    }
+}
+
+// Reports why no client can connect, and in a second line what helps. The answer is the exit status.
+fn report_unheard<E: Write>(kind: ErrorKind, errors: &mut E) -> u8
+    ensures { IsOfFault result }
+{
+    if kind == ErrorKind::OutOfMemory {
+        return report("serve", Fault::Memory, errors);
+    }
+    let status = report("serve", Fault::Listen, errors);
+    let _ = writeln!(errors, "  {}", what_helps(kind));
+    status
+}
+
+fn what_helps(kind: ErrorKind) -> &'static str {
+    match kind {
+        ErrorKind::AddrInUse => {
+            "another program listens on this port: end it, or give another --port"
+        }
+        ErrorKind::PermissionDenied => {
+            "this user may not listen on this port: give a --port from 1024 on"
+        }
+        ErrorKind::AddrNotAvailable => {
+            "this machine has no such address: give another --address, 0.0.0.0 for all of IPv4"
+        }
+        _ => "give another --port or --address",
     }
 }
 

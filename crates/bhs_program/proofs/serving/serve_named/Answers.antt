@@ -8,7 +8,7 @@ pub returns-in-Err : goal.returns-in-Err
 returns-in-Err g c = let (fault, is) = c.in-Err.ensures.fault in refuses_contest fault is refl
 
 pub returns-in-Err-listener_on : goal.returns-in-Err-listener_on
-returns-in-Err-listener_on g c = refuses_contest c.in-Err-listener_on.fault c.report.ensures refl
+returns-in-Err-listener_on g c = let (fault, is) = c.in-Err-listener_on.ensures in refuses_contest fault is refl
 
 pub returns-in-Err-begun : goal.returns-in-Err-begun
 returns-in-Err-begun g c = let (fault, is) = c.in-Err-begun.ensures in refuses_contest fault is refl
