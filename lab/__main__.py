@@ -51,6 +51,8 @@ COMMANDS = {
                      PLAYS + PAGES + ("matplotlib",)),
     "grade": Command("lab.commands.grade", "grade the programs of a course: a league table, and a page for each team",
                      PLAYS + PAGES),
+    "repeat": Command("lab.commands.repeat", "repeat each agent of a graded course's solved matches once more",
+                      ("tqdm",)),
     "page": Command("lab.commands.page", "write a page on which one watches a match that has ended", PAGES),
     "watch": Command("lab.commands.watch", "show a contest that goes on, for a projector", PAGES + ("aiohttp",)),
     "pages": Command("lab.commands.pages", "write a page of each match of a contest, and one that lists them", PAGES),

@@ -18,7 +18,8 @@ which it declares what it holds; that, with its key, must be all on which it goe
 It is checked that programs are such functions, and the line of the verdict says how often. Where two histories come to
 one memory, the second agent is played on beside the first for some steps. The agents play 20 drawn schedules (--check
 N: N), and must do what they had answered. On small matches the Python model's search, which merges no histories, must
-find the same. With --check 0 nothing is checked.
+find the same. If every schedule solves, the agents of one match are repeated alone as `run --repeat` does it, and a
+warning tells if one says something else. With --check 0 nothing is checked.
 
 A schedule also fails if an agent raises or breaks a rule under it, also once it has ended or when it is told that the
 match is over, and if it sleeps where nothing happens any more. The Python model's search takes over if an agent may use

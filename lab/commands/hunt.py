@@ -10,14 +10,16 @@ ends every hunt. The program plays and judges the find, and the command writes i
 for `arena rehearse`, its replay and a page. The exit status is 1 if the team fails.
 
 Agents may be programs in any language (--command). Each schedule starts them anew, so it tries some ten a second: give
---runs. They must be functions of what they are told.
+--runs. They must be functions of what they are told. With --repeat each agent of a match is started again, alone, and
+told what it was told; a team fails if one of its agents does not say the same, as in a course.
 """
 import argparse
 import pathlib
 from typing import Optional
 
-from lab.commands.words import add_engine, add_match, at_least_one, game_of, program_of
+from lab.commands.words import add_engine, add_match, add_repeat, at_least_one, game_of, program_of
 from lab.play import finds
+from lab.play.repeating import SAYS_OTHERWISE
 from lab.search.hunt import FAILURE, LOST, MOVES, RUNS, Hunt, Hunter, Trial, hunted
 from lab.support.progress import bar
 
@@ -36,6 +38,7 @@ def add_words(parser: argparse.ArgumentParser) -> None:
     parser.add_argument("--seed", metavar="S", type=int, default=0, help="the search's seed (0)")
     parser.add_argument("--database", metavar="FOLDER", type=pathlib.Path, default=DATABASE, help="where earlier finds "
                         f"are kept, which are tried first ({DATABASE})")
+    add_repeat(parser)
     parser.add_argument("--keep", metavar="FOLDER", type=pathlib.Path, default=FOLDER, help="write what is found there "
                         f"({FOLDER})")
     add_engine(parser)
@@ -43,7 +46,8 @@ def add_words(parser: argparse.ArgumentParser) -> None:
 
 def run(words: argparse.Namespace) -> int:
     program = program_of(words)
-    asked = Hunt(game_of(words), words.looked_for, words.any_home, words.runs, words.seed, words.database)
+    asked = Hunt(game_of(words), words.looked_for, words.any_home, words.runs, words.seed, words.database,
+                 words.repeat)
     with bar(words.runs, "schedule") as shown:
         hunter = Hunter(asked, shown)
         hunted(hunter)
@@ -63,5 +67,8 @@ def told(hunter: Hunter, best: Trial, keep: pathlib.Path, program: Optional[str]
     if best.has_failed or looked_for != FAILURE:
         print(f"{'it comes to' if best.has_failed else 'the most ' + looked_for}: home {setup.home} holes "
               f"{setup.holes}, {finds.verdict_text(best.played.verdict())}")
+        for fault in best.played.faults:
+            if SAYS_OTHERWISE in fault:
+                print(fault)
         finds.keep(keep, hunter.schedule(), program)
     return 1 if best.has_failed else 130 if hunter.was_stopped else 0

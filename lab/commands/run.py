@@ -7,6 +7,11 @@ The command says what the matches came to. It names the seed of the shortest mat
 the match with the most moves. With --keep it writes that match to a folder: its schedule, the script for `arena
 rehearse`, its replay and a page.
 
+With --repeat each agent of a match is started again when the match is over, alone and by another key, and is told what
+it was told. It must say what it said, or the team fails, and a line says at which command. A course counts a match only
+if it repeats so (`python3 -m lab grade`): a program may use what it is told and the number in ARENA_SEED, and nothing
+else.
+
 --workers spreads the matches over processes; the rows are the same. With --json each match is a line of JSON on
 standard output, and what they came to is said on standard error:
 
@@ -29,7 +34,7 @@ import re
 import sys
 from typing import Counter, Iterable, List, Optional, TextIO, Tuple
 
-from lab.commands.words import add_engine, add_match, at_least_one, game_of, program_of
+from lab.commands.words import add_engine, add_match, add_repeat, at_least_one, game_of, program_of
 from lab.play import finds, games
 from lab.play.games import Asked, Row
 
@@ -78,6 +83,7 @@ def add_words(parser: argparse.ArgumentParser) -> None:
     parser.add_argument("--workers", metavar="N", type=at_least_one, default=1, help="how many processes play (1)")
     parser.add_argument("--json", action="store_true", help="print each match as a line of JSON, and what they came to "
                         "on standard error")
+    add_repeat(parser)
     parser.add_argument("--keep", metavar="FOLDER", type=pathlib.Path, help="write the match that is told there")
     add_engine(parser)
 
@@ -86,7 +92,7 @@ def run(words: argparse.Namespace) -> int:
     program, game = program_of(words), game_of(words)
     games.maker_of(words.scheduler)
     numbers = words.seeds or range(words.seed, words.seed + words.runs)
-    asked = [Asked(game, words.scheduler, seed, program) for seed in numbers]
+    asked = [Asked(game, words.scheduler, seed, program, words.repeat) for seed in numbers]
     tally, was_stopped, out = Tally(), False, sys.stderr if words.json else sys.stdout
     try:
         count(games.rows_of(asked, words.workers), tally, words.json)

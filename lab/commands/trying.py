@@ -3,7 +3,7 @@ the program says nothing, as an agent may use more than its quota, the Python mo
 import pathlib
 from typing import Any, Callable, List, NamedTuple, Optional, Sequence, Tuple
 
-from lab.play import finds
+from lab.play import finds, games
 from lab.play.schedulers import Choice
 from lab.play.schedules import schedule_of
 from lab.play.teams import INSIDE, Game
@@ -164,10 +164,17 @@ def told(wanted: Wanted, search: Search) -> int:
     # an agent on a held link does not arrive where it would be lost
     most = "no more agents lost than" if last.fixture.held else "most agents lost"
     print(f"most moves {max(moves)}, {most} {max(lost)}{more}")
+    for said in do_not_repeat(wanted.game) if wanted.check else []:
+        print(f"warning: {said}")
     if any(tried.answered.unwoken for tried in tries):
         print(f"warning: some agents still sleep after {naps} naps, and what they do when they wake once more is not "
               f"known: try --naps {naps + 1}")
     return 0
+
+
+def do_not_repeat(game: Game) -> List[str]:
+    """What the agents of one drawn match say otherwise when each is repeated alone, with another key."""
+    return games.play_seed(game, "fair", 0, None).repeated(game.limit).played.faults
 
 
 def shown_failure(wanted: Wanted, tried: Tried) -> int:

@@ -147,6 +147,12 @@ def add_workers(parser: argparse.ArgumentParser) -> None:
                         help="how many processes play (as many as there are processors)")
 
 
+def add_repeat(parser: argparse.ArgumentParser) -> None:
+    """The option that has agents repeated alone."""
+    parser.add_argument("--repeat", action="store_true", help="start each agent of a match again, alone, and tell it "
+                        "what it was told: a team fails if one of its agents does not say the same, as in a course")
+
+
 def check_workers(words: argparse.Namespace) -> None:
     if words.workers < 1:
         raise NoAgent("at least one worker is needed: name a whole number from 1 by --workers")

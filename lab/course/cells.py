@@ -27,10 +27,13 @@ from typing import Any, Dict, Iterator, List, NamedTuple, Optional, Sequence, Tu
 
 from lab.course import users, walls
 from lab.course.cell_start import READY
-from lab.course.hand_in import HandIn
+from lab.course.hand_in import NETWORK, HandIn
 from lab.course.walls import HOME, PATH, PORT, SPACES, NoCell
 from lab.course.watch import Watch, memory_of, processes_below, space_of
+from lab.play import programs
 from lab.play.programs import NoStart, Started
+from lab.rules import networks
+from lab.rules.model import Setup
 from lab.support.missing import DEBIANS_PYTHON
 
 STARTER = pathlib.Path(__file__).resolve().parent / "cell_start.py"
@@ -181,6 +184,21 @@ def cells(yard: Yard, files: bytes, count: int, facts: Dict[str, str]) -> Iterat
             place = None if yard.walls is Walls.ALL else left.enter_context(folder_for(user))
             made.append(Cell(yard, files, user, place, facts))
         left.enter_context(Watch([cell.used for cell in made], [cell.end_for for cell in made]))
+        yield made
+
+
+@contextlib.contextmanager
+def grounds_of(yard: Yard, handed_in: HandIn, words: str, setup: Setup, count: int
+               ) -> Iterator[Sequence[programs.Ground]]:
+    """Where this number of a team's programs run, which these words start: each in a cell, unless their hand-in is
+    refused."""
+    if handed_in.refusal:
+        yield [programs.Nowhere(f"the hand-in is refused: {handed_in.refusal}")] * count
+        return
+    network = networks.text_of(networks.Network(setup.nodes, setup.links)).encode()
+    has_map = "{network}" in words
+    files = handed_in.archive(**({NETWORK: network} if has_map else {}))
+    with cells(yard, files, count, {"network": NETWORK} if has_map else {}) as made:
         yield made
 
 

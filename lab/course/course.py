@@ -44,7 +44,7 @@ import secrets
 import shlex
 from typing import Any, Dict, List, NamedTuple, Optional, Sequence, Tuple
 
-from lab.course import hand_in, walls
+from lab.course import walls
 from lab.course.cells import Walls
 from lab.play.agent_files import digests
 from lab.play.games import maker_of
@@ -67,12 +67,26 @@ WORDS = ("host", "port", "key", "nodes", "links", "home", "network")
 NEEDED = ("port", "key")
 
 
+class Draws(NamedTuple):
+    """What is drawn from a course's secret. Without it nobody can guess it."""
+
+    secret: str
+
+    def drawn(self, *words: object) -> str:
+        """Digits."""
+        return hashlib.sha256("\0".join(map(str, [self.secret, *words])).encode()).hexdigest()
+
+    def keys(self, text: str, number: int, agents: int) -> List[str]:
+        """The keys of a match of the course that has this text."""
+        return [self.drawn("key", text, number, agent)[:20] for agent in range(agents)]
+
+
 class Course(NamedTuple):
     """What a course's file says, and its secret. The files are those of each team."""
 
     text: str
     folder: pathlib.Path
-    secret: str
+    draws: Draws
     grid: Grid
     files: Dict[str, List[pathlib.Path]]
     limits: "Limits"
@@ -82,14 +96,14 @@ class Course(NamedTuple):
 
     def cases(self) -> List[Case]:
         """All matches, team by team."""
-        found = list(self.grid.cases(self.secret))
+        found = list(self.grid.cases(self.draws.secret))
         return [case._replace(number=number) for number, case in enumerate(
             case for team in self.grid.teams for case in found if case.team.name == team.name)]
 
     def fixture(self, case: Case) -> Fixture:
         """A match. Without the course's secret nobody can guess its keys."""
         fixture = self.grid.fixture(case)
-        keys = [self._drawn("key", self.text, case.number, agent)[:20] for agent in range(fixture.setup.agents)]
+        keys = self.draws.keys(self.text, case.number, fixture.setup.agents)
         return fixture._replace(team=case.team.name, keys=keys)
 
     def maker(self, name: str) -> Maker:
@@ -99,25 +113,13 @@ class Course(NamedTuple):
     def seed(self, case: Case) -> int:
         """The seed that a match's scheduler gets, which is the same for all teams. Those of matches that differ in the
         seed alone follow one another."""
-        drawn = self._drawn("seed", case.network, case.scheduler)
+        drawn = self.draws.drawn("seed", case.network, case.scheduler)
         return int(drawn[:8], 16) + case.seed
 
-    def hand_in(self, team: str) -> hand_in.HandIn:
-        """What a team has handed in."""
-        return read_once(tuple(self.files[team]), self.folder)
-
     def digests(self) -> Dict[str, str]:
-        """The SHA-256 of each file and each hand-in on which the matches depend, and of the secret."""
+        """The SHA-256 of each file on which the matches depend, and of the secret, but for what teams hand in."""
         own = [self.folder / name.partition(":")[0] for name in [*self.grid.schedulers, *self.grid.names]]
-        return {
-            **digests([str(path) for path in own]),
-            **{f"team {name}": self.hand_in(name).digest() for name in self.files},
-            SECRET: self._drawn("digest"),
-        }
-
-    def _drawn(self, *words: object) -> str:
-        """Digits that nobody can guess without the secret."""
-        return hashlib.sha256("\0".join(map(str, [self.secret, *words])).encode()).hexdigest()
+        return {**digests([str(path) for path in own]), SECRET: self.draws.drawn("digest")}
 
 
 class Limits(NamedTuple):
@@ -128,7 +130,14 @@ class Limits(NamedTuple):
     team: int
 
 
-read_once = functools.lru_cache(maxsize=4)(hand_in.read)
+class Terms(NamedTuple):
+    """What a course's file says besides its matches: how many seconds programs may take, the words that start those of
+    each team, which folders they see besides the system's, and whether they see /proc."""
+
+    limits: Limits
+    commands: Dict[str, str]
+    tools: Tuple[str, ...]
+    has_proc: bool
 
 
 def read(path: pathlib.Path, secret: str) -> Course:
@@ -162,19 +171,36 @@ def course_of(text: str, folder: pathlib.Path, secret: str) -> Course:
     """The course that a text says, whose files are looked for in the folder."""
     found = grid.table_of(text)
     grid.check_keys(found, KEYS, "a course")
+    terms = terms_in(found)
+    tries = taken(found, "tries", grid.is_number, "a whole number", TRIES)
+    files = {row["name"]: files_of(row.pop(FILES), row["name"], folder) for row in found["team"]}
+    played = grid.grid_in(found, folder)
+    limits = for_matches(terms.limits, sum(1 for _ in played.cases()) // len(played.teams), found)
+    return Course(text, folder, Draws(secret), played, files, limits, tries, terms.tools, terms.has_proc)
+
+
+def for_matches(limits: Limits, matches: int, found: Dict[str, Any]) -> Limits:
+    """The limits where each team has this number of matches, if the file does not say how long these may take."""
+    return limits if "team_limit" in found else limits._replace(team=max(limits.team, FOR_A_MATCH * matches))
+
+
+def terms_in(found: Dict[str, Any]) -> Terms:
+    """The terms that a file's table says."""
     line, match, team = (taken(found, name, is_count, "a whole number of seconds from 1", usual) for name, usual in (
         ("limit", LIMIT), ("match_limit", MATCH_LIMIT), ("team_limit", TEAM_LIMIT)))
-    tries = taken(found, "tries", grid.is_number, "a whole number", TRIES)
     tools = tools_of(taken(found, "tools", lambda it: it == [] or is_texts(it), "a list of folders", []))
     has_proc = taken(found, "proc", lambda it: isinstance(it, bool), "true or false", False)
-    files = {}
-    for row in taken(found, "team", grid.is_tables, "given: write [[team]] and its keys below it"):
-        name = check_team(row)
-        files[name] = files_of(row.pop(FILES), name, folder)
-    played = grid.grid_in(found, folder)
-    count = sum(1 for _ in played.cases()) // len(played.teams)
-    limits = Limits(line, match, team if "team_limit" in found else max(team, FOR_A_MATCH * count))
-    return Course(text, folder, secret, played, files, limits, tries, tools, has_proc)
+    teams = taken(found, "team", grid.is_tables, "given: write [[team]] and its keys below it")
+    commands = {check_team(row): str(row[OUTSIDE]) for row in teams}
+    return Terms(Limits(line, match, team), commands, tools, has_proc)
+
+
+@functools.lru_cache(maxsize=4)
+def terms_of(text: str, matches: int) -> Terms:
+    """The terms of a course that has this text, in which each team has this number of matches."""
+    found = grid.table_of(text)
+    terms = terms_in(found)
+    return terms._replace(limits=for_matches(terms.limits, matches, found))
 
 
 def tools_of(names: List[str]) -> Tuple[str, ...]:

@@ -1,32 +1,32 @@
 """Grades the programs of a course: plays the matches, makes the schedules of failed ones small, and writes the
 results."""
 import contextlib
+import csv
 import hashlib
 import pathlib
 import random
 import sys
+import tempfile
 import time
-from typing import Any, Callable, Dict, Iterator, List, NamedTuple, Optional, Sequence, Tuple
+from typing import Dict, Iterator, List, NamedTuple, Optional, Sequence, Set, Tuple
 
-from lab.course import cells, course, league, repeating, walls
+from lab.course import cells, course, kept, league, rounds, walls
 from lab.course.cells import Walls, Yard
 from lab.course.course import Course
-from lab.course.hand_in import NETWORK
+from lab.course.hand_in import HandIn
+from lab.course.kept import Taken
 from lab.course.league import Failure
-from lab.course.users import NoUser
-from lab.course.walls import NoCell
+from lab.course.pool import Budget, Limited, Timed, in_time
+from lab.course.rounds import OF_ALL, Repeating, in_a_line
 from lab.pages import page
 from lab.play import finds, programs
-from lab.play.agent_files import NoAgent, digests
+from lab.play.agent_files import digests
 from lab.play.matches import Played, play
-from lab.play.schedulers import Impossible, Scheduler, in_runs
+from lab.play.schedulers import Scheduler, in_runs
 from lab.play.schedules import Schedule, schedule_of
-from lab.play.spread import Job, Result, over_processes
-from lab.rules import networks
+from lab.play.spread import Result
 from lab.rules.engines import name_of
-from lab.rules.fixtures import Fixture
 from lab.search.cutting import Cut, Runs, in_words, noted, runs_of
-from lab.support.built import NoProgram
 from lab.support.missing import Missing
 from lab.support.progress import along
 from lab.sweep import report, sweeping, tables
@@ -37,21 +37,12 @@ HANGS = "a program lets the lab wait, and what happens then depends on the machi
 DIFFERS = ("under the same schedule the match went another way when it was played again, so the programs do "
            "something else although they are told the same; look for clocks, random numbers without a seed, and sets")
 TIME_IS_UP = "the time for this was up, so there may be a smaller one"
-# faults of the machine or of the course's file, which end the command: all others are of a match alone
-OF_ALL = (Impossible, Missing, NoAgent, NoCell, NoProgram, NoUser, OSError)
-# the replays of solved matches, and what came of repeating them
-SOLVED, REPEATS, REPEATS_HEAD = "solved", "repeats.csv", ("run", "team", "fault")
+# what came of repeating solved matches
+REPEATS, REPEATS_HEAD = "repeats.csv", ("run", "team", "fault")
 
 
 class NotSmaller(Exception):
     """A schedule cannot be made smaller; says why."""
-
-
-class Timed(NamedTuple):
-    """What came of a match, and how many seconds it took."""
-
-    found: Any
-    seconds: float
 
 
 class Graded(NamedTuple):
@@ -95,6 +86,10 @@ class Graded(NamedTuple):
             self.replay_of(case).write_bytes(played.replay)
         return row
 
+    def repeating(self) -> Repeating:
+        """What repeats agents of solved matches."""
+        return Repeating(self.out, self.text, self.course.draws, self.yard, self.course.limits)
+
     def digests(self) -> Dict[str, str]:
         """The SHA-256 of each file that rows depend on."""
         return {**self.course.digests(), **(digests([self.program]) if self.program else {})}
@@ -105,48 +100,37 @@ class Graded(NamedTuple):
 
     def replay_of(self, case: Case) -> pathlib.Path:
         """Where the replay of a solved match is written."""
-        return self.out / SOLVED / f"{case.team.name}-{case.number}.jsonl"
+        return rounds.replay_of(self.out, case.team.name, case.number)
 
-    def repeat(self, case: Case, agent: int) -> str:
-        """Repeats an agent of a solved match alone; gives what it says otherwise, or nothing."""
-        past = repeating.past_of(self.replay_of(case).read_text(encoding="utf-8"), agent)
-        fixture, limits = self.course.fixture(case), self.course.limits
-        with self._grounds(case, fixture, 1) as grounds:
-            team = programs.Team(fixture, {agent: case.team.words.words}, limits.line, {agent: grounds[0]},
-                                 limits.match)
-            found = repeating.repeated(team, past)
-        return str(found or "")
+    def hand_in(self, team: str) -> HandIn:
+        """What a team has handed in, which is read once."""
+        self._take(team)
+        return kept.hand_in_of(self.out, team)
+
+    def _take(self, team: str) -> Taken:
+        """What is known of a team's hand-in."""
+        if kept.is_kept(self.out, team):
+            return kept.taken(self.out, team)
+        return self.taken_anew(team, self.out)
+
+    def taken_anew(self, team: str, out: pathlib.Path) -> Taken:
+        """Reads what a team hands in now, and keeps it in a folder."""
+        words = next(it.words.words for it in self.course.grid.teams if it.name == team)
+        return kept.take(out, team, self.course.files[team], self.folder, words)
 
     def match(self, case: Case, scheduler: Scheduler, program: Optional[str]) -> Tuple[Schedule, Played]:
         """Plays a match by this scheduler."""
         fixture, limits = self.course.fixture(case), self.course.limits
         agents = [case.team.words] * fixture.setup.agents
-        files = self.course.hand_in(case.team.name).digests(case.team.words.words)
+        files = self._take(case.team.name).files
         origin = f"{case.scheduler} {self.course.seed(case)} on {case.network}"
         empty = schedule_of(fixture, agents, origin, [])._replace(files=files)
-        with self._grounds(case, fixture, fixture.setup.agents) as grounds:
+        words, handed_in = case.team.words.words, self.hand_in(case.team.name)
+        with cells.grounds_of(self.yard, handed_in, words, fixture.setup, len(agents)) as grounds:
             commands = {number: agent.words for number, agent in enumerate(agents)}
             team = programs.Team(fixture, commands, limits.line, dict(enumerate(grounds)), limits.match)
             played = play(finds.engine_of(empty, program), team, scheduler, fixture)
         return empty._replace(choices=played.choices), played
-
-    @contextlib.contextmanager
-    def _grounds(self, case: Case, fixture: Fixture, count: int) -> Iterator[Sequence[programs.Ground]]:
-        """Where this number of a match's programs run: each in a cell, unless their hand-in is refused."""
-        handed_in = self.course.hand_in(case.team.name)
-        if handed_in.refusal:
-            yield [programs.Nowhere(f"the hand-in is refused: {handed_in.refusal}")] * count
-            return
-        network = networks.text_of(networks.Network(fixture.setup.nodes, fixture.setup.links)).encode()
-        has_map = "{network}" in case.team.words.words
-        files = handed_in.archive(**({NETWORK: network} if has_map else {}))
-        with cells.cells(self.yard, files, count, {"network": NETWORK} if has_map else {}) as made:
-            yield made
-
-
-def in_a_line(fault: Exception) -> str:
-    """A fault of the lab that nobody has foreseen."""
-    return f"{type(fault).__name__}: {programs.plain(str(fault))}"
 
 
 def unplayed(played: Course, case: Case, fault: str) -> List[str]:
@@ -155,33 +139,6 @@ def unplayed(played: Course, case: Case, fault: str) -> List[str]:
     found = (case.number, case.network, setup.nodes, len(setup.links), setup.home, case.hole, case.team.name,
              setup.agents, case.scheduler, case.seed, league.UNPLAYED, 0, 0, 0, 0, "", "", " ".join(fault.split()))
     return tables.checked(list(map(str, found)))
-
-
-class Repetition(NamedTuple):
-    """An agent of a solved match that is to be repeated alone."""
-
-    case: Case
-    agent: int
-
-
-class Repeating(NamedTuple):
-    """Repeats agents alone."""
-
-    graded: Graded
-
-    def play(self, it: Repetition) -> Timed:
-        """The match's number, and what the agent says otherwise, or nothing."""
-        began = time.monotonic()
-        try:
-            said = self.graded.repeat(it.case, it.agent)
-        except OF_ALL:
-            raise
-        except Exception as fault:
-            said = f"{league.LAB_FAILED} when it was to repeat agent {it.agent}: {in_a_line(fault)}"
-        return Timed((it.case.number, said), time.monotonic() - began)
-
-    def digests(self) -> Dict[str, str]:
-        return self.graded.digests()
 
 
 class Cutting(NamedTuple):
@@ -263,8 +220,9 @@ def graded_in(graded: Graded, workers: int) -> int:
     cases = graded.course.cases()
     prepare(graded)
     made = {**tables.made_by(graded.program), "course": hashlib.sha256(graded.text.encode()).hexdigest(),
-            "files": graded.course.digests()}
+            "files": {**graded.course.digests(), **hand_ins(graded)}}
     done = tables.prepared(graded.out, made)
+    (graded.out / kept.COURSE).write_text(graded.text, encoding="utf-8")
     try:
         budget = Budget(graded.course.limits.team, {team.name: 0.0 for team in graded.course.grid.teams})
         for name in budget.spent:
@@ -279,6 +237,18 @@ def graded_in(graded: Graded, workers: int) -> int:
         return 130
 
 
+def hand_ins(graded: Graded) -> Dict[str, str]:
+    """Reads what all teams hand in; gives the digest of each. What was read at the first run is kept."""
+    found = {}
+    for name in graded.course.files:
+        if kept.is_kept(graded.out, name):
+            with tempfile.TemporaryDirectory() as again:
+                found[kept.TEAM + name] = graded.taken_anew(name, pathlib.Path(again)).digest
+        else:
+            found[kept.TEAM + name] = graded.taken_anew(name, graded.out).digest
+    return found
+
+
 def prepare(graded: Graded) -> None:
     """Does once what each process that plays would do: they are copies of this one."""
     if graded.yard.walls is Walls.ALL:
@@ -286,78 +256,6 @@ def prepare(graded: Graded) -> None:
     for network in graded.course.grid.networks.values():
         with contextlib.suppress(Missing):
             page.layout({"nodes": network.nodes, "links": network.links})
-
-
-class Budget(NamedTuple):
-    """How many seconds all matches of a team may take, and how many those of each team have taken."""
-
-    limit: int
-    spent: Dict[str, float]
-
-    def says(self) -> str:
-        """What is said of what there was no time for."""
-        return f"the matches of the team have taken the {self.limit} s that it has"
-
-
-class Limited(NamedTuple):
-    """The time of a team, and what comes instead of a result once it is up."""
-
-    budget: Budget
-    team: str
-    instead: Callable[[Any], Any]
-
-
-def in_time(job: Job, left: Sequence[Any], workers: int, limited: Limited) -> Iterator[Result]:
-    """The results of a team's matches, or of repetitions; those that come when the team's time is up are others
-    instead."""
-    results, count, (budget, name, instead) = over_processes(job, left, workers, 1), 0, limited
-    while budget.spent[name] <= budget.limit and count < len(left):
-        result = next(results)
-        count += 1
-        if result.fault:
-            yield result
-            return
-        budget.spent[name] += result.found.seconds
-        yield Result(result.found.found, "")
-    results.close()
-    for case in left[count:]:
-        yield Result(instead(case), "")
-
-
-def repeated_in_time(graded: Graded, solved: List[Case], workers: int) -> Dict[int, str]:
-    """Repeats the agents of solved matches alone; gives what one of them says otherwise, by the numbers of matches.
-
-    While an agent is repeated no other agent of its match may run, which could signal to it. So there are rounds: in
-    each of them one agent of each match is repeated, in an order that no program can know. Once an agent of a match
-    differs, the others are not repeated. A team has as much time for its repetitions as for its matches."""
-    chance, given = random.Random(f"rounds of {graded.secret}"), graded.course
-    budget = Budget(given.limits.team, {team.name: 0.0 for team in given.grid.teams})
-    counts = {case.number: given.fixture(case).setup.agents for case in solved}
-    orders = {number: chance.sample(range(count), count) for number, count in counts.items()}
-    found: Dict[int, str] = {}
-
-    def results() -> Iterator[Result]:
-        for turn in range(max(counts.values(), default=0)):
-            due = [Repetition(case, orders[case.number][turn]) for case in solved
-                   if turn < counts[case.number] and case.number not in found]
-            yield from one_round(graded, chance.sample(due, len(due)), workers, budget)
-
-    for result in along(results(), sum(counts.values()), "repetition"):
-        if result.fault:
-            raise NoSweep(result.fault)
-        number, said = result.found
-        if said:
-            found[number] = said
-    return found
-
-
-def one_round(graded: Graded, due: List[Repetition], workers: int, budget: Budget) -> Iterator[Result]:
-    """The results of a round, team by team."""
-    def instead(it: Repetition) -> Tuple[int, str]:
-        return it.case.number, f"agent {it.agent}: {league.NOT_REPEATED}: {budget.says()}"
-    for name in dict.fromkeys(it.case.team.name for it in due):
-        left = [it for it in due if it.case.team.name == name]
-        yield from in_time(Repeating(graded), left, workers, Limited(budget, name, instead))
 
 
 def played_in_time(graded: Graded, left: Sequence[Case], workers: int, budget: Budget) -> Iterator[Result]:
@@ -395,12 +293,21 @@ def repeat_all(graded: Graded, cases: List[Case], rows: List[Row], workers: int)
     path.unlink(missing_ok=True)
     if not graded.repeats:
         return
-    solved = [cases[int(row["run"])] for row in rows if report.is_solved(row)]
-    found = repeated_in_time(graded, solved, workers)
-    lines = [REPEATS_HEAD, *((str(case.number), case.team.name, found.get(case.number, "")) for case in solved)]
+    solved = rounds.solved_in(rows)
+    found = rounds.repeated(graded.repeating(), solved, workers, random.Random(f"rounds of {graded.secret}"))
+    lines = [REPEATS_HEAD, *((str(it.number), it.team, found.get(it.number, "")) for it in solved)]
     path.write_text("".join(map(tables.line_of, lines)), encoding="utf-8")
     for number, said in found.items():
         rows[number] = {**rows[number], "fault": said, report.FAULTS: [said]}
+
+
+def not_counted_in(out: pathlib.Path) -> Set[int]:
+    """The numbers of the solved matches in a folder of results that did not repeat."""
+    path = out / REPEATS
+    if not path.exists():
+        return set()
+    with path.open(encoding="utf-8", newline="") as file:
+        return {int(row["run"]) for row in csv.DictReader(file) if row["fault"]}
 
 
 def cut_down(graded: Graded, failed: List[Case], rows: List[Row], workers: int, budget: Budget) -> Dict[int, Failure]:

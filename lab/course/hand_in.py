@@ -81,6 +81,17 @@ class HandIn(NamedTuple):
         return made.getvalue()
 
 
+def unpacked(archive: bytes, refusal: str = "") -> HandIn:
+    """The hand-in of an archive that `archive` has made."""
+    entries: Dict[str, Entry] = {}
+    with tarfile.open(fileobj=io.BytesIO(archive)) as tar:
+        for head in tar:
+            file = tar.extractfile(head) if head.isreg() else None
+            content = file.read() if file else os.fsencode(head.linkname) if head.issym() else b""
+            entries[head.name] = Entry(head.type, content, head.isreg() and bool(head.mode & 0o100))
+    return HandIn(entries, refusal)
+
+
 def read(paths: Sequence[pathlib.Path], course: pathlib.Path) -> HandIn:
     """The hand-in of these files, and of all that is in these folders, which a course's file names. What is named later
     takes the place of what has the same name."""

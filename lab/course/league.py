@@ -3,6 +3,7 @@ from typing import Any, Dict, List, NamedTuple, Optional, Sequence, Tuple
 
 from lab.pages.parts import filled
 from lab.play import finds, programs
+from lab.play.repeating import SAYS_OTHERWISE
 from lab.sweep.grid import Grid
 from lab.sweep.report import FAULTS, Row, is_solved
 
@@ -16,7 +17,7 @@ MATCH_HEAD = ("match", "network", "black hole", "scheduler", "seed", "came to", 
 UNPLAYED, LAB_FAILED = "not played", "not played, as the lab failed"
 CRASHED, HUNG, RUDE, SILENT = "crashed", "hung", "broke a rule", "silent"
 OTHERWISE = "does not repeat"
-SAYS_OTHERWISE, NOT_REPEATED = "says something else when it is told the same again", "is not repeated"
+NOT_REPEATED = "is not repeated"
 KINDS_OF_FAULTS = {
     # the first, as its fault also tells how the program ended
     OTHERWISE: (SAYS_OTHERWISE, NOT_REPEATED),

@@ -13,6 +13,7 @@ from lab.pages.page import data_of, page_of
 from lab.play import finds, schedulers
 from lab.play.agent_files import NoAgent, member
 from lab.play.matches import Played, play
+from lab.play.repeating import all_repeated
 from lab.play.schedules import Schedule, schedule_of
 from lab.play.spread import over_processes
 from lab.play.teams import Game, Together
@@ -94,6 +95,12 @@ class Record(NamedTuple):
         quota = self.schedule.fixture.setup.quota
         return [*self.played.faults, *(f"agent {it}: has used all of its {quota} commands" for it in self.spent())]
 
+    def repeated(self, seconds: float) -> "Record":
+        """The match with what its agents say otherwise when each is repeated alone, unless one of them has a fault."""
+        schedule = self.schedule
+        found = [] if self.played.faults else all_repeated(self.replay, schedule.agents, schedule.fixture, seconds)
+        return self._replace(played=self.played._replace(faults=[*self.played.faults, *found]))
+
     def judged(self) -> Verdict:
         """The verdict of the engine that played it."""
         if self.program is None:
@@ -149,19 +156,21 @@ class Row(Dict[str, Any]):
 
 
 class Asked(NamedTuple):
-    """A match that is asked for: a game, a scheduler, a seed, and who plays."""
+    """A match that is asked for: a game, a scheduler, a seed, who plays, and whether its agents are repeated alone."""
 
     game: Game
     scheduler: SchedulerName
     seed: int
     program: Optional[str]
+    repeats: bool = False
 
     @property
     def number(self) -> int:
         return self.seed
 
     def play(self) -> Record:
-        return play_seed(self.game, self.scheduler, self.seed, self.program)
+        record = play_seed(self.game, self.scheduler, self.seed, self.program)
+        return record.repeated(self.game.limit) if self.repeats else record
 
 
 class Rows(NamedTuple):

@@ -203,7 +203,7 @@ class Player:
         """Starts the program. It is the first of a group of its own, so that all that it starts can be ended."""
         words = command_of(self.words, self._team.fixture, self.number, self._ground.facts)
         try:
-            seed = seed_of(self._team.fixture.keys[self.number])
+            seed = self._team.seeds[self.number]
             self._child, self._listener_of = self._ground.start(words, seed, self._errors)
         except NoStart as fault:
             self._end(f"cannot be started: {fault}")
@@ -366,6 +366,11 @@ def seed_of(key: str) -> int:
     return int(hashlib.sha256(key.encode(errors="replace")).hexdigest()[:7], 16)
 
 
+def seeds_of(fixture: Fixture) -> List[int]:
+    """The numbers of a match's agents."""
+    return list(map(seed_of, fixture.keys))
+
+
 def seeds(seed: int) -> Dict[str, str]:
     """The variables that tell a program its seed. With them Python goes through sets of texts in the same order on each
     run."""
@@ -421,9 +426,12 @@ class Team:
     """The programs of a match, with a limit of seconds for each line and one for the whole match."""
 
     def __init__(self, fixture: Fixture, commands: Mapping[int, str], seconds: float,
-                 grounds: Optional[Mapping[int, Ground]] = None, in_all: float = math.inf) -> None:
-        """The commands are by the numbers of agents, and the grounds too."""
+                 grounds: Optional[Mapping[int, Ground]] = None, in_all: float = math.inf,
+                 seeds: Optional[Sequence[int]] = None) -> None:
+        """The commands are by the numbers of agents, and the grounds too. Seeds are those of the keys unless others are
+        given."""
         self.fixture = fixture
+        self.seeds = seeds_of(fixture) if seeds is None else seeds
         self.clock = Clock(seconds, in_all)
         self.players: List[Player] = [Player(self, number, words, grounds[number] if grounds else Here())
                                       for number, words in commands.items()]

@@ -6,6 +6,7 @@ from lab.play.agent_files import NoAgent, Script, digests, script_of, script_of_
 from lab.play.matches import Team
 from lab.play.players import Team as Inside
 from lab.play.programs import Team as Outside
+from lab.play.programs import seeds_of
 from lab.rules import networks
 from lab.rules.fixtures import Fixture, NoMatch, fixture_of
 from lab.rules.limits import MOST_AGENTS, SMALL_BOARD, SMALL_QUOTA
@@ -81,6 +82,13 @@ class Together:
     def stop(self) -> None:
         for team in self._teams:
             team.stop()
+
+
+def alone(number: int, agent: AgentWords, again: Fixture, fixture: Fixture, seconds: float) -> Team:
+    """A team of one agent of a match, which plays with the keys of `again`, and has the chance that it had before."""
+    if agent.kind == INSIDE:
+        return Inside(again.keys, {number: agent.script(again.setup)}, seconds)
+    return Outside(again, {number: agent.words}, seconds, seeds=seeds_of(fixture))
 
 
 class Game(NamedTuple):

@@ -5,6 +5,7 @@ from typing import Any, Callable, Dict, NamedTuple, Optional, Sequence, Tuple
 
 from lab.play import finds, teams
 from lab.play.matches import Played, play
+from lab.play.repeating import all_repeated
 from lab.play.schedulers import in_runs
 from lab.play.schedules import Schedule, schedule_of
 from lab.play.teams import Game
@@ -28,6 +29,8 @@ class Hunt(NamedTuple):
     runs: int = RUNS
     seed: int = 0
     database: Optional[pathlib.Path] = None
+    # whether a team fails if one of its agents does not say the same when it is repeated alone
+    repeats: bool = False
 
     def origin(self) -> str:
         return f"hunt for {self.looked_for} {self.seed}{self.game.where()}"
@@ -35,7 +38,7 @@ class Hunt(NamedTuple):
     def key(self) -> bytes:
         """What is looked for and of whom: Hypothesis keeps its examples by this."""
         game = self.game
-        drawn = game.quota, game.board, game.naps, self.looked_for, self.any_home
+        drawn = game.quota, game.board, game.naps, self.looked_for, self.any_home, *([True] if self.repeats else [])
         network = game.name, game.network, game.home, game.holes, game.dark, game.match
         return repr((network, drawn, [agent[:2] for agent in game.agents])).encode()
 
@@ -76,7 +79,7 @@ class Hunter:
         if fixture is None:
             fixture = self._fixtures[home, hole] = self.asked.game.fixture(hole, home)
         team = teams.Together(self.asked.game.agents, fixture, self.asked.game.limit)
-        played = play(Rehearsal(fixture), team, in_runs(blocks), fixture)
+        played = self._repeated(play(Rehearsal(fixture), team, in_runs(blocks), fixture), fixture)
         verdict = played.verdict()
         worth = {FAILURE: 0, MOVES: verdict.moves, LOST: verdict.lost}[self.asked.looked_for]
         trial = Trial(worth, played.has_failed(), fixture, played)
@@ -92,14 +95,23 @@ class Hunter:
         test = self._test(phases)
         try:
             test()
-        except Found:
-            pass
+        except (Found, needed("hypothesis").errors.Flaky):
+            # flaky is what does not fail again under the same schedule, as a program that does not repeat
+            if self.best is None or not self.best.has_failed and self.wanted is None:
+                raise
 
     def schedule(self) -> Schedule:
         """The schedule of the best."""
         if self.best is None:
             raise ValueError("nothing was tried")
         return schedule_of(self.best.fixture, self.asked.game.agents, self.asked.origin(), self.best.played.choices)
+
+    def _repeated(self, played: Played, fixture: Fixture) -> Played:
+        """The match, with what its agents say otherwise when they are repeated, if that is asked for."""
+        if not self.asked.repeats or played.faults:
+            return played
+        game = self.asked.game
+        return played._replace(faults=all_repeated(played.replay.decode(), game.agents, fixture, game.limit))
 
     def _database(self) -> Any:
         """Where Hypothesis keeps its examples: in a folder, or as long as the hunt goes on."""

@@ -159,9 +159,10 @@ def write_record(folder: pathlib.Path, record: Mapping[str, Any]) -> None:
 
 
 @contextlib.contextmanager
-def alone_in(folder: pathlib.Path) -> Iterator[None]:
-    """Refuses a folder into which another command writes now."""
-    folder.mkdir(parents=True, exist_ok=True)
+def alone_in(folder: pathlib.Path, is_there: bool = False) -> Iterator[None]:
+    """Refuses a folder into which another command writes now. It is made unless it must be there."""
+    if not is_there:
+        folder.mkdir(parents=True, exist_ok=True)
     lock = os.open(folder, os.O_RDONLY | os.O_DIRECTORY)
     try:
         fcntl.flock(lock, fcntl.LOCK_EX | fcntl.LOCK_NB)

@@ -13,7 +13,7 @@ from typing import Any, Dict, List
 from unittest import mock
 
 from lab.__main__ import main
-from lab.course import cells, course, watch
+from lab.course import cells, watch
 from lab.course.cells import Walls, Yard
 from lab.course.grading import Graded
 from lab.play import schedulers
@@ -74,7 +74,7 @@ class Course(unittest.TestCase):
                has_proc: bool = False) -> Played:
         """A match of the team."""
         (self.team / "evil.py").write_text(code)
-        course.read_once.cache_clear()
+        cells.remove(self.folder / "out")
         text = head + team("evil", ["evil"], EVIL, agents)
         yard = Yard(walls, tuple(tools), has_proc)
         graded = Graded(text, self.folder, SECRET, None, yard, self.folder / "out")
@@ -424,7 +424,7 @@ class Saying(Course):
             with self.subTest(said):
                 (self.team / "go.sh").write_text(text, newline="")
                 (self.team / "go.sh").chmod(mode)
-                course.read_once.cache_clear()
+                cells.remove(self.folder / "out")
                 found = self.graded(HEAD + team("evil", ["evil"], "./go.sh {port} {key}"), f"out-{mode}-{len(text)}")
                 self.assertIn(said, found["evil"][0]["fault"])
 

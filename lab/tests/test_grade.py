@@ -7,7 +7,7 @@ import unittest
 from typing import Any, Dict, List
 from unittest import mock
 
-from lab.course import course, grading, league, users
+from lab.course import course, league, pool, users
 from lab.course.cells import Walls
 from lab.course.course import Course, course_of
 from lab.play import programs
@@ -61,7 +61,7 @@ class Files(Folder):
         (self.folder / "net.toml").write_text("nodes = 3\nlinks = [[0, 0, 1, 0], [1, 1, 2, 0], [2, 1, 0, 1]]\n")
         found = course_of(HEAD.replace('"ring:4"', '"net.toml"') + TEAM, self.folder, SECRET)
         self.assertEqual(found.grid.networks["net.toml"].nodes, 3)
-        self.assertEqual({pathlib.Path(name).name for name in found.digests()}, {"net.toml", "team a", "secret.txt"})
+        self.assertEqual({pathlib.Path(name).name for name in found.digests()}, {"net.toml", "secret.txt"})
 
     def test_what_is_refused(self) -> None:
         for middle, team, said in (
@@ -260,12 +260,12 @@ class Words(unittest.TestCase):
 class Budgets(unittest.TestCase):
     def test_the_seconds_of_a_team_add_up_over_its_matches(self) -> None:
         """Four matches of six seconds each, and ten seconds in all: the third and fourth come too late."""
-        budget = grading.Budget(10, {"red": 0.0})
-        results = (Result(grading.Timed([str(number)], 6.0), "") for number in range(4))
-        with mock.patch.object(grading, "over_processes", return_value=results):
+        budget = pool.Budget(10, {"red": 0.0})
+        results = (Result(pool.Timed([str(number)], 6.0), "") for number in range(4))
+        with mock.patch.object(pool, "over_processes", return_value=results):
             job: Any = None
-            limited = grading.Limited(budget, "red", lambda _: "late")
-            found = [it.found for it in grading.in_time(job, range(4), 1, limited)]
+            limited = pool.Limited(budget, "red", lambda _: "late")
+            found = [it.found for it in pool.in_time(job, range(4), 1, limited)]
         self.assertEqual(found, [["0"], ["1"], "late", "late"])
 
 

@@ -1,11 +1,13 @@
-"""Agents that are repeated alone (lab/course/repeating.py)."""
+"""Agents that are repeated alone (lab/play/repeating.py)."""
 import unittest
 from typing import Any, List, Optional
 
-from lab.course.repeating import Alone, Otherwise, Said, in_words, past_of
-from lab.play.players import TRAVELS, WAITS
+from lab.play.players import SLEEPS, TRAVELS, WAITS
 from lab.play.programs import seed_of
-from lab.rules.model import GONE, spelled
+from lab.play.repeating import Alone, Otherwise, Said, in_words, past_of, with_new_keys
+from lab.rules.fixtures import fixture_of
+from lab.rules.model import GONE, Setup, spelled
+from lab.rules.networks import ring
 from lab.support.built import TOP
 
 KEYS = ["ka", "kb"]
@@ -27,6 +29,29 @@ class Speaks:
         self.state = TRAVELS if line == spelled(GONE) else WAITS
         if self.state == WAITS:
             self.line = self._left.pop(0) if self._left else None
+
+
+class Sleeps(Speaks):
+    """One that sleeps this number of times before it says a line."""
+
+    def __init__(self, number: int, lines: List[Any], naps: int) -> None:
+        self.woken = self._due = 0
+        self._naps = naps
+        super().__init__(number, lines)
+        self._sleep()
+
+    def hear(self, line: str) -> None:
+        super().hear(line)
+        if self.state == WAITS and self.line is not None:
+            self._sleep()
+
+    def go_on(self) -> None:
+        self.woken, self._due = self.woken + 1, self._due - 1
+        if not self._due:
+            self.state, self.line = WAITS, self._kept
+
+    def _sleep(self) -> None:
+        self.state, self._kept, self.line, self._due = SLEEPS, self.line, None, self._naps
 
 
 class RepeatingTest(unittest.TestCase):
@@ -77,6 +102,18 @@ class RepeatingTest(unittest.TestCase):
             player: Any = Speaks(0, [{"do": "enter", "key": "ka"}, LOOK, LOOK, {"do": "leave"}])
             said = Alone(player, "ka", quota).otherwise(past)
             self.assertEqual(said.number if said else None, expected)
+
+    def test_who_sleeps_wakes_until_it_says_something(self) -> None:
+        """How often an agent has slept stands in no replay."""
+        player: Any = Sleeps(0, self.lines(0), 3)
+        self.assertIsNone(Alone(player, KEYS[0], QUOTA).otherwise(past_of(self.replay, 0)))
+        self.assertGreater(player.woken, 9)
+
+    def test_keys_are_new_each_time(self) -> None:
+        """So that no program finds by its key what an earlier one has left."""
+        found = fixture_of(Setup(4, ring(4).links, 0, [2], 2, QUOTA, 64))
+        keys = [key for _ in range(5) for key in with_new_keys(found).keys]
+        self.assertEqual(len(set(keys) - set(found.keys)), 10)
 
     def test_who_did_not_enter_may_not_enter(self) -> None:
         for lines, expected in (([], None), ([{"do": "enter", "key": "ka"}], 1)):

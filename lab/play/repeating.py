@@ -1,28 +1,34 @@
 """Repeats an agent of a match alone, to see whether it says the same when it is told the same again.
 
 An agent's past decides what it says, if its program uses what it is told and the number in ARENA_SEED, and nothing
-else. That is tested for the match at hand. The agent's cell is a new one, no other agent of its match runs, and each
-line is told at once. So what another agent signals past the whiteboards only while it runs is not there to be heard.
-What it has left in the kernel may be. No pauses are made either, as a program that listens for pauses would hear them
-as signals. If all agents of a match repeat, then each of them said what it says when it hears no such signals.
+else. That is tested for the match at hand. The program is started anew, by a key that nobody has used before; no other
+agent of its match runs, and each line is told at once. So what another agent signals past the whiteboards only while it
+runs is not there to be heard. What it has left in the kernel may be. No pauses are made either, as a program that
+listens for pauses would hear them as signals. If all agents of a match repeat, then each of them said what it says when
+it hears no such signals.
 
 The past is taken from the replay alone. It has no lines that changed nothing and were not heard (entering twice, and
-commands beyond the quota): these are answered as the rules say.
+commands beyond the quota): these are answered as the rules say. It does not say either how often an agent inside the
+lab has slept, so one that is repeated wakes until it says something.
 """
 import json
+import secrets
 from typing import List, NamedTuple, Optional, Sequence
 
-from lab.course.league import SAYS_OTHERWISE
 from lab.play import programs
-from lab.play.matches import MOST_REFUSED
-from lab.play.players import WAITS
+from lab.play.matches import MOST_REFUSED, Player, Team
+from lab.play.players import SLEEPS, WAITS
+from lab.play.teams import AgentWords, alone
+from lab.rules.fixtures import Fixture
 from lab.rules.model import GONE, OVER, Object, command_of, objects_of, spelled, text_of
 
+SAYS_OTHERWISE = "says something else when it is told the same again"
 ENTER: Object = {"do": "enter"}
 LEAVE: Object = {"do": "leave"}
 # what does not count towards the quota
 FREE = ("enter", "leave")
-RULE = "a program may use what it is told and the number in ARENA_SEED, and nothing else"
+RULE = ("a program may use what it is told and the number in ARENA_SEED, and nothing else, so neither its key nor a "
+        "clock")
 
 
 class Said(NamedTuple):
@@ -76,7 +82,7 @@ def past_of(replay: str, agent: int) -> List[Said]:
 class Alone:
     """An agent that is told its past again."""
 
-    def __init__(self, player: programs.Player, key: str, quota: int) -> None:
+    def __init__(self, player: Player, key: str, quota: int) -> None:
         self._player = player
         self._key = key
         self._quota = quota
@@ -103,6 +109,7 @@ class Alone:
     def _hears(self, told: Sequence[Object]) -> bool:
         """Tells the agent what it was told; gives whether its input goes on."""
         for reply in told:
+            self._wake()
             if self._player.line is None and self._player.state == WAITS:
                 return False
             self._player.hear(spelled(reply))
@@ -111,6 +118,7 @@ class Alone:
     def _said(self) -> Object:
         """The agent's next command that a replay has. What a replay does not have is answered."""
         for _ in range(MOST_REFUSED):
+            self._wake()
             if self._player.line is None:
                 return LEAVE
             command = command_of(text_of(self._player.line))
@@ -119,6 +127,13 @@ class Alone:
                 return ENTER if command.get("key") == self._key else command
             self._player.hear(spelled({"no": refusal}))
         return LEAVE
+
+    def _wake(self) -> None:
+        """Wakes a sleeper until it says something."""
+        for _ in range(MOST_REFUSED):
+            if self._player.state != SLEEPS:
+                return
+            self._player.go_on()
 
     def _refusal(self, command: Object) -> Optional[str]:
         """Why a command is not heard."""
@@ -129,11 +144,24 @@ class Alone:
         return "spent" if self._used == self._quota and command["do"] != "leave" else None
 
 
-def repeated(team: programs.Team, past: Sequence[Said]) -> Optional[Otherwise]:
+def with_new_keys(fixture: Fixture) -> Fixture:
+    """A match with keys that nobody has seen, so that no program finds by its key what it has left somewhere."""
+    return fixture._replace(keys=[secrets.token_hex(10) for _ in fixture.keys])
+
+
+def repeated(team: Team, fixture: Fixture, past: Sequence[Said]) -> Optional[Otherwise]:
     """Repeats the only agent of a team, which is told this past; gives the first difference, if there is one."""
-    player, fixture = team.players[0], team.fixture
+    player = team.players[0]
     try:
         team.start()
         return Alone(player, fixture.keys[player.number], fixture.setup.quota).otherwise(past)
     finally:
         team.stop()
+
+
+def all_repeated(replay: str, agents: Sequence[AgentWords], fixture: Fixture, seconds: float) -> List[str]:
+    """Repeats all agents of a match, one after the other, where they have played; gives what they say otherwise."""
+    again = with_new_keys(fixture)
+    found = [repeated(alone(number, agents[number], again, fixture, seconds), again, past_of(replay, number))
+             for number in range(len(agents))]
+    return [str(it) for it in found if it]
