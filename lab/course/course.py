@@ -20,6 +20,8 @@
     limit         how many seconds a program may take to send a line (20)
     match_limit   how many seconds the lab waits for the programs of a match in all (60)
     team_limit    how many seconds all matches of a team may take (600, or 5 for each match if that is more)
+    match_space   how many MB of lines the programs of a match may send and be told in all (8)
+    team_space    how many MB may be written of all matches of a team (256, or 2 for each match if that is more)
     tries         how many schedules are tried to make that of a failed match small (100)
     tools         folders that programs see to read, besides the system's, such as ["/opt/jdk-21"]
     proc          true if programs need /proc, as those in Java do (false)
@@ -57,11 +59,14 @@ from lab.sweep import grid
 from lab.sweep.grid import Case, Grid, NoSweep, is_count, is_text, is_texts, taken
 
 FILES = "files"
-KEYS = grid.KEYS - {"bound"} | {"limit", "match_limit", "team_limit", "tries", "tools", "proc"}
+KEYS = grid.KEYS - {"bound"} | {"limit", "match_limit", "team_limit", "match_space", "team_space", "tries", "tools",
+                                   "proc"}
 TEAM_KEYS = {"name", "agents", OUTSIDE, FILES}
 LIMIT, TRIES = 20, 100
 # seconds of a match, of all matches of a team, and of these for each match
 MATCH_LIMIT, TEAM_LIMIT, FOR_A_MATCH = 60, 600, 5
+# MB of lines of a match, of what is written of all matches of a team, and of these for each match
+MATCH_SPACE, TEAM_SPACE, SPACE_FOR_A_MATCH = 8, 256, 2
 SECRET = "secret.txt"
 WORDS = ("host", "port", "key", "nodes", "links", "home", "network")
 NEEDED = ("port", "key")
@@ -123,11 +128,14 @@ class Course(NamedTuple):
 
 
 class Limits(NamedTuple):
-    """How many seconds programs may take: for a line, in a match, and in all matches of a team."""
+    """How many seconds programs may take: for a line, in a match, and in all matches of a team. And how many MB: of
+    lines in a match, and of what is written of all matches of a team."""
 
     line: int
     match: int
     team: int
+    match_space: int
+    team_space: int
 
 
 class Terms(NamedTuple):
@@ -180,19 +188,22 @@ def course_of(text: str, folder: pathlib.Path, secret: str) -> Course:
 
 
 def for_matches(limits: Limits, matches: int, found: Dict[str, Any]) -> Limits:
-    """The limits where each team has this number of matches, if the file does not say how long these may take."""
-    return limits if "team_limit" in found else limits._replace(team=max(limits.team, FOR_A_MATCH * matches))
+    """The limits where each team has this number of matches, as far as the file does not say what these may take."""
+    time = limits.team if "team_limit" in found else max(limits.team, FOR_A_MATCH * matches)
+    space = limits.team_space if "team_space" in found else max(limits.team_space, SPACE_FOR_A_MATCH * matches)
+    return limits._replace(team=time, team_space=space)
 
 
 def terms_in(found: Dict[str, Any]) -> Terms:
     """The terms that a file's table says."""
-    line, match, team = (taken(found, name, is_count, "a whole number of seconds from 1", usual) for name, usual in (
-        ("limit", LIMIT), ("match_limit", MATCH_LIMIT), ("team_limit", TEAM_LIMIT)))
+    limits = Limits(*(taken(found, name, is_count, f"a whole number of {unit} from 1", usual) for name, unit, usual in (
+        ("limit", "seconds", LIMIT), ("match_limit", "seconds", MATCH_LIMIT), ("team_limit", "seconds", TEAM_LIMIT),
+        ("match_space", "MB", MATCH_SPACE), ("team_space", "MB", TEAM_SPACE))))
     tools = tools_of(taken(found, "tools", lambda it: it == [] or is_texts(it), "a list of folders", []))
     has_proc = taken(found, "proc", lambda it: isinstance(it, bool), "true or false", False)
     teams = taken(found, "team", grid.is_tables, "given: write [[team]] and its keys below it")
     commands = {check_team(row): str(row[OUTSIDE]) for row in teams}
-    return Terms(Limits(line, match, team), commands, tools, has_proc)
+    return Terms(limits, commands, tools, has_proc)
 
 
 @functools.lru_cache(maxsize=4)

@@ -36,6 +36,8 @@ from lab.sweep.report import Row
 HANGS = "a program lets the lab wait, and what happens then depends on the machine"
 DIFFERS = ("under the same schedule the match went another way when it was played again, so the programs do "
            "something else although they are told the same; look for clocks, random numbers without a seed, and sets")
+NOT_SMALLER = {league.OTHERWISE: "the match was solved when it was played", league.HUNG: HANGS,
+               league.UNPLAYED: "the match was not played"}
 TIME_IS_UP = "the time for this was up, so there may be a smaller one"
 # what came of repeating solved matches
 REPEATS, REPEATS_HEAD = "repeats.csv", ("run", "team", "fault")
@@ -72,7 +74,7 @@ class Graded(NamedTuple):
         except Exception as fault:
             # whatever a team has brought about, other teams are graded
             row = unplayed(self.course, case, f"{league.LAB_FAILED}: {in_a_line(fault)}")
-        return Timed(row, time.monotonic() - began)
+        return Timed(row, time.monotonic() - began, size_of(self.place(case)) + size_of(self.replay_of(case)))
 
     def _row(self, case: Case) -> List[str]:
         schedule, played = self.match(case, self.course.maker(case.scheduler)(self.course.seed(case)), self.program)
@@ -128,9 +130,25 @@ class Graded(NamedTuple):
         words, handed_in = case.team.words.words, self.hand_in(case.team.name)
         with cells.grounds_of(self.yard, handed_in, words, fixture.setup, len(agents)) as grounds:
             commands = {number: agent.words for number, agent in enumerate(agents)}
-            team = programs.Team(fixture, commands, limits.line, dict(enumerate(grounds)), limits.match)
+            team = programs.Team(fixture, commands, limits.line, dict(enumerate(grounds)), limits.match,
+                                 room=limits.match_space << 20)
             played = play(finds.engine_of(empty, program), team, scheduler, fixture)
         return empty._replace(choices=played.choices), played
+
+
+def size_of(path: pathlib.Path) -> int:
+    """The bytes of a file, or of all files in a folder."""
+    return sum(it.stat().st_size for it in ([path] if path.is_file() else path.rglob("*")) if it.is_file())
+
+
+def written(out: pathlib.Path, cases: Sequence[Case]) -> Dict[str, float]:
+    """How many MB were written of the matches of each team before."""
+    found: Dict[str, float] = {}
+    for case in cases:
+        places = [out / league.folder_of(case.team.name, case.number),
+                  rounds.replay_of(out, case.team.name, case.number)]
+        found[case.team.name] = found.get(case.team.name, 0.0) + sum(map(size_of, places)) / (1 << 20)
+    return found
 
 
 def unplayed(played: Course, case: Case, fault: str) -> List[str]:
@@ -145,7 +163,7 @@ class Cutting(NamedTuple):
     """Makes the schedules of failed matches small. The faults are those of each match, by its number."""
 
     graded: Graded
-    faults: Dict[int, str]
+    faults: Dict[int, List[str]]
 
     def play(self, case: Case) -> Timed:
         """What came of a failed match."""
@@ -158,7 +176,8 @@ class Cutting(NamedTuple):
             raise
         except Exception as fault:
             said, has_smallest = f"not made smaller: {in_a_line(fault)}", False
-        return Timed(self.failure(case, said, has_smallest), time.monotonic() - began)
+        size = size_of(self.graded.place(case) / league.SMALLEST)
+        return Timed(self.failure(case, said, has_smallest), time.monotonic() - began, size)
 
     def failure(self, case: Case, said: str, has_smallest: bool = False) -> Failure:
         """A failed match, and what is said of its smallest schedule."""
@@ -174,8 +193,7 @@ class Cutting(NamedTuple):
 
     def _smallest(self, case: Case, began: float) -> str:
         """Writes the smallest schedule that was found after which the team fails; gives what is said of it."""
-        check_solved(self.faults[case.number])
-        check_hangs(self.faults[case.number])
+        check_faults(self.faults[case.number])
         numbers: List[int] = []
         graded, place = self.graded, self.graded.place(case)
         asked = graded.course
@@ -197,22 +215,15 @@ class Cutting(NamedTuple):
     def _fails(self, case: Case, runs: Runs) -> bool:
         """Whether the team fails under this schedule too."""
         _, played = self.graded.match(case, in_runs(runs), None)
-        check_hangs("; ".join(played.faults))
+        check_faults(played.faults)
         return played.has_failed()
 
 
-def check_solved(faults: str) -> None:
-    """Refuses to make a schedule smaller under which the team solves its network, but does not repeat."""
-    if any(what in faults for what in league.KINDS_OF_FAULTS[league.OTHERWISE]):
-        raise NotSmaller("the match was solved when it was played")
-
-
-def check_hangs(faults: str) -> None:
-    """Refuses to make a schedule smaller under which a program lets the lab wait."""
-    if any(what in faults for what in (programs.SENT_NOTHING, programs.READ_NOTHING, programs.USED_UP)):
-        raise NotSmaller(HANGS)
-    if league.UNPLAYED in faults:
-        raise NotSmaller("the match was not played")
+def check_faults(faults: Sequence[str]) -> None:
+    """Refuses to make a schedule smaller where that shows nothing."""
+    for kind, why in NOT_SMALLER.items():
+        if any(league.is_of(kind, fault) for fault in faults):
+            raise NotSmaller(why)
 
 
 def graded_in(graded: Graded, workers: int) -> int:
@@ -224,8 +235,9 @@ def graded_in(graded: Graded, workers: int) -> int:
     done = tables.prepared(graded.out, made)
     (graded.out / kept.COURSE).write_text(graded.text, encoding="utf-8")
     try:
-        budget = Budget(graded.course.limits.team, {team.name: 0.0 for team in graded.course.grid.teams})
-        for name in budget.spent:
+        limits, names = graded.course.limits, [team.name for team in graded.course.grid.teams]
+        budget = Budget(limits.team, dict.fromkeys(names, 0.0), limits.team_space, written(graded.out, cases))
+        for name in names:
             # no program of a team runs while those of another do
             left = [case for case in cases[done:] if case.team.name == name]
             if left:
@@ -261,7 +273,7 @@ def prepare(graded: Graded) -> None:
 def played_in_time(graded: Graded, left: Sequence[Case], workers: int, budget: Budget) -> Iterator[Result]:
     """The rows of a team's matches."""
     def instead(case: Case) -> List[str]:
-        return unplayed(graded.course, case, f"{league.UNPLAYED}: {budget.says()}")
+        return unplayed(graded.course, case, f"{league.UNPLAYED}: {budget.says(case.team.name)}")
     return in_time(graded, left, workers, Limited(budget, left[0].team.name, instead))
 
 
@@ -313,7 +325,7 @@ def not_counted_in(out: pathlib.Path) -> Set[int]:
 def cut_down(graded: Graded, failed: List[Case], rows: List[Row], workers: int, budget: Budget) -> Dict[int, Failure]:
     """What came of each failed match, by its number. Of those that failed in the same way on the same network one is
     made smaller."""
-    cutting = Cutting(graded, {case.number: "; ".join(rows[case.number][report.FAULTS]) for case in failed})
+    cutting = Cutting(graded, {case.number: rows[case.number][report.FAULTS] for case in failed})
     first: Dict[Tuple[str, str, str], Case] = {}
     alike = {case.number: first.setdefault((case.team.name, case.network, league.kind_of(rows[case.number])), case)
              for case in failed}
@@ -329,7 +341,7 @@ def cut_down(graded: Graded, failed: List[Case], rows: List[Row], workers: int, 
 def cut_in_time(cutting: Cutting, failed: List[Case], workers: int, budget: Budget) -> Iterator[Result]:
     """What came of each failed match, team by team."""
     def instead(case: Case) -> Failure:
-        return cutting.failure(case, f"not made smaller: {budget.says()}")
+        return cutting.failure(case, f"not made smaller: {budget.says(case.team.name)}")
     for name in budget.spent:
         left = [case for case in failed if case.team.name == name]
         if left:

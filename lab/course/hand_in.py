@@ -3,6 +3,7 @@
 No link is followed, as what it leads to may be another's: a link is handed in as a link. What is neither file, folder
 nor link is left out. A hand-in has bounds, and one beyond them is refused by a line that says which.
 """
+import contextlib
 import errno
 import hashlib
 import io
@@ -56,9 +57,11 @@ class HandIn(NamedTuple):
         with tempfile.TemporaryDirectory() as place:
             folder = pathlib.Path(place).resolve()
             for name, content in read.items():
-                (folder / name).parent.mkdir(parents=True, exist_ok=True)
-                (folder / name).write_bytes(content)
-            behind = [files_behind(folder / name) for name in names if name in read]
+                # one whose name is too long here is imported by nobody
+                with contextlib.suppress(OSError):
+                    (folder / name).parent.mkdir(parents=True, exist_ok=True)
+                    (folder / name).write_bytes(content)
+            behind = [files_behind(folder / name) for name in names if (folder / name).is_file()]
             return {os.path.relpath(name, folder): digest for found in behind for name, digest in found.items()}
 
     def archive(self, **more: bytes) -> bytes:

@@ -1,4 +1,5 @@
 """The league table of a course, and a page for each team."""
+import re
 from typing import Any, Dict, List, NamedTuple, Optional, Sequence, Tuple
 
 from lab.pages.parts import filled
@@ -19,7 +20,6 @@ CRASHED, HUNG, RUDE, SILENT = "crashed", "hung", "broke a rule", "silent"
 OTHERWISE = "does not repeat"
 NOT_REPEATED = "is not repeated"
 KINDS_OF_FAULTS = {
-    # the first, as its fault also tells how the program ended
     OTHERWISE: (SAYS_OTHERWISE, NOT_REPEATED),
     CRASHED: ("has ended with status", "cannot be started", "has taken more than"),
     HUNG: (programs.SENT_NOTHING, programs.READ_NOTHING, programs.USED_UP),
@@ -107,7 +107,12 @@ def kind_of(row: Row) -> str:
     """How a match failed. A fault says more than the verdict, which may be a consequence of it."""
     if not row[FAULTS]:
         return str(row["outcome"]).split()[0]
-    return next((kind for kind, said in KINDS_OF_FAULTS.items() if any(it in row[FAULTS][0] for it in said)), RUDE)
+    return next((kind for kind in KINDS_OF_FAULTS if is_of(kind, row[FAULTS][0])), RUDE)
+
+
+def is_of(kind: str, fault: str) -> bool:
+    """Whether a fault is of this kind. Only its beginning tells, as a program's last words may stand at its end."""
+    return re.sub(r"^agent \d+: ", "", fault).startswith(KINDS_OF_FAULTS[kind])
 
 
 def table(standings: Sequence[Standing]) -> List[Sequence[str]]:

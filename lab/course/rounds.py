@@ -82,7 +82,7 @@ class Repeating(NamedTuple):
         handed_in = kept.hand_in_of(self.out, it.team)
         with cells.grounds_of(self.yard, handed_in, words, setup, 1) as grounds:
             team = programs.Team(again, {it.agent: words}, self.limits.line, {it.agent: grounds[0]}, self.limits.match,
-                                 programs.seeds_of(played))
+                                 programs.seeds_of(played), self.limits.match_space << 20)
             return str(repeating.repeated(team, again, repeating.past_of(replay, it.agent)) or "")
 
 
@@ -126,7 +126,7 @@ def repeated(job: Repeating, solved: Sequence[Solved], workers: int, chance: ran
 def one_round(job: Repeating, due: Sequence[Repetition], workers: int, budget: Budget) -> Iterator[Result]:
     """The results of a round, team by team."""
     def instead(it: Repetition) -> Tuple[int, str]:
-        return it.number, f"agent {it.agent}: {league.NOT_REPEATED}: {budget.says()}"
+        return it.number, f"agent {it.agent}: {league.NOT_REPEATED}: {budget.says(it.team)}"
     for name in dict.fromkeys(it.team for it in due):
         left = [it for it in due if it.team == name]
         yield from in_time(job, left, workers, Limited(budget, name, instead))

@@ -36,22 +36,29 @@ class Reader:
         self._folders = folders
 
     def read(self, path: pathlib.Path, package: str = "") -> None:
-        """Reads a file, and what it imports."""
-        if path.resolve() in self.files:
-            return
-        self.files[path.resolve()] = path
-        if path.suffix == SUFFIX:
-            for name in names_in(path.read_bytes()):
-                self.follow(name, package)
+        """Reads a file, and what it imports, however long the chain of imports is."""
+        waiting = [(path, package)]
+        while waiting:
+            path, package = waiting.pop()
+            if path.resolve() in self.files:
+                continue
+            self.files[path.resolve()] = path
+            if path.suffix == SUFFIX:
+                named = [it for name in names_in(path.read_bytes()) for it in self._files_of(name, package)]
+                # the first is taken next
+                waiting += reversed(named)
 
     def follow(self, name: str, package: str = "") -> None:
         """Reads the module of a name, which a file of this package imports."""
+        for file, inside in self._files_of(name, package):
+            self.read(file, inside)
+
+    def _files_of(self, name: str, package: str) -> List[Tuple[pathlib.Path, str]]:
+        """The files of a module's name, each with the package from which its own imports are relative."""
         found = modules_of(name, package, self._folders)
         if not found and not name.startswith("."):
             self.elsewhere.add(name.partition(".")[0])
-        for module in found:
-            if module.file:
-                self.read(module.file, module.package)
+        return [(module.file, module.package) for module in found if module.file]
 
 
 @functools.lru_cache(maxsize=256)

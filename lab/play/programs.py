@@ -19,7 +19,7 @@ import subprocess
 import threading
 import time
 from collections import deque
-from typing import Any, Callable, Deque, Dict, List, Mapping, NamedTuple, Optional, Protocol, Sequence, Tuple
+from typing import Any, Callable, Deque, Dict, List, Mapping, NamedTuple, Optional, Protocol, Sequence, Sized, Tuple
 
 from lab.play.agent_files import NoAgent
 from lab.play.players import DENIALS, DONE, LAST_LINES, TRAVELS, WAITS
@@ -177,6 +177,19 @@ class Lines:
             self._changed.wait_for(lambda: self._kept < AHEAD or self._is_over)
 
 
+class Room:
+    """How many bytes of lines the programs of a match may send and be told in all. The lab keeps and writes them."""
+
+    def __init__(self, most: float) -> None:
+        self._most = self._left = most
+
+    def take(self, line: Sized) -> None:
+        """Counts a line; ValueError says that there is no room for it."""
+        self._left -= len(line) + 1
+        if self._left < 0:
+            raise ValueError(f"has used up the {self._most / (1 << 20):g} MB of lines that a match has, sent and told")
+
+
 class Player:
     """One program, its connection, and what it has sent and was not taken yet."""
 
@@ -240,6 +253,7 @@ class Player:
         self.state = TRAVELS if line == GONE else DONE if line in LAST_LINES else WAITS
         if line in DENIALS:
             self.fault = self.fault or f"was not let in: {line}"
+        self._count(line)
         if self._connection is not None and not self._has_ended:
             with self._team.clock as until:
                 seconds, part = divmod(max(SLICE, until - time.monotonic()), 1)
@@ -253,6 +267,13 @@ class Player:
                 except OSError:
                     pass
         self.settle()
+
+    def _count(self, line: Sized) -> None:
+        """Counts a line, and ends the program's play if there is no room for it."""
+        try:
+            self._team.room.take(line)
+        except ValueError as fault:
+            self._end(str(fault))
 
     def go_on(self) -> None:
         """A program sleeps as it likes, so it is never woken."""
@@ -319,6 +340,7 @@ class Player:
                 raise TimeoutError
             self.line = self._lines.next(SLICE)
             self._has_ended = self.line is None
+            self._count(self.line or b"")
         except TimeoutError:
             if time.monotonic() > until:
                 raise
@@ -427,10 +449,11 @@ class Team:
 
     def __init__(self, fixture: Fixture, commands: Mapping[int, str], seconds: float,
                  grounds: Optional[Mapping[int, Ground]] = None, in_all: float = math.inf,
-                 seeds: Optional[Sequence[int]] = None) -> None:
+                 seeds: Optional[Sequence[int]] = None, room: float = math.inf) -> None:
         """The commands are by the numbers of agents, and the grounds too. Seeds are those of the keys unless others are
         given."""
         self.fixture = fixture
+        self.room = Room(room)
         self.seeds = seeds_of(fixture) if seeds is None else seeds
         self.clock = Clock(seconds, in_all)
         self.players: List[Player] = [Player(self, number, words, grounds[number] if grounds else Here())

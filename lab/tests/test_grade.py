@@ -71,6 +71,7 @@ class Files(Folder):
                 ("tools = ['opt']\n", TEAM, "tools has opt, which is no folder that programs may see"),
                 ("tools = ['/']\n", TEAM, "tools has /, which is no folder that programs may see"),
                 ("proc = 1\n", TEAM, "proc must be true or false"),
+                ("match_space = 0\n", TEAM, "match_space must be a whole number of MB from 1"),
                 ("tries = -1\n", TEAM, "tries must be a whole number"), ("ports = 'some'\n", TEAM, "ports must be"),
                 ("holes = [4]\n", TEAM, "holes has 4, and a black hole of ring:4"),
                 ("", TEAM + TEAM, "two teams have the same name"),
@@ -108,9 +109,9 @@ class Files(Folder):
         course.check_walls(Walls.NONE, [pathlib.Path("/usr/share/course")], tools)
 
     def test_limits_grow_with_the_matches(self) -> None:
-        self.assertEqual(self.course().limits, (20, 60, 600))
-        self.assertEqual(self.course("seeds = 100\n").limits, (20, 60, 1000))
-        self.assertEqual(self.course("seeds = 100\nlimit = 1\nmatch_limit = 2\nteam_limit = 3\n").limits, (1, 2, 3))
+        self.assertEqual(self.course().limits, (20, 60, 600, 8, 256))
+        self.assertEqual(self.course("seeds = 100\n").limits, (20, 60, 1000, 8, 400))
+        self.assertEqual(self.course("seeds = 100\nlimit = 1\nmatch_limit = 2\nteam_limit = 3\n").limits[:3], (1, 2, 3))
 
 
 class Secrets(Folder):
@@ -176,7 +177,11 @@ class Leagues(Folder):
         for kind, outcome, *faults in (
                 ("wrong", "wrong"), ("guess", "guess 3"), ("silent", "silent"), ("unfinished", "unfinished"),
                 ("crashed", "solved", "agent 1: has ended with status 1 in the middle of its match"),
+                ("crashed", "silent", "agent 0: has ended with status 1 before it connected: has sent no line within"),
+                ("crashed", "silent", "agent 0: has ended with status 1 before it connected: agent 1: not played"),
                 ("crashed", "silent", "agent 0: cannot be started: the hand-in is refused"),
+                ("does not repeat", "solved", "agent 0: says something else when it is told the same again, at command "
+                 "2: in the match `look`, alone `leave` (the program has ended with status 1)"),
                 ("crashed", "silent", "agent 0: has taken more than 2 GB of memory with all that it has started"),
                 ("hung", "silent", "agent 0: has sent no line within 20 s", "agent 1: has connected twice"),
                 ("hung", "silent", "agent 0: has used up the time of its match, 60 s in all"),
