@@ -29,7 +29,7 @@ import argparse
 import pathlib
 import sys
 
-from lab.commands.words import add_engine, add_workers, program_of
+from lab.commands.words import add_engine, add_forget, add_workers, program_of
 from lab.course import cells, course
 from lab.course.cells import Walls, Yard
 from lab.course.grading import Graded, graded_in
@@ -49,6 +49,7 @@ def add_words(parser: argparse.ArgumentParser) -> None:
                         "as the `secret.txt` of other results, to play the same matches")
     parser.add_argument("--no-repeat", action="store_true", help="count all solved matches, also those whose agents "
                         "would say something else when they are told the same again")
+    add_forget(parser)
     add_workers(parser)
     add_engine(parser)
 
@@ -68,5 +69,6 @@ def run(words: argparse.Namespace) -> int:
     with tables.alone_in(words.out):
         secret = course.secret_in(words.out, words.secret)
         yard = Yard(strongest, read.tools, read.has_proc)
-        graded = Graded(read.text, path.parent, secret, program, yard, words.out, not words.no_repeat)
+        graded = Graded(read.text, path.parent, secret, program, yard, words.out, not words.no_repeat,
+                        forgets=words.drop_caches)
         return graded_in(graded, words.workers)

@@ -16,7 +16,7 @@ import random
 import sys
 from typing import Dict, List, Set
 
-from lab.commands.words import add_workers
+from lab.commands.words import add_forget, add_workers
 from lab.course import cells, course, kept, rounds
 from lab.course.cells import Walls, Yard
 from lab.course.grading import not_counted_in
@@ -27,6 +27,7 @@ from lab.sweep import grid, tables
 def add_words(parser: argparse.ArgumentParser) -> None:
     """The words of the command `repeat`."""
     parser.add_argument("folder", metavar="OUT", type=pathlib.Path, help="the results of a course")
+    add_forget(parser)
     add_workers(parser)
 
 
@@ -38,18 +39,20 @@ def run(words: argparse.Namespace) -> int:
         solved = rounds.solved_in(rows)
         counts = [sum(row["team"] == team for row in rows) for team in {row["team"] for row in rows}]
         terms = course.terms_of(text, max(counts, default=0))
-        draws = course.Draws(course.secret_in(out, None))
+        files = tables.record_in(out).get("files", {})
+        draws = course.Draws(course.secret_in(out, None), kept.digest_of_all(files))
         if strongest is not Walls.ALL:
             print(f"lab: {cells.weakness()}; {strongest.value}", file=sys.stderr)
-        yard = Yard(strongest, terms.tools, terms.has_proc)
-        job = Repeating(out, text, draws, yard, terms.limits)
-        found = rounds.repeated(job, solved, words.workers, random.SystemRandom())
+        plain = Yard(strongest, terms.tools, terms.has_proc)
+        with cells.furnished(plain, terms.commands.values(), terms.packages) as yard:
+            job = Repeating(out, text, draws, yard, terms.limits, words.drop_caches)
+            found = rounds.repeated(job, solved, words.workers, random.SystemRandom())
         return told(solved, found, not_counted_in(out))
 
 
 def told(solved: List[Solved], found: Dict[int, str], before: Set[int]) -> int:
     """Says which matches repeat; some did not count before."""
-    for name in dict.fromkeys(it.team for it in solved):
+    for name in sorted({it.team for it in solved}):
         own = [it.number for it in solved if it.team == name]
         print(f"{name}: {sum(number not in found for number in own)} of {len(own)} solved matches repeat")
     for number, said in sorted(found.items()):

@@ -153,6 +153,13 @@ def add_repeat(parser: argparse.ArgumentParser) -> None:
                         "what it was told: a team fails if one of its agents does not say the same, as in a course")
 
 
+def add_forget(parser: argparse.ArgumentParser) -> None:
+    """The option that has the machine forget before agents are repeated."""
+    parser.add_argument("--drop-caches", action="store_true", help="before each round of repetitions, have the whole "
+                        "machine forget what it keeps of files in memory, which makes all programs on it slower for a "
+                        "while; for root")
+
+
 def check_workers(words: argparse.Namespace) -> None:
     if words.workers < 1:
         raise NoAgent("at least one worker is needed: name a whole number from 1 by --workers")

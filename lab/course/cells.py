@@ -23,9 +23,9 @@ import socket
 import subprocess
 import sys
 import tempfile
-from typing import Any, Dict, Iterator, List, NamedTuple, Optional, Sequence, Tuple
+from typing import Any, Dict, Iterable, Iterator, List, NamedTuple, Optional, Sequence, Tuple
 
-from lab.course import users, walls
+from lab.course import root, traces, users, walls
 from lab.course.cell_start import READY
 from lab.course.hand_in import NETWORK, HandIn
 from lab.course.walls import HOME, PATH, PORT, SPACES, NoCell
@@ -54,12 +54,13 @@ class Walls(enum.Enum):
 
 
 class Yard(NamedTuple):
-    """What all cells of a course share: what keeps programs apart, which folders they see besides the system's, and
-    whether they see /proc."""
+    """What all cells of a course share: what keeps programs apart, which folders they see besides the system's,
+    whether they see /proc, and which folder has the copy of the system that they see, if there is one."""
 
     walls: Walls
     tools: Tuple[str, ...] = ()
     has_proc: bool = False
+    root: str = ""
 
 
 class Cell:
@@ -86,7 +87,8 @@ class Cell:
             if self.place is None:
                 port = PORT
                 given.append(held.enter_context(in_memory(walls.system_filter())))
-                command += [*walls.words(self.yard.tools, self.yard.has_proc), "--seccomp", str(given[-1])]
+                command += walls.words(self.yard.tools, self.yard.has_proc, self.yard.root)
+                command += ["--seccomp", str(given[-1])]
             command += [python(), "-I", "-S", "-c", STARTER.read_text(encoding="utf-8"), str(theirs.fileno()),
                         str(files), str(port), str(seed), *words]
             path = PATH if self.user is not None else os.environ.get("PATH", PATH)
@@ -188,6 +190,22 @@ def cells(yard: Yard, files: bytes, count: int, facts: Dict[str, str]) -> Iterat
 
 
 @contextlib.contextmanager
+def furnished(yard: Yard, commands: Iterable[str], packages: Sequence[str]) -> Iterator[Yard]:
+    """The yard with a copy of the system for these commands, and these packages besides, if there can be one. If not, a
+    line says why."""
+    with contextlib.ExitStack() as held:
+        try:
+            folder = held.enter_context(root.copied(commands, packages)) if yard.walls is Walls.ALL else ""
+        except root.NoCopy as fault:
+            if packages:
+                raise NoCell(f"packages: {fault}") from None
+            print(f"lab: programs see the system's own disk, where the kernel keeps names for later ones: {fault}",
+                  file=sys.stderr)
+            folder = ""
+        yield yard._replace(root=folder)
+
+
+@contextlib.contextmanager
 def grounds_of(yard: Yard, handed_in: HandIn, words: str, setup: Setup, count: int
                ) -> Iterator[Sequence[programs.Ground]]:
     """Where this number of a team's programs run, which these words start: each in a cell, unless their hand-in is
@@ -197,6 +215,7 @@ def grounds_of(yard: Yard, handed_in: HandIn, words: str, setup: Setup, count: i
         return
     network = networks.text_of(networks.Network(setup.nodes, setup.links)).encode()
     has_map = "{network}" in words
+    traces.stir()
     files = handed_in.archive(**({NETWORK: network} if has_map else {}))
     with cells(yard, files, count, {"network": NETWORK} if has_map else {}) as made:
         yield made

@@ -15,8 +15,11 @@
     title         what the league table is called
     networks      names of networks, as --network takes them, or files
     schedulers    names of schedulers, as --scheduler takes them
-    ports, home, holes, dark, seeds, quota, board
+    holes, dark, seeds, quota, board
                   as in the file of a sweep: see `python3 -m lab sweep --help`
+    home          the home base; if it is absent and black holes are drawn, it is drawn for each match
+    ports         "shuffled:SEED" numbers the ports of each node anew, alike in all matches, and "given" leaves them as
+                  the network has them; if it is absent and black holes are drawn, they are numbered anew in each match
     limit         how many seconds a program may take to send a line (20)
     match_limit   how many seconds the lab waits for the programs of a match in all (60)
     team_limit    how many seconds all matches of a team may take (600, or 5 for each match if that is more)
@@ -24,6 +27,8 @@
     team_space    how many MB may be written of all matches of a team (256, or 2 for each match if that is more)
     tries         how many schedules are tried to make that of a failed match small (100)
     tools         folders that programs see to read, besides the system's, such as ["/opt/jdk-21"]
+    packages      packages of Debian that programs see, besides those of the programs that commands name, such as
+                  ["python3-numpy"]
     proc          true if programs need /proc, as those in Java do (false)
 
 Each [[team]] has a `name`, of 1 to 16 characters out of a to z, 0 to 9 and -; `agents`, a number or "degree" for one
@@ -34,17 +39,21 @@ know of the network; {network} is the network's file, for a team that is to have
 
 Names of files are paths from the folder of the course's file. A hand-in is bounded, and no link in it is followed.
 
-Keys, black holes that are drawn, and the seeds of schedulers come from the course's secret, which is drawn at the first
-run and kept in `secret.txt` beside the results. To grade again by the same draws, name that file by --secret.
+All teams play the same matches, each in an order of its own. Black holes are drawn if `holes` is a number or "by seed":
+for each match, so that one match tells nothing of another. Keys, black holes, home bases and ports that are drawn, the
+order, and the seeds of schedulers come from the course's secret, which is drawn at the first run and kept in
+`secret.txt` beside the results. To grade again by the same draws, name that file by --secret; if a team has handed in
+something else since, keys, black holes, home bases and ports are others all the same.
 """
 import functools
 import hashlib
 import os
 import pathlib
+import random
 import re
 import secrets
 import shlex
-from typing import Any, Dict, List, NamedTuple, Optional, Sequence, Tuple
+from typing import Any, Dict, FrozenSet, List, NamedTuple, Optional, Sequence, Tuple
 
 from lab.course import walls
 from lab.course.cells import Walls
@@ -60,30 +69,37 @@ from lab.sweep.grid import Case, Grid, NoSweep, is_count, is_text, is_texts, tak
 
 FILES = "files"
 KEYS = grid.KEYS - {"bound"} | {"limit", "match_limit", "team_limit", "match_space", "team_space", "tries", "tools",
-                                   "proc"}
+                                   "packages", "proc"}
 TEAM_KEYS = {"name", "agents", OUTSIDE, FILES}
 LIMIT, TRIES = 20, 100
 # seconds of a match, of all matches of a team, and of these for each match
 MATCH_LIMIT, TEAM_LIMIT, FOR_A_MATCH = 60, 600, 5
 # MB of lines of a match, of what is written of all matches of a team, and of these for each match
 MATCH_SPACE, TEAM_SPACE, SPACE_FOR_A_MATCH = 8, 256, 2
-SECRET = "secret.txt"
+SECRET, GIVEN = "secret.txt", "given"
 WORDS = ("host", "port", "key", "nodes", "links", "home", "network")
 NEEDED = ("port", "key")
 
 
 class Draws(NamedTuple):
-    """What is drawn from a course's secret. Without it nobody can guess it."""
+    """What is drawn from a course's secret. Without it nobody can guess it. Files is a digest of all that teams have
+    handed in."""
 
     secret: str
+    files: str = ""
 
     def drawn(self, *words: object) -> str:
-        """Digits."""
+        """Digits that are the same whenever the course is graded by this secret."""
         return hashlib.sha256("\0".join(map(str, [self.secret, *words])).encode()).hexdigest()
+
+    def drawn_anew(self, *words: object) -> str:
+        """Digits that are others as soon as a team has handed in something else: who was told once what they were
+        cannot use that."""
+        return self.drawn("anew", self.files, *words)
 
     def keys(self, text: str, number: int, agents: int) -> List[str]:
         """The keys of a match of the course that has this text."""
-        return [self.drawn("key", text, number, agent)[:20] for agent in range(agents)]
+        return [self.drawn_anew("key", text, number, agent)[:20] for agent in range(agents)]
 
 
 class Course(NamedTuple):
@@ -98,12 +114,32 @@ class Course(NamedTuple):
     tries: int
     tools: Tuple[str, ...]
     has_proc: bool
+    packages: Tuple[str, ...] = ()
+    # which of `home` and `ports` the file has
+    named: FrozenSet[str] = frozenset()
 
     def cases(self) -> List[Case]:
-        """All matches, team by team."""
-        found = list(self.grid.cases(self.draws.secret))
+        """All matches, in the order in which they are played. Teams come in an order that is drawn; each plays the same
+        matches, in an order of its own."""
+        chance = random.Random(self.draws.drawn("order"))
+        names = [team.name for team in self.grid.teams]
+        found = [self._placed(case) for case in self.grid.cases(self.draws.secret)]
+        own = [[case for case in found if case.team.name == name] for name in chance.sample(names, len(names))]
         return [case._replace(number=number) for number, case in enumerate(
-            case for team in self.grid.teams for case in found if case.team.name == team.name)]
+            case for cases in own for case in chance.sample(cases, len(cases)))]
+
+    def _placed(self, case: Case) -> Case:
+        """A match with black holes, a home base and ports of its own, as far as the file does not name them. They are
+        the same for all teams."""
+        if not isinstance(self.grid.holes, int) and self.grid.holes != grid.BY_SEED:
+            return case
+        words = (case.network, case.scheduler, case.seed, *case.holes)
+        chance = random.Random(self.draws.drawn_anew("place", *words))
+        nodes = range(self.grid.networks[case.network].nodes)
+        home = self.grid.home if "home" in self.named else chance.choice(nodes)
+        hole = chance.choice([node for node in nodes if node != home])
+        ports = None if "ports" in self.named or self.grid.dark else chance.getrandbits(64)
+        return case._replace(holes=(hole,), home=home, ports=ports)
 
     def fixture(self, case: Case) -> Fixture:
         """A match. Without the course's secret nobody can guess its keys."""
@@ -146,6 +182,7 @@ class Terms(NamedTuple):
     commands: Dict[str, str]
     tools: Tuple[str, ...]
     has_proc: bool
+    packages: Tuple[str, ...]
 
 
 def read(path: pathlib.Path, secret: str) -> Course:
@@ -175,16 +212,21 @@ def secret_in(out: pathlib.Path, given: Optional[pathlib.Path]) -> str:
 
 
 @functools.lru_cache(maxsize=4)
-def course_of(text: str, folder: pathlib.Path, secret: str) -> Course:
-    """The course that a text says, whose files are looked for in the folder."""
+def course_of(text: str, folder: pathlib.Path, secret: str, handed_in: str = "") -> Course:
+    """The course that a text says, whose files are looked for in the folder. What is drawn depends on a digest of all
+    that was handed in."""
     found = grid.table_of(text)
     grid.check_keys(found, KEYS, "a course")
     terms = terms_in(found)
     tries = taken(found, "tries", grid.is_number, "a whole number", TRIES)
     files = {row["name"]: files_of(row.pop(FILES), row["name"], folder) for row in found["team"]}
+    named = frozenset({"home", "ports"} & set(found))
+    if found.get("ports") == GIVEN:
+        del found["ports"]
     played = grid.grid_in(found, folder)
     limits = for_matches(terms.limits, sum(1 for _ in played.cases()) // len(played.teams), found)
-    return Course(text, folder, Draws(secret), played, files, limits, tries, terms.tools, terms.has_proc)
+    draws = Draws(secret, handed_in)
+    return Course(text, folder, draws, played, files, limits, tries, terms.tools, terms.has_proc, terms.packages, named)
 
 
 def for_matches(limits: Limits, matches: int, found: Dict[str, Any]) -> Limits:
@@ -203,7 +245,8 @@ def terms_in(found: Dict[str, Any]) -> Terms:
     has_proc = taken(found, "proc", lambda it: isinstance(it, bool), "true or false", False)
     teams = taken(found, "team", grid.is_tables, "given: write [[team]] and its keys below it")
     commands = {check_team(row): str(row[OUTSIDE]) for row in teams}
-    return Terms(limits, commands, tools, has_proc)
+    packages = tuple(taken(found, "packages", lambda it: it == [] or is_texts(it), "a list of names", []))
+    return Terms(limits, commands, tools, has_proc, packages)
 
 
 @functools.lru_cache(maxsize=4)

@@ -59,10 +59,14 @@ class Graded(NamedTuple):
     out: pathlib.Path
     # whether a solved match counts only if its agents say the same when they are repeated alone
     repeats: bool = True
+    # a digest of all that was handed in, on which depends what is drawn
+    handed_in: str = ""
+    # whether the machine is to forget what it keeps of files before agents are repeated
+    forgets: bool = False
 
     @property
     def course(self) -> Course:
-        return course.course_of(self.text, self.folder, self.secret)
+        return course.course_of(self.text, self.folder, self.secret, self.handed_in)
 
     def play(self, case: Case) -> Timed:
         """The row of a match. One that the team fails is written to a folder of its own."""
@@ -90,7 +94,7 @@ class Graded(NamedTuple):
 
     def repeating(self) -> Repeating:
         """What repeats agents of solved matches."""
-        return Repeating(self.out, self.text, self.course.draws, self.yard, self.course.limits)
+        return Repeating(self.out, self.text, self.course.draws, self.yard, self.course.limits, self.forgets)
 
     def digests(self) -> Dict[str, str]:
         """The SHA-256 of each file that rows depend on."""
@@ -228,25 +232,35 @@ def check_faults(faults: Sequence[str]) -> None:
 
 def graded_in(graded: Graded, workers: int) -> int:
     """Plays the matches that are not done yet, team by team, and writes everything."""
-    cases = graded.course.cases()
-    prepare(graded)
+    digests = hand_ins(graded)
+    graded = graded._replace(handed_in=kept.digest_of_all(digests))
     made = {**tables.made_by(graded.program), "course": hashlib.sha256(graded.text.encode()).hexdigest(),
-            "files": {**graded.course.digests(), **hand_ins(graded)}}
+            "files": {**graded.course.digests(), **digests}}
     done = tables.prepared(graded.out, made)
     (graded.out / kept.COURSE).write_text(graded.text, encoding="utf-8")
+    cases = graded.course.cases()
+    commands = [team.words.words for team in graded.course.grid.teams]
     try:
-        limits, names = graded.course.limits, [team.name for team in graded.course.grid.teams]
-        budget = Budget(limits.team, dict.fromkeys(names, 0.0), limits.team_space, written(graded.out, cases))
-        for name in names:
-            # no program of a team runs while those of another do
-            left = [case for case in cases[done:] if case.team.name == name]
-            if left:
-                sweeping.write_rows(played_in_time(graded, left, workers, budget), len(left), graded.out)
-        return told(graded, cases, workers, budget)
+        with cells.furnished(graded.yard, commands, graded.course.packages) as yard:
+            graded = graded._replace(yard=yard)
+            prepare(graded)
+            budget = budget_of(graded, cases)
+            for name in dict.fromkeys(case.team.name for case in cases):
+                # no program of a team runs while those of another do
+                left = [case for case in cases[done:] if case.team.name == name]
+                if left:
+                    sweeping.write_rows(played_in_time(graded, left, workers, budget), len(left), graded.out)
+            return told(graded, cases, workers, budget)
     except KeyboardInterrupt:
         count = tables.done_in(graded.out / tables.RUNS)
         print(f"interrupted; {count} of {len(cases)} matches are played: the same command goes on there")
         return 130
+
+
+def budget_of(graded: Graded, cases: Sequence[Case]) -> Budget:
+    """The time and the space that teams have for their matches."""
+    limits, names = graded.course.limits, {case.team.name for case in cases}
+    return Budget(limits.team, dict.fromkeys(names, 0.0), limits.team_space, written(graded.out, cases))
 
 
 def hand_ins(graded: Graded) -> Dict[str, str]:
@@ -264,7 +278,7 @@ def hand_ins(graded: Graded) -> Dict[str, str]:
 def prepare(graded: Graded) -> None:
     """Does once what each process that plays would do: they are copies of this one."""
     if graded.yard.walls is Walls.ALL:
-        walls.words(graded.yard.tools, graded.yard.has_proc)
+        walls.words(graded.yard.tools, graded.yard.has_proc, graded.yard.root)
     for network in graded.course.grid.networks.values():
         with contextlib.suppress(Missing):
             page.layout({"nodes": network.nodes, "links": network.links})

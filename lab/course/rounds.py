@@ -9,7 +9,7 @@ import random
 import time
 from typing import Dict, Iterator, List, NamedTuple, Sequence, Tuple
 
-from lab.course import cells, kept, league
+from lab.course import cells, kept, league, traces
 from lab.course.cells import Yard
 from lab.course.course import Draws, Limits, terms_of
 from lab.course.pool import Budget, Limited, Timed, in_time
@@ -59,6 +59,8 @@ class Repeating(NamedTuple):
     draws: Draws
     yard: Yard
     limits: Limits
+    # whether the machine is to forget what it keeps of files before each round
+    forgets: bool = False
 
     def play(self, it: Repetition) -> Timed:
         """The match's number, and what the agent says otherwise, or nothing."""
@@ -110,6 +112,8 @@ def repeated(job: Repeating, solved: Sequence[Solved], workers: int, chance: ran
 
     def results() -> Iterator[Result]:
         for turn in range(max((it.agents for it in solved), default=0)):
+            if job.forgets:
+                traces.forget()
             due = [Repetition(it.number, it.team, orders[it.number][turn]) for it in solved
                    if turn < it.agents and it.number not in found]
             yield from one_round(job, chance.sample(due, len(due)), workers, budget)

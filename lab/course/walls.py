@@ -29,18 +29,18 @@ class NoCell(Fault):
     """A program cannot be kept apart; says what to change."""
 
 
-def words(tools: Sequence[str], has_proc: bool) -> List[str]:
+def words(tools: Sequence[str], has_proc: bool, root: str = "") -> List[str]:
     """The command of bubblewrap that puts up walls, up to the command that is to run behind them. These folders are
-    seen besides the system's, and /proc if the course asks for it."""
+    seen besides the system's, and /proc if the course asks for it. Of the system a copy is seen, if there is one."""
     found = ["bwrap", "--unshare-all", "--unshare-user", "--disable-userns", "--uid", USER, "--gid", USER,
              "--hostname", "cell", "--die-with-parent", "--new-session", "--clearenv", "--setenv", "PATH", PATH,
              "--setenv", "TMPDIR", "/tmp", "--setenv", "COUNTED", "yes"]
-    found += [*disk_words(), *(proc_words() if has_proc else ["--dir", "/proc"]), "--dev", "/dev"]
+    found += [*disk_words(root), *(proc_words() if has_proc else ["--dir", "/proc"]), "--dev", "/dev"]
     for path in SPACES:
         found += ["--size", str(SPACE), "--tmpfs", path]
     for path in tools:
         found += ["--ro-bind", path, path]
-    for path in meeting_places((*SEEN, *tools)):
+    for path in meeting_places((*(() if root else SEEN), *tools)):
         found += ["--ro-bind", os.devnull, path]
     return [*found, "--remount-ro", "/dev", "--remount-ro", "/", "--chdir", HOME]
 
@@ -54,14 +54,16 @@ def system_filter() -> bytes:
     return ran.stdout
 
 
-def disk_words() -> List[str]:
-    """What all programs see of the system's disk."""
+def disk_words(root: str) -> List[str]:
+    """What all programs see of the system: of its disk, or of a copy."""
     found = []
     for name in TOP:
         if os.path.islink(f"/{name}"):
             found += ["--symlink", os.readlink(f"/{name}"), f"/{name}"]
         elif os.path.isdir(f"/{name}"):
             found += ["--ro-bind", f"/{name}", f"/{name}"]
+    if root:
+        return [*found, "--ro-bind", f"{root}/usr", "/usr", "--ro-bind", f"{root}/etc", "/etc"]
     settings = (str(path) for pattern in SETTINGS for path in sorted(pathlib.Path("/etc").glob(pattern)))
     for path in (*SEEN, *settings):
         found += ["--ro-bind-try", path, path]

@@ -67,7 +67,8 @@ class TeamRow(NamedTuple):
 
 
 class Case(NamedTuple):
-    """A run of the sweep: its number, and what is played."""
+    """A run of the sweep: its number, and what is played. It may have a home base of its own, and a seed by which the
+    ports of each node are numbered anew."""
 
     number: int
     network: str
@@ -75,6 +76,8 @@ class Case(NamedTuple):
     team: TeamRow
     scheduler: str
     seed: int
+    home: Optional[int] = None
+    ports: Optional[int] = None
 
     @property
     def hole(self) -> str:
@@ -112,9 +115,11 @@ class Grid(NamedTuple):
     def fixture(self, case: Case) -> Fixture:
         """The match of a run."""
         network, agents = self.networks[case.network], case.team.agents
+        network = network if case.ports is None else networks.shuffled(network, case.ports)
         count = max(network.degrees()) + 1 if isinstance(agents, str) else agents
-        return fixture_of(Setup(network.nodes, network.links, self.home, list(case.holes), count, self.quota,
-                                self.board, self.dark))
+        home = self.home if case.home is None else case.home
+        return fixture_of(Setup(network.nodes, network.links, home, list(case.holes), count, self.quota, self.board,
+                                self.dark))
 
     def files(self) -> Dict[str, str]:
         """The digest of each file that the runs depend on."""

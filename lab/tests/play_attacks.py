@@ -9,13 +9,14 @@ import tempfile
 import threading
 import time
 import unittest
-from typing import Any, Dict, List
+from typing import Any, Dict, Iterator, List
 from unittest import mock
 
 from lab.__main__ import main
 from lab.course import cells, watch
 from lab.course.cells import Walls, Yard
 from lab.course.grading import Graded
+from lab.course.walls import NoCell
 from lab.play import schedulers
 from lab.play.matches import Played
 from lab.rules.engines import TOP
@@ -71,18 +72,18 @@ class Course(unittest.TestCase):
         self.team.mkdir()
 
     def played(self, walls: Walls, code: str, agents: int = 1, head: str = HEAD, tools: Any = (),
-               has_proc: bool = False) -> Played:
+               has_proc: bool = False, root: str = "") -> Played:
         """A match of the team."""
         (self.team / "evil.py").write_text(code)
         cells.remove(self.folder / "out")
         text = head + team("evil", ["evil"], EVIL, agents)
-        yard = Yard(walls, tuple(tools), has_proc)
+        yard = Yard(walls, tuple(tools), has_proc, root)
         graded = Graded(text, self.folder, SECRET, None, yard, self.folder / "out")
         return graded.match(graded.course.cases()[0], schedulers.fair(0), None)[1]
 
-    def said(self, walls: Walls, code: str, agents: int = 1, tools: Any = (), has_proc: bool = False) -> List[str]:
+    def said(self, walls: Walls, code: str, agents: int = 1, **more: Any) -> List[str]:
         """The last words of the team's programs, each of which ends before it connects."""
-        faults = self.played(walls, code, agents, tools=tools, has_proc=has_proc).faults
+        faults = self.played(walls, code, agents, **more).faults
         return [fault.partition("before it connected: ")[2] for fault in faults]
 
     def graded(self, text: str, out: str = "out", status: int = 0) -> Dict[str, List[Dict[str, Any]]]:
@@ -96,6 +97,17 @@ class Course(unittest.TestCase):
         for row in tables.rows_in(self.folder / out / tables.RUNS):
             found.setdefault(row["team"], []).append(row)
         return found
+
+
+@contextlib.contextmanager
+def one_processor(processor: int) -> Iterator[None]:
+    """Has this process, and all that it starts, run on one processor."""
+    before = os.sched_getaffinity(0)
+    os.sched_setaffinity(0, {processor})
+    try:
+        yield
+    finally:
+        os.sched_setaffinity(0, before)
 
 
 class Stopping(Course):
@@ -287,6 +299,37 @@ class Talking(Course):
         shut = set(said.partition("shut are ")[2].split(", "))
         self.assertFalse(shut & {"flock", "lock", "inotify", "shared memory", "load", "counts", "memfd", "touch",
                                   "aio", "netlink", "cookie"})
+
+    def test_what_programs_see_of_the_system_is_in_memory(self) -> None:
+        """There the kernel keeps no names of files that do not exist, which a later program could ask for."""
+        code = """import os, subprocess, sys
+said = [subprocess.run(["stat", "-f", "-c", "%T", path], capture_output=True, text=True).stdout.strip()
+        for path in ("/", "/usr", "/usr/lib/python3", "/etc", "/tmp", "/agent", "/bin/sh", "/etc/alternatives")]
+sys.exit(f"{set(said)} {os.path.exists('/usr/share/doc/bash')} {len(os.listdir('/usr/bin')) > 50}")
+"""
+        with cells.furnished(Yard(Walls.ALL), [EVIL], []) as yard:
+            self.assertNotEqual(yard.root, "")
+            self.assertEqual(self.said(Walls.ALL, code, root=yard.root), ["{'tmpfs'} False True"])
+            self.assertEqual(self.said(Walls.ALL, WAYS, root=yard.root), ["all are shut"])
+        self.assertFalse(os.path.exists(yard.root))
+
+    def test_packages_that_the_course_names_are_seen(self) -> None:
+        code = "import os, sys\nsys.exit(str(os.path.exists('/usr/lib/python3/dist-packages/yaml')))"
+        for packages, expected in (([], "False"), (["python3-yaml"], "True")):
+            with cells.furnished(Yard(Walls.ALL), [EVIL], packages) as yard:
+                self.assertEqual(self.said(Walls.ALL, code, root=yard.root), [expected])
+        with self.assertRaisesRegex(NoCell, "packages: the package no-such-one is not installed: `apt-get install no"):
+            with cells.furnished(Yard(Walls.ALL), [EVIL], ["no-such-one"]):
+                pass
+
+    def test_numbers_of_pipes_tell_nothing(self) -> None:
+        """Between two matches they go on by numbers that differ from time to time."""
+        code = "import os, sys\nsys.exit(str(os.fstat(os.pipe()[0]).st_ino))"
+        for processor in list(os.sched_getaffinity(0))[:1]:
+            with one_processor(processor):
+                found = [int(self.said(Walls.ALL, code)[0]) for _ in range(6)]
+        steps = {later - earlier for earlier, later in zip(found, found[1:])}
+        self.assertGreater(max(steps) - min(steps), 50)
 
     def test_pipes_and_sockets_among_tools(self) -> None:
         """A pipe can be written to where files cannot."""

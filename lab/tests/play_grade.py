@@ -1,5 +1,6 @@
 """A course is graded alike on every run; no program meets another team's files, and a wrong one fails alone."""
 import contextlib
+import csv
 import io
 import os
 import pathlib
@@ -101,7 +102,7 @@ class Grading(InFolder):
         with mock.patch.object(engines, "program_at", side_effect=AssertionError("the program is asked for")):
             said = self.graded(EXAMPLE, "home", *SECRET, "--engine", "model")
             self.assertEqual(said.splitlines()[:4], league_in(TOP / "examples" / "README.md"))
-            match = self.folder / "home" / "failed" / "cedar-9"
+            match = self.folder / "home" / "failed" / "cedar-5"
             page = (match / "match0.html").read_text()
             self.assertEqual(main(["page", str(match / "match0.jsonl"), "--engine", "model"]), 0)
             self.assertEqual((match / "match0.html").read_text(), called_as_its_replay(page))
@@ -110,10 +111,10 @@ class Grading(InFolder):
         """The wrong team's page leads to its failed matches and their smallest schedules."""
         page = (folder / "team-cedar.html").read_text()
         self.assertIn("then always the first", page)
-        for place in ("failed/cedar-9", "failed/cedar-9/smallest", "failed/cedar-11"):
+        for place in ("failed/cedar-5", "failed/cedar-5/smallest", "failed/cedar-6"):
             self.assertIn(f'href="{place}/match0.html"', page)
             self.assertTrue((folder / place / "match0.html").is_file())
-        self.check_replay(folder / "failed/cedar-9/smallest")
+        self.check_replay(folder / "failed/cedar-5/smallest")
         for name in ("amber", "birch"):
             self.assertIn("solved each of its matches", (folder / f"team-{name}.html").read_text())
 
@@ -181,7 +182,8 @@ class Grading(InFolder):
         self.assertIn("says something else when it is told the same again, at command 2: in the match `write", page)
         self.assertIn("the match was solved when it was played", page)
         lines = (self.folder / "out" / "repeats.csv").read_text().splitlines()
-        self.assertEqual([line[:9] for line in lines], ["run,team,", "0,dice,\"a", "1,seeded,"])
+        self.assertEqual(lines[0], "run,team,fault")
+        self.assertEqual({(row[1], row[2] != "") for row in csv.reader(lines[1:])}, {("dice", True), ("seeded", False)})
         said = self.graded(file, "again", "--engine", "model", "--no-repeat")
         self.assertEqual([line.split()[2] for line in said.splitlines()[1:3]], ["1", "1"])
 

@@ -108,7 +108,7 @@ class Courses(Commands):
         text = replay.read_text()
         replay.write_text(text.replace('"do":"depart","port":0', '"do":"depart","port":1'))
         status, said = self.said("repeat", str(here))
-        self.assertEqual((status, said.splitlines()[0]), (1, "amber: 3 of 4 solved matches repeat"))
+        self.assertEqual((status, said.splitlines()[0]), (1, "amber: 3 of 4 solved matches repeat"), said)
         self.assertIn(f"match {replay.stem.partition('-')[2]}: agent ", said)
 
     def test_programs_that_were_exchanged_are_refused(self) -> None:

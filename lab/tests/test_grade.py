@@ -14,6 +14,7 @@ from lab.play import programs
 from lab.play.schedulers import ANSWER, Choice, in_runs
 from lab.play.spread import Result
 from lab.search.cutting import Cut, Runs, in_words, runs_of, tidy
+from lab.rules import networks
 from lab.sweep import tables
 from lab.sweep.grid import NoSweep
 
@@ -42,14 +43,20 @@ class Folder(unittest.TestCase):
 
 
 class Files(Folder):
-    def test_each_team_plays_the_same_matches_one_team_after_the_other(self) -> None:
-        found = self.course("holes = [1, 3]\nseeds = 2\n", TEAM + TEAM.replace('"a"', '"b"')).cases()
-        self.assertEqual([case.number for case in found], list(range(16)))
-        played: Dict[str, List[tuple]] = {"a": [], "b": []}
-        for case in found:
-            played[case.team.name].append((case.network, *case.holes, case.scheduler, case.seed))
-        self.assertEqual(played["a"], played["b"])
-        self.assertEqual([case.team.name for case in found], ["a"] * 8 + ["b"] * 8)
+    def test_each_team_plays_the_same_matches_in_an_order_of_its_own_one_team_after_the_other(self) -> None:
+        orders = set()
+        for number in range(8):
+            for holes in ("[1, 3]", "2"):
+                text = HEAD + f"holes = {holes}\nseeds = 2\n" + TEAM + TEAM.replace('"a"', '"b"')
+                found = course_of(text, self.folder, f"{SECRET}{number}").cases()
+                self.assertEqual([case.number for case in found], list(range(16)))
+                played: Dict[str, List[tuple]] = {"a": [], "b": []}
+                for case in found:
+                    played[case.team.name].append((*case[1:3], *case[4:]))
+                self.assertEqual(sorted(played["a"]), sorted(played["b"]))
+                self.assertNotEqual(played["a"], played["b"])
+                orders.add("".join(case.team.name for case in found))
+        self.assertEqual(orders, {"a" * 8 + "b" * 8, "b" * 8 + "a" * 8})
 
     def test_keys_are_those_of_this_course_and_no_two_are_the_same(self) -> None:
         one, other = self.course(), self.course("seeds = 2\n")
@@ -114,6 +121,43 @@ class Files(Folder):
         self.assertEqual(self.course("seeds = 100\nlimit = 1\nmatch_limit = 2\nteam_limit = 3\n").limits[:3], (1, 2, 3))
 
 
+class Places(Folder):
+    """What is drawn for each match, so that what a program keeps of one tells nothing of another."""
+
+    def places(self, middle: str, handed_in: str = "") -> List[tuple]:
+        """The black hole, the home base and the links of each match, by the numbers of their seeds."""
+        text = 'title = "T"\nnetworks = ["ring:64"]\nseeds = 12\n' + middle + TEAM
+        found = course_of(text, self.folder, SECRET, handed_in)
+        cases = sorted(found.cases(), key=lambda case: case.seed)
+        setups = [found.fixture(case).setup for case in cases]
+        return [(setup.holes[0], setup.home, tuple(setup.links)) for setup in setups]
+
+    def test_they_are_drawn_for_each_match(self) -> None:
+        for holes in ("1", '"by seed"'):
+            hole, home, links = map(set, zip(*self.places(f"holes = {holes}\n")))
+            self.assertGreater(len(hole), 8)
+            self.assertGreater(len(home), 8)
+            self.assertEqual(len(links), 12)
+
+    def test_what_the_file_names_is_not_drawn(self) -> None:
+        given = networks.named("ring:64").links
+        for middle, expected in (
+                ("holes = [3]\n", {(3, 0, tuple(given))}),
+                ("holes = 1\nhome = 5\nports = 'given'\n", {(5, tuple(given))}),
+                ("holes = 1\nhome = 5\nports = 'shuffled:3'\n", {(5, tuple(networks.shuffled(
+                    networks.named("ring:64"), 3).links))})):
+            found = self.places(middle)
+            self.assertEqual({place[-len(min(expected)):] for place in found}, expected)
+
+    def test_they_are_others_once_a_team_has_handed_in_something_else(self) -> None:
+        """So who was shown the places of an earlier grading cannot use them."""
+        one, other = (self.places("holes = 1\n", handed_in) for handed_in in ("a", "b"))
+        self.assertFalse(set(one) & set(other))
+        self.assertEqual(one, self.places("holes = 1\n", "a"))
+        keys = [course_of(HEAD + TEAM, self.folder, SECRET, it).draws.keys("", 0, 4) for it in "ab"]
+        self.assertFalse(set(keys[0]) & set(keys[1]))
+
+
 class Secrets(Folder):
     """What a team that knows the course's file could work out, if it were not drawn from a secret."""
 
@@ -134,13 +178,13 @@ class Secrets(Folder):
         self.assertFalse(keys[0] & keys[1])
         seeds = [[each.seed(case) for case in each.cases()] for each in (one, other)]
         self.assertFalse(set(seeds[0]) & set(seeds[1]))
-        self.assertEqual(seeds[0][1], seeds[0][0] + 1)
+        self.assertEqual(len(set(seeds[0])), 4)
         self.assertNotIn(0, seeds[0])
 
     def test_teams_get_the_same_draws(self) -> None:
         found = self.course("seeds = 2\n", TEAM + TEAM.replace('"a"', '"b"'))
         seeds = [[found.seed(case) for case in found.cases() if case.team.name == name] for name in "ab"]
-        self.assertEqual(seeds[0], seeds[1])
+        self.assertEqual(sorted(seeds[0]), sorted(seeds[1]))
 
     def test_it_is_kept_where_the_teacher_alone_reads_it(self) -> None:
         out, other = self.folder / "out", self.folder / "other"
