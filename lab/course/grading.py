@@ -250,11 +250,22 @@ def graded_in(graded: Graded, workers: int) -> int:
                 left = [case for case in cases[done:] if case.team.name == name]
                 if left:
                     sweeping.write_rows(played_in_time(graded, left, workers, budget), len(left), graded.out)
-            return told(graded, cases, workers, budget)
+            status = told(graded, cases, workers, budget)
+        tell_changes(digests, hand_ins(graded))
+        return status
     except KeyboardInterrupt:
         count = tables.done_in(graded.out / tables.RUNS)
         print(f"interrupted; {count} of {len(cases)} matches are played: the same command goes on there")
         return 130
+
+
+def tell_changes(before: Dict[str, str], now: Dict[str, str]) -> None:
+    """Says which teams have changed their files while the course was graded."""
+    for name, digest in before.items():
+        if now[name] != digest:
+            team = name[len(kept.TEAM):]
+            print(f"lab: team {team} has changed its files since they were read; what was graded is "
+                  f"{kept.HAND_INS}/{team}.tar", file=sys.stderr)
 
 
 def budget_of(graded: Graded, cases: Sequence[Case]) -> Budget:

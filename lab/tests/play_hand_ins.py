@@ -1,13 +1,20 @@
 """Nothing that a team hands in stops a course, or is said of it by the lab that a program has said."""
+import contextlib
+import io
 import os
 import pathlib
 import shutil
 import tempfile
-from typing import Any, Dict
+from typing import Any, Dict, List, Tuple
 from unittest import mock
 
+from lab.__main__ import main
 from lab.course import kept, league
-from lab.tests.play_attacks import HEAD, HONEST, Course, team
+from lab.course.grading import Graded
+from lab.course.hand_in import HandIn
+from lab.play import schedules
+from lab.sweep import tables
+from lab.tests.play_attacks import EVIL, HEAD, HONEST, Course, team
 from lab.tests.playing import AGENTS
 
 RING = "python3 ring.py {host} {port} {key} {nodes}"
@@ -110,3 +117,92 @@ class HandIns(Course):
                 found = kept.take(self.folder / "out", "evil", [self.team], self.folder, RING)
                 self.assertEqual((found.refusal, found.files), (kept.CANNOT, {}))
                 self.assertEqual(kept.hand_in_of(self.folder / "out", "evil").refusal, kept.CANNOT)
+
+
+# goes to the black hole's other side by what it knows of each match, by its key
+KNOWS = """import json, socket, sys
+home, hole, port = TABLE[sys.argv[2]]
+lines = socket.create_connection(("127.0.0.1", int(sys.argv[1]))).makefile("rw", newline="\\n")
+for command in ({"do": "enter", "key": sys.argv[2]}, {"do": "accuse", "port": port}):
+    lines.write(json.dumps(command) + "\\n")
+    lines.flush()
+    lines.readline()
+"""
+
+
+class Again(Course):
+    """A course is graded again, or files change while it is graded."""
+
+    def grade_with(self, code: str, out: str, *more: str) -> Tuple[Dict[str, List[Dict[str, Any]]], str]:
+        """The rows of each team, and what is said on standard error."""
+        (self.team / "evil.py").write_text(code)
+        file = self.folder / "course.toml"
+        file.write_text('title = "A trial"\nnetworks = ["complete:4"]\nholes = 1\nseeds = 4\ntries = 0\n'
+                        + team("evil", ["evil"], EVIL))
+        with contextlib.redirect_stdout(io.StringIO()), contextlib.redirect_stderr(io.StringIO()) as errors:
+            status = main(["grade", str(file), "--out", str(self.folder / out), "--engine", "model", "--workers", "1",
+                           *more])
+        self.assertEqual(status, 0, errors.getvalue())
+        found: Dict[str, List[Dict[str, Any]]] = {}
+        for row in tables.rows_in(self.folder / out / tables.RUNS):
+            found.setdefault(row["team"], []).append(row)
+        return found, errors.getvalue()
+
+    def table(self, out: str) -> Dict[str, Tuple[int, int, int]]:
+        """What the failed matches show: by its key the home base and the black hole, and a port that leads there."""
+        found = {}
+        for place in (self.folder / out / "failed").glob("evil-*"):
+            setup = schedules.read(place / "schedule.txt").fixture
+            ports = [(p, w) for v, p, w, _ in setup.setup.links if v == setup.setup.home]
+            ports += [(q, v) for v, _, w, q in setup.setup.links if w == setup.setup.home]
+            port = next(port for port, far in ports if far in setup.setup.holes)
+            found[setup.keys[0]] = (setup.setup.home, setup.setup.holes[0], port)
+        return found
+
+    def test_what_was_shown_of_a_first_grading_wins_nothing_in_a_second_one(self) -> None:
+        rows, _ = self.grade_with("raise SystemExit(1)\n", "first")
+        shown = self.table("first")
+        self.assertEqual(len(shown), 4)
+        secret = ["--secret", str(self.folder / "first" / "secret.txt")]
+        again, _ = self.grade_with(KNOWS.replace("TABLE", repr(shown)), "second", *secret)
+        self.assertEqual([row["outcome"] for row in again["evil"]], ["silent"] * 4)
+        self.assertFalse(set(shown) & set(self.table("second")))
+        # by the same files the matches are the same
+        same, _ = self.grade_with("raise SystemExit(1)\n", "third", *secret)
+        self.assertEqual([row["replay"] for row in same["evil"]], [row["replay"] for row in rows["evil"]])
+
+    def test_what_was_read_is_graded_and_a_change_is_told(self) -> None:
+        """The first match has the team exchange its program for one that ends with other words."""
+        play = Graded.match
+
+        def match(graded: Graded, case: Any, *given: Any) -> Any:
+            (self.team / "evil.py").write_text("import sys\nsys.exit('I was swapped in')\n")
+            return play(graded, case, *given)
+        with mock.patch.object(Graded, "match", match):
+            rows, said = self.grade_with("import sys\nsys.exit('I was read')\n", "out")
+        self.assertEqual({row["fault"].rpartition(": ")[2] for row in rows["evil"]}, {"I was read"})
+        self.assertIn("lab: team evil has changed its files since they were read; what was graded is hand-ins/evil.tar",
+                      said)
+
+    def test_an_interrupted_course_does_not_go_on_with_other_files(self) -> None:
+        self.grade_with("import sys\nsys.exit('I was read')\n", "out")
+        with contextlib.redirect_stderr(io.StringIO()) as said:
+            (self.team / "evil.py").write_text("import sys\nsys.exit('I was swapped in')\n")
+            status = main(["grade", str(self.folder / "course.toml"), "--out", str(self.folder / "out"), "--engine",
+                           "model"])
+        self.assertEqual(status, 2)
+        self.assertIn("team evil differ; name another folder", said.getvalue())
+
+    def test_an_archive_that_is_changed_while_it_is_graded_is_refused(self) -> None:
+        take = kept.take
+
+        def other(out: pathlib.Path, name: str, *given: Any) -> Any:
+            found = take(out, name, *given)
+            (out / kept.HAND_INS / f"{name}.tar").write_bytes(HandIn({}).archive())
+            return found
+        with mock.patch.object(kept, "take", other), contextlib.redirect_stderr(io.StringIO()) as said:
+            (self.folder / "course.toml").write_text(HEAD + HONEST)
+            status = main(["grade", str(self.folder / "course.toml"), "--out", str(self.folder / "out"), "--engine",
+                           "model"])
+        self.assertEqual(status, 2)
+        self.assertIn("right.tar: it is not what the team has handed in, as its digest is another", said.getvalue())
