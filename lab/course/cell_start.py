@@ -13,9 +13,9 @@ from typing import List, NoReturn
 
 HOST = "127.0.0.1"
 READY = b"ready"
-# bytes of a file, bytes of memory, open files, processes with their threads
+# bytes of a file, bytes of memory, bytes of addresses, open files, processes with their threads
 LIMITS = {resource.RLIMIT_CORE: 0, resource.RLIMIT_FSIZE: 64 << 20, resource.RLIMIT_DATA: 2 << 30,
-          resource.RLIMIT_NOFILE: 256, resource.RLIMIT_NPROC: 256}
+          resource.RLIMIT_AS: 256 << 30, resource.RLIMIT_NOFILE: 256, resource.RLIMIT_NPROC: 256}
 # bytes of a script's first line that the kernel looks at
 LONGEST = 256
 # bytes that wait at the port for the lab, so that what a program sends before it ends is not lost

@@ -5,7 +5,7 @@ import contextlib
 import os
 import pathlib
 import threading
-from typing import Any, Callable, List, Sequence
+from typing import Any, Callable, Dict, List, Sequence
 
 # bytes of memory of a program with all that it has started, and how often it is looked at, in seconds
 MOST, EVERY = 2 << 30, 0.05
@@ -13,6 +13,10 @@ TOO_MUCH = f"has taken more than {MOST >> 30} GB of memory with all that it has 
 PAGE = os.sysconf("SC_PAGE_SIZE")
 # what the system holds for each file in memory, besides its bytes
 BYTES_OF_A_FILE = 1024
+# lines of /proc/PROCESS/status: pages of its own and of files, and what tables of pages take; of smaps_rollup the shares
+# of the first; and how maps end that are of shared memory without a name
+OWN, TABLES, SHARES = ("RssAnon:", "RssFile:", "VmSwap:"), ("VmPTE:",), ("Pss_Anon:", "Pss_File:", "SwapPss:")
+SHARED = "/dev/zero (deleted)"
 
 
 class Watch:
@@ -52,16 +56,38 @@ def processes_below(process: int) -> List[int]:
 
 
 def memory_of(processes: Sequence[int]) -> int:
-    """The bytes of memory that these processes take. Pages that several have count once, if it may matter."""
-    quick = sum(counted(process, "statm", lambda text: int(text.split()[1]) * PAGE) for process in processes)
+    """The bytes of memory that these processes take. Who has few addresses takes little; else tables of pages count
+    too, and memory that processes share by its size, as what they have given back of it is taken all the same. Pages of
+    their own that several have count once, if it may matter."""
+    addresses, resident = (sum(counted(process, "statm", lambda text: int(text.split()[column]) * PAGE)
+                               for process in processes) for column in (0, 1))
+    if addresses <= MOST:
+        return resident
+    shared = sum(sizes_of_shared(processes).values())
+    quick = shared + sum(counted(process, "status", lambda text: bytes_in(text, OWN + TABLES)) for process in processes)
     if quick <= MOST:
         return quick
-    return sum(counted(process, "smaps_rollup", shares) for process in processes)
+    tables = sum(counted(process, "status", lambda text: bytes_in(text, TABLES)) for process in processes)
+    return shared + tables + sum(counted(process, "smaps_rollup", lambda text: bytes_in(text, SHARES))
+                                 for process in processes)
 
 
-def shares(text: str) -> int:
-    """The bytes of a process, of those that others have too its share."""
-    return next((int(line.split()[1]) << 10 for line in text.splitlines() if line.startswith("Pss:")), 0)
+def bytes_in(text: str, names: Sequence[str]) -> int:
+    """The bytes that these lines of a text say, in whose numbers stand kilobytes."""
+    return sum(int(line.split()[1]) << 10 for line in text.splitlines() if line.startswith(tuple(names)))
+
+
+def sizes_of_shared(processes: Sequence[int]) -> Dict[str, int]:
+    """The bytes of each piece of memory without a name that processes share, by its number."""
+    found: Dict[str, int] = {}
+    for process in processes:
+        with contextlib.suppress(OSError, ValueError):
+            for line in pathlib.Path(f"/proc/{process}/maps").read_text(errors="replace").splitlines():
+                if line.endswith(SHARED):
+                    place, _, offset, _, number, *_ = line.split()
+                    first, last = (int(it, 16) for it in place.split("-"))
+                    found[number] = max(found.get(number, 0), int(offset, 16) + last - first)
+    return found
 
 
 def counted(process: int, name: str, count: Callable[[str], int]) -> int:

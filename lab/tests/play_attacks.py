@@ -409,6 +409,42 @@ time.sleep(100)
                     self.assertEqual(self.played(walls, code).faults, [f"agent 0: {watch.TOO_MUCH}"])
                     self.assertLess(time.monotonic() - began, 30)
 
+    def test_memory_that_is_given_back_and_taken_all_the_same(self) -> None:
+        """Shared memory whose pages the program no longer has, though it could read them again."""
+        code = BEGINS + """import mmap
+taken = mmap.mmap(-1, 500 << 20)
+for place in range(0, len(taken), 16 << 20):
+    count = min(16 << 20, len(taken) - place)
+    taken[place:place + count] = b"x" * count
+    taken.madvise(mmap.MADV_DONTNEED, place, count)
+time.sleep(100)
+"""
+        self.check_taken(code)
+
+    def test_tables_of_pages(self) -> None:
+        """A page in two megabytes is read, and is the same one; the tables that say so take memory."""
+        code = BEGINS + """import ctypes, mmap
+libc = ctypes.CDLL(None)
+libc.mmap.restype = ctypes.c_void_p
+libc.mmap.argtypes = [ctypes.c_void_p, ctypes.c_size_t] + [ctypes.c_int] * 3 + [ctypes.c_long]
+size = 150 << 30
+place = libc.mmap(None, size, mmap.PROT_READ, mmap.MAP_PRIVATE | mmap.MAP_ANONYMOUS | 0x4000, -1, 0)
+libc.madvise(ctypes.c_void_p(place), ctypes.c_size_t(size), 15)
+view = (ctypes.c_char * size).from_address(place)
+for at in range(0, size, 2 << 20):
+    view[at]
+time.sleep(100)
+"""
+        self.check_taken(code)
+
+    def check_taken(self, code: str) -> None:
+        """The program is ended as one that has taken too much."""
+        with mock.patch.object(watch, "MOST", 200 << 20):
+            for walls in ALL_WALLS:
+                with self.subTest(walls):
+                    self.assertEqual(self.played(walls, code, head=HEAD.replace("60", "8")).faults,
+                                     [f"agent 0: {watch.TOO_MUCH}"])
+
     @WALLED
     def test_disk(self) -> None:
         """A folder in memory has its size; a file for each byte is memory too."""
