@@ -141,6 +141,13 @@ class Cell:
             os.killpg(child.pid, signal.SIGKILL)
         child.wait()
 
+    def hurry(self, child: "subprocess.Popen[bytes]") -> None:
+        """Tells the program to end, and all that it has started behind walls."""
+        with contextlib.suppress(ProcessLookupError):
+            if self._first is not None:
+                signal.pidfd_send_signal(self._first, signal.SIGKILL)
+            os.killpg(child.pid, signal.SIGKILL)
+
     def told(self, text: str) -> str:
         """What a program says, without the name of its folder, which is another one on each run."""
         return text.replace(f"{self.place or HOME}/", "")

@@ -231,7 +231,7 @@ def check_faults(faults: Sequence[str]) -> None:
 
 
 def graded_in(graded: Graded, workers: int) -> int:
-    """Plays the matches that are not done yet, team by team, and writes everything."""
+    """Plays the matches that are not done yet, and writes everything."""
     digests = hand_ins(graded)
     graded = graded._replace(handed_in=kept.digest_of_all(digests))
     made = {**tables.made_by(graded.program), "course": hashlib.sha256(graded.text.encode()).hexdigest(),
@@ -245,11 +245,8 @@ def graded_in(graded: Graded, workers: int) -> int:
             graded = graded._replace(yard=yard)
             prepare(graded)
             budget = budget_of(graded, cases)
-            for name in dict.fromkeys(case.team.name for case in cases):
-                # no program of a team runs while those of another do
-                left = [case for case in cases[done:] if case.team.name == name]
-                if left:
-                    sweeping.write_rows(played_in_time(graded, left, workers, budget), len(left), graded.out)
+            left = cases[done:]
+            sweeping.write_rows(played_in_time(graded, left, workers, budget), len(left), graded.out)
             status = told(graded, cases, workers, budget)
         tell_changes(digests, hand_ins(graded))
         return status
@@ -296,10 +293,14 @@ def prepare(graded: Graded) -> None:
 
 
 def played_in_time(graded: Graded, left: Sequence[Case], workers: int, budget: Budget) -> Iterator[Result]:
-    """The rows of a team's matches."""
+    """The rows of matches."""
     def instead(case: Case) -> List[str]:
         return unplayed(graded.course, case, f"{league.UNPLAYED}: {budget.says(case.team.name)}")
-    return in_time(graded, left, workers, Limited(budget, left[0].team.name, instead))
+    return in_time(graded, left, workers, Limited(budget, team_of, instead))
+
+
+def team_of(case: Case) -> str:
+    return case.team.name
 
 
 def told(graded: Graded, cases: List[Case], workers: int, budget: Budget) -> int:
@@ -364,10 +365,7 @@ def cut_down(graded: Graded, failed: List[Case], rows: List[Row], workers: int, 
 
 
 def cut_in_time(cutting: Cutting, failed: List[Case], workers: int, budget: Budget) -> Iterator[Result]:
-    """What came of each failed match, team by team."""
+    """What came of each failed match."""
     def instead(case: Case) -> Failure:
         return cutting.failure(case, f"not made smaller: {budget.says(case.team.name)}")
-    for name in budget.spent:
-        left = [case for case in failed if case.team.name == name]
-        if left:
-            yield from in_time(cutting, left, workers, Limited(budget, name, instead))
+    return in_time(cutting, failed, workers, Limited(budget, team_of, instead))

@@ -1,8 +1,14 @@
-"""Plays matches of a course within the time and the space on disk that each team has."""
+"""Plays matches of all teams of a course by one pool of processes, within the time and the space on disk that each team
+has."""
+import concurrent.futures
 import math
+import multiprocessing
+import os
+from concurrent.futures import FIRST_COMPLETED, Future
+from concurrent.futures.process import BrokenProcessPool
 from typing import Any, Callable, Dict, Iterator, NamedTuple, Sequence
 
-from lab.play.spread import Job, Result, over_processes
+from lab.play.spread import KILLED, Job, Result, begin, result_of
 
 
 class Timed(NamedTuple):
@@ -22,9 +28,6 @@ class Budget(NamedTuple):
     space: float = math.inf
     wrote: Dict[str, float] = {}
 
-    def is_used_up(self, team: str) -> bool:
-        return bool(self.says(team))
-
     def take(self, team: str, it: Timed) -> None:
         """Counts what came of a match."""
         self.spent[team] += it.seconds
@@ -40,25 +43,64 @@ class Budget(NamedTuple):
 
 
 class Limited(NamedTuple):
-    """The time of a team, and what comes instead of a result once it is up."""
+    """The time of the teams, whose a match is, and what comes instead of a result once the time of its team is up."""
 
     budget: Budget
-    team: str
+    team_of: Callable[[Any], str]
     instead: Callable[[Any], Any]
 
 
 def in_time(job: Job, left: Sequence[Any], workers: int, limited: Limited) -> Iterator[Result]:
-    """The results of a team's matches, or of repetitions; those that come when the team's time is up are others
-    instead."""
-    results, count, (budget, name, instead) = over_processes(job, left, workers, 1), 0, limited
-    while not budget.is_used_up(name) and count < len(left):
-        result = next(results)
-        count += 1
-        if result.fault:
+    """The results of matches, or of repetitions, in order, by this number of processes. Once a team's time is up,
+    others come instead of its results."""
+    over = multiprocessing.Event()
+    pool = concurrent.futures.ProcessPoolExecutor(workers, initializer=begin, initargs=(over, os.getpid()))
+    try:
+        yield from Line(job, left, limited).results(pool, workers)
+    except BrokenProcessPool:
+        yield Result(None, KILLED.format(workers=workers))
+    finally:
+        over.set()
+        pool.shutdown(wait=True, cancel_futures=True)
+
+
+class Line:
+    """Matches that wait for a process, those that are played, and results that wait for earlier ones."""
+
+    def __init__(self, job: Job, left: Sequence[Any], limited: Limited) -> None:
+        self._job, self._left, self._limited = job, left, limited
+        self._begun = 0
+        self._running: "Dict[Future[Result], int]" = {}
+        self._done: Dict[int, Result] = {}
+
+    def results(self, pool: concurrent.futures.Executor, workers: int) -> Iterator[Result]:
+        """The results in the order of the matches."""
+        for number in range(len(self._left)):
+            while number not in self._done:
+                self._begin(pool, workers)
+                self._wait()
+            result = self._done.pop(number)
             yield result
-            return
-        budget.take(name, result.found)
-        yield Result(result.found.found, "")
-    results.close()
-    for case in left[count:]:
-        yield Result(instead(case), "")
+            if result.fault:
+                return
+
+    def _begin(self, pool: concurrent.futures.Executor, workers: int) -> None:
+        """Begins as many matches as there are processes. A team whose time is up plays no more."""
+        budget, team_of, instead = self._limited
+        while len(self._running) < workers and self._begun < len(self._left):
+            match, number = self._left[self._begun], self._begun
+            self._begun += 1
+            if budget.says(team_of(match)):
+                self._done[number] = Result(instead(match), "")
+            else:
+                self._running[pool.submit(result_of, self._job, match)] = number
+
+    def _wait(self) -> None:
+        """Waits until a match is over, if one is played."""
+        ended, _ = concurrent.futures.wait(self._running, return_when=FIRST_COMPLETED)
+        for future in ended:
+            number, result = self._running.pop(future), future.result()
+            if not result.fault:
+                self._limited.budget.take(self._limited.team_of(self._left[number]), result.found)
+                result = Result(result.found.found, "")
+            self._done[number] = result

@@ -4,6 +4,7 @@ While an agent is repeated no other agent of its match may run, which could sign
 of them one agent of each match is repeated, in an order that no program can know. Once an agent of a match differs, the
 others are not repeated.
 """
+import operator
 import pathlib
 import random
 import time
@@ -128,9 +129,7 @@ def repeated(job: Repeating, solved: Sequence[Solved], workers: int, chance: ran
 
 
 def one_round(job: Repeating, due: Sequence[Repetition], workers: int, budget: Budget) -> Iterator[Result]:
-    """The results of a round, team by team."""
+    """The results of a round."""
     def instead(it: Repetition) -> Tuple[int, str]:
         return it.number, f"agent {it.agent}: {league.NOT_REPEATED}: {budget.says(it.team)}"
-    for name in dict.fromkeys(it.team for it in due):
-        left = [it for it in due if it.team == name]
-        yield from in_time(job, left, workers, Limited(budget, name, instead))
+    return in_time(job, due, workers, Limited(budget, operator.attrgetter("team"), instead))

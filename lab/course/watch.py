@@ -13,8 +13,8 @@ TOO_MUCH = f"has taken more than {MOST >> 30} GB of memory with all that it has 
 PAGE = os.sysconf("SC_PAGE_SIZE")
 # what the system holds for each file in memory, besides its bytes
 BYTES_OF_A_FILE = 1024
-# lines of /proc/PROCESS/status: pages of its own and of files, and what tables of pages take; of smaps_rollup the shares
-# of the first; and how maps end that are of shared memory without a name
+# lines of /proc/PROCESS/status: pages of its own and of files, and what tables of pages take; of smaps_rollup the
+# shares of the first; and how maps end that are of shared memory without a name
 OWN, TABLES, SHARES = ("RssAnon:", "RssFile:", "VmSwap:"), ("VmPTE:",), ("Pss_Anon:", "Pss_File:", "SwapPss:")
 SHARED = "/dev/zero (deleted)"
 

@@ -64,6 +64,9 @@ class Ground(Protocol):
     def kill(self, child: "subprocess.Popen[bytes]") -> None:
         """Ends a program that was started, and all that it has started."""
 
+    def hurry(self, child: "subprocess.Popen[bytes]") -> None:
+        """Tells a program to end that is going to be ended, so that those of a match end at the same time."""
+
     def told(self, text: str) -> str:
         """What a program has said, without what is another on each run."""
 
@@ -87,11 +90,14 @@ class Here:
             raise
 
     def kill(self, child: "subprocess.Popen[bytes]") -> None:
+        self.hurry(child)
+        child.wait()
+
+    def hurry(self, child: "subprocess.Popen[bytes]") -> None:
         try:
             os.killpg(child.pid, signal.SIGKILL)
         except ProcessLookupError:
             pass
-        child.wait()
 
     def told(self, text: str) -> str:
         return text
@@ -110,6 +116,9 @@ class Nowhere(NamedTuple):
         raise NoStart(self.why)
 
     def kill(self, child: "subprocess.Popen[bytes]") -> None:
+        pass
+
+    def hurry(self, child: "subprocess.Popen[bytes]") -> None:
         pass
 
     def told(self, text: str) -> str:
@@ -297,6 +306,11 @@ class Player:
             if it is not None:
                 it.close()
 
+    def hurry(self) -> None:
+        """Tells the program to end, without waiting until it has."""
+        if self._child is not None:
+            self._ground.hurry(self._child)
+
     def is_alive(self) -> bool:
         return self._child is not None and self._child.poll() is None
 
@@ -414,10 +428,17 @@ class Clock:
         self._line = line
         self._match = match
         self._began = 0.0
+        # until when all programs are waited for together, if they are
+        self._until: Optional[float] = None
+
+    def begin(self, is_together: bool = True) -> None:
+        """From now on all programs are waited for together, or each by itself again."""
+        self._until = time.monotonic() + self._line if is_together else None
 
     def __enter__(self) -> float:
         self._began = time.monotonic()
-        return self._began + min(self._line, self._match - self.waited)
+        until = self._began + self._line if self._until is None else self._until
+        return min(until, self._began + self._match - self.waited)
 
     def __exit__(self, *_: object) -> None:
         self.waited += time.monotonic() - self._began
@@ -460,15 +481,21 @@ class Team:
                                       for number, words in commands.items()]
 
     def start(self) -> None:
-        """Starts all programs, and waits for their first lines."""
-        for step in (Player.start, Player.begin, Player.settle):
+        """Starts all programs, and waits for their first lines, for all of them together."""
+        for step in (Player.start, Player.begin):
             for player in self.players:
                 step(player)
+        self.clock.begin()
+        for player in self.players:
+            player.settle()
+        self.clock.begin(False)
 
     def stop(self) -> None:
         """Ends all programs; those that have been told that the match is over may end by themselves."""
         until = time.monotonic() + GRACE
+        while any(player.is_alive() for player in self.players) and time.monotonic() < until:
+            time.sleep(0.005)
         for player in self.players:
-            while player.is_alive() and time.monotonic() < until:
-                time.sleep(0.005)
+            player.hurry()
+        for player in self.players:
             player.stop()

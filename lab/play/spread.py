@@ -29,6 +29,10 @@ PLAY = (f"import sys; sys.path.insert(0, {str(TOP)!r}); import lab; lab.with_one
         "from lab.play.spread import serve; serve()")
 
 
+KILLED = ("a process that plays was killed, as where memory is short: start the same command again, by fewer --workers "
+          "than {workers}")
+
+
 class Numbered(Protocol):
     """A match that has a number."""
 
@@ -95,8 +99,7 @@ def over_processes(job: Job, cases: Sequence[Numbered], workers: int, at_a_time:
     try:
         yield from pool.map(functools.partial(result_of, job), cases, chunksize=at_a_time)
     except BrokenProcessPool:
-        yield Result(None, "a process that plays was killed, as where memory is short: start the same command again, "
-                     f"by fewer --workers than {workers}")
+        yield Result(None, KILLED.format(workers=workers))
     finally:
         # also those that wait in the pipe of a worker, which cannot be cancelled
         over.set()

@@ -1,4 +1,5 @@
 """A course's file and its secret, the league, schedules that are made small, and what is said of programs."""
+import concurrent.futures
 import os
 import pathlib
 import stat
@@ -12,7 +13,6 @@ from lab.course.cells import Walls
 from lab.course.course import Course, course_of
 from lab.play import programs
 from lab.play.schedulers import ANSWER, Choice, in_runs
-from lab.play.spread import Result
 from lab.search.cutting import Cut, Runs, in_words, runs_of, tidy
 from lab.rules import networks
 from lab.sweep import tables
@@ -309,13 +309,27 @@ class Words(unittest.TestCase):
 class Budgets(unittest.TestCase):
     def test_the_seconds_of_a_team_add_up_over_its_matches(self) -> None:
         """Four matches of six seconds each, and ten seconds in all: the third and fourth come too late."""
-        budget = pool.Budget(10, {"red": 0.0})
-        results = (Result(pool.Timed([str(number)], 6.0), "") for number in range(4))
-        with mock.patch.object(pool, "over_processes", return_value=results):
-            job: Any = None
-            limited = pool.Limited(budget, "red", lambda _: "late")
-            found = [it.found for it in pool.in_time(job, range(4), 1, limited)]
-        self.assertEqual(found, [["0"], ["1"], "late", "late"])
+        limited = pool.Limited(pool.Budget(10, {"red": 0.0}), lambda _: "red", lambda _: "late")
+        self.assertEqual(self.played(range(4), 1, limited), [0, 1, "late", "late"])
+
+    def test_megabytes_do_too(self) -> None:
+        limited = pool.Limited(pool.Budget(99, {"red": 0.0}, 5, {"red": 1.0}), lambda _: "red", lambda _: "late")
+        self.assertEqual(self.played(range(4), 1, limited), [0, 1, 2, "late"])
+        self.assertIn("have taken the 5 MB of disk", limited.budget.says("red"))
+
+    def test_a_team_whose_time_is_up_stops_no_other(self) -> None:
+        """The matches of all teams are played by the same processes, and come in their order."""
+        teams = "red", "blue"
+        limited = pool.Limited(pool.Budget(10, dict.fromkeys(teams, 0.0)), lambda it: teams[it % 2 and it > 5],
+                               lambda it: f"late {it}")
+        self.assertEqual(self.played(range(10), 3, limited),
+                         [0, 1, 2, "late 3", "late 4", "late 5", "late 6", 7, "late 8", 9])
+
+    def played(self, matches: Any, workers: int, limited: pool.Limited) -> List[Any]:
+        """The results of matches, each of which takes six seconds and two megabytes, by threads."""
+        job: Any = mock.Mock(play=lambda match: pool.Timed(match, 6.0, 2 << 20))
+        with concurrent.futures.ThreadPoolExecutor(workers) as executor:
+            return [it.found for it in pool.Line(job, matches, limited).results(executor, workers)]
 
 
 if __name__ == "__main__":
