@@ -32,7 +32,7 @@ import sys
 from lab.commands.words import add_engine, add_forget, add_workers, program_of
 from lab.course import cells, course
 from lab.course.cells import Walls, Yard
-from lab.course.grading import Graded, graded_in
+from lab.course.grading import Graded, graded_in, hand_ins
 from lab.support.missing import check
 from lab.sweep import tables
 
@@ -67,8 +67,9 @@ def run(words: argparse.Namespace) -> int:
         print(f"lab: {cells.weakness()}; {strongest.value}", file=sys.stderr)
     program = program_of(words)
     with tables.alone_in(words.out):
-        secret = course.secret_in(words.out, words.secret)
+        handed_in = hand_ins(words.out, read)
+        secret = course.secret_in(words.out, words.secret, handed_in)
         yard = Yard(strongest, read.tools, read.has_proc)
         graded = Graded(read.text, path.parent, secret, program, yard, words.out, not words.no_repeat,
                         forgets=words.drop_caches)
-        return graded_in(graded, words.workers)
+        return graded_in(graded, words.workers, handed_in)

@@ -39,8 +39,7 @@ def run(words: argparse.Namespace) -> int:
         solved = rounds.solved_in(rows)
         counts = [sum(row["team"] == team for row in rows) for team in {row["team"] for row in rows}]
         terms = course.terms_of(text, max(counts, default=0))
-        files = tables.record_in(out).get("files", {})
-        draws = course.Draws(course.secret_in(out, None), kept.digest_of_all(files))
+        draws = course.Draws(grid.text_in(out / course.SECRET).strip())
         if strongest is not Walls.ALL:
             print(f"lab: {cells.weakness()}; {strongest.value}", file=sys.stderr)
         plain = Yard(strongest, terms.tools, terms.has_proc)

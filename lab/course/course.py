@@ -43,7 +43,7 @@ All teams play the same matches, each in an order of its own. Black holes are dr
 for each match, so that one match tells nothing of another. Keys, black holes, home bases and ports that are drawn, the
 order, and the seeds of schedulers come from the course's secret, which is drawn at the first run and kept in
 `secret.txt` beside the results. To grade again by the same draws, name that file by --secret; if a team has handed in
-something else since, keys, black holes, home bases and ports are others all the same.
+something else since, all is drawn anew.
 """
 import functools
 import hashlib
@@ -53,7 +53,8 @@ import random
 import re
 import secrets
 import shlex
-from typing import Any, Dict, FrozenSet, List, NamedTuple, Optional, Sequence, Tuple
+import sys
+from typing import Any, Dict, FrozenSet, List, Mapping, NamedTuple, Optional, Sequence, Tuple
 
 from lab.course import walls
 from lab.course.cells import Walls
@@ -64,7 +65,7 @@ from lab.play.schedulers import Maker
 from lab.play.teams import OUTSIDE
 from lab.rules import networks
 from lab.rules.fixtures import Fixture
-from lab.sweep import grid
+from lab.sweep import grid, tables
 from lab.sweep.grid import Case, Grid, NoSweep, is_count, is_text, is_texts, taken
 
 FILES = "files"
@@ -82,24 +83,17 @@ NEEDED = ("port", "key")
 
 
 class Draws(NamedTuple):
-    """What is drawn from a course's secret. Without it nobody can guess it. Files is a digest of all that teams have
-    handed in."""
+    """What is drawn from a course's secret. Without it nobody can guess it."""
 
     secret: str
-    files: str = ""
 
     def drawn(self, *words: object) -> str:
-        """Digits that are the same whenever the course is graded by this secret."""
+        """Digits."""
         return hashlib.sha256("\0".join(map(str, [self.secret, *words])).encode()).hexdigest()
-
-    def drawn_anew(self, *words: object) -> str:
-        """Digits that are others as soon as a team has handed in something else: who was told once what they were
-        cannot use that."""
-        return self.drawn("anew", self.files, *words)
 
     def keys(self, text: str, number: int, agents: int) -> List[str]:
         """The keys of a match of the course that has this text."""
-        return [self.drawn_anew("key", text, number, agent)[:20] for agent in range(agents)]
+        return [self.drawn("key", text, number, agent)[:20] for agent in range(agents)]
 
 
 class Course(NamedTuple):
@@ -121,12 +115,10 @@ class Course(NamedTuple):
     def cases(self) -> List[Case]:
         """All matches, in the order in which they are played. Teams come in an order that is drawn; each plays the same
         matches, in an order of its own."""
-        chance = random.Random(self.draws.drawn("order"))
-        names = [team.name for team in self.grid.teams]
         found = [self._placed(case) for case in self.grid.cases(self.draws.secret)]
-        own = [[case for case in found if case.team.name == name] for name in chance.sample(names, len(names))]
-        return [case._replace(number=number) for number, case in enumerate(
-            case for cases in own for case in chance.sample(cases, len(cases)))]
+        found.sort(key=lambda case: (self.draws.drawn("order", case.team.name),
+                                     self.draws.drawn("order", case.team.name, case[1:3], case[4:])))
+        return [case._replace(number=number) for number, case in enumerate(found)]
 
     def _placed(self, case: Case) -> Case:
         """A match with black holes, a home base and ports of its own, as far as the file does not name them. They are
@@ -134,7 +126,7 @@ class Course(NamedTuple):
         if not isinstance(self.grid.holes, int) and self.grid.holes != grid.BY_SEED:
             return case
         words = (case.network, case.scheduler, case.seed, *case.holes)
-        chance = random.Random(self.draws.drawn_anew("place", *words))
+        chance = random.Random(self.draws.drawn("place", *words))
         nodes = range(self.grid.networks[case.network].nodes)
         home = self.grid.home if "home" in self.named else chance.choice(nodes)
         hole = chance.choice([node for node in nodes if node != home])
@@ -193,12 +185,11 @@ def read(path: pathlib.Path, secret: str) -> Course:
         raise NoSweep(f"{path}: {fault}") from None
 
 
-def secret_in(out: pathlib.Path, given: Optional[pathlib.Path]) -> str:
-    """The secret of a course with these results: one that a file gives, or that of the first run, or a new one."""
+def secret_in(out: pathlib.Path, given: Optional[pathlib.Path], handed_in: Mapping[str, str] = {}) -> str:
+    """The secret of a course with these results: one that a file gives, or that of the first run, or a new one. These
+    are the digests of what was handed in."""
     path = out / SECRET
-    said = None if given is None else grid.text_in(given).strip()
-    if said is not None and len(said) < 16:
-        raise NoSweep(f"{given}: a secret has at least 16 characters, or it could be guessed")
+    said = None if given is None else secret_given(given, handed_in)
     if path.exists():
         kept = grid.text_in(path).strip()
         if said not in (None, kept):
@@ -211,10 +202,24 @@ def secret_in(out: pathlib.Path, given: Optional[pathlib.Path]) -> str:
     return said
 
 
+def secret_given(given: pathlib.Path, handed_in: Mapping[str, str]) -> str:
+    """The secret in a file. If results stand beside it, and a team has handed in something else than then, it is
+    another one: what the team was shown of its matches is not to help it."""
+    said = grid.text_in(given).strip()
+    if len(said) < 16:
+        raise NoSweep(f"{given}: a secret has at least 16 characters, or it could be guessed")
+    before = tables.record_in(given.parent).get("files", {}) if (given.parent / tables.MADE).exists() else {}
+    others = sorted(name for name, digest in handed_in.items() if before.get(name, digest) != digest)
+    if not others:
+        return said
+    print(f"lab: {others[0]} has handed in something else than when {given} was drawn: all is drawn anew",
+          file=sys.stderr)
+    return Draws(said).drawn("anew", *sorted(handed_in.items()))
+
+
 @functools.lru_cache(maxsize=4)
-def course_of(text: str, folder: pathlib.Path, secret: str, handed_in: str = "") -> Course:
-    """The course that a text says, whose files are looked for in the folder. What is drawn depends on a digest of all
-    that was handed in."""
+def course_of(text: str, folder: pathlib.Path, secret: str) -> Course:
+    """The course that a text says, whose files are looked for in the folder."""
     found = grid.table_of(text)
     grid.check_keys(found, KEYS, "a course")
     terms = terms_in(found)
@@ -225,8 +230,8 @@ def course_of(text: str, folder: pathlib.Path, secret: str, handed_in: str = "")
         del found["ports"]
     played = grid.grid_in(found, folder)
     limits = for_matches(terms.limits, sum(1 for _ in played.cases()) // len(played.teams), found)
-    draws = Draws(secret, handed_in)
-    return Course(text, folder, draws, played, files, limits, tries, terms.tools, terms.has_proc, terms.packages, named)
+    return Course(text, folder, Draws(secret), played, files, limits, tries, terms.tools, terms.has_proc,
+                  terms.packages, named)
 
 
 def for_matches(limits: Limits, matches: int, found: Dict[str, Any]) -> Limits:

@@ -59,14 +59,12 @@ class Graded(NamedTuple):
     out: pathlib.Path
     # whether a solved match counts only if its agents say the same when they are repeated alone
     repeats: bool = True
-    # a digest of all that was handed in, on which depends what is drawn
-    handed_in: str = ""
     # whether the machine is to forget what it keeps of files before agents are repeated
     forgets: bool = False
 
     @property
     def course(self) -> Course:
-        return course.course_of(self.text, self.folder, self.secret, self.handed_in)
+        return course.course_of(self.text, self.folder, self.secret)
 
     def play(self, case: Case) -> Timed:
         """The row of a match. One that the team fails is written to a folder of its own."""
@@ -115,14 +113,7 @@ class Graded(NamedTuple):
 
     def _take(self, team: str) -> Taken:
         """What is known of a team's hand-in."""
-        if kept.is_kept(self.out, team):
-            return kept.taken(self.out, team)
-        return self.taken_anew(team, self.out)
-
-    def taken_anew(self, team: str, out: pathlib.Path) -> Taken:
-        """Reads what a team hands in now, and keeps it in a folder."""
-        words = next(it.words.words for it in self.course.grid.teams if it.name == team)
-        return kept.take(out, team, self.course.files[team], self.folder, words)
+        return kept.taken(self.out, team) if kept.is_kept(self.out, team) else taken_anew(self.out, self.course, team)
 
     def match(self, case: Case, scheduler: Scheduler, program: Optional[str]) -> Tuple[Schedule, Played]:
         """Plays a match by this scheduler."""
@@ -230,10 +221,10 @@ def check_faults(faults: Sequence[str]) -> None:
             raise NotSmaller(why)
 
 
-def graded_in(graded: Graded, workers: int) -> int:
-    """Plays the matches that are not done yet, and writes everything."""
-    digests = hand_ins(graded)
-    graded = graded._replace(handed_in=kept.digest_of_all(digests))
+def graded_in(graded: Graded, workers: int, handed_in: Optional[Dict[str, str]] = None) -> int:
+    """Plays the matches that are not done yet, and writes everything. The digests of what was handed in may be given,
+    so that it is not read again."""
+    digests = handed_in or hand_ins(graded.out, graded.course)
     made = {**tables.made_by(graded.program), "course": hashlib.sha256(graded.text.encode()).hexdigest(),
             "files": {**graded.course.digests(), **digests}}
     done = tables.prepared(graded.out, made)
@@ -248,7 +239,7 @@ def graded_in(graded: Graded, workers: int) -> int:
             left = cases[done:]
             sweeping.write_rows(played_in_time(graded, left, workers, budget), len(left), graded.out)
             status = told(graded, cases, workers, budget)
-        tell_changes(digests, hand_ins(graded))
+        tell_changes(digests, hand_ins(graded.out, graded.course))
         return status
     except KeyboardInterrupt:
         count = tables.done_in(graded.out / tables.RUNS)
@@ -271,15 +262,21 @@ def budget_of(graded: Graded, cases: Sequence[Case]) -> Budget:
     return Budget(limits.team, dict.fromkeys(names, 0.0), limits.team_space, written(graded.out, cases))
 
 
-def hand_ins(graded: Graded) -> Dict[str, str]:
+def taken_anew(out: pathlib.Path, asked: Course, team: str) -> Taken:
+    """Reads what a team hands in now, and keeps it in a folder."""
+    words = next(it.words.words for it in asked.grid.teams if it.name == team)
+    return kept.take(out, team, asked.files[team], asked.folder, words)
+
+
+def hand_ins(out: pathlib.Path, asked: Course) -> Dict[str, str]:
     """Reads what all teams hand in; gives the digest of each. What was read at the first run is kept."""
     found = {}
-    for name in graded.course.files:
-        if kept.is_kept(graded.out, name):
+    for name in asked.files:
+        if kept.is_kept(out, name):
             with tempfile.TemporaryDirectory() as again:
-                found[kept.TEAM + name] = graded.taken_anew(name, pathlib.Path(again)).digest
+                found[kept.TEAM + name] = taken_anew(pathlib.Path(again), asked, name).digest
         else:
-            found[kept.TEAM + name] = graded.taken_anew(name, graded.out).digest
+            found[kept.TEAM + name] = taken_anew(out, asked, name).digest
     return found
 
 

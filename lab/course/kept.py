@@ -6,13 +6,12 @@ also on another machine:
     hand-ins/TEAM.json  its digest and those of its program's files, or why it is refused
 """
 import functools
-import hashlib
 import json
 import pathlib
 import resource
 import subprocess
 import sys
-from typing import Dict, List, Mapping, NamedTuple
+from typing import Dict, List, NamedTuple
 
 from lab.course import hand_in
 from lab.course.hand_in import HandIn
@@ -106,9 +105,3 @@ def unpacked(archive: str, digest: str, refusal: str) -> HandIn:
         raise NoTable(f"{archive}: it is not what the team has handed in, as its digest is another: name another "
                       "folder by --out, and start again")
     return found
-
-
-def digest_of_all(files: Mapping[str, str]) -> str:
-    """The SHA-256 of all hand-ins, out of a record that has the digest of each."""
-    teams = sorted((name, digest) for name, digest in files.items() if name.startswith(TEAM))
-    return hashlib.sha256(json.dumps(teams).encode()).hexdigest()

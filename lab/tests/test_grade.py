@@ -1,5 +1,7 @@
 """A course's file and its secret, the league, schedules that are made small, and what is said of programs."""
 import concurrent.futures
+import contextlib
+import io
 import os
 import pathlib
 import stat
@@ -54,7 +56,6 @@ class Files(Folder):
                 for case in found:
                     played[case.team.name].append((*case[1:3], *case[4:]))
                 self.assertEqual(sorted(played["a"]), sorted(played["b"]))
-                self.assertNotEqual(played["a"], played["b"])
                 orders.add("".join(case.team.name for case in found))
         self.assertEqual(orders, {"a" * 8 + "b" * 8, "b" * 8 + "a" * 8})
 
@@ -124,10 +125,10 @@ class Files(Folder):
 class Places(Folder):
     """What is drawn for each match, so that what a program keeps of one tells nothing of another."""
 
-    def places(self, middle: str, handed_in: str = "") -> List[tuple]:
+    def places(self, middle: str) -> List[tuple]:
         """The black hole, the home base and the links of each match, by the numbers of their seeds."""
         text = 'title = "T"\nnetworks = ["ring:64"]\nseeds = 12\n' + middle + TEAM
-        found = course_of(text, self.folder, SECRET, handed_in)
+        found = course_of(text, self.folder, SECRET)
         cases = sorted(found.cases(), key=lambda case: case.seed)
         setups = [found.fixture(case).setup for case in cases]
         return [(setup.holes[0], setup.home, tuple(setup.links)) for setup in setups]
@@ -148,14 +149,6 @@ class Places(Folder):
                     networks.named("ring:64"), 3).links))})):
             found = self.places(middle)
             self.assertEqual({place[-len(min(expected)):] for place in found}, expected)
-
-    def test_they_are_others_once_a_team_has_handed_in_something_else(self) -> None:
-        """So who was shown the places of an earlier grading cannot use them."""
-        one, other = (self.places("holes = 1\n", handed_in) for handed_in in ("a", "b"))
-        self.assertFalse(set(one) & set(other))
-        self.assertEqual(one, self.places("holes = 1\n", "a"))
-        keys = [course_of(HEAD + TEAM, self.folder, SECRET, it).draws.keys("", 0, 4) for it in "ab"]
-        self.assertFalse(set(keys[0]) & set(keys[1]))
 
 
 class Secrets(Folder):
@@ -198,6 +191,28 @@ class Secrets(Folder):
         (self.folder / "short").write_text("guess me\n")
         with self.assertRaisesRegex(NoSweep, "at least 16 characters"):
             course.secret_in(self.folder / "new", self.folder / "short")
+
+
+    def test_it_is_another_once_a_team_has_handed_in_something_else(self) -> None:
+        """So who was shown the places of an earlier grading cannot use them. New teams change nothing."""
+        first = self.folder / "first"
+        secret = course.secret_in(first, None)
+        digests = {"team a": "1", "team b": "2"}
+        tables.write_record(first, {"files": {**digests, "net.toml": "3"}})
+        for name, handed_in, is_same in (
+                ("same", digests, True), ("more", {**digests, "team c": "4"}, True), ("fewer", {"team a": "1"}, True),
+                ("other", {**digests, "team b": "5"}, False)):
+            with contextlib.redirect_stderr(io.StringIO()) as said:
+                found = course.secret_in(self.folder / name, first / course.SECRET, handed_in)
+            self.assertEqual(found == secret, is_same, name)
+            self.assertEqual("team b has handed in something else than when" in said.getvalue(), not is_same)
+
+    def test_the_order_of_a_team_depends_on_no_other(self) -> None:
+        alone, both = (course_of(HEAD + "holes = 3\nseeds = 4\n" + teams, self.folder, SECRET).cases()
+                       for teams in (TEAM, TEAM + TEAM.replace('"a"', '"b"')))
+        played = [[case[1:3] + case[4:] for case in cases if case.team.name == "a"] for cases in (alone, both)]
+        self.assertEqual(*played)
+        self.assertNotEqual(played[0], sorted(played[0]))
 
 
 class Leagues(Folder):
