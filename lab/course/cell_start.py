@@ -5,6 +5,7 @@ will connect, and sends it over the channel, which is a socket; and becomes the 
 the port, of which 0 asks for any that is free. The program finds SEED in ARENA_SEED.
 """
 import array
+import errno
 import os
 import resource
 import socket
@@ -16,6 +17,7 @@ READY = b"ready"
 # bytes of a file, bytes of memory, bytes of addresses, open files, processes with their threads
 LIMITS = {resource.RLIMIT_CORE: 0, resource.RLIMIT_FSIZE: 64 << 20, resource.RLIMIT_DATA: 2 << 30,
           resource.RLIMIT_AS: 256 << 30, resource.RLIMIT_NOFILE: 256, resource.RLIMIT_NPROC: 256}
+NO_FIRST_LINE = "it is no program of this machine; a script's first line says what runs it, such as #!/bin/sh"
 # bytes of a script's first line that the kernel looks at
 LONGEST = 256
 # bytes that wait at the port for the lab, so that what a program sends before it ends is not lost
@@ -85,7 +87,7 @@ def main(channel: str, files: str, port: str, seed: str, *words: str) -> None:
     try:
         os.execvpe(command[0], command, environment)
     except OSError as fault:
-        fail(command[0], str(fault.strerror))
+        fail(command[0], NO_FIRST_LINE if fault.errno == errno.ENOEXEC else str(fault.strerror))
 
 
 if __name__ == "__main__":

@@ -41,6 +41,15 @@ STARTER = pathlib.Path(__file__).resolve().parent / "cell_start.py"
 SECONDS_TO_BEGIN = 60
 PACKAGES = "apt-get install bubblewrap python3-seccomp"
 NOTHING = HandIn({}).archive()
+# last words of programs that meet a bound, and what is said of them
+THREADS = "a program may have 256 processes and threads"
+HINTS = {
+    "can't start new thread": THREADS, "unable to create native thread": THREADS,
+    "failed to create new OS thread": THREADS, "Resource temporarily unavailable": THREADS,
+    "Too many open files": "a program may have 256 open files",
+    "libjli.so": "programs in Java need `proc = true` in course.toml",
+    "No space left on device": "a program's folder, /tmp and /dev/shm take 64 MB each",
+}
 
 
 class Walls(enum.Enum):
@@ -151,6 +160,10 @@ class Cell:
     def told(self, text: str) -> str:
         """What a program says, without the name of its folder, which is another one on each run."""
         return text.replace(f"{self.place or HOME}/", "")
+
+    def hint(self, words: str) -> str:
+        """What to change, as far as a program's last words show it."""
+        return next((f" ({said})" for known, said in HINTS.items() if known in words), "")
 
     def fault(self) -> str:
         """Why the program was ended, if it has taken too much."""

@@ -70,6 +70,9 @@ class Ground(Protocol):
     def told(self, text: str) -> str:
         """What a program has said, without what is another on each run."""
 
+    def hint(self, words: str) -> str:
+        """What to change, as far as a program's last words show it."""
+
     def fault(self) -> str:
         """Why the ground has ended the program, if it has."""
 
@@ -102,6 +105,9 @@ class Here:
     def told(self, text: str) -> str:
         return text
 
+    def hint(self, words: str) -> str:
+        return ""
+
     def fault(self) -> str:
         return ""
 
@@ -123,6 +129,9 @@ class Nowhere(NamedTuple):
 
     def told(self, text: str) -> str:
         return text
+
+    def hint(self, words: str) -> str:
+        return ""
 
     def fault(self) -> str:
         return ""
@@ -251,7 +260,7 @@ class Player:
                     self._take(until)
                 self._look_for_strangers()
             except TimeoutError:
-                self._end(self._team.clock.says(SENT_NOTHING))
+                self._end(f"{self._team.clock.says(SENT_NOTHING)}{self._last_words()}")
             if self._has_ended and not self.fault:
                 self._note_status(until)
 
@@ -386,7 +395,10 @@ class Player:
         self._errors.seek(max(0, size - PIECE))
         lines = self._errors.read().decode(errors="replace").split("\n")
         said = [line.strip() for line in lines if line.strip()]
-        return f": {plain(self._ground.told(said[-1]))[:WORDS]}" if said else ""
+        if not said:
+            return ""
+        words = self._ground.told(said[-1])
+        return f": {plain(words)[:WORDS]}{self._ground.hint(words)}"
 
     def _end(self, fault: str) -> None:
         """Ends the program's play; its agent leaves the match if it is in it."""

@@ -499,6 +499,7 @@ class Saying(Course):
         for text, mode, said in (
                 (script.replace("\n", "\r\n"), 0o755, "./go.sh: its lines end as on Windows: hand it in after `sed -i"),
                 (script, 0o644, "./go.sh: it may not be run: hand it in after `chmod +x ./go.sh`"),
+                ("exit 3\n", 0o755, "a script's first line says what runs it, such as #!/bin/sh"),
                 (script, 0o755, "has ended with status 3 before it connected")):
             with self.subTest(said):
                 (self.team / "go.sh").write_text(text, newline="")
@@ -506,6 +507,17 @@ class Saying(Course):
                 cells.remove(self.folder / "out")
                 found = self.graded(HEAD + team("evil", ["evil"], "./go.sh {port} {key}"), f"out-{mode}-{len(text)}")
                 self.assertIn(said, found["evil"][0]["fault"])
+
+    def test_who_meets_a_bound_is_told_which(self) -> None:
+        threads = ("import threading, time\nfor _ in range(300):\n"
+                   "    threading.Thread(target=time.sleep, args=(60,)).start()\n")
+        files = "found = [open('/dev/null') for _ in range(300)]\n"
+        for code, said in ((threads, "has sent no line within 3 s: RuntimeError: can't start new thread (a program may "
+                            "have 256 processes and threads)"),
+                           (files, "Too many open files: '/dev/null' (a program may have 256 open files)")):
+            with self.subTest(said):
+                fault = self.played(ALL_WALLS[0], code, head=HEAD.replace("60", "3")).faults[0]
+                self.assertIn(said, fault)
 
     def test_last_words_are_one_fault_and_do_nothing_to_a_terminal(self) -> None:
         code = ('import os, sys\nsys.stderr.buffer.write("first\\n\\x1b]0;it\\x07\\x9b31m\\u202e\\x00; agent 1: forged'
