@@ -1,5 +1,6 @@
 """Grades the programs of a course: plays the matches, makes the schedules of failed ones small, and writes the
 results."""
+import concurrent.futures
 import contextlib
 import csv
 import hashlib
@@ -270,14 +271,13 @@ def taken_anew(out: pathlib.Path, asked: Course, team: str) -> Taken:
 
 def hand_ins(out: pathlib.Path, asked: Course) -> Dict[str, str]:
     """Reads what all teams hand in; gives the digest of each. What was read at the first run is kept."""
-    found = {}
-    for name in asked.files:
-        if kept.is_kept(out, name):
-            with tempfile.TemporaryDirectory() as again:
-                found[kept.TEAM + name] = taken_anew(pathlib.Path(again), asked, name).digest
-        else:
-            found[kept.TEAM + name] = taken_anew(out, asked, name).digest
-    return found
+    def digest(name: str) -> str:
+        if not kept.is_kept(out, name):
+            return taken_anew(out, asked, name).digest
+        with tempfile.TemporaryDirectory() as again:
+            return taken_anew(pathlib.Path(again), asked, name).digest
+    with concurrent.futures.ThreadPoolExecutor() as readers:
+        return {kept.TEAM + name: found for name, found in zip(asked.files, readers.map(digest, asked.files))}
 
 
 def prepare(graded: Graded) -> None:

@@ -8,23 +8,21 @@ also on another machine:
 import functools
 import json
 import pathlib
-import resource
 import subprocess
 import sys
 from typing import Dict, List, NamedTuple
 
 from lab.course import hand_in
 from lab.course.hand_in import HandIn
+from lab.course.reading import CANNOT, SECONDS
 from lab.support.built import TOP
 from lab.sweep.tables import NoTable
 
 COURSE, HAND_INS = "course.toml", "hand-ins"
 # in the record of what rows depend on: the name of a team's hand-in
 TEAM = "team "
-# bytes of memory and seconds that it may take to read a hand-in
-MEMORY, SECONDS = 1 << 30, 60
-CANNOT = f"it cannot be read within {SECONDS} s and {MEMORY >> 30} GB of memory"
-READ = f"import sys; sys.path.insert(0, {str(TOP)!r}); from lab.course.kept import read_given; read_given()"
+# reads a hand-in, in a process of its own
+READ = f"import sys; sys.path.insert(0, {str(TOP)!r}); from lab.course import reading; reading.main()"
 
 
 class Taken(NamedTuple):
@@ -43,33 +41,13 @@ def take(out: pathlib.Path, team: str, paths: List[pathlib.Path], folder: pathli
     given = json.dumps([str(archive), str(folder), words, *map(str, paths)])
     try:
         ran = subprocess.run([sys.executable, "-c", READ], input=given, capture_output=True, text=True,
-                             timeout=SECONDS, preexec_fn=bound)
+                             timeout=SECONDS)
         found = Taken(*json.loads(ran.stdout))
     except (subprocess.TimeoutExpired, TypeError, ValueError):
         archive.write_bytes(HandIn({}).archive())
         found = Taken(HandIn({}, CANNOT).digest(), CANNOT, {})
     record.write_text(json.dumps(found._asdict(), indent=1) + "\n", encoding="utf-8")
     return found
-
-
-def bound() -> None:
-    """Bounds this process, which is to read what a stranger has handed in."""
-    for kind, most in ((resource.RLIMIT_AS, MEMORY), (resource.RLIMIT_CPU, SECONDS), (resource.RLIMIT_CORE, 0)):
-        resource.setrlimit(kind, (most, most))
-
-
-def read_given() -> None:
-    """In the process of its own: reads a hand-in, writes its archive, and prints what is known of it."""
-    place, folder, words, *paths = json.load(sys.stdin)
-    archive = pathlib.Path(place)
-    found = hand_in.read(list(map(pathlib.Path, paths)), pathlib.Path(folder))
-    try:
-        files = found.digests(words)
-        archive.write_bytes(found.archive())
-    except (OSError, MemoryError, RecursionError, ValueError) as fault:
-        found, files = HandIn({}, f"its files cannot be read: {type(fault).__name__}"), {}
-        archive.write_bytes(found.archive())
-    print(json.dumps([found.digest(), found.refusal, files]))
 
 
 def places(out: pathlib.Path, team: str) -> List[pathlib.Path]:
