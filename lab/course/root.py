@@ -77,9 +77,10 @@ def remove_left() -> None:
 
 
 def owners(commands: Iterable[str]) -> List[str]:
-    """The packages that own the programs of the system which commands name."""
+    """The packages that own the programs and other files of the system which commands name."""
     words = {word for command in commands for word in re.findall(r"[\w.+/-]+", command)}
-    ways = [way_of(path) for path in (shutil.which(word, path=PATH) for word in words) if path]
+    files = [word for word in words if word.startswith("/usr/") and os.path.isfile(word)]
+    ways = [way_of(path) for path in {*files, *(shutil.which(word, path=PATH) for word in words)} if path]
     # where the package has put it may be another name for the same folder
     asked = {other for way in ways for path in way for other in (path, path.removeprefix("/usr"))}
     ran = subprocess.run(["dpkg-query", "-S", *sorted(asked)], capture_output=True, text=True) if asked else None
