@@ -3,7 +3,7 @@ import re
 from typing import Any, Dict, List, NamedTuple, Optional, Sequence, Tuple
 
 from lab.pages.parts import filled
-from lab.play import finds, programs
+from lab.play import bounds, finds
 from lab.play.repeating import SAYS_OTHERWISE
 from lab.sweep.grid import Grid
 from lab.sweep.report import FAULTS, Row, is_solved
@@ -22,7 +22,7 @@ NOT_REPEATED = "is not repeated"
 KINDS_OF_FAULTS = {
     OTHERWISE: (SAYS_OTHERWISE, NOT_REPEATED),
     CRASHED: ("has ended with status", "cannot be started", "has taken more than"),
-    HUNG: (programs.SENT_NOTHING, programs.READ_NOTHING, programs.USED_UP),
+    HUNG: (bounds.SENT_NOTHING, bounds.READ_NOTHING, bounds.USED_UP),
     UNPLAYED: (UNPLAYED,),
 }
 # of each kind of failure how its colour is called on pages, and what it means

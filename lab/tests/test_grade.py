@@ -13,7 +13,7 @@ from unittest import mock
 from lab.course import course, league, pool, users
 from lab.course.cells import Walls
 from lab.course.course import Course, course_of
-from lab.play import programs
+from lab.play import bounds, programs
 from lab.play.schedulers import ANSWER, Choice, in_runs
 from lab.search.cutting import Cut, Runs, in_words, runs_of, tidy
 from lab.rules import networks
@@ -313,11 +313,11 @@ class Words(unittest.TestCase):
                          "\\x1b[2J\\x07 \\x9b31m \\u202e \\u2028 \\x00 \\x7f \\ufeff é = ☃ 'it'")
 
     def test_a_match_has_a_time_of_its_own(self) -> None:
-        clock = programs.Clock(5, 7)
+        clock = bounds.Clock(5, 7)
         self.assertEqual(clock.says("has sent no line within"), "has sent no line within 5 s")
         clock.waited = 3
         self.assertIn("has used up the time of its match, 7 s in all", clock.says("has sent no line within"))
-        with programs.Clock(0.01, 1) as until, clock as later:
+        with bounds.Clock(0.01, 1) as until, clock as later:
             self.assertGreater(later - until, 3)
 
 
