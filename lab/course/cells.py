@@ -25,7 +25,7 @@ import sys
 import tempfile
 from typing import Any, Dict, Iterable, Iterator, List, NamedTuple, Optional, Sequence, Tuple
 
-from lab.course import root, traces, users, walls
+from lab.course import root, users, walls
 from lab.course.cell_start import READY
 from lab.course.hand_in import NETWORK, HandIn
 from lab.course.walls import HOME, PATH, PORT, SPACES, NoCell
@@ -235,7 +235,6 @@ def grounds_of(yard: Yard, handed_in: HandIn, words: str, setup: Setup, count: i
         return
     network = networks.text_of(networks.Network(setup.nodes, setup.links)).encode()
     has_map = "{network}" in words
-    traces.stir()
     files = handed_in.archive(**({NETWORK: network} if has_map else {}))
     with cells(yard, files, count, {"network": NETWORK} if has_map else {}) as made:
         yield made

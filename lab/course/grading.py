@@ -271,8 +271,10 @@ def taken_anew(out: pathlib.Path, asked: Course, team: str) -> Taken:
 
 def hand_ins(out: pathlib.Path, asked: Course) -> Dict[str, str]:
     """Reads what all teams hand in; gives the digest of each. What was read at the first run is kept."""
+    is_first = not (out / tables.MADE).exists()
+
     def digest(name: str) -> str:
-        if not kept.is_kept(out, name):
+        if is_first or not kept.is_kept(out, name):
             return taken_anew(out, asked, name).digest
         with tempfile.TemporaryDirectory() as again:
             return taken_anew(pathlib.Path(again), asked, name).digest

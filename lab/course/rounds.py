@@ -1,8 +1,8 @@
 """Repeats agents of a graded course's solved matches alone, in rounds, from what is kept beside the results.
 
 While an agent is repeated no other agent of its match may run, which could signal to it. So there are rounds: in each
-of them one agent of each match is repeated, in an order that no program can know. Once an agent of a match differs, the
-others are not repeated.
+of them one agent of each match is repeated, in an order that no program can know. Before each round the numbers of
+pipes and sockets go on by chance. Once an agent of a match differs, the others are not repeated.
 """
 import operator
 import pathlib
@@ -113,6 +113,7 @@ def repeated(job: Repeating, solved: Sequence[Solved], workers: int, chance: ran
 
     def results() -> Iterator[Result]:
         for turn in range(max((it.agents for it in solved), default=0)):
+            traces.stir()
             if job.forgets:
                 traces.forget()
             due = [Repetition(it.number, it.team, orders[it.number][turn]) for it in solved

@@ -7,8 +7,8 @@ import socket
 
 from lab.support.faults import Fault
 
-# pipes and sockets that are made on each processor before a match, at most: the kernel numbers them one after the other
-MOST = 1500
+# pipes and sockets that are made on each processor at a time, at most: the kernel numbers them one after the other
+MOST = 100_000
 # of Linux: what is written there has it forget what it keeps of files
 CACHES = pathlib.Path("/proc/sys/vm/drop_caches")
 

@@ -13,7 +13,7 @@ from typing import Any, Dict, Iterator, List
 from unittest import mock
 
 from lab.__main__ import main
-from lab.course import cells, watch
+from lab.course import cells, traces, watch
 from lab.course.cells import Walls, Yard
 from lab.course.grading import Graded
 from lab.course.walls import NoCell
@@ -97,6 +97,15 @@ class Course(unittest.TestCase):
         for row in tables.rows_in(self.folder / out / tables.RUNS):
             found.setdefault(row["team"], []).append(row)
         return found
+
+
+def number_of_a_pipe() -> int:
+    """The number that the kernel gives to a new pipe on this processor."""
+    ends = os.pipe()
+    found = os.fstat(ends[0]).st_ino
+    for end in ends:
+        os.close(end)
+    return found
 
 
 @contextlib.contextmanager
@@ -322,14 +331,19 @@ sys.exit(f"{set(said)} {os.path.exists('/usr/share/doc/bash')} {len(os.listdir('
             with cells.furnished(Yard(Walls.ALL), [EVIL], ["no-such-one"]):
                 pass
 
-    def test_numbers_of_pipes_tell_nothing(self) -> None:
-        """Between two matches they go on by numbers that differ from time to time."""
-        code = "import os, sys\nsys.exit(str(os.fstat(os.pipe()[0]).st_ino))"
-        for processor in list(os.sched_getaffinity(0))[:1]:
+    def test_numbers_of_pipes_go_on_by_chance_between_rounds(self) -> None:
+        """On each processor by another number each time, and by more than what programs make by the way."""
+        for processor in os.sched_getaffinity(0):
             with one_processor(processor):
-                found = [int(self.said(Walls.ALL, code)[0]) for _ in range(6)]
-        steps = {later - earlier for earlier, later in zip(found, found[1:])}
-        self.assertGreater(max(steps) - min(steps), 50)
+                found = []
+                for _ in range(6):
+                    found.append(number_of_a_pipe())
+                    traces.stir()
+                steps = [later - earlier for earlier, later in zip(found, found[1:])]
+                self.assertGreater(max(steps) - min(steps), 2000)
+        with mock.patch.object(traces, "stir") as stir:
+            self.graded(HEAD + HONEST)
+        self.assertEqual(stir.call_count, 2)
 
     def test_pipes_and_sockets_among_tools(self) -> None:
         """A pipe can be written to where files cannot."""
@@ -458,7 +472,8 @@ try:
 except OSError as fault:
     sys.exit(f"{wrote >> 20 <= 64} {fault.strerror}")
 """
-        self.assertEqual(self.said(Walls.ALL, code), ["True No space left on device"])
+        self.assertEqual(self.said(Walls.ALL, code), ["True No space left on device (a program's folder, /tmp and "
+                                                      "/dev/shm take 64 MB each)"])
         many = "import time\nfor number in range(200_000):\n    open(str(number), 'w').close()\ntime.sleep(100)"
         with mock.patch.object(watch, "MOST", 100 << 20):
             self.assertEqual(self.played(Walls.ALL, many).faults, [f"agent 0: {watch.TOO_MUCH}"])
