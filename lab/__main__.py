@@ -53,6 +53,8 @@ COMMANDS = {
                      PLAYS + PAGES),
     "repeat": Command("lab.commands.repeat", "repeat each agent of a graded course's solved matches once more",
                       ("tqdm",)),
+    "hall": Command("lab.commands.hall", "serve a hall, where teams practise, try again, and are ranked for a term",
+                    PLAYS + PAGES + ("django", "rest_framework", "gunicorn", "distributed")),
     "page": Command("lab.commands.page", "write a page on which one watches a match that has ended", PAGES),
     "watch": Command("lab.commands.watch", "show a contest that goes on, for a projector", PAGES + ("aiohttp",)),
     "pages": Command("lab.commands.pages", "write a page of each match of a contest, and one that lists them", PAGES),

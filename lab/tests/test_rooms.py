@@ -10,8 +10,11 @@ from typing import Dict, Iterator, Set, Tuple
 from lab.support.built import LAB, TOP
 
 # from the ground up: a room imports from itself and from rooms below it; so do the modules that stand in no room
-ROOMS = ("support", "rules", "pages", "play", "search", "sweep", "course", "api", "commands", "__main__", "start")
+ROOMS = ("support", "rules", "pages", "play", "search", "sweep", "course", "hall", "api", "commands", "__main__",
+         "start")
 TESTS = ("tests", "mutants")
+# its modules need Django and a hall, which no unit test has: they are read and not imported
+HALL = "lab.hall."
 
 
 def modules() -> Dict[str, pathlib.Path]:
@@ -47,11 +50,26 @@ def taken(text: str) -> Iterator[Tuple[str, str]]:
             yield from ((node.module, it.name) for it in node.names)
 
 
+def defined(module: str) -> Set[str]:
+    """The names that a module defines or imports, by its text."""
+    spec = importlib.util.find_spec(module)
+    text = pathlib.Path(spec.origin).read_text(encoding="utf-8") if spec and spec.origin else ""
+    found: Set[str] = set()
+    for node in ast.parse(text).body:
+        if isinstance(node, (ast.FunctionDef, ast.ClassDef)):
+            found.add(node.name)
+        elif isinstance(node, (ast.Import, ast.ImportFrom)):
+            found.update(it.asname or it.name for it in node.names)
+        else:
+            found.update(it.id for it in ast.walk(node) if isinstance(it, ast.Name) and isinstance(it.ctx, ast.Store))
+    return found
+
+
 class Rooms(unittest.TestCase):
     def setUp(self) -> None:
         paths = modules()
         # a room's own file says what it is for, and imports nothing
-        self.graph = {name: set(imported(path.read_text(encoding="utf-8"), set(paths))) - set(ROOMS[:7])
+        self.graph = {name: set(imported(path.read_text(encoding="utf-8"), set(paths))) - set(ROOMS[:8])
                       for name, path in paths.items()}
 
     def test_each_module_stands_in_a_room(self) -> None:
@@ -75,8 +93,9 @@ class Rooms(unittest.TestCase):
             for module, name in taken(path.read_text(encoding="utf-8")):
                 count += 1
                 with self.subTest(str(path.relative_to(TOP)), module=module, name=name):
-                    found = importlib.import_module(module)
-                    self.assertTrue(hasattr(found, name) or importlib.util.find_spec(f"{module}.{name}"))
+                    is_there = name in defined(module) if module.startswith(HALL) else hasattr(
+                        importlib.import_module(module), name)
+                    self.assertTrue(is_there or importlib.util.find_spec(f"{module}.{name}"))
         self.assertGreater(count, 50)
 
     def test_a_cycle_and_a_room_above_are_told(self) -> None:

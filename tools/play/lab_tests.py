@@ -17,6 +17,8 @@ DEBIANS_PYTHON = "/usr/bin/python3"
 PACKAGES = ["python3-greenlet", "python3-hypothesis", "python3-tqdm", "python3-networkx",
             "python3-numpy", "python3-scipy", "python3-matplotlib", "python3-distributed", "python3-aiohttp",
             "python3-jinja2",
+            # what a hall is served by
+            "python3-django", "python3-djangorestframework", "gunicorn", "openssl", "python3-jsonschema", "gettext",
             # what keeps programs of a course apart
             "bubblewrap", "python3-seccomp",
             # what looks at the lab's types, and at lines of agents

@@ -1,0 +1,1 @@
+"""Attempts: teams ask for matches, workers play them, and pages show what may be shown."""

@@ -1,0 +1,117 @@
+"""What a team may see of a match that goes on: what its agents were told, and no more.
+
+The part of a replay has more than that: its head has the black holes, and a line says which agent is destroyed. Both
+are left out here, and what is shown does not depend on them. So two matches that no agent can tell apart look alike,
+byte for byte: an agent that is destroyed looks like one whose link is slow.
+"""
+import collections
+import json
+import pathlib
+import threading
+from typing import Any, Deque, Dict, List, NamedTuple, Optional
+
+# of each agent the last lines, and of each text its beginning
+LINES, TEXT, MATCHES = 12, 200, 300
+
+
+class Agent:
+    """What an agent has said and was told."""
+
+    def __init__(self) -> None:
+        self.said = 0
+        self.lines: Deque[Dict[str, Any]] = collections.deque(maxlen=LINES)
+
+    def shown(self, number: int) -> Dict[str, Any]:
+        return {"agent": number, "entered": self.said > 0, "commands": self.said, "lines": list(self.lines)}
+
+
+class Part:
+    """The part of a replay, which grows: what is new is read when it is asked for."""
+
+    def __init__(self, path: pathlib.Path, agents: int) -> None:
+        self._path = path
+        self._agents = [Agent() for _ in range(agents)]
+        self._read, self._rest, self._has_head = 0, b"", False
+        self._lock = threading.Lock()
+
+    def shown(self) -> List[Dict[str, Any]]:
+        with self._lock:
+            self._look()
+            return [agent.shown(number) for number, agent in enumerate(self._agents)]
+
+    def _look(self) -> None:
+        try:
+            with self._path.open("rb") as file:
+                file.seek(self._read)
+                new = file.read()
+        except FileNotFoundError:
+            return
+        self._read += len(new)
+        *lines, self._rest = (self._rest + new).split(b"\n")
+        for line in lines:
+            if self._has_head:
+                self.take(json.loads(line))
+            self._has_head = True
+
+    def take(self, event: Dict[str, Any]) -> None:
+        """Takes an event, unless no agent is told of it."""
+        is_told = "agent" in event and event.get("reply") is not None
+        if is_told and event["agent"] < len(self._agents):
+            agent = self._agents[event["agent"]]
+            agent.said += event["do"] != "deliver"
+            agent.lines.append(shortened({name: it for name, it in event.items() if name != "agent"}))
+
+
+def shortened(value: Any) -> Any:
+    """A value whose long texts are cut."""
+    if isinstance(value, dict):
+        return {name: shortened(it) for name, it in value.items()}
+    return value[:TEXT] + "…" if isinstance(value, str) and len(value) > TEXT else value
+
+
+class Parts:
+    """The parts that were looked at last."""
+
+    def __init__(self) -> None:
+        self._parts: "collections.OrderedDict[pathlib.Path, Part]" = collections.OrderedDict()
+        self._lock = threading.Lock()
+
+    def shown(self, path: pathlib.Path, agents: int) -> List[Dict[str, Any]]:
+        with self._lock:
+            part = self._parts.pop(path, None) or Part(path, agents)
+            self._parts[path] = part
+            while len(self._parts) > MATCHES:
+                self._parts.popitem(last=False)
+        return part.shown()
+
+
+class Ended(NamedTuple):
+    """What is told of a match that is closed, besides its verdict: which lines were refused, who was lost where, and
+    where black holes were."""
+
+    refused: List[Dict[str, Any]]
+    lost: List[Dict[str, int]]
+    holes: List[int]
+
+
+def ended(replay: pathlib.Path, most: int = 50) -> Optional[Ended]:
+    """What a replay tells."""
+    refused: List[Dict[str, Any]] = []
+    lost: List[Dict[str, int]] = []
+    departed: Dict[int, int] = {}
+    holes: List[int] = []
+    try:
+        with replay.open(encoding="utf-8", newline="\n") as lines:
+            holes = json.loads(next(lines)).get("holes", [])
+            for place, line in enumerate(lines):
+                event = json.loads(line)
+                reply = event.get("reply")
+                if event.get("do") == "depart":
+                    departed[event["agent"]] = event["port"]
+                if event.get("do") == "deliver" and reply is None:
+                    lost.append({"agent": event["agent"], "port": departed.get(event["agent"], 0), "event": place + 1})
+                if isinstance(reply, dict) and "no" in reply and len(refused) < most:
+                    refused.append(shortened({"event": place + 1, **event}))
+    except FileNotFoundError:
+        return None
+    return Ended(refused, lost, holes)

@@ -1,0 +1,74 @@
+"""The standings as they are now, or as they were when they were frozen."""
+import datetime
+from typing import Any, Dict, List, NamedTuple, Optional
+
+from django.conf import settings
+from django.utils import timezone
+
+from lab.hall import machine
+from lab.hall.attempts.models import ABSENT, RATED, Attempt
+from lab.hall.handins.models import Grading
+from lab.hall.standings import rules
+from lab.hall.standings.models import Reveal
+from lab.hall.teams.models import Team
+
+
+class Table(NamedTuple):
+    """Standings, the league of programs, and since when they are frozen."""
+
+    networks: List[str]
+    rows: List[Dict[str, Any]]
+    programs: List[Dict[str, Any]]
+    frozen: Optional[datetime.datetime]
+
+
+def frozen_at() -> Optional[datetime.datetime]:
+    """Since when standings are frozen; None if they are not."""
+    freeze = settings.HALL.freeze
+    if freeze is None or timezone.now() < freeze or Reveal.objects.exists():
+        return None
+    return timezone.datetime.fromtimestamp(freeze.timestamp(), timezone.utc)
+
+
+def table(for_teacher: bool) -> Table:
+    """The standings that a team sees, or those that the teacher sees: all teams, and what the freeze hides."""
+    frozen = None if for_teacher else frozen_at()
+    teams = Team.objects.all() if for_teacher else Team.objects.filter(hidden=False)
+    shown = {team.name: str(team) for team in teams}
+    found = rules.standings(series_of(frozen), list(shown), settings.HALL.rated)
+    return Table(list(settings.HALL.nets), [row_of(row, shown) for row in found], programs(shown, frozen), frozen)
+
+
+def series_of(frozen: Optional[datetime.datetime]) -> List[rules.Series]:
+    """The rated series that are over, in the order in which they were asked for."""
+    rows = Attempt.objects.filter(kind=RATED, state=machine.OVER, counts=True).order_by("pk")
+    if frozen is not None:
+        rows = rows.filter(ended__lt=frozen)
+    found = []
+    for attempt in rows.select_related("team").prefetch_related("matches"):
+        matches = list(attempt.matches.all())
+        if matches and attempt.network in settings.HALL.nets:
+            played = tuple(rules.Played(it.is_solved, it.moves, it.lost) for it in matches)
+            came = any(it.outcome != ABSENT for it in matches)
+            found.append(rules.Series(attempt.team.name, attempt.network, played, came))
+    return found
+
+
+def row_of(row: rules.Row, shown: Dict[str, str]) -> Dict[str, Any]:
+    """A row as pages and REST have it, with a cell for each network."""
+    cells = [row.cells[name]._asdict() if name in row.cells else None for name in settings.HALL.nets]
+    return {"place": row.place, "team": row.team, "name": shown[row.team], "points": row.points,
+            "absent": row.is_absent, "cells": cells}
+
+
+def programs(shown: Dict[str, str], frozen: Optional[datetime.datetime]) -> List[Dict[str, Any]]:
+    """The league of the last programs of teams: on the secret networks, once the teacher has shown them, else on the
+    public ones."""
+    is_secret = Reveal.objects.exists() and Grading.objects.filter(is_secret=True, state=machine.OVER).exists()
+    rows = Grading.objects.filter(is_secret=is_secret, state=machine.OVER).order_by("hand_in")
+    if frozen is not None:
+        rows = rows.filter(ended__lt=frozen)
+    last = {it.hand_in.team.name: it for it in rows.select_related("hand_in__team")}
+    found = rules.league([rules.Graded(name, it.solved, it.matches, it.moves, it.lost) for name, it in last.items()
+                          if name in shown])
+    return [{"place": place, "name": shown[it.team], **it._asdict()} for place, it in found]

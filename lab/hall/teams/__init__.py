@@ -1,0 +1,1 @@
+"""Teams, the teacher, and what keeps strangers out."""

@@ -1,0 +1,552 @@
+"""The pages and the REST of a hall, as a team, another team, a teacher and a stranger ask for them."""
+import json
+import re
+import shutil
+import unittest
+from typing import Any, Dict, List
+from unittest import mock
+
+from lab.hall import machine
+from lab.rules.model import Match as Played
+from lab.rules.model import Setup, spelled
+from lab.rules.networks import ring
+from lab.tests import halls
+from lab.tests.test_hall import zipped
+
+PLACE = halls.begun()
+
+from django.contrib.auth import get_user_model  # noqa: E402
+from django.core.files.uploadedfile import SimpleUploadedFile  # noqa: E402
+from django.test import Client, TestCase  # noqa: E402
+from django.utils import timezone, translation  # noqa: E402
+
+from lab.hall import keys  # noqa: E402
+from lab.hall.attempts import shown  # noqa: E402
+from lab.hall.attempts.models import Attempt, Match  # noqa: E402
+from lab.hall.handins.models import Grading, HandIn  # noqa: E402
+from lab.hall.standings.models import Reveal  # noqa: E402
+from lab.hall.teams import guards  # noqa: E402
+from lab.hall.teams.models import Entry, Grant, Switch, Team  # noqa: E402
+
+PASSWORD = "a long password"
+TEXT = "</script><script>alert(2)</script>"
+
+
+class Hall(TestCase):
+    """A hall with three teams and their tokens."""
+
+    def setUp(self) -> None:
+        for buckets in (guards.asked, guards.tried):
+            buckets.clear()
+        self.tokens = {team.name: team.new_token() for team in Team.objects.all()}
+        keys.set_password(PASSWORD)
+        self.addCleanup(shutil.rmtree, PLACE.folder / "attempts", True)
+        self.addCleanup(shutil.rmtree, PLACE.folder / "hand-ins", True)
+        self.addCleanup(translation.activate, "en")
+
+    def team(self, name: str) -> Team:
+        return Team.objects.get(name=name)
+
+    def client_of(self, name: str) -> Client:
+        client = Client()
+        self.assertEqual(client.post("/login", {"token": self.tokens[name]}).status_code, 302)
+        return client
+
+    def teacher(self) -> Client:
+        client = Client()
+        self.assertTrue(client.login(username="teacher", password=PASSWORD))
+        return client
+
+    def rest(self, how: str, path: str, name: str = "amber", body: Any = None, **given: Any) -> Any:
+        ask = getattr(Client(), how)
+        more = {} if how == "get" else {"data": json.dumps(body), "content_type": "application/json"}
+        header = {"HTTP_AUTHORIZATION": f"Bearer {self.tokens[name]}"} if name else {}
+        return ask(path, **more, **header, **given)
+
+    def running(self, match: Any, name: str = "amber") -> Attempt:
+        """An attempt whose match goes on like this one."""
+        made = Attempt.objects.create(team=self.team(name), network="ring of 5", kind="practice", runs=1,
+                                      state=machine.RUNNING, holder="one", begun=timezone.now())
+        found = Match.objects.create(attempt=made, number=0, run=1, host="127.0.0.1", port=4100, keys=["ka", "kb"])
+        found.part.parent.mkdir(parents=True)
+        self.write(found, match)
+        return made
+
+    def write(self, found: Match, match: Any) -> None:
+        found.part.write_text("".join(spelled(line) + "\n" for line in [match.head(), *match.log]))
+
+    def over(self, match: Any, name: str = "amber", kind: str = "practice") -> Attempt:
+        """An attempt that is over."""
+        made = self.running(match, name)
+        match.close()
+        found = made.matches.get()
+        found.replay.write_text(match.replay())
+        found.page.write_text("<script>watch()</script>")
+        Match.objects.filter(pk=found.pk).update(outcome="solved", moves=7, lost=1)
+        Attempt.objects.filter(pk=made.pk).update(state=machine.OVER, ended=timezone.now(), holder="", kind=kind)
+        return Attempt.objects.get(pk=made.pk)
+
+
+def played(hole: int = 3) -> Any:
+    """A match in which an agent has written on a whiteboard."""
+    match = Played(Setup(5, ring(5).links, 0, [hole], 2, 1000, 4096))
+    match.tell(0, {"do": "enter"})
+    match.tell(0, {"do": "write", "expect": "", "put": TEXT})
+    return match
+
+
+class Logins(Hall):
+    def test_a_team_logs_in_by_its_token_and_out_again(self) -> None:
+        client = self.client_of("amber")
+        self.assertContains(client.get("/matches"), "ring of 5")
+        client.post("/logout")
+        self.assertEqual(client.get("/matches").status_code, 302)
+
+    def test_wrong_tokens_are_refused_and_soon_not_tried_any_more(self) -> None:
+        client = Client()
+        answers = [client.post("/login", {"token": f"amber.{number}"}).status_code for number in range(15)]
+        self.assertEqual(answers[:10], [403] * 10)
+        self.assertEqual(answers[-1], 429)
+        # the right one too, from there; another team behind the same address is not kept out
+        self.assertEqual(client.post("/login", {"token": self.tokens["amber"]}).status_code, 429)
+        self.assertEqual(client.post("/login", {"token": self.tokens["birch"]}).status_code, 302)
+
+    def test_tries_by_rest_and_by_made_up_names_are_limited_too(self) -> None:
+        answers = [Client().get("/api/matches", HTTP_AUTHORIZATION=f"Bearer x{number}.y").status_code
+                   for number in range(guards.TRIES_OF_ADDRESS + 5)]
+        self.assertEqual((answers[0], answers[-1]), (401, 429))
+
+    def test_the_password_is_limited_too(self) -> None:
+        for _ in range(guards.TRIES):
+            Client().post("/teacher/login/", {"username": "teacher", "password": "wrong"})
+        self.assertFalse(Client().login(username="teacher", password="wrong"))
+        self.assertIsNone(Client().post("/teacher/login/", {"username": "teacher", "password": PASSWORD}).get(
+            "Location"))
+
+    def test_tokens_are_kept_as_digests_and_stand_in_no_log(self) -> None:
+        client = self.client_of("amber")
+        client.post("/matches/ask", {"network": "ring of 5", "kind": "practice"})
+        secret = self.tokens["amber"].partition(".")[2]
+        for model in (Team, Entry, Attempt):
+            for row in model.objects.values():
+                self.assertNotIn(secret, str(row))
+
+    def test_a_token_in_an_address_is_refused(self) -> None:
+        for path in ("/?token=x", "/api/matches?key=x", "/matches?password=x"):
+            self.assertEqual(self.rest("get", path).status_code, 400)
+
+    def test_a_new_token_ends_sessions_and_the_old_token(self) -> None:
+        client, old = self.client_of("amber"), self.tokens["amber"]
+        self.tokens["amber"] = self.team("amber").new_token()
+        self.assertEqual(client.get("/matches").status_code, 302)
+        self.assertEqual(Client().get("/api/matches", HTTP_AUTHORIZATION=f"Bearer {old}").status_code, 401)
+        self.assertEqual(self.rest("get", "/api/matches").status_code, 200)
+
+    def test_a_team_without_a_token_cannot_log_in(self) -> None:
+        Team.objects.filter(name="cedar").update(digest="")
+        for token in ("cedar", "cedar.", ""):
+            self.assertNotEqual(Client().post("/login", {"token": token}).status_code, 302)
+
+    def test_a_session_begins_anew(self) -> None:
+        """A session that a stranger has planted in a browser is not the one that logs in."""
+        client = Client()
+        client.get("/login")
+        client.post("/login", {"token": self.tokens["amber"]})
+        before = client.cookies["sessionid"].value
+        client.post("/login", {"token": self.tokens["amber"]})
+        self.assertNotEqual(client.cookies["sessionid"].value, before)
+        self.assertTrue(client.cookies["sessionid"]["httponly"])
+
+
+class Forgeries(Hall):
+    def test_each_page_that_changes_something_asks_for_its_secret(self) -> None:
+        client = Client(enforce_csrf_checks=True)
+        self.assertEqual(client.post("/login", {"token": self.tokens["amber"]}).status_code, 403)
+        page = client.get("/login").content.decode()
+        word = re.search('name="csrfmiddlewaretoken" value="([^"]+)"', page)
+        assert word is not None
+        self.assertEqual(client.post("/login", {"token": self.tokens["amber"], "csrfmiddlewaretoken": word[1]}
+                                     ).status_code, 302)
+        for path in ("/matches/ask", "/matches/1/close", "/hand-ins/take", "/logout", "/language/setlang/",
+                     "/api/matches", "/api/matches/1/close", "/api/hand-ins"):
+            with self.subTest(path):
+                self.assertEqual(client.post(path, {"network": "ring of 5", "kind": "practice"}).status_code, 403)
+        self.assertEqual(Attempt.objects.count(), 0)
+
+    def test_nothing_changes_by_get(self) -> None:
+        client, attempt = self.client_of("amber"), self.running(played())
+        for path in ("/matches/ask?network=ring of 5&kind=practice", f"/matches/{attempt.pk}/close", "/logout",
+                     "/hand-ins/take", f"/api/matches/{attempt.pk}/close"):
+            self.assertIn(client.get(path).status_code, (302, 405))
+        self.assertEqual((Attempt.objects.count(), Attempt.objects.get().closing), (1, False))
+        self.assertEqual(client.get("/matches").status_code, 200)
+
+    def test_other_hosts_and_headers(self) -> None:
+        self.assertEqual(Client().get("/login", HTTP_HOST="evil.example").status_code, 400)
+        answer = Client().get("/login")
+        self.assertIn("default-src 'none'", answer["Content-Security-Policy"])
+        self.assertIn("frame-ancestors 'none'", answer["Content-Security-Policy"])
+        self.assertEqual((answer["X-Frame-Options"], answer["Cache-Control"]), ("DENY", "no-store"))
+        self.assertNotIn("ETag", answer)
+        answer = Client().post("/language/setlang/", {"language": "de", "next": "https://evil.example/"})
+        self.assertEqual(answer["Location"], "/")
+
+
+class Attempts(Hall):
+    def test_what_a_team_asks_for(self) -> None:
+        made = self.rest("post", "/api/matches", body={"network": "ring of 5"})
+        self.assertEqual((made.status_code, made.json()["state"]), (201, "waiting"))
+        self.assertEqual(made["Location"], f"/api/matches/{made.json()['id']}")
+        for body, status in (({"network": "none"}, 404), ({"network": "ring of 5", "kind": "contest"}, 400), ({}, 400),
+                             ({"network": ["x"]}, 400), ([], 400), ({"network": "x" * 70}, 400),
+                             ({"network": "' OR 1=1; DROP TABLE teams_team; --"}, 404)):
+            with self.subTest(body):
+                told = self.rest("post", "/api/matches", body=body)
+                self.assertEqual(told.status_code, status)
+                self.assertEqual(list(told.json()), ["error"])
+
+    def test_limits(self) -> None:
+        asked = [self.rest("post", "/api/matches", body={"network": "ring of 5"}).status_code for _ in range(3)]
+        self.assertEqual(asked, [201, 201, 429])
+        # another team is not kept from its own
+        self.assertEqual(self.rest("post", "/api/matches", "birch", {"network": "ring of 5"}).status_code, 201)
+
+    def test_rated_attempts_a_day_and_one_at_a_time(self) -> None:
+        def ask() -> int:
+            told = self.rest("post", "/api/matches", body={"network": "ring of 5", "kind": "rated"})
+            return int(told.status_code)
+        self.assertEqual([ask(), ask()], [201, 429])
+        Attempt.objects.update(state=machine.OVER, begun=timezone.now())
+        self.assertEqual(ask(), 201)
+        Attempt.objects.update(state=machine.OVER, begun=timezone.now())
+        self.assertEqual(ask(), 429)
+        # one that the hall has lost does not count, and the teacher may give one more
+        Attempt.objects.filter(pk=Attempt.objects.first().pk).update(state=machine.LOST)
+        self.assertEqual(ask(), 201)
+        Attempt.objects.filter(state=machine.WAITING).update(state=machine.OVER, begun=timezone.now())
+        self.assertEqual(ask(), 429)
+        Grant.objects.create(team=self.team("amber"), kind=Grant.RATED, network="ring of 5")
+        self.assertEqual(ask(), 201)
+
+    def test_a_rated_attempt_that_is_closed_while_it_runs_is_used_up(self) -> None:
+        Attempt.objects.create(team=self.team("amber"), network="ring of 5", kind="rated", state=machine.CANCELLED)
+        offers = self.rest("get", "/api/networks").json()
+        self.assertEqual(offers[0]["rated_left"], 2)
+        Attempt.objects.update(begun=timezone.now())
+        self.assertEqual(self.rest("get", "/api/networks").json()[0]["rated_left"], 1)
+
+    def test_closed_networks(self) -> None:
+        Switch.objects.filter(network="ring of 5").update(is_open=False)
+        self.assertEqual(self.rest("post", "/api/matches", body={"network": "ring of 5"}).status_code, 404)
+        self.assertContains(self.client_of("amber").get("/matches"), "closed")
+
+    def test_who_has_too_many_files_loses_old_practice(self) -> None:
+        old = self.over(played())
+        Attempt.objects.filter(pk=old.pk).update(size=300 << 20)
+        self.assertEqual(self.rest("post", "/api/matches", body={"network": "ring of 5"}).status_code, 201)
+        old.refresh_from_db()
+        self.assertEqual((old.size, old.folder.exists(), old.matches.get().outcome), (0, False, "solved"))
+        rated = self.over(played(), kind="rated")
+        Attempt.objects.filter(pk=rated.pk).update(size=300 << 20)
+        told = self.rest("post", "/api/matches", body={"network": "ring of 5"})
+        self.assertEqual((told.status_code, rated.folder.exists()), (429, True))
+
+    def test_floods_are_refused_and_slow_no_other_team(self) -> None:
+        from django.conf import settings
+        hall = settings.HALL._replace(limits=settings.HALL.limits._replace(requests=30))
+        with mock.patch.object(settings, "HALL", hall):
+            answers = [self.rest("get", "/api/matches").status_code for _ in range(60)]
+            self.assertEqual((answers[0], answers[-1]), (200, 429))
+            told = self.rest("get", "/api/matches")
+            self.assertGreaterEqual(int(told["Retry-After"]), 1)
+            self.assertEqual(self.rest("get", "/api/matches", "birch").status_code, 200)
+            # a new session of the same team has no new requests
+            self.assertEqual(self.rest("get", "/api/matches").status_code, 429)
+
+
+class Isolation(Hall):
+    """What a team learns of a match that goes on, and of other teams."""
+
+    def answers(self, attempt: Attempt, name: str = "amber") -> List[bytes]:
+        """Every answer about an attempt: status, headers and bytes, but for what is random in each answer."""
+        client, found = self.client_of(name), []
+        number = attempt.pk
+        for path in (f"/matches/{number}", "/matches", f"/api/matches/{number}", "/api/matches", "/api/standings",
+                     f"/matches/{number}/0/page", f"/matches/{number}/0/replay", f"/api/matches/{number}/replays/0",
+                     f"/matches/{number}/1/page", "/", "/screen", "/hand-ins"):
+            answer = client.get(path)
+            body = re.sub(rb'name="csrfmiddlewaretoken" value="[^"]+"', b"", answer.content)
+            headers = {name: it for name, it in answer.headers.items() if name != "Set-Cookie"}
+            found.append(repr((path, answer.status_code, sorted(headers.items()), body)).encode())
+        return found
+
+    def test_matches_that_no_agent_can_tell_apart_have_the_same_answers(self) -> None:
+        """The black hole is another node, and in one match an agent is destroyed that is on its way in the other: no
+        page, no REST, no size, no header and no error tells which."""
+        dead, alive = played(1), played(3)
+        for match in (dead, alive):
+            match.tell(1, {"do": "enter"})
+            match.tell(0, {"do": "depart", "port": 0})
+        dead.deliver(0)
+        self.assertIsNone(dead.log[-1]["reply"])
+        attempt = self.running(alive)
+        one = self.answers(attempt)
+        shown.PARTS = type(shown.PARTS)()
+        self.write(attempt.matches.get(), dead)
+        self.assertEqual(self.answers(attempt), one)
+        self.assertIn(b"gone", b"".join(one))
+
+    def test_nothing_of_black_holes_or_deaths_before_the_close(self) -> None:
+        match = played(4)
+        match.tell(0, {"do": "depart", "port": 1})
+        match.deliver(0)
+        attempt = self.running(match)
+        text = b"".join(self.answers(attempt))
+        for word in (b"holes&quot;", b'"home', b"lost&quot;: 1", b"Black hole: node", b"was lost by"):
+            self.assertNotIn(word, text)
+        told = self.rest("get", f"/api/matches/{attempt.pk}").json()
+        self.assertEqual((told["matches"][0]["after"], told["matches"][0]["verdict"], told["solved"]), (None, None, 0))
+
+    def test_a_series_tells_nothing_before_all_its_matches_are_closed(self) -> None:
+        attempt = self.running(played())
+        Attempt.objects.filter(pk=attempt.pk).update(series=2, kind="rated")
+        first = attempt.matches.get()
+        other = Match.objects.create(attempt=attempt, number=1, run=1, host="h", port=2, keys=["kc", "kd"])
+        other.part.parent.mkdir(parents=True)
+        ended = played()
+        ended.close()
+        other.replay.write_text(ended.replay())
+        told = self.rest("get", f"/api/matches/{attempt.pk}").json()
+        self.assertEqual([it["verdict"] for it in told["matches"]], [None, None])
+        self.assertEqual(self.rest("get", f"/api/matches/{attempt.pk}/replays/1").status_code, 404)
+        self.assertEqual(first.attempt_id, attempt.pk)
+
+    def test_another_teams_match_is_as_if_there_were_none(self) -> None:
+        for attempt in (self.running(played()), self.over(played())):
+            theirs, none = self.client_of("birch"), 999_999
+            for path in ("/matches/{}", "/matches/{}/0/page", "/matches/{}/0/replay", "/api/matches/{}",
+                         "/api/matches/{}/replays/0"):
+                with self.subTest(path):
+                    one, other = theirs.get(path.format(attempt.pk)), theirs.get(path.format(none))
+                    self.assertEqual((one.status_code, one.content), (404, other.content))
+            for path in ("/matches/{}/close", "/api/matches/{}/close"):
+                self.assertEqual(theirs.post(path.format(attempt.pk)).status_code, 404)
+                self.assertEqual(self.rest("post", path.format(attempt.pk), "birch").status_code, 404)
+            attempt.refresh_from_db()
+            self.assertFalse(attempt.closing)
+            self.assertEqual(Client().get(f"/matches/{attempt.pk}").status_code, 404)
+
+    def test_paths_lead_nowhere_else(self) -> None:
+        attempt, client = self.over(played()), self.client_of("amber")
+        for path in ("/static/../settings.py", "/static/%2e%2e/settings.py", "/static//etc/passwd",
+                     f"/matches/{attempt.pk}/../../key.txt", "/hall.sqlite3", "/tournament.toml",
+                     f"/matches/{attempt.pk}/0/../tournament.toml", f"/static/{PLACE.folder}/key.txt",
+                     f"/matches/{10 ** 30}", "/matches/-1", f"/api/matches/{10 ** 30}", "/hand-ins/1/result/../../x",
+                     "/matches/1/99999999999/page"):
+            with self.subTest(path):
+                self.assertIn(client.get(path).status_code, (400, 404))
+
+    def test_texts_of_strangers_are_texts(self) -> None:
+        attempt, client = self.over(played()), self.client_of("birch")
+        page = client.get("/").content.decode()
+        self.assertIn("&lt;script&gt;alert(1)&lt;/script&gt; Łódź", page)
+        self.assertIn("A &lt;b&gt;trial&lt;/b&gt;", page)
+        for text in (page, self.client_of("amber").get(f"/matches/{attempt.pk}").content.decode(),
+                     self.teacher().get("/teacher/attempts/attempt/").content.decode()):
+            self.assertNotIn("<script>alert", text)
+        page = self.client_of("amber").get(f"/matches/{attempt.pk}/0/page")
+        self.assertTrue(page["Content-Security-Policy"].startswith("sandbox allow-scripts; default-src 'none'"))
+
+    def test_after_the_close_losses_are_told(self) -> None:
+        match = played(1)
+        match.tell(0, {"do": "depart", "port": 0})
+        match.deliver(0)
+        attempt = self.over(match)
+        self.assertContains(self.client_of("amber").get(f"/matches/{attempt.pk}"), "Agent 0 was lost by port 0")
+        told = self.rest("get", f"/api/matches/{attempt.pk}").json()
+        self.assertEqual(told["matches"][0]["after"]["holes"], [1])
+        replay = self.rest("get", f"/api/matches/{attempt.pk}/replays/0")
+        self.assertEqual(b"".join(replay.streaming_content).decode(), attempt.matches.get().replay.read_text())
+
+
+class Standings(Hall):
+    def test_the_freeze_hides_what_came_later_from_all_but_the_teacher(self) -> None:
+        from django.conf import settings
+        attempt = self.over(played(), kind="rated")
+        before = self.rest("get", "/api/standings").json()
+        self.assertEqual((before["teams"][0]["team"], before["teams"][0]["points"]), ("amber", 120.0))
+        early = settings.HALL._replace(freeze=attempt.ended - timezone.timedelta(minutes=1))
+        with mock.patch.object(settings, "HALL", early):
+            told = self.rest("get", "/api/standings", "birch").json()
+            self.assertTrue(all(row["absent"] for row in told["teams"]))
+            self.assertTrue(told["frozen"])
+            for path in ("/", "/screen"):
+                self.assertContains(self.client_of("amber").get(path), "Frozen since")
+            self.assertNotContains(self.teacher().get("/"), "Frozen since")
+            self.assertContains(self.teacher().get("/screen"), "Frozen since")
+            Reveal.objects.create()
+            self.assertEqual(self.rest("get", "/api/standings").json()["teams"], before["teams"])
+
+    def test_who_may_see_them(self) -> None:
+        from django.conf import settings
+        self.assertEqual([Client().get(path).status_code for path in ("/", "/screen")], [302, 302])
+        self.assertEqual(Client().get("/api/standings").status_code, 401)
+        with mock.patch.object(settings, "HALL", settings.HALL._replace(public=True)):
+            self.assertEqual([Client().get(path).status_code for path in ("/", "/screen", "/api/standings")], [200] * 3)
+
+    def test_hidden_teams_and_attempts_that_were_taken_out(self) -> None:
+        attempt = self.over(played(), kind="rated")
+        Team.objects.filter(name="cedar").update(hidden=True)
+        self.assertEqual([row["team"] for row in self.rest("get", "/api/standings").json()["teams"]],
+                         ["amber", "birch"])
+        Attempt.objects.filter(pk=attempt.pk).update(counts=False)
+        self.assertTrue(self.rest("get", "/api/standings").json()["teams"][0]["absent"])
+        self.assertContains(self.teacher().get("/teacher/standings.csv"), "cedar")
+
+    def test_tables_have_no_formulas(self) -> None:
+        Team.objects.filter(name="amber").update(display="=1+1")
+        self.assertContains(self.teacher().get("/teacher/standings.csv"), ",'=1+1,")
+        self.assertEqual(self.client_of("amber").get("/teacher/standings.csv").status_code, 302)
+
+    def test_languages(self) -> None:
+        client = self.client_of("amber")
+        for language, word in (("de", "Tabelle"), ("fr", "Classement"), ("en", "Standings")):
+            client.post("/language/setlang/", {"language": language, "next": "/"})
+            self.assertContains(client.get("/"), f"<h1>{word}</h1>")
+
+
+class HandIns(Hall):
+    def hand_in(self, sent: bytes, name: str = "amber") -> Any:
+        file = SimpleUploadedFile("my agent.py", sent)
+        return Client().post("/api/hand-ins", {"file": file}, HTTP_AUTHORIZATION=f"Bearer {self.tokens[name]}")
+
+    def test_a_hand_in_waits_to_be_graded(self) -> None:
+        told = self.hand_in(b"print()")
+        self.assertEqual((told.status_code, told.json()["state"], told.json()["result"]), (201, "waiting", None))
+        self.assertEqual((HandIn.objects.get().folder / "files" / "agent.py").read_bytes(), b"print()")
+        self.assertEqual(self.rest("get", f"/api/hand-ins/{told.json()['id']}", "birch").status_code, 404)
+        self.assertEqual(self.rest("get", f"/api/hand-ins/{told.json()['id']}").status_code, 200)
+
+    def test_limits(self) -> None:
+        self.assertEqual([self.hand_in(b"x").status_code for _ in range(4)], [201, 201, 201, 429])
+        self.assertEqual(self.hand_in(b"x", "birch").status_code, 201)
+        Grading.objects.update(state=machine.OVER)
+        self.assertEqual([self.hand_in(b"x").status_code for _ in range(3)], [201, 201, 201])
+        Grading.objects.update(state=machine.OVER)
+        HandIn.objects.filter(team__name="amber").update(size=300 << 20)
+        self.assertEqual(self.hand_in(b"x").status_code, 429)
+
+    def test_a_zip_that_is_refused_leaves_nothing(self) -> None:
+        told = self.hand_in(zipped({"../../evil.py": b"x"}))
+        self.assertEqual((told.status_code, HandIn.objects.count()), (400, 0))
+        self.assertFalse((PLACE.folder / "hand-ins").exists())
+        page = self.client_of("amber").post("/hand-ins/take", {"file": SimpleUploadedFile("x", b"")})
+        self.assertEqual(page.status_code, 400)
+
+    def test_after_the_deadline_nothing_is_taken_and_the_last_is_graded_secretly(self) -> None:
+        from django.conf import settings
+        from lab.hall.handins import taking
+        for _ in range(2):
+            self.assertEqual(self.hand_in(b"x").status_code, 201)
+        given = settings.HALL.hand_ins._replace(deadline=timezone.now())
+        with mock.patch.object(settings, "HALL", settings.HALL._replace(hand_ins=given)):
+            self.assertEqual(self.hand_in(b"x").status_code, 403)
+            later = timezone.now() + timezone.timedelta(seconds=1)
+            self.assertEqual([taking.grade_secretly(later), taking.grade_secretly(later)], [1, 0])
+        secret = Grading.objects.get(is_secret=True)
+        self.assertEqual(secret.hand_in, HandIn.objects.order_by("-pk").first())
+        # nothing of it is told before the teacher shows it
+        Grading.objects.filter(pk=secret.pk).update(state=machine.OVER, solved=77, matches=77)
+        texts = [self.client_of("amber").get(path).content for path in ("/hand-ins", "/", "/api/standings",
+                                                                        "/api/hand-ins")]
+        self.assertNotIn(b"77", b"".join(re.sub(rb"[\w]{40,}", b"", text) for text in texts))
+        Reveal.objects.create()
+        self.assertContains(self.client_of("amber").get("/"), "77 of 77")
+
+    def test_results_are_those_of_ones_own_team(self) -> None:
+        self.hand_in(b"x")
+        grading = Grading.objects.get()
+        out = grading.folder / "out"
+        (out / "failed" / "amber-0").mkdir(parents=True)
+        (out / "team-amber.html").write_text("<script>1</script>")
+        (out / "failed" / "amber-0" / "match0.jsonl").write_text("{}")
+        (out / "runs.csv").write_text("run")
+        path = f"/hand-ins/{grading.hand_in_id}/result/"
+        client = self.client_of("amber")
+        self.assertEqual(client.get(path).status_code, 404)
+        Grading.objects.update(state=machine.OVER)
+        page = client.get(path)
+        self.assertEqual(b"".join(page.streaming_content), b"<script>1</script>")
+        self.assertIn("sandbox", page["Content-Security-Policy"])
+        self.assertEqual(client.get(f"{path}failed/amber-0/match0.jsonl").status_code, 200)
+        for other in ("secret.txt", "runs.csv", "../secret.txt", "failed/../../secret.txt", "failed/amber-0/..",
+                      "failed/amber-0"):
+            self.assertEqual(client.get(path + other).status_code, 404, other)
+        self.assertEqual(self.client_of("birch").get(path).status_code, 404)
+
+
+class Teachers(Hall):
+    def test_teams_are_no_teachers(self) -> None:
+        client = self.client_of("amber")
+        for path in ("/teacher/", "/teacher/teams/team/", "/teacher/attempts/attempt/", "/teacher/teams/entry/"):
+            self.assertIn("/teacher/login/", client.get(path)["Location"])
+
+    def test_pages_of_the_teacher(self) -> None:
+        client = self.teacher()
+        self.over(played())
+        self.running(played(), "birch")
+        for path in ("", "teams/team/", "teams/team/add/", "attempts/attempt/", "teams/switch/", "teams/grant/",
+                     "attempts/contest/add/", "handins/grading/", "teams/entry/", "standings/reveal/"):
+            self.assertEqual(client.get(f"/teacher/{path}").status_code, 200, path)
+        self.assertContains(client.get(f"/matches/{Attempt.objects.order_by('pk').first().pk}"), "solved")
+
+    def test_key_sheets(self) -> None:
+        client, team = self.teacher(), self.team("cedar")
+        told = client.post("/teacher/teams/team/", {"action": "draw_tokens", "_selected_action": [team.pk]})
+        token = told.content.decode().splitlines()[1].split(",")[2]
+        self.assertEqual(Client().post("/login", {"token": token}).status_code, 302)
+        self.assertEqual(Client().post("/login", {"token": self.tokens["cedar"]}).status_code, 403)
+        self.assertNotIn(token, str(list(Entry.objects.values())))
+        self.assertTrue(Entry.objects.filter(what="draws a token for cedar").exists())
+
+    def test_actions(self) -> None:
+        client, attempt = self.teacher(), self.over(played(), kind="rated")
+        running = self.running(played(), "birch")
+        for action in ("close", "take_out", "grant"):
+            client.post("/teacher/attempts/attempt/", {"action": action, "_selected_action": [attempt.pk, running.pk]})
+        attempt.refresh_from_db()
+        running.refresh_from_db()
+        self.assertEqual((attempt.counts, running.closing, Grant.objects.count()), (False, True, 2))
+        self.assertEqual(get_user_model().objects.count(), 1)
+
+
+class Documented(Hall):
+    """REST is as its file says."""
+
+    def test_each_answer_is_as_the_file_says(self) -> None:
+        import jsonschema
+        document = self.rest("get", "/api/openapi.json", "").json()
+        self.over(played())
+        self.running(played())
+        self.rest("post", "/api/matches", body={"network": "torus with a map"})
+        self.client_of("amber")
+        answers = {"/networks": {}, "/matches": {}, "/standings": {}, "/hand-ins": {}}
+        numbers = [it.pk for it in Attempt.objects.all()]
+        paths: Dict[str, str] = {**{path: path for path in answers}, "/openapi.json": "/openapi.json",
+                                 **{f"/matches/{number}": "/matches/{id}" for number in numbers}}
+        for path, name in paths.items():
+            told = self.rest("get", f"/api{path}")
+            schema = document["paths"][name]["get"]["responses"]["200"]["content"]["application/json"]["schema"]
+            with self.subTest(path):
+                jsonschema.validate(told.json(), {**schema, "components": document["components"]})
+
+    def test_each_path_stands_in_the_file(self) -> None:
+        from lab.hall.urls import API
+        document = self.rest("get", "/api/openapi.json", "").json()
+        found = {"/" + re.sub("<number:(number|match)>", lambda it: {"number": "{id}", "match": "{match}"}[it[1]],
+                              str(entry.pattern)) for entry in API}
+        self.assertEqual(set(document["paths"]), found)
+
+
+if __name__ == "__main__":
+    unittest.main()
