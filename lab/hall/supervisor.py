@@ -13,7 +13,7 @@ from typing import Dict, Iterator, List, NamedTuple, Optional
 from lab.hall import tls
 from lab.hall.attempts.servers import bound
 from lab.hall.course import NoHall
-from lab.hall.place import VARIABLE, Place
+from lab.hall.place import VARIABLE, Place, write_whole
 from lab.support.built import TOP
 from lab.support.ports import free_port
 
@@ -24,7 +24,6 @@ THREADS = 16
 SCHEDULER, WORKER = "scheduler", "worker"
 # Dask serves no pages of its own
 NO_PAGES = {f"DASK_DISTRIBUTED__{part}__HTTP__ROUTES": "[]" for part in ("SCHEDULER", "WORKER")}
-ACCESS = '%(t)s %(h)s "%(m)s %(U)s" %(s)s %(B)s %(M)sms'
 
 
 class Options(NamedTuple):
@@ -67,8 +66,7 @@ def parts_of(place: Place, options: Options) -> List[Part]:
     web = Part("web", python(
         "-m", "gunicorn", "lab.hall.wsgi", "--bind", f"{options.address}:{options.port}", "--worker-class", "gthread",
         "--workers", 1, "--threads", THREADS, "--limit-request-line", 2000, "--limit-request-fields", 50,
-        "--keep-alive", 5, "--timeout", 60, "--graceful-timeout", 2,
-        "--access-logfile", place.folder / "web.log", "--access-logformat", ACCESS), {"PYTHONHASHSEED": "random"})
+        "--keep-alive", 5, "--timeout", 60, "--graceful-timeout", 2), {"PYTHONHASHSEED": "random"})
     return [web, keeper] if options.cluster else [*local(place, options, scheduler), keeper, web]
 
 
@@ -152,7 +150,7 @@ def serve(place: Place, options: Options, seconds: Optional[float] = None) -> No
         while limit is None or time.monotonic() < limit:
             for line in parts.look():
                 print(f"hall: {line}", file=sys.stderr, flush=True)
-            (place.folder / "processes").write_text("".join(
+            write_whole(place.folder / "processes", "".join(
                 f"{number} {name}\n" for name, number in parts.numbers().items()))
             time.sleep(LOOK)
     finally:

@@ -244,6 +244,11 @@ def play(told: Dict[str, Any]) -> List["subprocess.Popen[bytes]"]:
             for match in told["matches"] for key in match["keys"]]
 
 
+def came(told: Dict[str, Any]) -> Any:
+    """What came of an attempt, whether its pages are made or not."""
+    return told["state"], told["verdicts"], [(it["keys"], it["after"]) for it in told["matches"]]
+
+
 def said(host: str, port: int, lines: List[Dict[str, Any]]) -> List[Dict[str, Any]]:
     """What a server answers to these lines, one by one."""
     with socket.create_connection((host, port), timeout=SECONDS) as connection, connection.makefile("rw") as file:

@@ -251,6 +251,17 @@ class Attempts(Hall):
         told = self.rest("post", "/api/matches", body={"network": "ring of 5"})
         self.assertEqual((told.status_code, rated.folder.exists()), (429, True))
 
+    def test_bodies_that_are_too_large_or_too_deep(self) -> None:
+        for length, name, status in ((9 << 20, "amber", 413), (100 << 10, "", 413), (100 << 10, "amber", 400)):
+            token = {"HTTP_AUTHORIZATION": f"Bearer {self.tokens['amber']}"} if name else {}
+            self.rest("get", "/api/matches")
+            told = Client().post("/api/matches", b"[" * length, content_type="application/json", **token)
+            self.assertEqual(told.status_code, status)
+        told = Client().post("/login", {"token": "amber\0.x"})
+        self.assertEqual(told.status_code, 400)
+        told = self.rest("post", "/api/matches", body={"network": "ring\0of 5"})
+        self.assertEqual(told.status_code, 400)
+
     def test_floods_are_refused_and_slow_no_other_team(self) -> None:
         from django.conf import settings
         hall = settings.HALL._replace(limits=settings.HALL.limits._replace(requests=30))

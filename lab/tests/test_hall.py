@@ -11,8 +11,9 @@ import zipfile
 from typing import Any, Dict, List, Optional, Set, Tuple
 
 from lab.hall import machine
+from lab.hall.attempts.draws import TOURNAMENT, drawn, write
 from lab.hall.attempts.seen import Part, ended
-from lab.hall.course import BEST, LAST, MEAN, WORST, Rated
+from lab.hall.course import BEST, DRAWN, FIXED, LAST, MEAN, WORST, Net, Rated
 from lab.hall.handins import unpacking
 from lab.hall.handins.unpacking import NoHandIn, files_of
 from lab.hall.machine import (ACTIVE, BEGIN, CANCEL, CANCELLED, CLAIM, ENDED, EVENTS, FAIL, FINISH, HELD, LOSE, LOST,
@@ -115,6 +116,44 @@ class Machines(unittest.TestCase):
 
 def series(team: str, network: str, *matches: Tuple[bool, int], came: bool = True) -> Series:
     return Series(team, network, tuple(Played(solved, moves, 1) for solved, moves in matches), came)
+
+
+class Draws(unittest.TestCase):
+    """Each attempt has draws of its own."""
+
+    def test_what_is_drawn_for_one_attempt_tells_nothing_of_another(self) -> None:
+        """Of many draws each node is the black hole, each is the home base, and no key, no labels and no seed come
+        twice."""
+        net = Net("ring", ring(6), 2, 1, 100, 40, DRAWN, True)
+        found = [drawn(net, "amber") for _ in range(200)]
+        setups = [it.fixture.setup for it in found]
+        self.assertEqual({it.home for it in setups}, set(range(6)))
+        self.assertEqual({hole for it in setups for hole in it.holes}, set(range(6)))
+        self.assertTrue(all(it.home not in it.holes and len(it.holes) == 1 for it in setups))
+        self.assertGreater(len({str(it.links) for it in setups}), 30)
+        keys = [key for it in found for key in it.fixture.keys]
+        self.assertEqual(len(set(keys)), len(keys))
+        for it in found:
+            self.assertEqual(it.map, {"nodes": 6, "links": [list(link) for link in it.fixture.setup.links],
+                                      "home": it.fixture.setup.home})
+
+    def test_fixed_labels_and_no_map(self) -> None:
+        net = Net("ring", ring(6), 2, 1, 100, 40, FIXED, False)
+        self.assertEqual([(it.fixture.setup.links, it.map) for it in (drawn(net, "a"), drawn(net, "a"))],
+                         [(ring(6).links, None)] * 2)
+
+    def test_files_of_a_match_are_the_halls_alone(self) -> None:
+        with tempfile.TemporaryDirectory() as name:
+            folder = pathlib.Path(name) / "match0"
+            net = Net("ring", ring(6), 2, 1, 100, 40, DRAWN, False)
+            seeds = set()
+            for number in range(3):
+                write(drawn(net, "amber"), folder / str(number))
+                text = (folder / str(number) / TOURNAMENT).read_text()
+                seeds.add(text.split('"')[1])
+                self.assertEqual((folder / str(number) / TOURNAMENT).stat().st_mode & 0o077, 0)
+                self.assertEqual((folder / str(number)).stat().st_mode & 0o077, 0)
+            self.assertEqual(len(seeds), 3)
 
 
 class Rules(unittest.TestCase):

@@ -34,20 +34,33 @@ Maintainer: The arena project <arena@localhost>
 Installed-Size: {size}
 Depends: libc6 (>= {glibc}), python3 (>= 3.11), python3-greenlet, python3-jinja2, python3-tqdm
 Recommends: python3-hypothesis, python3-networkx, python3-numpy, python3-scipy, python3-matplotlib
-Suggests: python3-distributed, python3-aiohttp, bubblewrap, python3-seccomp, python3-pandas, jupyter-notebook
+Suggests: python3-distributed, python3-aiohttp, bubblewrap, python3-seccomp, python3-pandas, jupyter-notebook,
+ python3-django, python3-djangorestframework, gunicorn, openssl, python3-psycopg2
 Section: science
 Priority: optional
 Description: contest server for black hole search by mobile agents
  Agents explore an anonymous network in which some nodes destroy every agent that
  arrives. The server arena serves contests, judges replays and ranks teams, and
  {claim}
- The lab, arena-lab, plays agents under chosen schedules and shows matches.
+ The lab, arena-lab, plays agents under chosen schedules, shows matches, and serves a
+ hall for a course.
 """
 CLAIMS = {True: "what it tells agents is proved: /usr/share/doc/arena/PROVED.txt says by what.",
           False: "this build of it is not proved. Do not publish it."}
+# the hall as a service, which the teacher enables once there is a course
+SERVICE, SYSTEM = "lab/hall/arena-hall.service", "usr/lib/systemd/system/arena-hall.service"
+POSTINST = """#!/bin/sh
+set -e
+if [ -d /run/systemd/system ]; then
+    systemctl daemon-reload
+fi
+"""
 # Python keeps what it has compiled beside the lab, if root runs it
 PRERM = f"""#!/bin/sh
 set -e
+if [ "$1" = remove ] && [ -d /run/systemd/system ]; then
+    systemctl --no-reload disable --now arena-hall.service || true
+fi
 find /{HOME.rstrip('/')} -name __pycache__ -type d -prune -exec rm -rf {{}} +
 """
 
@@ -64,6 +77,8 @@ def files_of(released: Files, pages: Dict[str, str], completion: str) -> Files:
         if name in released:
             found[DOCUMENTS + name] = released[name]
     found["usr/bin/arena-lab"] = File(LAB.encode(), RUNNABLE)
+    if SERVICE in released:
+        found[SYSTEM] = released[SERVICE]
     for name, text in pages.items():
         found[f"usr/share/man/man1/{name}.gz"] = File(gzip.compress(text.encode(), 9, mtime=0), READABLE)
     found["usr/share/bash-completion/completions/arena"] = File(completion.encode(), READABLE)
@@ -76,7 +91,7 @@ def control(files: Files, version: str, glibc: str, is_proved: bool) -> Files:
     text = CONTROL.format(version=version, size=size, glibc=glibc, claim=CLAIMS[is_proved])
     sums = "".join(f"{hashlib.md5(file.text).hexdigest()}  {path}\n" for path, file in sorted(files.items()))
     return {"DEBIAN/control": File(text.encode(), READABLE), "DEBIAN/md5sums": File(sums.encode(), READABLE),
-            "DEBIAN/prerm": File(PRERM.encode(), RUNNABLE)}
+            "DEBIAN/prerm": File(PRERM.encode(), RUNNABLE), "DEBIAN/postinst": File(POSTINST.encode(), RUNNABLE)}
 
 
 def packed(files: Files, links: Dict[str, str], seconds: int) -> bytes:

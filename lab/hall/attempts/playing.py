@@ -64,6 +64,7 @@ class Playing:
         self._folder = attempt.folder / f"run{attempt.runs}"
         self._net = settings.HALL.nets.get(attempt.network)
         self._renewed = time.monotonic()
+        self._came = False
 
     def play(self) -> None:
         """Plays all matches, and notes what came of them."""
@@ -117,15 +118,28 @@ class Playing:
 
     def _wait(self, left: List[Server]) -> None:
         """Waits until all servers have ended."""
-        limit, is_closing = time.monotonic() + self._times().seconds(), False
+        began, is_closing = time.monotonic(), False
         while left := [server for server in left if not server.has_ended()]:
             time.sleep(LOOK)
             if time.monotonic() - self._renewed > RENEWED:
                 self._try_to_renew()
-            if not is_closing and (self._attempt.closing or time.monotonic() > limit):
+            if not is_closing and (self._attempt.closing or self._is_late(time.monotonic() - began)):
                 is_closing = True
                 for server in left:
                     server.close()
+
+    def _is_late(self, seconds: float) -> bool:
+        """Whether matches are to be closed: they take too long, or nobody has come to any of them."""
+        times = self._times()
+        waited = seconds * 1000 > times.gather + 1000
+        return seconds > times.seconds() or waited and not self._has_come()
+
+    def _has_come(self) -> bool:
+        """Whether an agent has entered a match, which is asked until one has."""
+        if not self._came:
+            paths = [path for it in self._attempt.matches.all() for path in (it.part, it.replay) if path.exists()]
+            self._came = any(has_entered(path) for path in paths)
+        return self._came
 
     def _try_to_renew(self) -> None:
         """Renews the lease. A database that does not answer is asked again, as long as the lease holds."""
@@ -157,8 +171,9 @@ class Playing:
 
 def has_entered(replay: pathlib.Path) -> bool:
     """Whether an agent has entered a match."""
-    with replay.open(encoding="utf-8", newline="\n") as lines:
+    with contextlib.suppress(FileNotFoundError), replay.open(encoding="utf-8", newline="\n") as lines:
         return any('"do":"enter"' in line for line in lines)
+    return False
 
 
 def size_of(folder: pathlib.Path) -> int:

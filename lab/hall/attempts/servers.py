@@ -6,6 +6,7 @@ import random
 import select
 import socket
 import subprocess
+import sys
 from typing import IO, List, NamedTuple, Optional, Sequence, Tuple, cast
 
 from lab.hall.attempts.draws import TOURNAMENT
@@ -53,7 +54,8 @@ class Server:
         """Whether it has ended well; another end is a fault."""
         status = self._child.poll()
         if status:
-            raise NoServer(f"the server of the match ended with status {status}: {log_of(self._folder)}")
+            tell_log(self._folder)
+            raise NoServer(f"the server of the match ended with status {status}")
         return status is not None
 
     def kill(self) -> None:
@@ -64,11 +66,12 @@ class Server:
                 cast(IO[bytes], pipe).close()
 
 
-def log_of(folder: pathlib.Path) -> str:
-    """The last line that the server said on standard error."""
+def tell_log(folder: pathlib.Path) -> None:
+    """Tells the teacher, in the log of the worker, what a server said last. Teams are not told: it counts events, also
+    those of which no agent knows."""
     with contextlib.suppress(OSError, IndexError):
-        return (folder / "log.txt").read_text(encoding="utf-8", errors="replace").splitlines()[-1][:200]
-    return ""
+        last = (folder / "log.txt").read_text(encoding="utf-8", errors="replace").splitlines()[-1]
+        print(f"hall: {folder}: {last[:200]}", file=sys.stderr, flush=True)
 
 
 def bound(words: Sequence[object], signal: str = "KILL") -> List[str]:
@@ -118,4 +121,5 @@ def started(program: str, folder: pathlib.Path, times: Times, place: Tuple[str, 
     server.kill()
     if status == NO_PORT:
         return None
-    raise NoServer(f"the server of a match did not begin (status {status}): {log_of(folder)}")
+    tell_log(folder)
+    raise NoServer(f"the server of a match did not begin (status {status})")

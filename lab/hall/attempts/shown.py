@@ -38,10 +38,11 @@ def verdict(it: Match) -> Dict[str, Any]:
 def match(it: Match, of: Attempt) -> Dict[str, Any]:
     """A match: how one plays it, what its agents were told, and once it is over what came of it."""
     found: Dict[str, Any] = {"number": it.number, "host": it.host, "port": it.port, "keys": it.keys, "map": it.map,
-                             "verdict": None, "agents": None, "after": None}
+                             "verdict": None, "agents": None, "after": None, "page": None}
     if of.is_over:
         told = seen.ended(it.replay)
-        found.update(verdict=verdict(it), after=told and told._asdict())
+        page = f"/matches/{of.pk}/{it.number}/page" if it.page.exists() else None
+        found.update(verdict=verdict(it), after=told and told._asdict(), page=page)
     else:
         found.update(agents=PARTS.shown(it.part, len(it.keys)))
     return found

@@ -45,8 +45,9 @@ def one(request: Any, number: int) -> HttpResponse:
     """An attempt: how one plays it, and what came of it."""
     attempt = own(request, number)
     told = shown.attempt(attempt)
-    return render(request, "attempt.html", {"attempt": attempt, "told": told,
-                                            "goes_on": attempt.state not in machine.ENDED})
+    goes_on, pages = attempt.state not in machine.ENDED, sum(it["page"] is not None for it in told["matches"])
+    is_watched = goes_on or attempt.is_over and pages < len(told["matches"]) and attempt.size > 0
+    return render(request, "attempt.html", {"told": told, "goes_on": goes_on, "is_watched": is_watched, "pages": pages})
 
 
 @require_POST

@@ -9,6 +9,9 @@ from rest_framework.views import exception_handler
 
 def told(fault: Exception, context: Dict[str, Any]) -> Optional[Response]:
     """What the REST answers are if something is refused: an object with `error`, a line that says what to change."""
+    if isinstance(fault, RecursionError):
+        # lists in lists in lists
+        fault = exceptions.ParseError()
     response = exception_handler(fault, context)
     if response is not None:
         said = fault.detail if isinstance(fault, exceptions.APIException) else _("there is no such thing")

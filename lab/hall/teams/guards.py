@@ -13,13 +13,15 @@ from django.conf import settings
 from django.http import HttpRequest, HttpResponse, JsonResponse
 from django.utils.translation import gettext as _
 
-STRICT = ("default-src 'none'; style-src 'self'; script-src 'self'; img-src 'self' data:; connect-src 'self'; "
-          "form-action 'self'; base-uri 'none'; frame-ancestors 'none'")
+STRICT = ("default-src 'none'; style-src 'self'; script-src 'self'; img-src 'self' data:; font-src 'self'; "
+          "connect-src 'self'; form-action 'self'; base-uri 'none'; frame-ancestors 'none'")
 # pages that are made of what strangers said have their scripts in them, and may reach nothing, not even cookies
 BOXED = ("sandbox allow-scripts; default-src 'none'; style-src 'unsafe-inline'; script-src 'unsafe-inline'; "
          "base-uri 'none'; form-action 'none'; frame-ancestors 'none'")
 # requests a minute of an address that nobody has logged in from, and tries of tokens and passwords in ten minutes
 STRANGERS, TRIES, TRIES_OF_ADDRESS = 600, 10, 100
+# bytes that are sent with a request: a hand-in, or of who has not logged in a form
+MOST_SENT, MOST_OF_STRANGERS = (8 << 20) + (64 << 10), 64 << 10
 # what is kept in mind at most
 MOST = 20_000
 
@@ -132,10 +134,18 @@ class Guards:
         wait = asked.wait(key, most)
         if wait:
             return too_many(wait)
+        if length_of(request) > (MOST_SENT if name else MOST_OF_STRANGERS):
+            return refusal(413, _("that is too much"))
         if any(word in request.GET for word in ("token", "key", "password")):
             # what stands in an address is kept by browsers, servers and logs
             return refusal(400, _("a token belongs into the header Authorization, and never into an address"))
         return None
+
+
+def length_of(request: HttpRequest) -> int:
+    """How many bytes are sent with a request. Without a word of that Django reads none."""
+    said = str(request.META.get("CONTENT_LENGTH") or 0)
+    return int(said) if said.isdecimal() and len(said) < 12 else MOST_SENT + 1
 
 
 def headers() -> Dict[str, str]:

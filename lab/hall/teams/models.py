@@ -53,7 +53,8 @@ def digest_of(token: str) -> str:
 
 def team_of(token: str) -> Optional[Team]:
     """The team of a token, or nothing. How long the answer takes does not depend on how much of it is right."""
-    team = Team.objects.filter(name=token.partition(DOT)[0][:16]).first()
+    name = token.partition(DOT)[0]
+    team = Team.objects.filter(name=name).first() if TEAM.fullmatch(name) else None
     is_right = hmac.compare_digest(team.digest if team else "", digest_of(token))
     return team if is_right else None
 

@@ -33,6 +33,8 @@ def login(request: Any) -> HttpResponse:
             return redirect("/matches")
         form.add_error("token", logins.WAIT if status == 429 else logins.WRONG)
         status = max(status, 403)
+    elif request.method == "POST":
+        status = 400
     return render(request, "login.html", {"form": form}, status=status)
 
 

@@ -1,0 +1,152 @@
+"""How a hall stands a course: many teams that ask for attempts and play them, while one more team floods it.
+
+    /usr/bin/python3 -m bench.hall [--teams 60] [--attempts 600] [--minutes 60] [--no-flood] [--program PATH]
+
+Starts a hall with its usual limits. The teams ask for their attempts at times that are drawn over the minutes, and play
+each with two sample agents on a ring of 8 nodes. Meanwhile one more team asks for the standings as fast as it can, by
+eight connections at a time. Prints how many attempts were solved; how long it took from the request until the keys were
+there, and how long requests of the other teams took; what the flood was answered; and the hall's processor seconds. A
+course has 600 attempts an hour; fewer minutes for as many attempts are a heavier load.
+"""
+import argparse
+import contextlib
+import http.client
+import os
+import pathlib
+import random
+import statistics
+import tempfile
+import threading
+import time
+from collections import Counter
+from typing import Dict, Iterator, List
+
+from lab.rules.engines import program_at
+from lab.tests.halls import Served, play
+
+SEED, FLOODS, EVERY = 5, 8, 0.5
+COURSE = """
+title = "A load"
+ports = [{first}, {last}]
+[[network]]
+name = "ring of 5"
+network = "ring:8"
+"""
+
+
+class Load:
+    """A hall and its teams, and what they have measured."""
+
+    def __init__(self, hall: Served, tokens: Dict[str, str]) -> None:
+        self._hall, self._tokens = hall, tokens
+        self.asked: List[float] = []
+        self.waited: List[float] = []
+        self.outcomes: "Counter[str]" = Counter()
+        self.flooded: "Counter[int]" = Counter()
+        self.is_over = threading.Event()
+
+    def request(self, how: str, path: str, name: str, body: object = None) -> object:
+        """A request of a team, whose time is noted."""
+        began = time.monotonic()
+        told = self._hall.ask(how, path, self._tokens[name], body)
+        self.asked.append(time.monotonic() - began)
+        return told.json() if told.status in (200, 201) else {"state": f"refused {told.status}"}
+
+    def attempt(self, name: str, at: float) -> None:
+        """An attempt of a team at a time, from the request to its end."""
+        time.sleep(max(0.0, at - time.monotonic()))
+        began = time.monotonic()
+        told = self.request("POST", "/api/matches", name, {"network": "ring of 5"})
+        while told["state"] in ("waiting", "held", "running") and not told["matches"]:
+            time.sleep(EVERY / 5)
+            told = self.request("GET", f"/api/matches/{told['id']}", name)
+        if "id" not in told:
+            self.outcomes[told["state"]] += 1
+            return
+        self.waited.append(time.monotonic() - began)
+        agents = play(told)
+        while told["state"] in ("waiting", "held", "running"):
+            time.sleep(EVERY)
+            told = self.request("GET", f"/api/matches/{told['id']}", name)
+        for agent in agents:
+            agent.wait()
+        self.outcomes[told["verdicts"][0]["outcome"] if told["verdicts"] else told["state"]] += 1
+
+    def flood(self, name: str) -> None:
+        """Requests of a team as fast as they are answered."""
+        while not self.is_over.is_set():
+            with contextlib.suppress(OSError, http.client.HTTPException):
+                self.flooded[self._hall.ask("GET", "/api/standings", self._tokens[name]).status] += 1
+
+
+def seconds_of(hall: Served) -> float:
+    """The processor seconds that the hall has taken, with what it has started."""
+    total = 0
+    for path in pathlib.Path("/proc").glob("[0-9]*/stat"):
+        with contextlib.suppress(OSError):
+            if str(hall.folder) in (path.parent / "environ").read_bytes().decode(errors="replace"):
+                total += sum(map(int, path.read_text().rpartition(")")[2].split()[11:15]))
+    return total / os.sysconf("SC_CLK_TCK")
+
+
+@contextlib.contextmanager
+def served(teams: int) -> Iterator[Served]:
+    """A hall with this number of teams, and one more."""
+    with tempfile.TemporaryDirectory(prefix="hall-") as name:
+        hall = Served(pathlib.Path(name), workers=2)
+        hall.course.write_text(COURSE.format(first=21_000, last=21_199) + "".join(
+            f'[[team]]\nname = "team{number}"\n' for number in range(teams + 1)))
+        try:
+            hall.start()
+            yield hall
+        finally:
+            hall.stop()
+
+
+def told(values: List[float]) -> str:
+    """The median, the ninety-ninth of a hundred, and the most, in milliseconds."""
+    ordered = sorted(values)
+    most = [statistics.median(ordered), ordered[int(len(ordered) * 0.99)], ordered[-1]]
+    return " | ".join(f"{value * 1000:.0f} ms" for value in most)
+
+
+def run(words: argparse.Namespace) -> None:
+    chance = random.Random(SEED)
+    with served(words.teams) as hall:
+        load = Load(hall, hall.tokens())
+        began = time.monotonic()
+        names = [f"team{number % words.teams}" for number in range(words.attempts)]
+        teams = [threading.Thread(target=load.attempt, args=(name, began + chance.uniform(0, words.minutes * 60)))
+                 for name in names]
+        floods = [threading.Thread(target=load.flood, args=(f"team{words.teams}",))
+                  for _ in range(0 if words.no_flood else FLOODS)]
+        for thread in [*teams, *floods]:
+            thread.start()
+        for thread in teams:
+            thread.join()
+        took = time.monotonic() - began
+        load.is_over.set()
+        for thread in floods:
+            thread.join()
+        print(f"{words.attempts} attempts of {words.teams} teams in {took / 60:.1f} minutes: {dict(load.outcomes)}")
+        print(f"from the request to the keys, median, 99 of 100, most: {told(load.waited)}")
+        print(f"{len(load.asked)} requests of these teams, median, 99 of 100, most: {told(load.asked)}")
+        print(f"the flood: {dict(load.flooded)}")
+        print(f"the hall took {seconds_of(hall):.0f} processor seconds; servers left: {len(hall.servers())}")
+
+
+def main() -> None:
+    parser = argparse.ArgumentParser("python3 -m bench.hall", description=__doc__,
+                                     formatter_class=argparse.RawDescriptionHelpFormatter)
+    parser.add_argument("--teams", metavar="N", type=int, default=60, help="how many teams (60)")
+    parser.add_argument("--attempts", metavar="N", type=int, default=600, help="how many attempts in all (600)")
+    parser.add_argument("--minutes", metavar="N", type=float, default=60, help="in how many minutes they begin (60)")
+    parser.add_argument("--no-flood", action="store_true", help="without the team that floods")
+    parser.add_argument("--program", metavar="PATH", help="the program (the proved one if it is built)")
+    words = parser.parse_args()
+    os.environ["ARENA_PROGRAM"] = program_at(words.program)
+    run(words)
+
+
+if __name__ == "__main__":
+    main()

@@ -1,0 +1,162 @@
+#!/usr/bin/env python3
+"""Shows a hall on this machine: three sample teams practise and play rated series, and a fourth never comes.
+
+    python3 examples/hall.py [--demo-seconds N] [--port N] [--no-browser]
+
+Starts `lab hall` on examples/hall/course.toml in a temporary folder, opens its page in a browser, and has the teams
+play until Enter is pressed, or for N seconds. Then all of it ends, and the standings are printed. It says by which
+token one logs in as a team, and by which password as the teacher.
+
+It needs Debian's packages python3-django, python3-djangorestframework, gunicorn, python3-distributed, python3-networkx,
+python3-numpy, python3-scipy, python3-greenlet, python3-tqdm and python3-jinja2. The program is the proved one if it is
+built, else one without a proof, which is compiled in a minute or two and says so; ARENA in the environment names
+another.
+"""
+import argparse
+import csv
+import json
+import os
+import pathlib
+import shutil
+import subprocess
+import sys
+import tempfile
+import threading
+import time
+import urllib.error
+import urllib.request
+import webbrowser
+from typing import Dict, List, NamedTuple
+
+TOP = pathlib.Path(__file__).resolve().parent.parent
+sys.path.insert(0, str(TOP))
+
+from lab.support.ports import free_port  # noqa: E402
+
+AGENTS, PRACTISE = TOP / "examples" / "agents", TOP / "examples" / "hall" / "practise.py"
+COURSE = TOP / "examples" / "hall" / "course.toml"
+DEBIANS_PYTHON = "/usr/bin/python3"
+PATIENCE = 120
+ENTERS = ["{host}", "{port}", "{key}"]
+ON_RINGS, WITH_SIDE, WITH_MAP = [*ENTERS, "{nodes}"], [*ENTERS, "{nodes}", "{agent}"], [*ENTERS, "{network}", "{home}"]
+
+
+class Turn(NamedTuple):
+    """What a team plays: the network, whether it is rated, the program of an agent and its words."""
+
+    network: str
+    is_rated: bool
+    agent: str
+    words: List[str] = ON_RINGS
+
+
+PLAYED: Dict[str, List[Turn]] = {
+    "amber": [Turn("ring of 8", True, "ring.py"), Turn("ring of 12", True, "ring.py"),
+              Turn("ring of 8", False, "ring.py")],
+    "birch": [Turn("torus with a map", True, "known_map.py", WITH_MAP), Turn("ring of 8", True, "ring3.py")],
+    "cedar": [Turn("ring of 12", False, "shuttle.py", WITH_SIDE), Turn("ring of 8", True, "shuttle.py", WITH_SIDE)],
+}
+
+
+class Demo:
+    """A hall, and the teams that play in it."""
+
+    def __init__(self, folder: pathlib.Path, port: int) -> None:
+        self.folder, self.port = folder / "course.hall", port
+        self.address = f"http://127.0.0.1:{port}"
+        self._is_over = threading.Event()
+        course = shutil.copy2(COURSE, folder)
+        program = ["--program", os.environ["ARENA"]] if "ARENA" in os.environ else []
+        self._hall = subprocess.Popen([DEBIANS_PYTHON, "-m", "lab", "hall", str(course), "--port", str(port), *program],
+                                      cwd=TOP, stdout=subprocess.DEVNULL)
+        self._teams: List[threading.Thread] = []
+
+    def begin(self) -> None:
+        """Waits until the hall answers, and lets the teams begin."""
+        limit = time.monotonic() + PATIENCE
+        while not self._answers():
+            if self._hall.poll() is not None or time.monotonic() > limit:
+                raise SystemExit("hall: the hall did not begin")
+            time.sleep(0.2)
+        tokens = self.tokens()
+        self._teams = [threading.Thread(target=self._play, args=(name, tokens[name])) for name in PLAYED]
+        for team in self._teams:
+            team.start()
+
+    def tokens(self) -> Dict[str, str]:
+        with (self.folder / "keys.csv").open(encoding="utf-8", newline="") as file:
+            return {row["team"]: row["token"] for row in csv.DictReader(file)}
+
+    def password(self) -> str:
+        return (self.folder / "password.txt").read_text(encoding="utf-8").strip()
+
+    def standings(self) -> str:
+        """The standings, as lines."""
+        asked = urllib.request.Request(f"{self.address}/api/standings",
+                                       headers={"Authorization": f"Bearer {self.tokens()['amber']}"})
+        with urllib.request.urlopen(asked) as told:
+            rows = json.load(told)["teams"]
+        return "".join(f"{'absent' if row['absent'] else row['place']:>6} {row['name']:<16} {row['points']:>6}\n"
+                       for row in rows)
+
+    def end(self) -> None:
+        self._is_over.set()
+        self._hall.terminate()
+        self._hall.wait()
+        for team in self._teams:
+            team.join()
+
+    def _answers(self) -> bool:
+        try:
+            with urllib.request.urlopen(f"{self.address}/login"):
+                return True
+        except (urllib.error.URLError, ConnectionError):
+            return False
+
+    def _play(self, team: str, token: str) -> None:
+        """A team that plays again and again."""
+        while not self._is_over.is_set():
+            for turn in PLAYED[team]:
+                if self._is_over.is_set():
+                    return
+                words = [*(["--rated"] if turn.is_rated else []), self.address, turn.network, sys.executable,
+                         str(AGENTS / turn.agent), *turn.words]
+                ran = subprocess.Popen([sys.executable, str(PRACTISE), *words], stdout=subprocess.DEVNULL,
+                                       stderr=subprocess.DEVNULL, env={**os.environ, "ARENA_TOKEN": token})
+                while ran.poll() is None and not self._is_over.wait(0.2):
+                    pass
+                ran.terminate()
+                ran.wait()
+            self._is_over.wait(5)
+
+
+def main() -> int:
+    parser = argparse.ArgumentParser(description=__doc__, formatter_class=argparse.RawDescriptionHelpFormatter)
+    parser.add_argument("--demo-seconds", metavar="N", type=float, help="end after this number of seconds")
+    parser.add_argument("--port", metavar="N", type=int, default=0, help="the port of the pages (a free one)")
+    parser.add_argument("--no-browser", action="store_true", help="open no browser")
+    words = parser.parse_args()
+    with tempfile.TemporaryDirectory(prefix="hall-") as name:
+        demo = Demo(pathlib.Path(name), words.port or free_port())
+        try:
+            demo.begin()
+            print(f"hall {demo.address}/\nlog in as a team: {demo.tokens()['amber']}\n"
+                  f"the teacher's pages: {demo.address}/teacher/, user teacher, password {demo.password()}", flush=True)
+            if not words.no_browser and words.demo_seconds is None:
+                webbrowser.open(demo.address)
+            if words.demo_seconds is None:
+                input("press Enter to end it\n")
+            else:
+                time.sleep(words.demo_seconds)
+            print(demo.standings(), end="", flush=True)
+        finally:
+            demo.end()
+    return 0
+
+
+if __name__ == "__main__":
+    try:
+        sys.exit(main())
+    except KeyboardInterrupt:
+        print("\nhall: interrupted", file=sys.stderr)
+        sys.exit(130)

@@ -1,0 +1,123 @@
+#!/usr/bin/env python3
+"""Practises in a hall: asks for a match, starts the team's programs, and says what came of it.
+
+    ARENA_TOKEN=TOKEN python3 practise.py [--rated] [--times N] HALL NETWORK COMMAND ..
+
+HALL is the hall's address, such as http://127.0.0.1:8000, and NETWORK the name of a network as the hall shows it. The
+command starts one agent. In it {host}, {port} and {key} stand for where the agent connects and by which key it enters,
+{agent} for its number, {nodes} and {links} for what is known of the network, and of a network with a map {network} for
+a file of its links and {home} for the home base:
+
+    python3 practise.py http://127.0.0.1:8000 "ring of 8" python3 examples/agents/ring.py {host} {port} {key} {nodes}
+
+The token stands on the team's key sheet. It is taken from the variable ARENA_TOKEN, as everybody on a machine may see
+the words of commands. It needs nothing but Python.
+"""
+import argparse
+import json
+import os
+import pathlib
+import signal
+import subprocess
+import sys
+import tempfile
+import time
+import urllib.error
+import urllib.request
+from typing import Any, Dict, List
+
+EVERY = 0.5
+
+
+class Hall:
+    """A hall, as a team asks it."""
+
+    def __init__(self, address: str, token: str) -> None:
+        self._address = address.rstrip("/")
+        self._token = token
+
+    def ask(self, path: str, body: Any = None) -> Any:
+        """What the hall answers. If it is asked too often it says how long to wait."""
+        headers = {"Authorization": f"Bearer {self._token}", "Content-Type": "application/json"}
+        sent = None if body is None else json.dumps(body).encode()
+        while True:
+            try:
+                asked = urllib.request.Request(f"{self._address}/api{path}", sent, headers)
+                with urllib.request.urlopen(asked) as told:
+                    return json.load(told)
+            except urllib.error.HTTPError as fault:
+                wait = fault.headers.get("Retry-After")
+                if wait is None:
+                    raise SystemExit(f"practise: {json.load(fault).get('error', fault)}") from None
+                time.sleep(float(wait))
+            except urllib.error.URLError as fault:
+                raise SystemExit(f"practise: {self._address} does not answer: {fault.reason}") from None
+
+    def begun(self, network: str, kind: str) -> Dict[str, Any]:
+        """An attempt whose servers listen."""
+        attempt = self.ask("/matches", {"network": network, "kind": kind})
+        while attempt["state"] in ("waiting", "held", "running") and not attempt["matches"]:
+            time.sleep(EVERY)
+            attempt = self.ask(f"/matches/{attempt['id']}")
+        return dict(attempt)
+
+    def over(self, number: int) -> Dict[str, Any]:
+        """An attempt that is over."""
+        while (attempt := self.ask(f"/matches/{number}"))["state"] in ("waiting", "held", "running"):
+            time.sleep(EVERY)
+        return dict(attempt)
+
+
+def words_of(command: List[str], match: Dict[str, Any], facts: Dict[str, Any], folder: pathlib.Path) -> List[List[str]]:
+    """The commands of all agents of a match."""
+    known = {"host": match["host"], "port": match["port"], "nodes": facts["nodes"], "links": facts["links"]}
+    if match["map"]:
+        path = folder / f"network{match['number']}.toml"
+        path.write_text(f"version = 1\nnodes = {match['map']['nodes']}\nlinks = {match['map']['links']}\n")
+        known.update(network=str(path), home=match["map"]["home"])
+    return [[word.format(key=key, agent=agent, **known) for word in command]
+            for agent, key in enumerate(match["keys"])]
+
+
+def played(hall: Hall, words: argparse.Namespace) -> Dict[str, Any]:
+    """Plays an attempt to its end."""
+    attempt = hall.begun(words.network, "rated" if words.rated else "practice")
+    with tempfile.TemporaryDirectory() as name:
+        agents = [subprocess.Popen(line) for match in attempt["matches"]
+                  for line in words_of(words.command, match, attempt["facts"], pathlib.Path(name))]
+        try:
+            return hall.over(attempt["id"])
+        finally:
+            for agent in agents:
+                agent.kill()
+                agent.wait()
+
+
+def main() -> int:
+    parser = argparse.ArgumentParser(description=__doc__, formatter_class=argparse.RawDescriptionHelpFormatter)
+    parser.add_argument("--rated", action="store_true", help="play a rated series, which counts")
+    parser.add_argument("--times", metavar="N", type=int, default=1, help="how many attempts, one after the other (1)")
+    parser.add_argument("hall", metavar="HALL")
+    parser.add_argument("network", metavar="NETWORK")
+    parser.add_argument("command", metavar="COMMAND", nargs=argparse.REMAINDER)
+    words = parser.parse_args()
+    token = os.environ.get("ARENA_TOKEN")
+    if not token or not words.command:
+        sys.exit("practise: set ARENA_TOKEN to your team's token, and name the command of an agent: see --help")
+    # who is ended ends the agents too
+    signal.signal(signal.SIGTERM, lambda *_: sys.exit(143))
+    hall, solved = Hall(words.hall, token), 0
+    for _ in range(words.times):
+        attempt = played(hall, words)
+        came = ", ".join(f"{it['outcome']} moves {it['moves']} lost {it['lost']}" for it in attempt["verdicts"])
+        print(f"attempt {attempt['id']} on {attempt['network']}: {came or attempt['state']}", flush=True)
+        solved += attempt["solved"] == attempt["series"]
+    return 0 if solved == words.times else 1
+
+
+if __name__ == "__main__":
+    try:
+        sys.exit(main())
+    except KeyboardInterrupt:
+        print("\npractise: interrupted", file=sys.stderr)
+        sys.exit(130)
