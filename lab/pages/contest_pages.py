@@ -7,6 +7,7 @@ from typing import List, NamedTuple, Optional, Tuple
 from lab.pages.judging import verdict_of
 from lab.pages.page import write_page
 from lab.pages.parts import filled
+from lab.pages.teams import Came, networks_of, ranked
 from lab.rules.model import RANKS, Verdict, rank
 from lab.rules.networks import NoNetwork
 
@@ -17,6 +18,13 @@ class Shown(NamedTuple):
     team: str
     network: str
     verdict: Optional[Verdict]
+    # whether an agent has entered
+    has_entered: bool = False
+
+    @property
+    def name(self) -> str:
+        """The network's name, which is that of its file."""
+        return pathlib.PurePath(self.network).stem
 
 
 def matches_of(tournament: pathlib.Path) -> List[Shown]:
@@ -36,7 +44,15 @@ def place_of(shown: Shown) -> Tuple[int, int, int, str]:
 def page_of(title: str, matches: List[Shown]) -> str:
     """The page that lists the matches."""
     solved = sum(one.verdict is not None and one.verdict.outcome == "solved" for one in matches)
-    return filled("contest.html", title=title, matches=sorted(matches, key=place_of), solved=solved)
+    came = [Came(one.team, one.name, one.verdict, one.has_entered) for one in matches]
+    return filled("contest.html", title=title, matches=sorted(matches, key=place_of), solved=solved,
+                  teams=ranked(came), networks=networks_of(came))
+
+
+def has_entered(replay: pathlib.Path) -> bool:
+    """Whether an agent has entered a match, by its replay."""
+    with replay.open(encoding="utf-8", newline="\n") as lines:
+        return any('"do":"enter"' in line for line in lines)
 
 
 def write_pages(program: Optional[str], tournament: pathlib.Path, prefix: str, folder: pathlib.Path) -> pathlib.Path:
@@ -48,7 +64,7 @@ def write_pages(program: Optional[str], tournament: pathlib.Path, prefix: str, f
     folder.mkdir(parents=True, exist_ok=True)
     for shown, replay in zip(all_matches, replays):
         if replay.exists():
-            shown = shown._replace(verdict=verdict_of(program, replay))
+            shown = shown._replace(verdict=verdict_of(program, replay), has_entered=has_entered(replay))
             write_page(program, replay, folder / f"match{shown.number}.html")
             kept = folder / f"match{shown.number}.jsonl"
             if kept.resolve() != replay.resolve():

@@ -14,7 +14,7 @@ from lab.pages.feeds import Feed, feeds
 from lab.pages.judging import cut, footprints
 from lab.pages.page import layout, page_of, read, runs
 from lab.pages.parts import filled, part
-from lab.pages.screen import Watched, standings
+from lab.pages.screen import Watched, standings, teams
 from lab.rules.model import Match, judge
 from lab.support.missing import needed
 
@@ -48,6 +48,10 @@ class Contest:
     def may_open(self, number: int) -> bool:
         """Whether the page of a match may be shown."""
         return self.is_open or any(row["match"] == number and row["page"] for row in self.rows)
+
+    def teams(self) -> Dict[str, Any]:
+        """The standings of teams."""
+        return teams(self.rows, [match.name for match in self._matches])
 
     def grown(self, number: int) -> int:
         """A number that rises whenever something happens in a match."""
@@ -116,8 +120,8 @@ class Pages:
 
     async def standings(self, request: Any) -> Any:
         """Tells what may be shown, now and whenever it changes."""
-        return await self._events(request, lambda: {"rows": self._contest.rows, "open": self._contest.is_open,
-                                                    **self._turns})
+        return await self._events(request, lambda: {
+            "rows": self._contest.rows, "open": self._contest.is_open, "teams": self._contest.teams(), **self._turns})
 
     async def news(self, request: Any) -> Any:
         """Tells whenever something has happened in a match."""

@@ -7,6 +7,7 @@ for, so pages come when all matches are closed.
 """
 from typing import Any, Dict, List, NamedTuple, Optional, Sequence
 
+from lab.pages.teams import Came, networks_of, ranked
 from lab.rules.model import OUTSIDE, RANKS, Match, Verdict, judge, rank
 
 Row = Dict[str, Any]
@@ -29,9 +30,10 @@ def shown(watched: Watched, all_closed: bool) -> Row:
     if not match.closed:
         entered = sum(agent.standing != OUTSIDE for agent in match.agents)
         return {"team": team, "state": RUNS, "entered": entered, "agents": match.setup.agents, "since": since}
-    verdict = judge(match)
+    verdict, has_come = judge(match), any(agent.standing != OUTSIDE for agent in match.agents)
     outcome = verdict.outcome if all_closed else verdict.outcome.partition(" ")[0]
-    return {"team": team, "state": OVER, "outcome": outcome, "moves": verdict.moves, "lost": verdict.lost}
+    return {"team": team, "state": OVER, "outcome": outcome, "moves": verdict.moves, "lost": verdict.lost,
+            "came": has_come}
 
 
 def place_of(row: Row) -> Any:
@@ -39,6 +41,19 @@ def place_of(row: Row) -> Any:
     if row["state"] != OVER:
         return (len(RANKS),)
     return rank(Verdict(row["outcome"], row["moves"], row["lost"]), row["team"])
+
+
+def teams(rows: Sequence[Row], networks: Sequence[str]) -> Row:
+    """The standings of teams by what may be shown of matches, whose networks these are: so they tell no more."""
+    found = [Came(row["team"], networks[row["match"]], verdict_in(row), row.get("came", bool(row.get("entered"))))
+             for row in sorted(rows, key=lambda row: int(row["match"]))]
+    names = networks_of(found)
+    return {"networks": names, "rows": [{**it._asdict(), "networks": [it.networks.get(name) for name in names]}
+                                        for it in ranked(found)]}
+
+
+def verdict_in(row: Row) -> Optional[Verdict]:
+    return Verdict(row["outcome"], row["moves"], row["lost"]) if row["state"] == OVER else None
 
 
 def standings(all_watched: Sequence[Watched]) -> List[Row]:

@@ -24,8 +24,10 @@ class Lists(unittest.TestCase):
         verdicts = [Verdict("wrong", 1, 0), Verdict("solved", 9, 1), Verdict("guess 4", 2, 0), Verdict("solved", 9, 0),
                     None]
         page = page_of("cup", [Shown(number, f"t{number}", "n", one) for number, one in enumerate(verdicts)])
-        places = [page.index(f"<td>t{number}</td>") for number in (3, 1, 2, 0, 4)]
+        teams, _, matches = page.partition("<h2>Matches</h2>")
+        places = [matches.index(f"<td>t{number}</td>") for number in (3, 1, 2, 0, 4)]
         self.assertEqual(places, sorted(places))
+        self.assertLess(teams.index("<td>t3</td>"), teams.index("<td>t1</td>"))
         self.assertIn("5 matches, 2 solved", page)
         self.assertIn('<a href="match3.html">', page)
         self.assertNotIn("match4.html", page)

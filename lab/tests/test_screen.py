@@ -3,7 +3,7 @@ import random
 import unittest
 from typing import Any, Dict, List
 
-from lab.pages.screen import NOT_BEGUN, OVER, RUNS, Watched, shown, standings
+from lab.pages.screen import NOT_BEGUN, OVER, RUNS, Watched, shown, standings, teams
 from lab.rules.model import Match, Setup
 from lab.rules.networks import flipped_ring, ring
 
@@ -53,6 +53,7 @@ class Twins(unittest.TestCase):
                     there.play(event)
                 one, two = (standings([Watched("red", it, 7), Watched("blue", None, None)]) for it in (here, there))
                 self.assertEqual(one, two)
+                self.assertEqual(teams(one, ["ring", "ring"]), teams(two, ["ring", "ring"]))
                 compared += 1
         self.assertGreater(compared, 5_000)
 
@@ -73,7 +74,7 @@ class Rows(unittest.TestCase):
         self.match.tell(0, {"do": "enter"})
         self.match.tell(0, {"do": "accuse", "port": 1})
         self.match.close()
-        row = {"team": "red", "state": OVER, "moves": 0, "lost": 0}
+        row = {"team": "red", "state": OVER, "moves": 0, "lost": 0, "came": True}
         self.assertEqual(shown(Watched("red", self.match, 7), False), {**row, "outcome": "guess"})
         self.assertEqual(shown(Watched("red", self.match, 7), True), {**row, "outcome": "guess 1"})
 

@@ -26,8 +26,29 @@ function words(row) {
   if (row.state === "is over") return row.outcome;
   return row.state === "runs" ? `runs for ${minutes(Math.max(0, now() - row.since))}${left(row)}` : row.state;
 }
+// one row a team; where each team has one match, its row says the same
+function showTeams() {
+  const { rows, networks } = told.teams;
+  byId("standings").hidden = rows.length < 2 || rows.length === told.rows.length;
+  byId("networks").replaceChildren(...["", "team", "solved", ...networks, "moves", "lost"].map((name) => {
+    const made = document.createElement("th");
+    made.textContent = name;
+    return made;
+  }));
+  byId("teams").replaceChildren(...rows.map((row) => {
+    const line = document.createElement("tr");
+    cell(line, row.is_absent ? "absent" : row.place);
+    cell(line, row.team);
+    cell(line, row.solved, "solved");
+    for (const done of row.networks) cell(line, done ? `${done[0]} of ${done[1]}` : "");
+    cell(line, row.moves);
+    cell(line, row.lost);
+    return line;
+  }));
+}
 function show() {
   if (!told) return;
+  showTeams();
   byId("rows").replaceChildren(...told.rows.map((row) => {
     const line = document.createElement("tr"), isOver = row.state === "is over";
     const link = (row.page || told.open) && row.state !== "has not begun" ? `/match/${row.match}` : null;

@@ -1,0 +1,63 @@
+"""The teams of a contest, ranked: one row a team, however many matches it has.
+
+Who solved more matches stands before, then who made fewer moves, then who lost fewer agents; moves and lost agents are
+those of solved matches. Equal teams share a place. A team of which no agent has entered is absent, and stands behind
+all that came. What is told of a match that goes on is only that it does.
+"""
+from typing import Dict, List, NamedTuple, Optional, Sequence, Tuple
+
+from lab.rules.model import Verdict
+
+SOLVED = "solved"
+
+
+class Came(NamedTuple):
+    """What came of a match: whose it is, its network, the verdict if it is closed, and whether an agent has entered."""
+
+    team: str
+    network: str
+    verdict: Optional[Verdict]
+    has_entered: bool
+
+
+class Ranked(NamedTuple):
+    """A team in the standings. By the network's name stands how many of its matches it solved, and how many it has."""
+
+    place: int
+    team: str
+    solved: int
+    moves: int
+    lost: int
+    is_absent: bool
+    networks: Dict[str, Tuple[int, int]]
+
+    def rank(self) -> Tuple[bool, int, int, int]:
+        return self.is_absent, -self.solved, self.moves, self.lost
+
+
+def ranked(found: Sequence[Came]) -> List[Ranked]:
+    """The teams, best first; equal ones in the order of their matches."""
+    rows = [row_of(team, [it for it in found if it.team == team]) for team in dict.fromkeys(it.team for it in found)]
+    rows.sort(key=Ranked.rank)
+    ranks = [row.rank() for row in rows]
+    return [row._replace(place=1 + ranks.index(row.rank())) for row in rows]
+
+
+def row_of(team: str, own: Sequence[Came]) -> Ranked:
+    """The row of a team, which has no place yet."""
+    solved = [it for it in own if is_solved(it)]
+    networks: Dict[str, Tuple[int, int]] = {}
+    for it in own:
+        done, count = networks.get(it.network, (0, 0))
+        networks[it.network] = done + is_solved(it), count + 1
+    moves, lost = (sum(getattr(it.verdict, name) for it in solved) for name in ("moves", "lost"))
+    return Ranked(0, team, len(solved), moves, lost, not any(it.has_entered for it in own), networks)
+
+
+def is_solved(it: Came) -> bool:
+    return it.verdict is not None and it.verdict.outcome == SOLVED
+
+
+def networks_of(found: Sequence[Came]) -> List[str]:
+    """The networks, in the order in which matches first name them."""
+    return list(dict.fromkeys(it.network for it in found))
