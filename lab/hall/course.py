@@ -194,6 +194,7 @@ def hall_of(text: str, path: pathlib.Path) -> Hall:
     except tomllib.TOMLDecodeError as fault:
         raise NoSweep(f"it is no TOML: {fault}") from None
     check_keys(found, KEYS, "a hall")
+    check_ports(ports_of(found), limits_of(table(found, "limits")), rated_of(table(found, "rated")))
     zone = taken(found, "zone", is_zone, "a time zone such as \"Europe/Berlin\"", "UTC")
     minutes, gather, pause = numbers(found, {"minutes": 8, "gather": 60, "pause": 5})
     return Hall(
@@ -255,6 +256,16 @@ def ports_of(found: Dict[str, Any]) -> Tuple[int, int]:
         return is_pair and value[0] <= value[1] < 65_536
     first, last = taken(found, "ports", is_range, "a first and a last port, such as [4100, 4199]", [4100, 4199])
     return first, last
+
+
+def check_ports(ports: Tuple[int, int], limits: Limits, rated: Rated) -> None:
+    """Refuses a hall that could play more matches than it has ports for, or no series at all."""
+    count = ports[1] - ports[0] + 1
+    if limits.matches > count:
+        raise NoSweep(f"[limits] has matches = {limits.matches}, and there are only {count} ports: name more by ports")
+    if rated.series > limits.matches:
+        raise NoSweep(f"a series has {rated.series} matches, and [limits] lets only {limits.matches} be played at a "
+                      "time")
 
 
 def time_of(found: Dict[str, Any], name: str, zone: str) -> Optional[datetime.datetime]:

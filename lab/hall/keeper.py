@@ -8,7 +8,7 @@ import pathlib
 import signal
 import sys
 import time
-from typing import Any, List, Tuple
+from typing import Any, Dict, List, Tuple
 
 from lab.hall import entry
 from lab.hall.place import at
@@ -43,7 +43,8 @@ class Keeper:
             make_contest(contest)
         grade_secretly(timezone.now())
         limits = settings.HALL.limits
-        return self._give(due_attempts(limits.matches) + due_pages() + due_gradings(limits.gradings))
+        first, last = settings.HALL.ports
+        return self._give(due_attempts(limits.matches, last - first + 1) + due_pages() + due_gradings(limits.gradings))
 
     def _give(self, due: List[Tuple[str, Any]]) -> int:
         """Gives work to workers, whoever of them is free."""
@@ -84,22 +85,27 @@ class Keeper:
                 client.close(timeout=1)
 
 
-def due_attempts(most: int) -> List[Tuple[str, Any]]:
-    """The attempts that may begin: contests first, and then fairly, first those of teams with the fewest that run."""
+def due_attempts(most: int, ports: int) -> List[Tuple[str, Any]]:
+    """The attempts that may begin: contests first, as long as there are ports, and then fairly, first those of teams
+    with the fewest that run, up to this number of matches."""
     from lab.hall import machine
     from lab.hall.attempts.models import CONTEST, Attempt
-    busy: dict[int, int] = {}
-    free = most
-    for team in Attempt.objects.filter(state__in=machine.ACTIVE).values_list("team", flat=True):
+    busy: Dict[int, int] = {}
+    count = 0
+    for team, series in Attempt.objects.filter(state__in=machine.ACTIVE).values_list("team", "series"):
         busy[team] = busy.get(team, 0) + 1
-        free -= 1
-    found = []
+        count += series
+    waiting = []
     for attempt in Attempt.objects.filter(state=machine.WAITING).order_by("pk"):
-        rank = (attempt.kind != CONTEST, busy.get(attempt.team_id, 0), attempt.pk)
+        waiting.append(((attempt.kind != CONTEST, busy.get(attempt.team_id, 0), attempt.pk), attempt))
         busy[attempt.team_id] = busy.get(attempt.team_id, 0) + 1
-        found.append((rank, attempt))
-    contests = sum(not rank[0] for rank, _ in found)
-    return [("attempt", it) for _, it in sorted(found, key=lambda row: row[0])[:max(free, contests)]]
+    found = []
+    for _, attempt in sorted(waiting, key=lambda row: row[0]):
+        count += attempt.series
+        if count > (ports if attempt.kind == CONTEST else most):
+            break
+        found.append(("attempt", attempt))
+    return found
 
 
 def due_pages() -> List[Tuple[str, Any]]:

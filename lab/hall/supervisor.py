@@ -73,8 +73,9 @@ def parts_of(place: Place, options: Options) -> List[Part]:
 def local(place: Place, options: Options, scheduler: str) -> List[Part]:
     """A scheduler of Dask and its workers, on this machine."""
     tls.make(place.folder)
-    limits, (host, _, port) = place.hall().limits, scheduler.removeprefix("tls://").rpartition(":")
-    threads = -(-(limits.matches + limits.gradings + 4) // options.workers)
+    hall, (host, _, port) = place.hall(), scheduler.removeprefix("tls://").rpartition(":")
+    # of each piece of work one: a contest may take all ports
+    threads = -(-(hall.ports[1] - hall.ports[0] + hall.limits.gradings + 5) // options.workers)
     begun = Part(SCHEDULER, python("-m", "distributed.cli.dask_scheduler", "--host", f"tls://{host}", "--port", port,
                                      "--no-dashboard", *tls.words(place.folder)), {})
     workers = [Part(f"{WORKER} {number}", python(

@@ -38,6 +38,11 @@ class Number(IntConverter):
 
 
 register_converter(Number, "number")
+def icon(request: Any) -> HttpResponse:
+    """Browsers ask for an icon; there is none."""
+    return HttpResponse(status=204)
+
+
 API = [
     path("openapi.json", openapi),
     path("networks", attempts_api.Networks.as_view()),
@@ -51,7 +56,9 @@ API = [
 ]
 urlpatterns = [
     path("", standings.home),
+    path("favicon.ico", icon),
     path("screen", standings.screen),
+    path("contests/<number:number>", standings.contest),
     path("login", teams.login),
     path("logout", teams.logout),
     path("matches", attempts.listed),

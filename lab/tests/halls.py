@@ -53,6 +53,7 @@ a_day = 2
 
 [limits]
 requests = 2000
+matches = 30
 
 [hand_ins]
 command = "python3 agent.py {{host}} {{port}} {{key}} {{nodes}}"

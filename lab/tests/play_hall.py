@@ -1,4 +1,5 @@
 """A hall that is served: matches from the request to the page, hand-ins, and processes that are killed."""
+import concurrent.futures
 import contextlib
 import json
 import os
@@ -114,6 +115,20 @@ class Matches(Halls):
         told = self.hall.begins(token, number, keys)
         self.ended(play(told))
         self.assertEqual(self.hall.over(token, number)["solved"], 1)
+
+
+    def test_requests_at_the_same_time_win_nothing(self) -> None:
+        """Of twenty that are sent at once as many are taken as a team may have."""
+        token = self.tokens["cedar"]
+        with concurrent.futures.ThreadPoolExecutor(20) as pool:
+            told = list(pool.map(lambda _: self.hall.ask("POST", "/api/matches", token, {"network": "ring of 5"}),
+                                 range(20)))
+        self.assertEqual(sorted(it.status for it in told), [201] * 2 + [429] * 18)
+        for it in told:
+            if it.status == 201:
+                number = it.json()["id"]
+                self.hall.ask("POST", f"/api/matches/{number}/close", token)
+                self.assertIn(self.hall.over(token, number)["state"], ("over", "cancelled"))
 
 
 class HandIns(Halls):

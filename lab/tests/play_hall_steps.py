@@ -89,16 +89,22 @@ class Queues(TestCase):
     def test_a_team_with_many_attempts_waits_for_others(self) -> None:
         many = [attempt() for _ in range(5)]
         one, two = attempt("birch"), attempt("cedar")
-        order = [work.pk for _, work in keeper.due_attempts(64)]
+        order = [work.pk for _, work in keeper.due_attempts(64, 100)]
         self.assertEqual(order[:3], [many[0].pk, one.pk, two.pk])
-        self.assertEqual(len(keeper.due_attempts(2)), 2)
+        self.assertEqual(len(keeper.due_attempts(2, 100)), 2)
+
+    def test_a_series_takes_as_many_ports_as_it_has_matches(self) -> None:
+        step(attempt(series=3, kind="rated"), CLAIM, "one")
+        attempt("birch", series=3, kind="rated")
+        self.assertEqual([len(keeper.due_attempts(most, 100)) for most in (5, 6)], [0, 1])
 
     def test_a_contest_comes_first_and_is_made_once(self) -> None:
         attempt()
         Team.objects.update(digest="x")
         contest = Contest.objects.create(network="ring of 5", start=timezone.now(), minutes=3)
         self.assertEqual([asking.make_contest(contest), asking.make_contest(contest)], [3, 0])
-        due = keeper.due_attempts(1)
+        self.assertEqual(len(keeper.due_attempts(1, 2)), 2)
+        due = keeper.due_attempts(1, 3)
         self.assertEqual([work.kind for _, work in due], [CONTEST] * 3)
         self.assertEqual(due[0][1].minutes, 3)
 

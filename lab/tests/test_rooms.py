@@ -13,8 +13,8 @@ from lab.support.built import LAB, TOP
 ROOMS = ("support", "rules", "pages", "play", "search", "sweep", "course", "hall", "api", "commands", "__main__",
          "start")
 TESTS = ("tests", "mutants")
-# its modules need Django and a hall, which no unit test has: they are read and not imported
-HALL = "lab.hall."
+# these modules need Django and a hall, which no unit test has: they are read and not imported
+HALL = ("lab.hall.", "lab.tests.hall_pages")
 
 
 def modules() -> Dict[str, pathlib.Path]:

@@ -7,7 +7,7 @@ from django.views.decorators.http import require_POST
 
 from lab.hall import machine
 from lab.hall.attempts import asking, shown
-from lab.hall.attempts.models import Attempt, Match
+from lab.hall.attempts.models import Attempt, Contest, Match
 from lab.hall.teams.guards import BOXED
 from lab.hall.teams.views import for_teams
 
@@ -25,7 +25,8 @@ def own(request: Any, number: int) -> Attempt:
 @for_teams
 def listed(request: Any, refusal: str = "", status: int = 200) -> HttpResponse:
     """What a team may ask for, and its attempts."""
-    given = {"offers": asking.offers(request.team), "attempts": shown.attempts(request.team), "refusal": refusal}
+    given = {"offers": asking.offers(request.team), "attempts": shown.attempts(request.team), "refusal": refusal,
+             "contests": Contest.objects.filter(is_made=False).order_by("start")}
     return render(request, "attempts.html", given, status=status)
 
 

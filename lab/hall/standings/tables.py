@@ -6,7 +6,7 @@ from django.conf import settings
 from django.utils import timezone
 
 from lab.hall import machine
-from lab.hall.attempts.models import ABSENT, RATED, Attempt
+from lab.hall.attempts.models import ABSENT, RATED, Attempt, Contest
 from lab.hall.handins.models import Grading
 from lab.hall.standings import rules
 from lab.hall.standings.models import Reveal
@@ -35,15 +35,29 @@ def table(for_teacher: bool) -> Table:
     frozen = None if for_teacher else frozen_at()
     teams = Team.objects.all() if for_teacher else Team.objects.filter(hidden=False)
     shown = {team.name: str(team) for team in teams}
-    found = rules.standings(series_of(frozen), list(shown), settings.HALL.rated)
-    return Table(list(settings.HALL.nets), [row_of(row, shown) for row in found], programs(shown, frozen), frozen)
-
-
-def series_of(frozen: Optional[datetime.datetime]) -> List[rules.Series]:
-    """The rated series that are over, in the order in which they were asked for."""
-    rows = Attempt.objects.filter(kind=RATED, state=machine.OVER, counts=True).order_by("pk")
+    rated = Attempt.objects.filter(kind=RATED)
     if frozen is not None:
-        rows = rows.filter(ended__lt=frozen)
+        rated = rated.filter(ended__lt=frozen)
+    return Table(list(settings.HALL.nets), ranked(rated, shown, list(settings.HALL.nets)), programs(shown, frozen),
+                 frozen)
+
+
+def of_contest(contest: Contest) -> Table:
+    """The standings of a contest: its matches alone."""
+    shown = {team.name: str(team) for team in Team.objects.filter(hidden=False)}
+    names = [contest.network]
+    return Table(names, ranked(Attempt.objects.filter(contest=contest), shown, names), [], None)
+
+
+def ranked(attempts: Any, shown: Dict[str, str], names: List[str]) -> List[Dict[str, Any]]:
+    """The rows of these attempts, best first, with cells for these networks."""
+    found = rules.standings(series_of(attempts), list(shown), settings.HALL.rated)
+    return [row_of(row, shown, names) for row in found]
+
+
+def series_of(attempts: Any) -> List[rules.Series]:
+    """The attempts that are over and count, in the order in which they were asked for."""
+    rows = attempts.filter(state=machine.OVER, counts=True).order_by("pk")
     found = []
     for attempt in rows.select_related("team").prefetch_related("matches"):
         matches = list(attempt.matches.all())
@@ -54,9 +68,9 @@ def series_of(frozen: Optional[datetime.datetime]) -> List[rules.Series]:
     return found
 
 
-def row_of(row: rules.Row, shown: Dict[str, str]) -> Dict[str, Any]:
+def row_of(row: rules.Row, shown: Dict[str, str], names: List[str]) -> Dict[str, Any]:
     """A row as pages and REST have it, with a cell for each network."""
-    cells = [row.cells[name]._asdict() if name in row.cells else None for name in settings.HALL.nets]
+    cells = [row.cells[name]._asdict() if name in row.cells else None for name in names]
     return {"place": row.place, "team": row.team, "name": shown[row.team], "points": row.points,
             "absent": row.is_absent, "cells": cells}
 

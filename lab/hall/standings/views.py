@@ -6,11 +6,12 @@ from typing import Any, List
 from django.conf import settings
 from django.contrib.admin.views.decorators import staff_member_required
 from django.http import HttpResponse
-from django.shortcuts import redirect, render
+from django.shortcuts import get_object_or_404, redirect, render
 from rest_framework.permissions import BasePermission
 from rest_framework.response import Response
 from rest_framework.views import APIView
 
+from lab.hall.attempts.models import Contest
 from lab.hall.attempts.shown import time_of
 from lab.hall.standings import tables
 
@@ -24,7 +25,17 @@ def home(request: Any) -> HttpResponse:
     """The standings, or the page on which one logs in."""
     if not may_see(request):
         return redirect("/login")
-    return render(request, "standings.html", {"table": tables.table(request.user.is_staff)})
+    contests = Contest.objects.filter(is_made=True)
+    return render(request, "standings.html", {"table": tables.table(request.user.is_staff), "contests": contests})
+
+
+def contest(request: Any, number: int) -> HttpResponse:
+    """The standings of a contest that has begun, which may stand on a projector too."""
+    if not may_see(request):
+        return redirect("/login")
+    found = get_object_or_404(Contest, pk=number, is_made=True)
+    name = "screen.html" if "screen" in request.GET else "contest.html"
+    return render(request, name, {"table": tables.of_contest(found), "contest": found})
 
 
 def screen(request: Any) -> HttpResponse:

@@ -4,7 +4,7 @@ const STEP = 1, EVERY = 40, REST = 6000;
 
 async function renew() {
   try {
-    const answer = await fetch("/screen", { credentials: "same-origin" });
+    const answer = await fetch(location.href, { credentials: "same-origin" });
     const page = new DOMParser().parseFromString(await answer.text(), "text/html"), found = page.getElementById("screen");
     if (found) document.getElementById("screen").replaceChildren(...found.childNodes);
   } catch { /* the hall does not answer; ask again later */ }
