@@ -8,6 +8,12 @@ tournament's seed are drawn by the operating system's source of secrets. So are 
 oblivious schedule, under which no agent learns by waiting what others do; examples/README.md says how to choose its
 delays and how many turns a match takes.
 
+With --traps N each team gets N matches more, on networks that are drawn, without a black hole: a node is drawn instead,
+and the links into it let nobody arrive. No agent can tell such a match from one whose black hole is that node. A team
+that decides nothing by time is `silent` there; one that takes a long silence for a black hole is `wrong`, and the
+standings of `lab pages` and `lab watch` say how often it was deceived. All matches stand in an order that is drawn. A
+trap goes on until its last turn, as its agents wait.
+
 Give each team its own sheet and no other file of the folder. A file of a network has no black hole: a team may have it
 if its agents are to know the map. Run `arena check tournament.toml` and `arena serve tournament.toml` in the folder.
 """
@@ -18,6 +24,7 @@ import secrets
 from typing import Callable, Dict, List, NamedTuple, Optional, Sequence, Tuple, Union
 
 from lab.commands.network import add_ports, network_for
+from lab.commands.words import not_negative
 from lab.rules import networks
 from lab.rules.delays import ADAPTIVE, OBLIVIOUS, ODDS, SCALES, Delays
 from lab.rules.fixtures import Fixture, tournament_text
@@ -82,24 +89,49 @@ def check_delays(words: argparse.Namespace) -> None:
 
 
 def entries_of(words: argparse.Namespace) -> List[Entry]:
-    """The matches, network by network, hole by hole and team by team."""
-    found = []
-    for number, name in enumerate(words.network):
-        network = network_for(name, words)
-        if not 0 <= words.home < network.nodes:
-            raise NoNetwork(f"{name}: it has no node {words.home} for a home base; name another by --home")
-        agents = agents_on(words, network)
-        if not 1 <= agents <= MOST_AGENTS:
-            raise NoNetwork(f"{name}: a match has 1 to {MOST_AGENTS} agents, and not {agents}; name another number by "
-                            "--agents")
-        for hole in holes_of(words, name, network):
-            setup = Setup(network.nodes, network.links, words.home, [hole], agents, words.quota, words.board)
-            found += [Entry(Fixture(team, setup, [key_of(team) for _ in range(agents)]), f"network{number}.toml")
-                      for team in words.team]
+    """The matches, network by network, hole by hole and team by team; with traps among them, in an order that is
+    drawn."""
+    places = [place for number, name in enumerate(words.network) for place in places_on(words, number, name)]
+    if words.traps:
+        chance = secrets.SystemRandom()
+        places += [trap_on(words, *chance.choice(list(enumerate(words.network)))) for _ in range(words.traps)]
+        chance.shuffle(places)
+    found = [Entry(Fixture(team, it.setup, [key_of(team) for _ in range(it.setup.agents)], it.held), it.file)
+             for it in places for team in words.team]
     if len(found) > MOST_MATCHES:
         raise NoNetwork(f"a tournament has at most {MOST_MATCHES} matches, and this would have {len(found)}: name "
-                        "fewer teams, networks or black holes")
+                        "fewer teams, networks, black holes or traps")
     return found
+
+
+class Planned(NamedTuple):
+    """A match that all teams are to play: its setup, the links over which nobody arrives, and its network's file."""
+
+    setup: Setup
+    held: List[Tuple[int, int]]
+    file: str
+
+
+def trap_on(words: argparse.Namespace, number: int, name: str) -> Planned:
+    """A match without a black hole. Nobody arrives at a node that is drawn."""
+    place = places_on(words, number, name)[0]
+    setup = place.setup
+    node = secrets.choice([it for it in range(setup.nodes) if it != setup.home])
+    held = [(v, p) for v, p, w, _ in setup.links if w == node] + [(w, q) for v, _, w, q in setup.links if v == node]
+    return place._replace(setup=setup._replace(holes=[]), held=sorted(held))
+
+
+def places_on(words: argparse.Namespace, number: int, name: str) -> List[Planned]:
+    """The matches on a network, hole by hole."""
+    network = network_for(name, words)
+    if not 0 <= words.home < network.nodes:
+        raise NoNetwork(f"{name}: it has no node {words.home} for a home base; name another by --home")
+    agents = agents_on(words, network)
+    if not 1 <= agents <= MOST_AGENTS:
+        raise NoNetwork(f"{name}: a match has 1 to {MOST_AGENTS} agents, and not {agents}; name another number by "
+                        "--agents")
+    return [Planned(Setup(network.nodes, network.links, words.home, [hole], agents, words.quota, words.board), [],
+                  f"network{number}.toml") for hole in holes_of(words, name, network)]
 
 
 def key_of(team: str) -> str:
@@ -151,6 +183,8 @@ def add_words(parser: argparse.ArgumentParser) -> None:
                         "these, each in matches of its own")
     parser.add_argument("--holes", metavar="N|all", type=number_or(ALL), default=1, help="how many black holes to draw "
                         "for each network, each for matches of its own; or all (1)")
+    parser.add_argument("--traps", metavar="N", type=not_negative, default=0, help="how many traps each team gets: "
+                        "matches without a black hole, in which a link lets nobody arrive (0)")
     parser.add_argument("--agents", metavar="N|degree", type=number_or(DEGREE), default=2, help="how many agents a "
                         "team has; `degree` is one more than the network's greatest degree (2)")
     parser.add_argument("--quota", metavar="N", type=int, default=QUOTA, help=f"commands that an agent has ({QUOTA})")

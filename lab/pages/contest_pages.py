@@ -2,7 +2,7 @@
 import pathlib
 import shutil
 import tomllib
-from typing import List, NamedTuple, Optional, Tuple
+from typing import Any, Dict, List, NamedTuple, Optional, Tuple
 
 from lab.pages.judging import verdict_of
 from lab.pages.page import write_page
@@ -18,6 +18,8 @@ class Shown(NamedTuple):
     team: str
     network: str
     verdict: Optional[Verdict]
+    # whether it has no black hole, and a link that lets nobody arrive
+    is_trap: bool = False
     # whether an agent has entered
     has_entered: bool = False
 
@@ -31,9 +33,15 @@ def matches_of(tournament: pathlib.Path) -> List[Shown]:
     """The matches of a tournament's file, not judged yet."""
     try:
         found = tomllib.loads(tournament.read_text(encoding="utf-8"))["match"]
-        return [Shown(number, one["team"], one["network"], None) for number, one in enumerate(found)]
+        return [Shown(number, one["team"], one["network"], None, is_trap_in(one)) for number, one in enumerate(found)]
     except (tomllib.TOMLDecodeError, KeyError, TypeError) as fault:
         raise NoNetwork(f"{tournament}: this is not the file of a tournament ({fault}): see `arena check`") from None
+
+
+def is_trap_in(match: Dict[str, Any]) -> bool:
+    """Whether a match of a tournament's file is a trap."""
+    destroys = match.get("holes", []) or match.get("dark", []) or match.get("hole", "none") != "none"
+    return not destroys and bool(match.get("held", []))
 
 
 def place_of(shown: Shown) -> Tuple[int, int, int, str]:
@@ -44,7 +52,7 @@ def place_of(shown: Shown) -> Tuple[int, int, int, str]:
 def page_of(title: str, matches: List[Shown]) -> str:
     """The page that lists the matches."""
     solved = sum(one.verdict is not None and one.verdict.outcome == "solved" for one in matches)
-    came = [Came(one.team, one.name, one.verdict, one.has_entered) for one in matches]
+    came = [Came(one.team, one.name, one.verdict, one.has_entered, one.is_trap) for one in matches]
     return filled("contest.html", title=title, matches=sorted(matches, key=place_of), solved=solved,
                   teams=ranked(came), networks=networks_of(came))
 

@@ -51,7 +51,8 @@ class Contest:
 
     def teams(self) -> Dict[str, Any]:
         """The standings of teams."""
-        return teams(self.rows, [match.name for match in self._matches])
+        traps = [match.number for match in self._matches if match.is_trap]
+        return teams(self.rows, [match.name for match in self._matches], traps)
 
     def grown(self, number: int) -> int:
         """A number that rises whenever something happens in a match."""

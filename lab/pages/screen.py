@@ -5,7 +5,7 @@ two matches that no agent can tell apart: where the black holes are, who is lost
 Once a match is closed, its verdict is shown. The page of a match shows the black holes, which others may still look
 for, so pages come when all matches are closed.
 """
-from typing import Any, Dict, List, NamedTuple, Optional, Sequence
+from typing import Any, Collection, Dict, List, NamedTuple, Optional, Sequence
 
 from lab.pages.teams import Came, networks_of, ranked
 from lab.rules.model import OUTSIDE, RANKS, Match, Verdict, judge, rank
@@ -43,10 +43,12 @@ def place_of(row: Row) -> Any:
     return rank(Verdict(row["outcome"], row["moves"], row["lost"]), row["team"])
 
 
-def teams(rows: Sequence[Row], networks: Sequence[str]) -> Row:
-    """The standings of teams by what may be shown of matches, whose networks these are: so they tell no more."""
-    found = [Came(row["team"], networks[row["match"]], verdict_in(row), row.get("came", bool(row.get("entered"))))
-             for row in sorted(rows, key=lambda row: int(row["match"]))]
+def teams(rows: Sequence[Row], networks: Sequence[str], traps: Collection[int] = ()) -> Row:
+    """The standings of teams by what may be shown of matches, whose networks these are: so they tell no more. Which
+    matches are traps is told once all are closed."""
+    known = traps if all(row["state"] == OVER for row in rows) else ()
+    found = [Came(row["team"], networks[row["match"]], verdict_in(row), row.get("came", bool(row.get("entered"))),
+                  row["match"] in known) for row in sorted(rows, key=lambda row: int(row["match"]))]
     names = networks_of(found)
     return {"networks": names, "rows": [{**it._asdict(), "networks": [it.networks.get(name) for name in names]}
                                         for it in ranked(found)]}

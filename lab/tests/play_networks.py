@@ -88,6 +88,29 @@ class Written(unittest.TestCase):
         self.assertNotEqual(found[0]["seed"], found[1]["seed"])
         self.assertFalse(set(found[0]["match"][0]["keys"]) & set(found[1]["match"][0]["keys"]))
 
+    def test_traps_have_no_black_hole_and_a_node_at_which_nobody_arrives(self) -> None:
+        words = ["tournament", "--team", "red", "--team", "blue", "--network", "ring:6", "--network", "torus:3x3",
+                 "--traps", "2"]
+        orders = set()
+        for number in range(6):
+            lab(*words, "--out", f"contest{number}")
+            with contextlib.chdir(f"contest{number}"):
+                found = read_tournament("tournament.toml").fixtures
+            self.assertEqual(len(found), 2 * (1 + 1 + 2))
+            traps = [it for it in found if not it.setup.holes]
+            self.assertEqual(sorted(it.team for it in traps), ["blue", "blue", "red", "red"])
+            for it in traps:
+                far = {(v, p): w for v, p, w, _ in it.setup.links} | {(w, q): v for v, _, w, q in it.setup.links}
+                (node,) = {far[place] for place in it.held}
+                self.assertEqual(sorted(place for place, end in far.items() if end == node), sorted(it.held))
+                self.assertNotEqual(node, it.setup.home)
+            self.assertTrue(all(not it.held for it in found if it.setup.holes))
+            orders.add(tuple(bool(it.setup.holes) for it in found))
+            self.assertEqual(self.checked(f"contest{number}").count("match "), 8)
+        self.assertGreater(len(orders), 1)
+        sheet = pathlib.Path("contest0/keys-red.txt").read_text()
+        self.assertNotIn("trap", sheet)
+
     def test_a_tournament_is_never_overwritten(self) -> None:
         words = ["tournament", "--team", "red", "--network", "ring:6", "--out", "contest"]
         lab(*words)

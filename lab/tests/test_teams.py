@@ -29,6 +29,23 @@ class Standings(unittest.TestCase):
         self.assertEqual([(row.place, row.team, row.is_absent) for row in ranked(found)],
                          [(1, "a", False), (1, "b", False), (3, "late", True), (3, "none", True)])
 
+    def test_traps_are_counted_apart(self) -> None:
+        def trap(team: str, outcome: str) -> Came:
+            return came(team, outcome)._replace(is_trap=True)
+        found = [came("a", "solved", 9), trap("a", "silent"), came("b", "solved", 5), trap("b", "wrong"),
+                 came("c", "solved", 9), trap("c", "unfinished")]
+        rows = ranked(found)
+        self.assertEqual([(row.place, row.team, row.traps, row.deceived) for row in rows],
+                         [(1, "a", 1, 0), (1, "c", 1, 0), (3, "b", 1, 1)])
+        self.assertEqual(rows[0].networks, {"r": (1, 1)})
+
+    def test_which_matches_are_traps_is_told_once_all_are_closed(self) -> None:
+        over = {"team": "red", "state": "is over", "outcome": "silent", "moves": 1, "lost": 0, "came": True, "match": 0}
+        runs = {"team": "red", "state": "runs", "entered": 1, "agents": 2, "since": 7, "match": 1}
+        ((now,), (later,)) = (teams([over, it], ["r", "r"], [0])["rows"] for it in (runs, {**over, "match": 1}))
+        self.assertEqual((now["traps"], now["networks"]), (0, [(0, 2)]))
+        self.assertEqual((later["traps"], later["networks"]), (1, [(0, 1)]))
+
     def test_matches_as_they_are_watched(self) -> None:
         setup = Setup(3, ring(3).links, 0, [2], 2, 10, 8)
         solved, running, empty = Match(setup), Match(setup), Match(setup)

@@ -30,7 +30,8 @@ function words(row) {
 function showTeams() {
   const { rows, networks } = told.teams;
   byId("standings").hidden = rows.length < 2 || rows.length === told.rows.length;
-  byId("networks").replaceChildren(...["", "team", "solved", ...networks, "moves", "lost"].map((name) => {
+  const traps = rows.some((row) => row.traps > 0) ? ["deceived"] : [];
+  byId("networks").replaceChildren(...["", "team", "solved", ...networks, ...traps, "moves", "lost"].map((name) => {
     const made = document.createElement("th");
     made.textContent = name;
     return made;
@@ -41,6 +42,7 @@ function showTeams() {
     cell(line, row.team);
     cell(line, row.solved, "solved");
     for (const done of row.networks) cell(line, done ? `${done[0]} of ${done[1]}` : "");
+    if (traps.length) cell(line, `${row.deceived} of ${row.traps}`);
     cell(line, row.moves);
     cell(line, row.lost);
     return line;
