@@ -2,13 +2,16 @@
 
     ./arena --help            # builds the program, if it is not built yet
     python3 -m bench.timeouts [--contests N] [--nodes N] [--turns K] [--pause MS] [--schedule NAME]
+        [--timeouts TURNS ..] [--traps]
 
 Each contest has a match of the honest search `examples/agents/ring.py` and one match for each timeout of 1, 8, 64 and
-512 turns, all on a ring and with the black hole opposite the home base. In a timed team one agent steps to the next
-node and comes back, node after node; the other waits behind it, and if its companion has not come back in time, it
-takes the node ahead for the black hole. Such a team needs about three moves a node, and honest agents need some log n
-times as many. Up to twelve contests are played in one, since a tournament has at most 64 matches. The program is
-./arena, or what ARENA names.
+512 turns (or those of --timeouts), all on a ring and with the black hole opposite the home base. In a timed team one
+agent steps to the next node and comes back, node after node; the other waits behind it, and if its companion has not
+come back in time, it takes the node ahead for the black hole, visits all others, and accuses it from behind. Such a
+team needs about three moves a node, and honest agents need some log n times as many. With --traps hasty teams play too,
+which accuse at once, and each team also plays a match without a black hole, in which nobody arrives at that node and at
+the next (`lab tournament --traps`). As many contests are played in one as a tournament of 64 matches has room for. The
+program is ./arena, or what ARENA names.
 """
 import argparse
 import collections
@@ -18,7 +21,8 @@ import sys
 import tempfile
 import threading
 import time
-from typing import Callable, Counter, Dict, List, NamedTuple
+import tomllib
+from typing import Callable, Counter, Dict, List, NamedTuple, Sequence
 
 from bench.inputs import ring
 from bench.servers import MAX_SESSIONS, Failed, free_port, prepare, started, words
@@ -28,7 +32,11 @@ client = client_module()
 search = importlib.import_module("ring").search
 
 TIMEOUTS = (1, 8, 64, 512)
-AT_ONCE = 12
+MOST_MATCHES = 64
+# in a team's name, of a match that is a trap
+TRAP = "t"
+# accuses as soon as its time is up, and visits no other node before
+HASTY = "hasty"
 QUOTA, BOARD = 1000, 64
 SCHEDULES = {
     "adaptive": "",
@@ -44,18 +52,37 @@ class Rules(NamedTuple):
     turns: int
     pause: int
     schedule: str
+    timeouts: Sequence[int]
+    has_traps: bool
+
+    def kinds(self) -> List[str]:
+        """The teams of a contest: `honest`, `timeout-8` and so on, and again in traps as `honest-t`."""
+        found = ["honest", *(f"timeout-{turns}" for turns in self.timeouts)]
+        if not self.has_traps:
+            return found
+        found += [f"{HASTY}-{turns}" for turns in self.timeouts]
+        return found + [f"{kind}-{TRAP}" for kind in found]
 
 
-def teams(contests: int) -> List[str]:
+def teams(rules: Rules, contests: int) -> List[str]:
     """The teams of some contests: `honest-0`, `timeout-8-0` and so on."""
-    kinds = ["honest", *(f"timeout-{turns}" for turns in TIMEOUTS)]
-    return [f"{kind}-{number}" for number in range(contests) for kind in kinds]
+    return [f"{kind}-{number}" for number in range(contests) for kind in rules.kinds()]
 
 
 def tournament(rules: Rules, network: pathlib.Path, names: List[str]) -> str:
-    rows = "".join(f'\n[[match]]\nteam = "{name}"\nnetwork = "{network}"\nhome = 0\nholes = [{rules.nodes // 2}]\n'
-                   f'quota = {QUOTA}\nboard = {BOARD}\nkeys = ["{name}-a", "{name}-b"]\nheld = []\n' for name in names)
+    node, rows, links = rules.nodes // 2, "", links_in(network)
+    nodes = (node, node + 1)
+    ends = [[v, p] for v, p, w, _ in links if w in nodes] + [[w, q] for v, _, w, q in links if v in nodes]
+    for name in names:
+        holes, held = ([], ends) if f"-{TRAP}-" in name else ([node], [])
+        rows += (f'\n[[match]]\nteam = "{name}"\nnetwork = "{network}"\nhome = 0\nholes = {holes}\nquota = {QUOTA}\n'
+                 f'board = {BOARD}\nkeys = ["{name}-a", "{name}-b"]\nheld = {held}\n')
     return f'version = 3\nseed = "{"07" * 32}"\n{SCHEDULES[rules.schedule]}{rows}'
+
+
+def links_in(network: pathlib.Path) -> List[List[int]]:
+    links: List[List[int]] = tomllib.loads(network.read_text())["links"]
+    return links
 
 
 def step_out(agent: client.Agent, nodes: int) -> None:
@@ -67,12 +94,15 @@ def step_out(agent: client.Agent, nodes: int) -> None:
         agent.depart(AHEAD)
 
 
-def watch(agent: client.Agent, nodes: int, seconds: float, every: float) -> None:
-    """Follows while the other comes back in time; else visits the nodes that are left, and accuses from behind."""
+def watch(agent: client.Agent, nodes: int, seconds: float, every: float, is_hasty: bool) -> None:
+    """Follows while the other comes back in time; else visits the nodes that are left, and accuses from behind, or
+    accuses at once."""
     safe = 0
     while is_back(agent, seconds, every):
         agent.depart(AHEAD)
         safe += 1
+    if is_hasty:
+        return agent.accuse(AHEAD)
     for _ in range(nodes - 2):
         agent.depart(BACK)
     agent.accuse(BACK)
@@ -102,7 +132,8 @@ def plays(port: int, rules: Rules, name: str, number: int) -> Callable[[], None]
                 step_out(agent, rules.nodes)
             else:
                 timeout = int(name.split("-")[1])
-                watch(agent, rules.nodes, timeout * pause, max(1, timeout // 8) * pause / 2)
+                every = max(1, timeout // 8) * pause / 2
+                watch(agent, rules.nodes, timeout * pause, every, name.startswith(HASTY))
         except client.Refused:
             pass
         finally:
@@ -118,7 +149,7 @@ def table_of(text: str) -> Dict[str, str]:
 
 def contest(rules: Rules, contests: int) -> Dict[str, str]:
     """The outcomes of some contests that are played in one."""
-    names = teams(contests)
+    names = teams(rules, contests)
     with tempfile.TemporaryDirectory() as folder_name:
         folder = pathlib.Path(folder_name)
         (folder / "ring.toml").write_text(ring(rules.nodes))
@@ -138,14 +169,16 @@ def main(arguments: List[str]) -> int:
     parser.add_argument("--nodes", type=int, default=64, help="nodes of the ring (default: 64)")
     parser.add_argument("--turns", type=int, default=20_000, help="turns of a match (default: 20,000)")
     parser.add_argument("--pause", type=int, default=4, help="milliseconds before each turn (default: 4)")
+    parser.add_argument("--timeouts", type=int, nargs="+", default=TIMEOUTS, help="in turns (default: 1 8 64 512)")
+    parser.add_argument("--traps", action="store_true", help="each team also plays a trap")
     parser.add_argument("--schedule", choices=sorted(SCHEDULES), default="oblivious", help="(default: oblivious)")
     given = parser.parse_args(arguments)
     prepare(MAX_SESSIONS)
-    rules = Rules(given.nodes, given.turns, given.pause, given.schedule)
+    rules = Rules(given.nodes, given.turns, given.pause, given.schedule, given.timeouts, given.traps)
     found: Dict[str, Counter[str]] = collections.defaultdict(collections.Counter)
     left = given.contests
     while left:
-        some = min(left, AT_ONCE)
+        some = min(left, MOST_MATCHES // len(rules.kinds()))
         try:
             for name, outcome in contest(rules, some).items():
                 found[name.rpartition("-")[0]][outcome] += 1
@@ -154,7 +187,7 @@ def main(arguments: List[str]) -> int:
             return 1
         left -= some
     print(f"| team | {' | '.join(OUTCOMES)} |\n| --- |{' --- |' * len(OUTCOMES)}")
-    for name in ["honest", *(f"timeout-{turns}" for turns in TIMEOUTS)]:
+    for name in rules.kinds():
         print(f"| {name} | {' | '.join(str(found[name][outcome]) for outcome in OUTCOMES)} |")
     return 0
 

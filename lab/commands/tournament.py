@@ -8,11 +8,11 @@ tournament's seed are drawn by the operating system's source of secrets. So are 
 oblivious schedule, under which no agent learns by waiting what others do; examples/README.md says how to choose its
 delays and how many turns a match takes.
 
-With --traps N each team gets N matches more, on networks that are drawn, without a black hole: a node is drawn instead,
-and the links into it let nobody arrive. No agent can tell such a match from one whose black hole is that node. A team
-that decides nothing by time is `silent` there; one that takes a long silence for a black hole is `wrong`, and the
-standings of `lab pages` and `lab watch` say how often it was deceived. All matches stand in an order that is drawn. A
-trap goes on until its last turn, as its agents wait.
+With --traps N each team gets N matches more, on networks that are drawn, without a black hole: two nodes are drawn
+instead, and the links into them let nobody arrive. No agent can tell such a match from one in which either is the black
+hole and the links into the other are slow. So a team that decides nothing by time is `silent` there; one that takes a
+long silence for a black hole is `wrong`, and the standings of `lab pages` and `lab watch` say how often it was
+deceived. All matches stand in an order that is drawn. A trap goes on until its last turn, as its agents wait.
 
 Give each team its own sheet and no other file of the folder. A file of a network has no black hole: a team may have it
 if its agents are to know the map. Run `arena check tournament.toml` and `arena serve tournament.toml` in the folder.
@@ -113,11 +113,12 @@ class Planned(NamedTuple):
 
 
 def trap_on(words: argparse.Namespace, number: int, name: str) -> Planned:
-    """A match without a black hole. Nobody arrives at a node that is drawn."""
+    """A match without a black hole. Nobody arrives at two nodes that are drawn: if it were one, it would be the last
+    that is left to a team which has visited all others, and every team would accuse it."""
     place = places_on(words, number, name)[0]
     setup = place.setup
-    node = secrets.choice([it for it in range(setup.nodes) if it != setup.home])
-    held = [(v, p) for v, p, w, _ in setup.links if w == node] + [(w, q) for v, _, w, q in setup.links if v == node]
+    nodes = secrets.SystemRandom().sample([it for it in range(setup.nodes) if it != setup.home], 2)
+    held = [(v, p) for v, p, w, _ in setup.links if w in nodes] + [(w, q) for v, _, w, q in setup.links if v in nodes]
     return place._replace(setup=setup._replace(holes=[]), held=sorted(held))
 
 
@@ -184,7 +185,7 @@ def add_words(parser: argparse.ArgumentParser) -> None:
     parser.add_argument("--holes", metavar="N|all", type=number_or(ALL), default=1, help="how many black holes to draw "
                         "for each network, each for matches of its own; or all (1)")
     parser.add_argument("--traps", metavar="N", type=not_negative, default=0, help="how many traps each team gets: "
-                        "matches without a black hole, in which a link lets nobody arrive (0)")
+                        "matches without a black hole, in which nobody arrives at two of the nodes (0)")
     parser.add_argument("--agents", metavar="N|degree", type=number_or(DEGREE), default=2, help="how many agents a "
                         "team has; `degree` is one more than the network's greatest degree (2)")
     parser.add_argument("--quota", metavar="N", type=int, default=QUOTA, help=f"commands that an agent has ({QUOTA})")

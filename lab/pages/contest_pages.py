@@ -18,7 +18,7 @@ class Shown(NamedTuple):
     team: str
     network: str
     verdict: Optional[Verdict]
-    # whether it has no black hole, and a link that lets nobody arrive
+    # whether it has no black hole, and links that let nobody arrive
     is_trap: bool = False
     # whether an agent has entered
     has_entered: bool = False

@@ -4,7 +4,7 @@ Who solved more matches stands before, then whom fewer traps have deceived, then
 fewer agents; moves and lost agents are those of solved matches. Equal teams share a place. A team of which no agent has
 entered is absent, and stands behind all that came. What is told of a match that goes on is only that it does.
 
-A trap is a match without a black hole, in which a link lets nobody arrive. A team that takes a long silence for a black
+A trap is a match without a black hole, in which links let nobody arrive. A team that takes a long silence for a black
 hole accuses there, and is deceived; there is nothing to solve.
 """
 from typing import Dict, List, NamedTuple, Optional, Sequence, Tuple

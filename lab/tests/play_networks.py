@@ -88,7 +88,7 @@ class Written(unittest.TestCase):
         self.assertNotEqual(found[0]["seed"], found[1]["seed"])
         self.assertFalse(set(found[0]["match"][0]["keys"]) & set(found[1]["match"][0]["keys"]))
 
-    def test_traps_have_no_black_hole_and_a_node_at_which_nobody_arrives(self) -> None:
+    def test_traps_have_no_black_hole_and_two_nodes_at_which_nobody_arrives(self) -> None:
         words = ["tournament", "--team", "red", "--team", "blue", "--network", "ring:6", "--network", "torus:3x3",
                  "--traps", "2"]
         orders = set()
@@ -101,9 +101,9 @@ class Written(unittest.TestCase):
             self.assertEqual(sorted(it.team for it in traps), ["blue", "blue", "red", "red"])
             for it in traps:
                 far = {(v, p): w for v, p, w, _ in it.setup.links} | {(w, q): v for v, _, w, q in it.setup.links}
-                (node,) = {far[place] for place in it.held}
-                self.assertEqual(sorted(place for place, end in far.items() if end == node), sorted(it.held))
-                self.assertNotEqual(node, it.setup.home)
+                nodes = {far[place] for place in it.held}
+                self.assertEqual(sorted(place for place, end in far.items() if end in nodes), sorted(it.held))
+                self.assertEqual((len(nodes), it.setup.home in nodes), (2, False))
             self.assertTrue(all(not it.held for it in found if it.setup.holes))
             orders.add(tuple(bool(it.setup.holes) for it in found))
             self.assertEqual(self.checked(f"contest{number}").count("match "), 8)
