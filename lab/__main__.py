@@ -47,6 +47,8 @@ COMMANDS = {
     "network": Command("lab.commands.network", "write a network file", ("networkx",)),
     "tournament": Command("lab.commands.tournament",
                           "write a tournament of teams, networks and black holes, with their keys", ("networkx",)),
+    "again": Command("lab.commands.again", "write another try of a match, for a team whose program crashed",
+                     ("networkx",)),
     "sweep": Command("lab.commands.sweep", "play teams over a grid of networks and schedules, and write a report",
                      PLAYS + PAGES + ("matplotlib",)),
     "grade": Command("lab.commands.grade", "grade the programs of a course: a league table, and a page for each team",

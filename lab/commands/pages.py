@@ -5,12 +5,15 @@
 TOURNAMENT is the file that was served, and PREFIX what its --replay named: the replay of match M is PREFIXM.jsonl. The
 folder gets index.html, which has the table of the contest with links, and beside it the page and the replay of each
 match. All of it opens without a network. A match without a replay, as after a server that was killed, is listed so.
+
+--again FOLDER takes another try of a match in: the folder is that of `python3 -m lab again`, in which its server was
+started. The better of the tries counts, or the last one with --take last.
 """
 import argparse
 import pathlib
 
 from lab.commands.words import add_engine, program_of
-from lab.pages.contest_pages import write_pages
+from lab.pages.contest_pages import BETTER, LAST, Tries, write_pages
 
 
 def add_words(parser: argparse.ArgumentParser) -> None:
@@ -18,9 +21,13 @@ def add_words(parser: argparse.ArgumentParser) -> None:
     parser.add_argument("tournament", metavar="TOURNAMENT", type=pathlib.Path, help="the file that was served")
     parser.add_argument("prefix", metavar="PREFIX", help="what --replay named: the replay of match M is PREFIXM.jsonl")
     parser.add_argument("--out", metavar="FOLDER", type=pathlib.Path, required=True, help="write the pages there")
+    parser.add_argument("--again", metavar="FOLDER", type=pathlib.Path, action="append", default=[], help="another try "
+                        "of a match, and more by more of these, in the order in which they were played")
+    parser.add_argument("--take", choices=(BETTER, LAST), default=BETTER, help="which of the tries counts (better)")
     add_engine(parser)
 
 
 def run(words: argparse.Namespace) -> int:
-    print(write_pages(program_of(words), words.tournament, words.prefix, words.out))
+    tries = Tries(words.again, words.take)
+    print(write_pages(program_of(words), words.tournament, words.prefix, words.out, tries))
     return 0

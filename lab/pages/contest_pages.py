@@ -2,7 +2,7 @@
 import pathlib
 import shutil
 import tomllib
-from typing import Any, Dict, List, NamedTuple, Optional, Tuple
+from typing import Any, Dict, List, NamedTuple, Optional, Sequence, Tuple
 
 from lab.pages.judging import verdict_of
 from lab.pages.page import write_page
@@ -10,6 +10,11 @@ from lab.pages.parts import filled
 from lab.pages.teams import Came, networks_of, ranked
 from lab.rules.model import RANKS, Verdict, rank
 from lab.rules.networks import NoNetwork
+
+# which of a match's tries counts
+BETTER, LAST = "better", "last"
+# the file of another try, and its key that says of which match it is one
+TOURNAMENT, AGAIN = "tournament.toml", "again"
 
 
 class Shown(NamedTuple):
@@ -22,6 +27,8 @@ class Shown(NamedTuple):
     is_trap: bool = False
     # whether an agent has entered
     has_entered: bool = False
+    # how often it was played
+    tries: int = 1
 
     @property
     def name(self) -> str:
@@ -63,16 +70,47 @@ def has_entered(replay: pathlib.Path) -> bool:
         return any('"do":"enter"' in line for line in lines)
 
 
-def write_pages(program: Optional[str], tournament: pathlib.Path, prefix: str, folder: pathlib.Path) -> pathlib.Path:
+class Tries(NamedTuple):
+    """Other tries of matches, each in the folder in which it was served, and which of a match's tries counts."""
+
+    folders: Sequence[pathlib.Path] = ()
+    take: str = BETTER
+
+    def replays(self) -> Dict[int, List[pathlib.Path]]:
+        """The replays of the tries, by the numbers of matches, in their order."""
+        found: Dict[int, List[pathlib.Path]] = {}
+        for folder in self.folders:
+            path = folder / TOURNAMENT
+            try:
+                number = tomllib.loads(path.read_text(encoding="utf-8"))[AGAIN]
+            except (OSError, tomllib.TOMLDecodeError, KeyError):
+                raise NoNetwork(f"{path}: this is no other try of a match: see `lab again`") from None
+            replay = path.with_name(f"{path.stem}0.jsonl")
+            if replay.exists():
+                found.setdefault(number, []).append(replay)
+        return found
+
+    def chosen(self, program: Optional[str], team: str, replays: Sequence[pathlib.Path]) -> pathlib.Path:
+        """The try that counts."""
+        if self.take == LAST:
+            return replays[-1]
+        return min(replays, key=lambda it: rank(verdict_of(program, it), team))
+
+
+def write_pages(program: Optional[str], tournament: pathlib.Path, prefix: str, folder: pathlib.Path,
+                tries: Tries = Tries()) -> pathlib.Path:
     """Writes the pages of a contest; gives the page that lists the others."""
-    all_matches, matches = matches_of(tournament), []
+    all_matches, matches, others = matches_of(tournament), [], tries.replays()
     replays = [pathlib.Path(f"{prefix}{shown.number}.jsonl") for shown in all_matches]
     if not any(it.exists() for it in replays):
         raise NoNetwork(f"{prefix}: no match has a replay, as {prefix}0.jsonl: name what `serve` was told by --replay")
     folder.mkdir(parents=True, exist_ok=True)
-    for shown, replay in zip(all_matches, replays):
-        if replay.exists():
-            shown = shown._replace(verdict=verdict_of(program, replay), has_entered=has_entered(replay))
+    for shown, first in zip(all_matches, replays):
+        all_tries = [it for it in (first, *others.get(shown.number, [])) if it.exists()]
+        if all_tries:
+            replay = tries.chosen(program, shown.team, all_tries)
+            shown = shown._replace(verdict=verdict_of(program, replay), tries=len(all_tries),
+                                   has_entered=any(map(has_entered, all_tries)))
             write_page(program, replay, folder / f"match{shown.number}.html")
             kept = folder / f"match{shown.number}.jsonl"
             if kept.resolve() != replay.resolve():

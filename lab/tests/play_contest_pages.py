@@ -5,7 +5,7 @@ import unittest
 from unittest import mock
 
 from lab.pages import contest_pages
-from lab.pages.contest_pages import Shown, matches_of, page_of, write_pages
+from lab.pages.contest_pages import BETTER, LAST, Shown, Tries, matches_of, page_of, write_pages
 from lab.rules.model import Verdict
 from lab.rules.networks import NoNetwork
 
@@ -53,6 +53,22 @@ class Writes(unittest.TestCase):
                          ["index.html", "match1.html", "match1.jsonl"])
         self.assertIn("<td>guess 2</td><td>7</td><td>1</td>", index.read_text())
         self.assertIn("no replay", index.read_text())
+
+    def test_of_several_tries_one_counts(self) -> None:
+        again = self.folder / "again1"
+        again.mkdir()
+        (again / "tournament.toml").write_text(f"again = 1\n{TOURNAMENT}")
+        for path, text in ((self.folder / "m1.jsonl", "first"), (again / "tournament0.jsonl", "second")):
+            path.write_text(text)
+        verdicts = {"first": Verdict("solved", 9, 1), "second": Verdict("silent", 7, 0)}
+        for take, counts in ((BETTER, "first"), (LAST, "second")):
+            with mock.patch.object(contest_pages, "verdict_of", lambda program, it: verdicts[it.read_text()]), \
+                    mock.patch.object(contest_pages, "write_page", lambda program, replay, page: page.write_text("")):
+                index = write_pages(None, self.file, str(self.folder / "m"), self.folder / take, Tries([again], take))
+            self.assertEqual((index.parent / "match1.jsonl").read_text(), counts)
+            self.assertIn(f"<td>{verdicts[counts].outcome} (2 tries)</td>", index.read_text())
+        with self.assertRaisesRegex(NoNetwork, "this is no other try of a match"):
+            write_pages(None, self.file, str(self.folder / "m"), self.folder / "out", Tries([self.folder]))
 
     def test_a_file_that_is_no_tournament_is_told(self) -> None:
         for text in ("", "match = 1", "[[match]]\nteam = 1", "x"):

@@ -111,6 +111,28 @@ class Written(unittest.TestCase):
         sheet = pathlib.Path("contest0/keys-red.txt").read_text()
         self.assertNotIn("trap", sheet)
 
+    def test_another_try_has_all_anew_but_team_network_and_limits(self) -> None:
+        lab("tournament", "--team", "red", "--team", "blue", "--network", "torus:3x3", "--traps", "1", "--out", "cup")
+        with contextlib.chdir("cup"):
+            for number, first in enumerate(read_tournament("tournament.toml").fixtures):
+                folder = f"again{number}"
+                self.assertEqual(lab("again", "tournament.toml", str(number), "--out", folder)[0], 0)
+                self.assertIn("match 0 ", self.checked(folder))
+                self.assertEqual(tomllib.loads(pathlib.Path(folder, "tournament.toml").read_text())["again"], number)
+                with contextlib.chdir(folder):
+                    found = read_tournament("tournament.toml")
+                (second,) = found.fixtures
+                self.assertEqual((second.team, second.setup[0], second.setup.home, second.setup.quota),
+                                 (first.team, first.setup[0], first.setup.home, first.setup.quota))
+                self.assertEqual((len(second.setup.holes), len(second.held)),
+                                 (len(first.setup.holes), len(first.held)))
+                self.assertFalse(set(second.keys) & set(first.keys))
+                self.assertNotEqual(second.setup.links, first.setup.links)
+                self.assertNotEqual(found.seed, read_tournament("tournament.toml").seed)
+                for name in ("tournament.toml", f"keys-{first.team}.txt"):
+                    self.assertEqual(stat.S_IMODE(os.stat(f"{folder}/{name}").st_mode), 0o600)
+            self.assertEqual(lab("again", "tournament.toml", "9", "--out", "x")[0], 2)
+
     def test_a_tournament_is_never_overwritten(self) -> None:
         words = ["tournament", "--team", "red", "--network", "ring:6", "--out", "contest"]
         lab(*words)
