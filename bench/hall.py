@@ -70,7 +70,8 @@ class Load:
             told = self.request("GET", f"/api/matches/{told['id']}", name)
         for agent in agents:
             agent.wait()
-        self.outcomes[told["verdicts"][0]["outcome"] if told["verdicts"] else told["state"]] += 1
+        came = told["verdicts"][0]["outcome"] if told["verdicts"] else f"{told['state']} {told['fault']}"
+        self.outcomes[came] += 1
 
     def flood(self, name: str) -> None:
         """Requests of a team as fast as they are answered."""

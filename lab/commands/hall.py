@@ -98,6 +98,8 @@ def begin(of: Place) -> None:
     from django.core.management import call_command
     entry.begin(str(of.folder))
     call_command("migrate", verbosity=0, interactive=False)
+    # sessions whose time is up
+    call_command("clearsessions")
 
 
 def check_walls(words: argparse.Namespace, hall: Hall) -> None:

@@ -4,6 +4,8 @@ import socket
 import urllib.parse
 from typing import Any, Dict
 
+import django
+
 from lab.hall import place
 
 PLACE = place.current()
@@ -80,7 +82,8 @@ SECURE_CONTENT_TYPE_NOSNIFF = True
 X_FRAME_OPTIONS = "DENY"
 if HALL.https:
     SECURE_PROXY_SSL_HEADER = ("HTTP_X_FORWARDED_PROTO", "https")
-    CSRF_TRUSTED_ORIGINS = [HALL.host, *HALL.names]
+    # later versions of Django want the scheme too
+    CSRF_TRUSTED_ORIGINS = [name if django.VERSION < (4,) else f"https://{name}" for name in (HALL.host, *HALL.names)]
 
 # a form of a stranger has few fields, and files of hand-ins go to the disk
 DATA_UPLOAD_MAX_MEMORY_SIZE = 256 << 10

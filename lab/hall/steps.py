@@ -10,7 +10,7 @@ from django.utils import timezone
 from lab.hall import machine
 
 # how long a worker may be silent, and how often it says that it is there; how long work may wait for its worker
-SECONDS = float(os.environ.get("ARENA_HALL_LEASE", "20"))
+SECONDS = float(os.environ.get("ARENA_HALL_LEASE", "30"))
 LEASE, RENEWED = datetime.timedelta(seconds=SECONDS), SECONDS / 5
 TO_BEGIN = LEASE
 

@@ -64,9 +64,10 @@ def parts_of(place: Place, options: Options) -> List[Part]:
     keeper = Part("keeper", python("-m", "lab.hall.keeper", place.folder, scheduler), {})
     # strangers choose the keys of forms: sets and dictionaries of the web server have an order of their own
     web = Part("web", python(
-        "-m", "gunicorn", "lab.hall.wsgi", "--bind", f"{options.address}:{options.port}", "--worker-class", "gthread",
-        "--workers", 1, "--threads", THREADS, "--limit-request-line", 2000, "--limit-request-fields", 50,
-        "--keep-alive", 5, "--timeout", 60, "--graceful-timeout", 2), {"PYTHONHASHSEED": "random"})
+        "-m", "gunicorn", "lab.hall.wsgi", "--bind", f"{options.address}:{options.port}", "--worker-class",
+        "lab.hall.web.Worker", "--workers", 1, "--threads", THREADS, "--limit-request-line", 2000,
+        "--limit-request-fields", 50, "--keep-alive", 5, "--timeout", 60, "--graceful-timeout", 2),
+        {"PYTHONHASHSEED": "random"})
     return [web, keeper] if options.cluster else [*local(place, options, scheduler), keeper, web]
 
 

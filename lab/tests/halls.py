@@ -107,22 +107,28 @@ class Told:
 class Served:
     """A hall that is served, with its processes."""
 
-    def __init__(self, folder: pathlib.Path, more: str = "", minutes: int = 1, workers: int = 1) -> None:
+    def __init__(self, folder: pathlib.Path, more: str = "", minutes: int = 1, workers: int = 1,
+                 cluster: str = "") -> None:
         self.port = free_port()
-        first = 20_000 + os.getpid() % 200 * 100
+        self._minutes = minutes
         self.course = folder / "trial.toml"
-        self.course.write_text(COURSE.format(first=first, last=first + 40, minutes=minutes, more=more))
+        self.write(more)
         self.folder = folder / "trial.hall"
-        self._workers = workers
+        self._workers = ["--cluster", cluster] if cluster else ["--workers", str(workers)]
         self.child: Optional["subprocess.Popen[str]"] = None
+
+    def write(self, more: str) -> None:
+        """Writes the course's file, with more keys."""
+        first = 20_000 + os.getpid() % 200 * 100
+        self.course.write_text(COURSE.format(first=first, last=first + 40, minutes=self._minutes, more=more))
 
     def words(self, *words: object) -> List[str]:
         return [sys.executable, "-m", "lab", "hall", *map(str, words)]
 
     def start(self) -> None:
         self.child = subprocess.Popen(
-            [*self.words(self.course), "--program", program(), "--port", str(self.port), "--workers",
-             str(self._workers)], cwd=TOP, stdout=subprocess.DEVNULL, stderr=subprocess.DEVNULL, text=True,
+            [*self.words(self.course), "--program", program(), "--port", str(self.port), *self._workers], cwd=TOP,
+            stdout=subprocess.DEVNULL, stderr=subprocess.DEVNULL, text=True,
             env={**os.environ, "ARENA_HALL_LEASE": LEASE})
         self.wait(self.answers, "the hall answers")
 

@@ -9,6 +9,7 @@ import socket
 import sqlite3
 import subprocess
 import tarfile
+import time
 import unittest
 import urllib.request
 from typing import Any, Dict, List
@@ -289,6 +290,20 @@ class Commands(Halls):
                 for token in self.tokens.values():
                     self.assertNotIn(token.encode(), found, path)
         self.assertEqual(self.hall.ask("GET", "/hall.json").status, 404)
+
+    def test_connections_that_say_nothing_or_little_keep_nobody_waiting(self) -> None:
+        """Browsers open connections for later; and a stranger may say a request byte by byte."""
+        place = ("127.0.0.1", self.hall.port)
+        with contextlib.ExitStack() as held:
+            for count in range(60):
+                idle = held.enter_context(socket.create_connection(place))
+                if count % 2:
+                    idle.sendall(b"GET /login HTTP/1.1\r\nHost: 127.0.0.1\r\nX-Slow: ")
+            began = time.monotonic()
+            self.hall.wait(self.hall.answers, "the hall answers", 10)
+            for _ in range(10):
+                self.assertEqual(self.hall.ask("GET", "/api/networks", self.tokens["amber"]).status, 200)
+            self.assertLess(time.monotonic() - began, 9)
 
     def test_two_processes_alone_answer_the_network(self) -> None:
         """The web server, and the parts of the cluster, which ask for a certificate."""

@@ -1,11 +1,12 @@
-"""A hall over PostgreSQL, with two workers of Dask that are killed."""
+"""A hall over PostgreSQL, whose workers belong to a scheduler of Dask of their own, and are killed."""
 import os
 import pathlib
 import shutil
 import subprocess
+import sys
 import tempfile
 import unittest
-from typing import Iterator, List
+from typing import Any, Dict, Iterator, List
 
 from lab.support.ports import free_port
 from lab.tests import halls
@@ -40,19 +41,41 @@ class Postgres(unittest.TestCase):
         subprocess.run(["runuser", "-u", "postgres", "--", *program], check=True, stdout=subprocess.DEVNULL,
                        stdin=subprocess.DEVNULL, cwd="/")
 
+    def begun(self, module: str, until: str, *words: str) -> Any:
+        """A part of a cluster, which says this once it has begun; gives it and its last word then."""
+        variables = {**os.environ, "PYTHONPATH": str(halls.TOP), "ARENA_HALL_LEASE": halls.LEASE,
+                     "ARENA_HALL_HOST": "localhost"}
+        child = subprocess.Popen([sys.executable, "-m", f"distributed.cli.{module}", *words, "--host", "127.0.0.1",
+                                  "--no-dashboard"], cwd=self.folder, stderr=subprocess.PIPE, text=True, env=variables)
+        for clean in (child.stderr.close, child.wait, child.kill):
+            self.addCleanup(clean)
+        for line in child.stderr:
+            if until in line:
+                return child, line.split()[-1]
+        raise AssertionError(f"{module} has ended")
+
+    def workers(self, address: str) -> List[Any]:
+        """Two workers of a scheduler."""
+        return [self.begun("dask_worker", "Registered to:", address, "--no-nanny", "--nthreads", "20")[0]
+                for _ in range(2)]
+
     def test_matches_go_on_whoever_is_killed(self) -> None:
-        address = f'database = "postgresql://hall@127.0.0.1:{self.port}/hall"'
-        with halls.served(address, workers=2) as hall:
+        database = f'database = "postgresql://hall@127.0.0.1:{self.port}/hall"'
+        _, cluster = self.begun("dask_scheduler", "Scheduler at:", "--port", "0")
+        workers = self.workers(cluster)
+        with halls.served(database, cluster=cluster) as hall:
             tokens = hall.tokens()
             first = hall.asked(tokens["amber"])
             self.ended(play(hall.begins(tokens["amber"], first)))
             before = hall.over(tokens["amber"], first)
-            self.assertEqual(before["solved"], 1)
+            self.assertEqual((before["solved"], before["matches"][0]["host"]), (1, "localhost"))
             numbers = {name: hall.asked(token) for name, token in tokens.items()}
             for name, number in numbers.items():
                 hall.begins(tokens[name], number)
-            for name in ("keeper", "worker 0", "worker 1"):
-                hall.kill(name)
+            hall.kill("keeper")
+            for worker in workers:
+                worker.kill()
+            self.workers(cluster)
             for told in self.again(hall, numbers):
                 self.ended(play(told))
             for name, number in numbers.items():
@@ -65,7 +88,7 @@ class Postgres(unittest.TestCase):
                            stdout=subprocess.DEVNULL, env={**os.environ, "PATH": path})
             self.assertTrue(archive.exists())
 
-    def again(self, hall: Served, numbers: "dict[str, int]") -> Iterator["dict[str, object]"]:
+    def again(self, hall: Served, numbers: Dict[str, int]) -> Iterator[Dict[str, Any]]:
         """The attempts once their second runs have begun."""
         for name, number in numbers.items():
             path = hall.folder / "attempts" / str(number) / "run2"
@@ -73,7 +96,7 @@ class Postgres(unittest.TestCase):
             hall.wait(lambda: hall.servers(f"{number}/run2"), f"attempt {number} has a server")
             yield hall.begins(hall.tokens()[name], number)
 
-    def ended(self, agents: "list[subprocess.Popen[bytes]]") -> None:
+    def ended(self, agents: List[Any]) -> None:
         for agent in agents:
             self.addCleanup(agent.wait)
             self.addCleanup(agent.kill)

@@ -11,7 +11,6 @@ import os
 import pathlib
 import sys
 import tempfile
-import time
 from typing import Any, List
 
 from selenium import webdriver
@@ -24,7 +23,6 @@ from tools.play.watch_in_browser import browser
 
 SECONDS = 60
 WIDE, PHONE = (1200, 900), (400, 850)
-FREEZE = 45
 
 
 class Walk:
@@ -144,7 +142,7 @@ class Walk:
             raise SystemExit(f"the console says {errors}")
 
 
-def walk(hall: halls.Served, page: webdriver.Chrome, shots: pathlib.Path, freeze: datetime.datetime) -> None:
+def walk(hall: halls.Served, page: webdriver.Chrome, shots: pathlib.Path) -> None:
     """All of it, one after the other."""
     it = Walk(hall, page, shots)
     it.open("/")
@@ -159,7 +157,9 @@ def walk(hall: halls.Served, page: webdriver.Chrome, shots: pathlib.Path, freeze
     it.languages()
     with tempfile.TemporaryDirectory() as name:
         it.hand_in(pathlib.Path(name))
-    time.sleep(max(0.0, (freeze - datetime.datetime.now(datetime.timezone.utc)).total_seconds()) + 1)
+    # the teacher has changed the course's file, and starts the pages anew
+    hall.write(f'freeze = "{datetime.datetime.now(datetime.timezone.utc).isoformat()}"')
+    hall.kill("web")
     it.log_in("birch")
     it.ask("rated")
     it.open("/")
@@ -179,11 +179,10 @@ def walk(hall: halls.Served, page: webdriver.Chrome, shots: pathlib.Path, freeze
 def main(program: str, shots: pathlib.Path) -> int:
     shots.mkdir(parents=True, exist_ok=True)
     os.environ["ARENA_PROGRAM"] = program
-    freeze = datetime.datetime.now(datetime.timezone.utc) + datetime.timedelta(seconds=FREEZE)
-    with halls.served(f'freeze = "{freeze.isoformat()}"') as hall:
+    with halls.served() as hall:
         page = browser()
         try:
-            walk(hall, page, shots, freeze)
+            walk(hall, page, shots)
         finally:
             page.quit()
     print(f"all pages say what they should; screenshots are in {shots}")

@@ -5,6 +5,7 @@ the worker is killed its servers end with it. The attempt is then played again: 
 them, and the others are drawn anew, with other black holes and keys.
 """
 import contextlib
+import os
 import pathlib
 import shutil
 import time
@@ -22,6 +23,8 @@ from lab.pages import page
 from lab.rules.engines import judged
 from lab.support.faults import Fault
 
+# of a worker on another machine than the pages: by which name teams reach it
+HOST = "ARENA_HALL_HOST"
 # seconds between two looks at servers
 LOOK = 0.2
 REPLAY, TURNS = "m0.jsonl", "m0.turns"
@@ -112,8 +115,8 @@ class Playing:
         with transaction.atomic():
             self._renew()
             for it in served:
-                told = {"run": self._attempt.runs, "host": settings.HALL.host, "port": it.server.port,
-                        "keys": it.draw.fixture.keys, "map": it.draw.map}
+                told = {"run": self._attempt.runs, "host": os.environ.get(HOST, settings.HALL.host),
+                        "port": it.server.port, "keys": it.draw.fixture.keys, "map": it.draw.map}
                 Match.objects.update_or_create(attempt=self._attempt, number=it.number, defaults=told)
 
     def _wait(self, left: List[Server]) -> None:

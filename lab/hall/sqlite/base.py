@@ -11,8 +11,8 @@ class DatabaseWrapper(base.DatabaseWrapper):
     def get_new_connection(self, conn_params: Dict[str, Any]) -> Any:
         connection = super().get_new_connection(conn_params)
         connection.execute("PRAGMA journal_mode = WAL")
-        # what is committed is there after a crash of the machine, too
-        connection.execute("PRAGMA synchronous = FULL")
+        # what is committed stays whatever process is killed; a power cut may take the last seconds
+        connection.execute("PRAGMA synchronous = NORMAL")
         return connection
 
     def _start_transaction_under_autocommit(self) -> None:
