@@ -102,7 +102,7 @@ class Grading(InFolder):
         with mock.patch.object(engines, "program_at", side_effect=AssertionError("the program is asked for")):
             said = self.graded(EXAMPLE, "home", *SECRET, "--engine", "model")
             self.assertEqual(said.splitlines()[:4], league_in(TOP / "examples" / "README.md"))
-            match = self.folder / "home" / "failed" / "cedar-5"
+            match = self.folder / "home" / "failed" / "cedar-10"
             page = (match / "match0.html").read_text()
             self.assertEqual(main(["page", str(match / "match0.jsonl"), "--engine", "model"]), 0)
             self.assertEqual((match / "match0.html").read_text(), called_as_its_replay(page))
@@ -111,10 +111,10 @@ class Grading(InFolder):
         """The wrong team's page leads to its failed matches and their smallest schedules."""
         page = (folder / "team-cedar.html").read_text()
         self.assertIn("then always the first", page)
-        for place in ("failed/cedar-5", "failed/cedar-5/smallest", "failed/cedar-6"):
+        for place in ("failed/cedar-10", "failed/cedar-10/smallest", "failed/cedar-11"):
             self.assertIn(f'href="{place}/match0.html"', page)
             self.assertTrue((folder / place / "match0.html").is_file())
-        self.check_replay(folder / "failed/cedar-5/smallest")
+        self.check_replay(folder / "failed/cedar-10/smallest")
         for name in ("amber", "birch"):
             self.assertIn("solved each of its matches", (folder / f"team-{name}.html").read_text())
 

@@ -17,8 +17,7 @@ number of workers:
 - Nothing is left of it in the folder for temporary files.
 
 Then two commands grade the honest teams at the same time, and again the rows are the same. A run takes some minutes.
-Beside much other work, with --seeds 3 and 4 workers, the rows were the same and it took 3.3 times as long: starting
-programs takes most of the time, and hostile teams have as many matches as honest ones.
+Where other work comes and goes beside it, the times of the two gradings cannot be compared, and that check may fail.
 """
 import argparse
 import pathlib
