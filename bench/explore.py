@@ -13,6 +13,7 @@ import argparse
 import os
 import pathlib
 import re
+import resource
 import subprocess
 import tempfile
 import time
@@ -20,7 +21,7 @@ from typing import List, NamedTuple, Tuple
 from unittest import mock
 
 from lab.__main__ import parser
-from lab.commands.words import game_of
+from lab.commands.words import games_of
 from lab.rules.fixtures import Fixture, write_tournament
 from lab.search import asking
 from lab.search.machines import Machines
@@ -30,14 +31,16 @@ PROGRAM = os.environ.get("ARENA", str(TOP / "arena"))
 AGENTS = TOP / "examples" / "agents"
 # seconds between two looks at the memory of the program
 PAUSE = 0.002
+OWN, CHILDREN = resource.RUSAGE_SELF, resource.RUSAGE_CHILDREN
 
 
 class Taken(NamedTuple):
-    """What one match took."""
+    """What one match took: the whole in seconds, and in those of a processor, of which the program took its own."""
 
     states: int
     moves: int
     whole: float
+    processor: float
     program: float
     memory: float
 
@@ -82,23 +85,28 @@ def peak_of(process: int) -> float:
     return int(found[1]) / 1024 if found else 0.0
 
 
+def processor_seconds() -> float:
+    """The seconds of a processor that the lab and the programs that it waited for have taken so far."""
+    return sum(used.ru_utime + used.ru_stime for used in map(resource.getrusage, (OWN, CHILDREN)))
+
+
 def tried(fixture: Fixture, machines: Machines, states: int) -> Taken:
     """What one match takes, all schedules of which solve it."""
-    answers, started, plain = Answers(), time.monotonic(), asking.Run.answer
+    answers, started, before, plain = Answers(), time.monotonic(), processor_seconds(), asking.Run.answer
     with mock.patch.object(asking.Run, "answer", lambda run, question: answers.noted(plain(run, question))):
         answered = asking.asked(PROGRAM, fixture, machines, states, lambda count: None)
-    whole = time.monotonic() - started
+    whole, processor = time.monotonic() - started, processor_seconds() - before
     found = answered.found
     if found is None or found["found"] != asking.SOLVES:
         raise SystemExit(f"{PROGRAM} does not say that every schedule solves it: {found}")
-    return Taken(answered.counts["states"], found["moves"], whole, *alone(fixture, answers, states))
+    return Taken(answered.counts["states"], found["moves"], whole, processor, *alone(fixture, answers, states))
 
 
 def measured(network: str, agent: str, states: int) -> List[Taken]:
     """What the matches of a network take."""
     nodes = " {nodes}" if agent.startswith("ring") else ""
     given = parser().parse_args(["explore", "--network", network, "--agent", f"{AGENTS / agent}.py{nodes}"])
-    game = game_of(given)
+    [game] = games_of(given)
     fixtures = game.fixtures()
     machines, found = Machines(fixtures[0], game.agents, game.limit), []
     machines.start()

@@ -16,6 +16,8 @@ names:
     replays     the largest replays
     serve       a contest over TCP beside echo servers in C
     lab         steps and states of the lab
+    explore     every schedule of several matches
+    spin        every schedule of rings, beside the model checker SPIN
 
 Without --only all of them run, which takes about an hour, most of it for the gate. `steps`, `submit` and `stages` need
 the proved program bhs_bench. The others, except `gate`, run on the proved arena if it is built, else on a build without
@@ -33,6 +35,7 @@ import tempfile
 import time
 from typing import Callable, Dict, Iterable, List, NamedTuple, Optional, Sequence, Tuple
 
+from experiments import spin
 from lab.support import built
 
 TOP = pathlib.Path(__file__).resolve().parent.parent
@@ -175,6 +178,26 @@ def lab_text(printed: str) -> str:
     return table(("engine", "agents", "steps a second"), rows) + f"\n`explore` visited {states} states a second.\n"
 
 
+EXPLORE_NOTE = """\
+Two agents, and each black hole in turn. First the lab plays the agents and answers the program's questions: the column
+"whole" has the seconds of that. Then the program reads the same answers from a file, and the other columns are its own:
+seconds of a processor, states a second, and the most memory of one match. So most of the whole is the host's, in
+Python. Each state's turns are played twice: in the search, and in the check of what it found.
+"""
+SPIN_NOTE = """\
+All schedules of two agents of `examples/agents/ring.py`, each black hole in turn, in seconds of one processor. SPIN
+searches two models that were written by hand, in `experiments/models`. Its start, with room for a table of states,
+takes some 0.1 s. A merged model has fewer states, since steps that nobody can know of are one with the step before.
+`lab explore` plays the program as it is, and `arena explore` alone reads its answers from a file. All find the same
+moves.
+"""
+
+
+def noted_text(note: str) -> Callable[[str], str]:
+    """What a benchmark printed that prints a table itself, below what the table means."""
+    return lambda printed: f"{note}\n{printed}"
+
+
 def of_python(module: str, *words: str) -> List[str]:
     return [sys.executable, "-m", module, *words]
 
@@ -187,6 +210,8 @@ def without_other(setting: Setting) -> str:
     return "" if setting.other else "name another build by --other"
 
 
+EXPLORED = ["ring:8=ring", "ring:16=ring", "ring:24=ring", "hypercube:4=known_map", "torus:4x4=known_map",
+            "ring:27=ring"]
 BENCHMARKS: Dict[str, Benchmark] = {
     "gate": Benchmark("The gate", lambda at: [sys.executable, "tools/prove/gate_times"], gate_text, build="the proofs"),
     "steps": Benchmark("Steps", lambda at: [str(at.benchmark), "step", "2000000", "time"], steps_text,
@@ -203,6 +228,10 @@ BENCHMARKS: Dict[str, Benchmark] = {
     "serve": Benchmark("The server's speed", lambda at: of_python("bench.serve"), serve_text),
     "lab": Benchmark("The lab", lambda at: [DEBIANS_PYTHON, "-m", "lab", "speed", "--program", str(at.program)],
                      lab_text),
+    "explore": Benchmark("Every schedule", lambda at: [DEBIANS_PYTHON, "-m", "bench.explore", *EXPLORED],
+                         noted_text(EXPLORE_NOTE)),
+    "spin": Benchmark("Every schedule beside SPIN", lambda at: [DEBIANS_PYTHON, "-m", "bench.spin"],
+                      noted_text(SPIN_NOTE), lambda at: "" if spin.HAS_SPIN else "spin is not installed"),
 }
 
 

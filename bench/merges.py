@@ -17,7 +17,7 @@ from unittest import mock
 
 from bench.explore import AGENTS, PROGRAM
 from lab.__main__ import parser
-from lab.commands.words import game_of
+from lab.commands.words import games_of
 from lab.play.teams import Game
 from lab.search import asking
 from lab.search.beside import MERGES
@@ -101,7 +101,7 @@ def main() -> None:
         numbers = " {nodes}" if agent.startswith("ring") else ""
         named = ["--network", network, "--agent", f"{AGENTS / agent}.py{numbers}"]
         hole = ["--hole", words.hole] if words.hole else []
-        game = game_of(parser().parse_args(["explore", *named, *hole]))
+        [game] = games_of(parser().parse_args(["explore", *named, *hole]))
         questions = asked(game)
         without, checked = least(game, questions, words.times)
         print(f"| {network} | {agent} | {sum(map(len, questions)):,} | {checked.merged} | {checked.checked} | "
