@@ -39,7 +39,7 @@ def run(words: argparse.Namespace) -> int:
     program = program_of(words)
     played = finds.played_again(schedule, program, words.limit)
     print(finds.verdict_text(played.verdict()))
-    for fault in played.faults:
+    for fault in [*played.faults, *played.refused]:
         print(fault)
     if words.out:
         words.out.write_bytes(played.replay)

@@ -89,7 +89,13 @@ class Graded(NamedTuple):
         else:
             self.replay_of(case).parent.mkdir(exist_ok=True)
             self.replay_of(case).write_bytes(played.replay)
+            finds.write_refused(rounds.refused_of(self.out, case.team.name, case.number), played)
         return row
+
+    def refused(self, case: Case) -> List[str]:
+        """What is said of the lines of a match that were refused."""
+        solved = rounds.refused_of(self.out, case.team.name, case.number)
+        return finds.refused_in(self.place(case) / finds.REFUSED) or finds.refused_in(solved)
 
     def repeating(self) -> Repeating:
         """What repeats agents of solved matches."""
@@ -311,7 +317,8 @@ def told(graded: Graded, cases: List[Case], workers: int, budget: Budget) -> int
     engine = name_of(graded.program)
     standings = league.standings_of(rows, [team.name for team in graded.course.grid.teams])
     (graded.out / league.TABLE).write_text("".join(map(tables.line_of, league.table(standings))), encoding="utf-8")
-    for name, text in league.pages(graded.course.grid, rows, failures, engine).items():
+    refused = {case.number: graded.refused(case) for case in cases}
+    for name, text in league.pages(graded.course.grid, rows, failures, engine, refused).items():
         (graded.out / name).write_text(text, encoding="utf-8")
     print(league.text_of(standings), end="")
     print(f"{len(rows)} matches on {engine}; solved {len(rows) - len(failures)}; failed {len(failures)}")

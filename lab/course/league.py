@@ -1,6 +1,6 @@
 """The league table of a course, and a page for each team."""
 import re
-from typing import Any, Dict, List, NamedTuple, Optional, Sequence, Tuple
+from typing import Any, Dict, List, Mapping, NamedTuple, Optional, Sequence, Tuple
 
 from lab.pages.parts import filled
 from lab.play import bounds, finds
@@ -137,13 +137,18 @@ def page_name(team: str) -> str:
     return f"team-{team}.html"
 
 
-def pages(grid: Grid, rows: Sequence[Row], failures: Dict[int, Failure], engine: str) -> Dict[str, str]:
+# what is said of the lines of matches that were refused, by the numbers of matches
+Refused = Mapping[int, Sequence[str]]
+
+
+def pages(grid: Grid, rows: Sequence[Row], failures: Dict[int, Failure], engine: str,
+          refused: Refused = {}) -> Dict[str, str]:
     """The league's page and a page for each team, by the names of their files."""
     standings = standings_of(rows, [team.name for team in grid.teams])
     found = {PAGE: league_page(grid, standings, engine)}
     for standing in standings:
         own = [row for row in rows if row["team"] == standing.team]
-        found[page_name(standing.team)] = team_page(grid, standing, own, failures)
+        found[page_name(standing.team)] = team_page(grid, standing, own, failures, refused)
     return found
 
 
@@ -161,12 +166,22 @@ def league_page(grid: Grid, standings: Sequence[Standing], engine: str) -> str:
                   met=met_in(standings))
 
 
-def team_page(grid: Grid, standing: Standing, rows: Sequence[Row], failures: Dict[int, Failure]) -> str:
+def refused_in(rows: Sequence[Row], refused: Refused) -> List[Tuple[str, List[int]]]:
+    """What is said of lines of a team's matches that were refused, each once, with the numbers of the matches."""
+    found: Dict[str, List[int]] = {}
+    for row in rows:
+        for said in refused.get(int(row["run"]), ()):
+            found.setdefault(said, []).append(int(row["run"]))
+    return list(found.items())
+
+
+def team_page(grid: Grid, standing: Standing, rows: Sequence[Row], failures: Dict[int, Failure],
+              refused: Refused) -> str:
     failed = [row for row in rows if not is_solved(row)]
     about = (f"Place {standing.place} of {len(grid.teams)} in the league: solved {standing.solved} of "
              f"{standing.matches} matches, with {standing.moves} moves and {standing.lost} lost agents in these.")
     return filled("team.html", title=f"Team {standing.team}", course=grid.title, about=about, kinds=KINDS,
-                  met=met_in([standing]), head=MATCH_HEAD, files=FILES,
+                  met=met_in([standing]), head=MATCH_HEAD, files=FILES, refused=refused_in(rows, refused),
                   failed=[failed_match(row, failures[int(row["run"])]) for row in failed],
                   rows=[(row, "" if is_solved(row) else kind_of(row)) for row in rows])
 

@@ -16,7 +16,7 @@ from lab.course.course import Draws, Limits, terms_of
 from lab.course.pool import Budget, Limited, Timed, in_time
 from lab.course.users import NoUser
 from lab.course.walls import NoCell
-from lab.play import programs, repeating
+from lab.play import mistakes, programs, repeating
 from lab.play.agent_files import NoAgent
 from lab.play.schedulers import Impossible
 from lab.play.spread import Result
@@ -91,12 +91,17 @@ class Repeating(NamedTuple):
 
 def in_a_line(fault: Exception) -> str:
     """A fault of the lab that nobody has foreseen."""
-    return f"{type(fault).__name__}: {programs.plain(str(fault))}"
+    return f"{type(fault).__name__}: {mistakes.plain(str(fault))}"
 
 
 def replay_of(out: pathlib.Path, team: str, number: int) -> pathlib.Path:
     """Where the replay of a solved match is."""
     return out / SOLVED / f"{team}-{number}.jsonl"
+
+
+def refused_of(out: pathlib.Path, team: str, number: int) -> pathlib.Path:
+    """Where it is written which lines of a solved match were refused."""
+    return out / SOLVED / f"{team}-{number}.refused.txt"
 
 
 def solved_in(rows: Sequence[Row]) -> List[Solved]:

@@ -7,7 +7,7 @@ import functools
 import json
 import pathlib
 import tempfile
-from typing import Any, Dict, Iterable, List, Optional, Tuple
+from typing import Any, Dict, Iterable, List, Optional, Sequence, Tuple
 
 from lab.pages.judging import lines_of, pasts_of, verdict_of
 from lab.pages.parts import filled
@@ -152,12 +152,12 @@ def data_of(program: Optional[str], replay: pathlib.Path, twin: Optional[int], t
     return data
 
 
-def page_of(data: Dict[str, Any]) -> str:
-    """The page."""
-    return filled("page.html", title=data["name"], scripts=SCRIPTS, shown=data)
+def page_of(data: Dict[str, Any], refused: Sequence[str] = ()) -> str:
+    """The page, with what is said of lines that were refused."""
+    return filled("page.html", title=data["name"], scripts=SCRIPTS, shown=data, refused=refused)
 
 
 def write_page(program: Optional[str], replay: pathlib.Path, page: pathlib.Path, twin: Optional[int] = None,
-               title: str = "") -> None:
-    """Writes the page of a replay."""
-    page.write_text(page_of(data_of(program, replay, twin, title)), encoding="utf-8")
+               title: str = "", refused: Sequence[str] = ()) -> None:
+    """Writes the page of a replay, with what is said of lines that were refused: a replay does not have these."""
+    page.write_text(page_of(data_of(program, replay, twin, title), refused), encoding="utf-8")

@@ -2,7 +2,7 @@
 import contextlib
 import pathlib
 import tempfile
-from typing import List, Optional
+from typing import List, Optional, Sequence
 
 import lab
 from lab.pages.page import write_page
@@ -22,6 +22,8 @@ FOLDER = pathlib.Path("out/find")
 SCHEDULE, SCRIPT, REPLAY, PAGE = "schedule.txt", "script.txt", "match0.jsonl", "match0.html"
 # of each program what it wrote to standard error, which is no part of the match and may be another each time
 ERRORS = "errors"
+# the lines that were refused, if there are any
+REFUSED = "refused.txt"
 
 
 def engine_of(schedule: Schedule, program: Optional[str]) -> Engine:
@@ -56,24 +58,37 @@ def write_find(folder: pathlib.Path, schedule: Schedule, played: Played, program
     (folder / REPLAY).write_bytes(played.replay)
     for number, text in played.errors.items():
         (folder / f"{ERRORS}{number}.txt").write_text(text, encoding="utf-8")
+    write_refused(folder / REFUSED, played)
     said = [f"{folder}: {len(schedule.choices)} choices; again by `{lab.called} replay {folder}`"]
     if program is None:
         said.append("the Python model played it, which proves nothing: the program was not asked")
-        return said + written_page(folder, None, schedule.title())
+        return said + written_page(folder, None, schedule.title(), played.refused)
     by = "" if name_of(program) == built.PROGRAM else f" (by {name_of(program)})"
     said.append(f"the program's verdict: {verdict_text(judged(program, folder / REPLAY))}{by}")
-    return said + written_page(folder, program, schedule.title())
+    return said + written_page(folder, program, schedule.title(), played.refused)
+
+
+def write_refused(path: pathlib.Path, played: Played) -> None:
+    """Writes what is said of lines that were refused, if some were."""
+    if played.refused:
+        path.write_text("".join(f"{it}\n" for it in played.refused), encoding="utf-8")
+
+
+def refused_in(path: pathlib.Path) -> List[str]:
+    """What a file says of lines that were refused, or nothing if there is none."""
+    return path.read_text(encoding="utf-8").splitlines() if path.is_file() else []
 
 
 def changed_in(folder: pathlib.Path, schedule: Schedule, played: Played, program: Optional[str]) -> List[str]:
-    """The files of a find that are not as they would be written now. A page may be missing."""
+    """The files of a find that are not as they would be written now. A page and what is said of lines that were refused
+    may be missing."""
     with tempfile.TemporaryDirectory() as name:
         fresh = pathlib.Path(name)
         write_find(fresh, schedule, played, program)
         names = sorted(path.name for path in fresh.iterdir() if path.name not in (SCHEDULE, REPLAY)
                        and not path.name.startswith(ERRORS))
         return [name for name in names if bytes_of(folder / name) != bytes_of(fresh / name)
-                and (name != PAGE or (folder / name).exists())]
+                and (name not in (PAGE, REFUSED) or (folder / name).exists())]
 
 
 def bytes_of(path: pathlib.Path) -> Optional[bytes]:
@@ -84,16 +99,16 @@ def bytes_of(path: pathlib.Path) -> Optional[bytes]:
 def keep(folder: pathlib.Path, schedule: Schedule, program: Optional[str]) -> Played:
     """Plays a schedule that was found, writes it, and says so."""
     played = played_again(schedule, program)
-    for fault in played.faults:
+    for fault in [*played.faults, *played.refused]:
         print(fault)
     print("\n".join(write_find(folder, schedule, played, program)))
     return played
 
 
-def written_page(folder: pathlib.Path, program: Optional[str], title: str) -> List[str]:
+def written_page(folder: pathlib.Path, program: Optional[str], title: str, refused: Sequence[str]) -> List[str]:
     """Writes the page, if what lays it out is installed."""
     try:
-        write_page(program, folder / REPLAY, folder / PAGE, title=title)
+        write_page(program, folder / REPLAY, folder / PAGE, title=title, refused=refused)
     except Missing as fault:
         with contextlib.suppress(FileNotFoundError):
             (folder / PAGE).unlink()

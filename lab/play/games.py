@@ -79,7 +79,7 @@ class Record(NamedTuple):
         with tempfile.TemporaryDirectory() as folder:
             path = pathlib.Path(folder) / finds.REPLAY
             path.write_bytes(self.played.replay)
-            return page_of(data_of(self.program, path, None, self.schedule.title()))
+            return page_of(data_of(self.program, path, None, self.schedule.title()), self.played.refused)
 
     def keep(self, folder: Union[str, pathlib.Path]) -> List[str]:
         """Writes all that shows it to a folder, as `--keep` does; gives what is to be said of it."""
@@ -131,7 +131,8 @@ class Row(Dict[str, Any]):
             scheduler=name_of(asked.scheduler), seed=asked.seed, outcome=verdict.outcome, moves=verdict.moves,
             lost=verdict.lost, commands=sum(agent.used for agent in match.agents), events=len(match.log),
             choices=len(record.schedule.choices), failed=record.has_failed,
-            replay=hashlib.sha256(record.played.replay).hexdigest(), faults=record.faults())
+            replay=hashlib.sha256(record.played.replay).hexdigest(), faults=record.faults(),
+            refused=record.played.refused)
         self._asked = asked
         self._record: Optional[Record] = record
 

@@ -1,6 +1,8 @@
 """Plays a match, by an engine, a team and a scheduler."""
+import json
 from typing import Dict, List, NamedTuple, Optional, Protocol, Sequence, Tuple
 
+from lab.play.mistakes import PORT, UNENDED, Refusals
 from lab.play.players import DONE, SLEEPS, TRAVELS, WAITS, faults_of
 from lab.play.schedulers import ANSWER, ARRIVE, WAKE, Choice, Ended, Impossible, Scheduler
 from lab.rules.engines import Engine
@@ -30,6 +32,8 @@ class Player(Protocol):
     def hear(self, line: str) -> None: ...
     def go_on(self) -> None: ...
     def read(self) -> Dict[str, str]: ...
+    def told(self, text: str) -> str: ...
+    def rest(self) -> bytes: ...
     def stop(self, fault: Optional[str] = None) -> None: ...
 
 
@@ -56,6 +60,8 @@ class Played(NamedTuple):
     errors: Dict[int, str] = {}
     # the SHA-256 of each file that agents inside the lab have read, by their names
     read: Dict[str, str] = {}
+    # what is said of lines that were refused, which is no fault
+    refused: List[str] = []
 
     def verdict(self) -> Verdict:
         return judge(self.match)
@@ -84,6 +90,9 @@ class Run:
         self._woke: Dict[int, Tuple[Tuple[int, int], int]] = {}
         self._writes: Dict[int, int] = {}
         self._refused: Dict[int, int] = {}
+        # the lines that were refused, and the last one of each agent
+        self.refusals = Refusals(fixture.keys)
+        self._last: Dict[int, bytes] = {}
         self._read = 0
 
     @property
@@ -125,6 +134,7 @@ class Run:
             self._tell(self.engine.end(player.number))
             player.state = DONE
         else:
+            self._last[player.number] = line
             self._tell(self.engine.feed(player.number, line))
             if player.state == WAITS and player.line is None and self.match.agents[player.number].standing == AWAY:
                 # a line that was sent before the arrival is answered after it
@@ -175,11 +185,27 @@ class Run:
                 self._writes[node] = self._writes.get(node, 0) + 1
         self._read = len(log)
 
+    def _note(self, player: Player, reply: str) -> None:
+        """Notes a line that is refused: the last one of its agent."""
+        if reply.startswith(REFUSED):
+            agent = self.match.agents[player.number]
+            ports, board = len(self.match.far[agent.node]), self.match.setup.board
+            why = str(json.loads(reply)["no"])
+            fact = f"the node has the ports 0 to {ports - 1}" if why == PORT else f"a whiteboard holds {board} bytes"
+            self.refusals.note(player.number, why, self._last.get(player.number, b""), player.told, fact)
+
+    def note_rests(self) -> None:
+        """Notes what programs have sent behind their last line feed."""
+        for player in self.team.players:
+            if player.rest():
+                self.refusals.note(player.number, UNENDED, player.rest(), player.told)
+
     def _tell(self, said: List[Said]) -> None:
         for number, line in said:
             player = self.team.players[number]
             if player.state == DONE:
                 continue
+            self._note(player, line)
             player.hear(line)
             self._refused[number] = self._refused.get(number, 0) + 1 if line.startswith(REFUSED) else 0
             if self._refused[number] >= MOST_REFUSED:
@@ -209,6 +235,8 @@ def play(engine: Engine, team: Team, scheduler: Scheduler, fixture: Fixture) -> 
     finally:
         team.stop()
         engine.stop()
+    run.note_rests()
     errors = {player.number: player.errors for player in team.players if player.errors}
     read = {name: digest for player in team.players for name, digest in player.read().items()}
-    return Played(run.choices, engine.match, engine.script, replay, faults_of(team.players), errors, read)
+    return Played(run.choices, engine.match, engine.script, replay, faults_of(team.players), errors, read,
+                  run.refusals.said())

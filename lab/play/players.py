@@ -50,6 +50,14 @@ class Player:
         """The SHA-256 of each file that the program has read, by their names, if that is noted."""
         return read_by(self._thread)
 
+    def told(self, text: str) -> str:
+        """What the agent has said is the same on each run."""
+        return text
+
+    def rest(self) -> bytes:
+        """An agent inside sends whole lines."""
+        return b""
+
     def hear(self, line: str) -> None:
         """Tells the agent a line, and lets it go on."""
         self.line = None

@@ -23,6 +23,7 @@ from typing import Any, Callable, Deque, Dict, List, Mapping, NamedTuple, Option
 
 from lab.play.agent_files import NoAgent
 from lab.play.bounds import READ_NOTHING, SENT_NOTHING, Clock, Room
+from lab.play.mistakes import plain
 from lab.play.players import DENIALS, DONE, LAST_LINES, TRAVELS, WAITS
 from lab.rules.fixtures import Fixture
 from lab.rules.model import MAX_LINE
@@ -142,6 +143,8 @@ class Lines:
         self._lines: Deque[bytes] = deque()
         self._kept = 0
         self._is_over = False
+        # what stands behind the last line feed
+        self.rest = b""
         threading.Thread(target=self._read, daemon=True).start()
 
     def next(self, seconds: float) -> Optional[bytes]:
@@ -170,7 +173,7 @@ class Lines:
         left = b""
         while piece := self._piece():
             *whole, left = (left + piece).split(b"\n")
-            left = left[:MAX_LINE + 1]
+            self.rest = left = left[:MAX_LINE + 1]
             self._keep([line[:MAX_LINE + 1] for line in whole if line.strip(b" \t\r")])
         with self._changed:
             self._is_over = True
@@ -282,6 +285,14 @@ class Player:
     def read(self) -> Dict[str, str]:
         """What a program of its own reads is not noted."""
         return {}
+
+    def told(self, text: str) -> str:
+        """What the program has said, without what is another on each run."""
+        return self._ground.told(text)
+
+    def rest(self) -> bytes:
+        """What the program has sent behind its last line feed."""
+        return b"" if self._lines is None else self._lines.rest.strip()
 
     def stop(self, fault: Optional[str] = None) -> None:
         """Ends the program and all that it started."""
@@ -406,12 +417,6 @@ def seeds(seed: int) -> Dict[str, str]:
     """The variables that tell a program its seed. With them Python goes through sets of texts in the same order on each
     run."""
     return {"ARENA_SEED": str(seed), "PYTHONHASHSEED": str(seed)}
-
-
-def plain(text: str) -> str:
-    """A text without characters that are not seen but do something, such as those that colour a terminal, hide what
-    stands before them or turn the direction of writing: the code of each stands in its place."""
-    return "".join(char if char.isprintable() else char.encode("unicode_escape").decode() for char in text)
 
 
 def command_of(words: str, fixture: Fixture, number: int, others: Mapping[str, str]) -> List[str]:

@@ -15,7 +15,7 @@ import json
 import secrets
 from typing import List, NamedTuple, Optional, Sequence
 
-from lab.play import programs
+from lab.play import mistakes, programs
 from lab.play.matches import MOST_REFUSED, Player, Team
 from lab.play.players import SLEEPS, WAITS
 from lab.play.teams import AgentWords, alone
@@ -58,7 +58,7 @@ def in_words(command: Object) -> str:
     """A command as a reader has it, such as `depart port 1`, and of a long one the beginning."""
     words = [f"{name} {json.dumps(value, ensure_ascii=False)}" for name, value in command.items()
              if name not in ("do", "key")]
-    return programs.plain(" ".join([str(command["do"]), *words]))[:programs.WORDS]
+    return mistakes.plain(" ".join([str(command["do"]), *words]))[:programs.WORDS]
 
 
 def past_of(replay: str, agent: int) -> List[Said]:

@@ -13,7 +13,7 @@ from unittest import mock
 from lab.course import course, league, pool, users
 from lab.course.cells import Walls
 from lab.course.course import Course, course_of
-from lab.play import bounds, programs
+from lab.play import bounds, mistakes, programs
 from lab.play.schedulers import ANSWER, Choice, in_runs
 from lab.search.cutting import Cut, Runs, in_words, runs_of, tidy
 from lab.rules import networks
@@ -309,7 +309,7 @@ class Users(unittest.TestCase):
 
 class Words(unittest.TestCase):
     def test_what_is_shown_changes_nothing_where_it_is_shown(self) -> None:
-        self.assertEqual(programs.plain("\x1b[2J\x07 \x9b31m \u202e \u2028 \x00 \x7f \ufeff é = ☃ 'it'"),
+        self.assertEqual(mistakes.plain("\x1b[2J\x07 \x9b31m \u202e \u2028 \x00 \x7f \ufeff é = ☃ 'it'"),
                          "\\x1b[2J\\x07 \\x9b31m \\u202e \\u2028 \\x00 \\x7f \\ufeff é = ☃ 'it'")
 
     def test_a_match_has_a_time_of_its_own(self) -> None:

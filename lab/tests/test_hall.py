@@ -321,6 +321,7 @@ class Seen(unittest.TestCase):
         self.assertEqual(told.holes, [1])
         self.assertEqual(told.lost, [{"agent": 0, "port": 0, "event": 4}])
         self.assertEqual([(it["do"], it["reply"]) for it in told.refused], [("depart", {"no": "port"})])
+        self.assertEqual(told.refused[0]["meaning"], "the node has no such port: ports are 0 to `ports` - 1")
         self.assertIsNone(ended(self.path.with_name("none")))
 
 

@@ -85,6 +85,19 @@ class Parts:
         return part.shown()
 
 
+# what a refusal means; the line itself is in no replay
+MEANINGS = {
+    "line": "the line was no command: `arena-lab run` shows such a line and the likeliest mistake",
+    "port": "the node has no such port: ports are 0 to `ports` - 1",
+    "long": "the text is longer than a whiteboard holds",
+    "spent": "all commands of the agent are used up",
+}
+
+
+def meaning(reply: Dict[str, Any]) -> str:
+    return MEANINGS.get(reply["no"], "")
+
+
 class Ended(NamedTuple):
     """What is told of a match that is closed, besides its verdict: which lines were refused, who was lost where, and
     where black holes were."""
@@ -111,7 +124,7 @@ def ended(replay: pathlib.Path, most: int = 50) -> Optional[Ended]:
                 if event.get("do") == "deliver" and reply is None:
                     lost.append({"agent": event["agent"], "port": departed.get(event["agent"], 0), "event": place + 1})
                 if isinstance(reply, dict) and "no" in reply and len(refused) < most:
-                    refused.append(shortened({"event": place + 1, **event}))
+                    refused.append(shortened({"event": place + 1, **event, "meaning": meaning(reply)}))
     except FileNotFoundError:
         return None
     return Ended(refused, lost, holes)
