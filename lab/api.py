@@ -28,10 +28,11 @@ from typing import Any, Callable, Dict, Iterable, List, NamedTuple, Optional, Se
 
 from lab.play import finds
 from lab.play.agent_files import NoAgent, client_module
+from lab.play.bounds import LIMIT
 from lab.play.games import Asked, Record, Row, SchedulerName, rows_of
 from lab.play.schedulers import NAMED as SCHEDULERS
 from lab.play.schedules import schedule_of
-from lab.play.teams import BOARD, INSIDE, LIMIT, NAPS, OUTSIDE, QUOTA, AgentWords, Game, filled
+from lab.play.teams import BOARD, INSIDE, NAPS, OUTSIDE, QUOTA, AgentWords, Game, filled
 from lab.rules import networks
 from lab.rules.engines import MODEL, PROGRAM, name_of, program_at
 from lab.rules.fixtures import Fixture
@@ -219,7 +220,7 @@ def explore(network: NetworkLike, agents: Union[AgentLike, Sequence[AgentLike]],
     worst, record = max(found, key=exploring.Explored.rank), None
     if worst.explorer.worst:
         schedule = worst.schedule(asked)
-        record = Record(schedule, finds.played_again(schedule, path, asked.limit), path)
+        record = Record(schedule, finds.played_again(schedule, path), path)
     return Exploration(sum(one.explorer.states() for one in found), all(one.is_whole for one in found),
                        worst.rank()[0], sum(one.seconds for one in found), record)
 
@@ -246,8 +247,8 @@ def proved(given: Game, path: str, wanted: Wanted) -> Proof:
         found = found_in(last)
         turns, breaks = found["schedule"] + found.get("round", []), found["agent"] if found["found"] == BREAKS else None
         choices = choices_of(last.fixture, given.agents, turns, breaks, given.limit)
-        schedule = schedule_of(last.fixture, given.agents, f"explore{given.origin}", choices)
-        worst = Record(schedule, finds.played_again(schedule, path, given.limit), path)
+        schedule = schedule_of(last.fixture, given.agents, f"explore{given.origin}", choices, given.limit)
+        worst = Record(schedule, finds.played_again(schedule, path), path)
     return Proof(rows, str(proving.checks), worst, wanted.draws is not None)
 
 
@@ -301,5 +302,5 @@ def hunt(network: NetworkLike, agents: Union[AgentLike, Sequence[AgentLike]], lo
     if hunter.best is None:
         raise KeyboardInterrupt
     schedule = hunter.schedule()
-    record = Record(schedule, finds.played_again(schedule, path, asked.game.limit), path)
+    record = Record(schedule, finds.played_again(schedule, path), path)
     return Found(hunter.tried, record.has_failed, record)

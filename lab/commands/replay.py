@@ -5,6 +5,12 @@
 FOLDER is one that `run`, `hunt` or `explore` wrote. The command plays its schedule and compares the replay with the one
 in the folder, and the files beside it with what would be written now. The exit status is 1 if something differs, or if
 the agents' files are others. You may change a schedule by hand: it has one choice a line.
+
+With --follow a program that was mended is tried against what it failed under: its schedule is followed as far as the
+agents go along, the command says where they left it, and what comes then is drawn fairly. The exit status is 1 if the
+team fails. --keep writes what came of it.
+
+    python3 -m lab replay out/find --follow
 """
 import argparse
 import pathlib
@@ -15,6 +21,7 @@ from lab.commands.words import add_engine, program_of
 from lab.play import finds
 from lab.play.schedules import Schedule, read
 from lab.play.teams import digests_of
+from lab.support.faults import Fault
 
 
 def add_words(parser: argparse.ArgumentParser) -> None:
@@ -22,8 +29,11 @@ def add_words(parser: argparse.ArgumentParser) -> None:
     parser.add_argument("schedule", metavar="FOLDER|SCHEDULE", type=pathlib.Path, help="what was kept, or a schedule")
     parser.add_argument("--against", metavar="REPLAY", type=pathlib.Path, help="compare with this replay")
     parser.add_argument("--out", metavar="REPLAY", type=pathlib.Path, help="write the replay there")
-    parser.add_argument("--limit", metavar="SECONDS", type=float, default=5, help="how long an agent may take to send "
-                        "or to wait (5)")
+    parser.add_argument("--follow", action="store_true", help="follow the schedule as far as the agents go along, and "
+                        "go on fairly")
+    parser.add_argument("--keep", metavar="FOLDER", type=pathlib.Path, help="with --follow: write the match there")
+    parser.add_argument("--limit", metavar="SECONDS", type=float, help="how long an agent may take to send or to wait "
+                        "(as long as when the schedule was made)")
     add_engine(parser)
 
 
@@ -33,11 +43,17 @@ def run(words: argparse.Namespace) -> int:
     if folder:
         path, against = folder / finds.SCHEDULE, against or folder / finds.REPLAY
     schedule = read(path)
+    if words.limit is not None:
+        schedule = schedule._replace(limit=words.limit)
+    if words.follow:
+        return follow(words, schedule)
+    if words.keep:
+        raise Fault("--keep needs --follow: what is played again stands in the folder already")
     others = other_files(schedule)
     for file in others:
         print(f"lab: {file} is another file than when the schedule was made", file=sys.stderr)
     program = program_of(words)
-    played = finds.played_again(schedule, program, words.limit)
+    played = finds.played_again(schedule, program)
     print(finds.verdict_text(played.verdict()))
     for fault in [*played.faults, *played.refused]:
         print(fault)
@@ -51,6 +67,18 @@ def run(words: argparse.Namespace) -> int:
     for name in changed:
         print(f"{folder / name} is not what belongs to this schedule")
     return 0 if same and not others and not changed else 1
+
+
+def follow(words: argparse.Namespace, schedule: Schedule) -> int:
+    """Follows the schedule as far as the agents go along."""
+    program = program_of(words)
+    made, played, followed = finds.followed_again(schedule, program)
+    print("\n".join([str(followed), finds.verdict_text(played.verdict()), *played.faults, *played.refused]))
+    if words.out:
+        words.out.write_bytes(played.replay)
+    if words.keep:
+        print("\n".join(finds.write_find(words.keep, made, played, program)))
+    return 1 if played.has_failed() else 0
 
 
 def other_files(schedule: Schedule) -> List[str]:

@@ -204,7 +204,7 @@ def shown_schedule(wanted: Wanted, tried: Tried, verdict: Tuple[str, int, int]) 
 def keep(wanted: Wanted, tried: Tried, choices: List[Choice], verdict: Optional[Tuple[str, int, int]]) -> None:
     """Writes a schedule, once the agents have played it."""
     game, found = wanted.game, found_in(tried)
-    schedule = schedule_of(tried.fixture, game.agents, f"explore{game.origin}", choices)
+    schedule = schedule_of(tried.fixture, game.agents, f"explore{game.origin}", choices, game.limit)
     played = finds.keep(wanted.keep, schedule, wanted.engine)
     come_to, same = played.verdict(), 2 if tried.fixture.held else 3
     if found["found"] == BREAKS and not played.faults or verdict and come_to[:same] != verdict[:same]:

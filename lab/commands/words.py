@@ -5,7 +5,8 @@ import re
 from typing import List, Optional, Set
 
 from lab.play.agent_files import NoAgent
-from lab.play.teams import BOARD, LIMIT, NAPS, NETWORK, QUOTA, AgentWords, Game, filled
+from lab.play.bounds import LIMIT
+from lab.play.teams import BOARD, NAPS, NETWORK, QUOTA, AgentWords, Game, filled
 from lab.rules import networks
 from lab.rules.engines import ASK_FOR_PROOF, MODEL, PROGRAM, program_at
 from lab.rules.fixtures import Fixture, read_tournament
@@ -80,7 +81,7 @@ def add_match(parser: argparse.ArgumentParser, several: bool = False) -> None:
                       "and {home}")
     team.add_argument("--agents", metavar="N", type=int, help="how many agents there are (2, or as many as are named)")
     team.add_argument("--limit", metavar="SECONDS", type=float, default=LIMIT, help="how long an agent may take to "
-                      "send or to wait (5)")
+                      f"send or to wait ({LIMIT})")
     team.add_argument("--naps", metavar="N", type=not_negative, default=NAPS, help="how often an agent inside that "
                       f"sleeps may wake again though nothing has changed in front of it ({NAPS})")
 

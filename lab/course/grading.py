@@ -128,7 +128,7 @@ class Graded(NamedTuple):
         agents = [case.team.words] * fixture.setup.agents
         files = self._take(case.team.name).files
         origin = f"{case.scheduler} {self.course.seed(case)} on {case.network}"
-        empty = schedule_of(fixture, agents, origin, [])._replace(files=files)
+        empty = schedule_of(fixture, agents, origin, [], limits.line)._replace(files=files)
         words, handed_in = case.team.words.words, self.hand_in(case.team.name)
         with cells.grounds_of(self.yard, handed_in, words, fixture.setup, len(agents)) as grounds:
             commands = {number: agent.words for number, agent in enumerate(agents)}

@@ -2,13 +2,13 @@
 import contextlib
 import pathlib
 import tempfile
-from typing import List, Optional, Sequence
+from typing import List, Optional, Sequence, Tuple
 
 import lab
 from lab.pages.page import write_page
 from lab.play.matches import Played, play
-from lab.play.schedulers import Impossible, recorded
-from lab.play.schedules import Schedule, text_of
+from lab.play.schedulers import Followed, Impossible, recorded
+from lab.play.schedules import Schedule, schedule_of, text_of
 from lab.play.teams import Together
 from lab.rules.engines import Engine, Program, judged, name_of
 from lab.rules.fixtures import write_tournament
@@ -33,15 +33,25 @@ def engine_of(schedule: Schedule, program: Optional[str]) -> Engine:
     return Rehearsal(schedule.fixture)
 
 
-def played_again(schedule: Schedule, program: Optional[str], seconds: float = 5) -> Played:
+def played_again(schedule: Schedule, program: Optional[str]) -> Played:
     """The schedule, played."""
-    team = Together(schedule.agents, schedule.fixture, seconds)
+    team = Together(schedule.agents, schedule.fixture, schedule.limit)
     played = play(engine_of(schedule, program), team, recorded(schedule.choices), schedule.fixture)
     count = len(played.choices)
     if count < len(schedule.choices):
         surplus = schedule.choices[count]
         raise Impossible(f"choice {count + 1} is `{surplus.do} {surplus.agent}`, and nothing may happen there")
     return played
+
+
+def followed_again(schedule: Schedule, program: Optional[str]) -> Tuple[Schedule, Played, Followed]:
+    """The match, in which the schedule is followed as far as the agents go along, and what comes then is fair."""
+    following = Followed(schedule.choices)
+    team = Together(schedule.agents, schedule.fixture, schedule.limit)
+    played = play(engine_of(schedule, program), team, following, schedule.fixture)
+    made = schedule_of(schedule.fixture, schedule.agents, f"{schedule.origin}, followed", played.choices,
+                       schedule.limit)
+    return made, played, following
 
 
 def verdict_text(verdict: Verdict) -> str:

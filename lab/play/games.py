@@ -47,7 +47,7 @@ def name_of(scheduler: SchedulerName) -> str:
 def play_seed(game: Game, scheduler: SchedulerName, seed: int, program: Optional[str]) -> "Record":
     """Plays the match of a seed under the scheduler's choices for it."""
     fixture = game.fixture(seed)
-    empty = schedule_of(fixture, game.agents, f"{name_of(scheduler)} {seed}{game.where()}", [])
+    empty = schedule_of(fixture, game.agents, f"{name_of(scheduler)} {seed}{game.where()}", [], game.limit)
     team = Together(game.agents, fixture, game.limit)
     played = play(finds.engine_of(empty, program), team, maker_of(scheduler)(seed), fixture)
     return Record(empty._replace(choices=played.choices), played, program)

@@ -9,6 +9,7 @@ from collections import deque
 from typing import Any, Deque, Dict, List, Mapping, Optional, Sequence
 
 from lab.play.agent_files import Script
+from lab.play.bounds import LIMIT
 from lab.play.outside import read_by
 from lab.play.own_modules import OwnModules
 from lab.rules.model import LAST, spelled
@@ -142,7 +143,7 @@ class Team:
     """The players of a match. A player that computes longer than its limit is ended. That is time of the processor, as
     one that is busy with other work must not end an agent; an agent that sleeps has a longer limit."""
 
-    def __init__(self, keys: Sequence[str], scripts: Mapping[int, Script], seconds: float = 5) -> None:
+    def __init__(self, keys: Sequence[str], scripts: Mapping[int, Script], seconds: float = LIMIT) -> None:
         """The scripts are by the number of their agent."""
         self.turns = 0
         self.players = [Player(self, number, keys[number], script) for number, script in scripts.items()]

@@ -186,6 +186,40 @@ def recorded(schedule: Sequence[Choice]) -> Scheduler:
     return choose
 
 
+class Followed:
+    """The choices of a schedule, in order, up to the first that cannot happen; from there on, and behind the last one,
+    every choice is as likely as any other. So a program that was mended is tried against what it failed under."""
+
+    def __init__(self, schedule: Sequence[Choice]) -> None:
+        self._schedule = schedule
+        self._fair = fair(0)
+        # how many choices were followed, and what might happen where the schedule was left
+        self.count = 0
+        self.left: Sequence[Choice] = ()
+        self.went_on = 0
+
+    def __call__(self, choices: Sequence[Choice], state: State) -> Choice:
+        if not self.left and self.count < len(self._schedule):
+            if self._schedule[self.count] in choices:
+                self.count += 1
+                return self._schedule[self.count - 1]
+            self.left = choices
+        self.went_on += 1
+        return self._fair(choices, state)
+
+    def __str__(self) -> str:
+        whole = len(self._schedule)
+        if self.count == whole:
+            said = f"followed all {whole} choices of the schedule"
+        elif self.left:
+            choice, possible = self._schedule[self.count], ", ".join(f"{it.do} {it.agent}" for it in self.left)
+            said = (f"followed {self.count} of {whole} choices: the next is `{choice.do} {choice.agent}`, and what may "
+                    f"happen there is: {possible}")
+        else:
+            said = f"followed {self.count} of {whole} choices: then nothing could happen any more"
+        return f"{said}; {self.went_on} fair choices came then" if self.went_on else said
+
+
 NAMED: Dict[str, Maker] = {
     "fair": fair, "slow-agents": slow_agents, "slow-links": slow_links, "last-departed": last_departed,
     "starved": starved, "oblivious": oblivious,

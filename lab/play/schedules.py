@@ -1,11 +1,12 @@
 """Schedules in files: a head, which is a line of JSON, and then one choice a line.
 
-    {"agents":[..],"files":{..},"fixture":{..},"lab":"1","origin":"fair 3 on ring:8","schedule":1}
+    {"agents":[..],"files":{..},"fixture":{..},"lab":"1","limit":5,"origin":"fair 3 on ring:8","schedule":1}
     answer 0
     answer 1
     arrive 0
 
-The head names the match, the agents with the SHA-256 of their files, and how the schedule was found. `answer I` takes a
+The head names the match, the agents with the SHA-256 of their files, how many seconds each may take, and how the
+schedule was found. `answer I` takes a
 line of agent I, or the end of its input; `arrive I` lets it arrive, or be destroyed; `wake I` wakes it. Empty lines and
 lines that begin with `#` are skipped. The match is closed at the end of the file.
 """
@@ -15,6 +16,7 @@ import re
 from typing import Dict, List, NamedTuple
 
 from lab import VERSION
+from lab.play.bounds import LIMIT
 from lab.play.schedulers import ANSWER, ARRIVE, WAKE, Choice
 from lab.play.teams import INSIDE, OUTSIDE, AgentWords, digests_of
 from lab.rules.fixtures import OWN_TEAM, Fixture, NoMatch, checked, pairs
@@ -30,13 +32,14 @@ class NoSchedule(Fault):
 
 
 class Schedule(NamedTuple):
-    """Which match, by which agents, how it was found, and what happens."""
+    """Which match, by which agents, how it was found, what happens, and how many seconds an agent may take."""
 
     fixture: Fixture
     agents: List[AgentWords]
     origin: str
     choices: List[Choice]
     files: Dict[str, str]
+    limit: float = LIMIT
 
     def title(self) -> str:
         """What its page is called: the team or its agents, and how it was found."""
@@ -44,19 +47,21 @@ class Schedule(NamedTuple):
         return f"{names if self.fixture.team == OWN_TEAM else self.fixture.team}: {self.origin}"
 
 
-def schedule_of(fixture: Fixture, agents: List[AgentWords], origin: str, choices: List[Choice]) -> Schedule:
-    return Schedule(fixture, agents, origin, choices, digests_of(agents))
+def schedule_of(fixture: Fixture, agents: List[AgentWords], origin: str, choices: List[Choice],
+                limit: float = LIMIT) -> Schedule:
+    return Schedule(fixture, agents, origin, choices, digests_of(agents), limit)
 
 
 def text_of(schedule: Schedule) -> str:
     """The schedule's file."""
     fixture = schedule.fixture
     setup = {name: value for name, value in fixture.setup._asdict().items()}
+    limit = int(schedule.limit) if schedule.limit % 1 == 0 else schedule.limit
     head: Object = {
         "agents": [f"{agent.kind} {agent.words}" for agent in schedule.agents], "files": schedule.files,
         "fixture": {"team": fixture.team, "keys": fixture.keys, "held": pairs(fixture.held), "naps": fixture.naps,
                     **setup},
-        "lab": VERSION, "origin": schedule.origin, "schedule": 1,
+        "lab": VERSION, "limit": limit, "origin": schedule.origin, "schedule": 1,
     }
     return "".join([spelled(head) + "\n", *(f"{choice.do} {choice.agent}\n" for choice in schedule.choices)])
 
@@ -75,11 +80,20 @@ def read(path: pathlib.Path) -> Schedule:
         if not len(agents) == len(keys) == fixture.setup.agents:
             raise NoSchedule(f"{path}: its head names {len(agents)} agents and {len(keys)} keys, and the match has "
                              f"{fixture.setup.agents} agents")
-        return Schedule(fixture, agents, head["origin"], choices_of(path, lines[1:]), head["files"])
+        # schedules of earlier versions have no limit
+        limit = seconds_of(head.get("limit", LIMIT))
+        return Schedule(fixture, agents, head["origin"], choices_of(path, lines[1:]), head["files"], limit)
     except NoMatch as fault:
         raise NoSchedule(f"{path}: its head names no match: {fault}") from None
     except (KeyError, TypeError, ValueError, AttributeError):
         raise NoSchedule(f"{path}: its first line is no head of a schedule") from None
+
+
+def seconds_of(value: object) -> float:
+    """How many seconds an agent may take, as the head has them."""
+    if isinstance(value, bool) or not isinstance(value, (int, float)) or not 0 < value < float("inf"):
+        raise ValueError(value)
+    return value
 
 
 def agent_of(line: str) -> AgentWords:

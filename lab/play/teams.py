@@ -3,6 +3,7 @@ import pathlib
 from typing import Callable, Dict, List, NamedTuple, Optional, Sequence
 
 from lab.play.agent_files import NoAgent, Script, digests, script_of, script_of_function, source_digest
+from lab.play.bounds import LIMIT
 from lab.play.matches import Team
 from lab.play.players import Team as Inside
 from lab.play.programs import Team as Outside
@@ -16,8 +17,6 @@ from lab.rules.networks import Network
 INSIDE, OUTSIDE = "agent", "command"
 # what a match has if nothing else is asked for
 QUOTA, BOARD = SMALL_QUOTA, SMALL_BOARD
-# seconds that an agent may take
-LIMIT = 5
 NETWORK = "ring:8"
 NAPS = 2
 

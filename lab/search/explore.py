@@ -9,10 +9,11 @@ from array import array
 from typing import Any, Dict, Iterator, List, NamedTuple, Optional, Sequence, Set, Tuple
 
 from lab.play.agent_files import NoAgent
+from lab.play.bounds import LIMIT
 from lab.play.players import SLEEPS, TRAVELS, WAITS, Team
 from lab.play.schedulers import ANSWER, ARRIVE, WAKE, Choice
 from lab.play.schedules import Schedule, schedule_of
-from lab.play.teams import INSIDE, LIMIT, AgentWords, Game
+from lab.play.teams import INSIDE, AgentWords, Game
 from lab.rules.fixtures import Fixture
 from lab.rules.model import AWAY, ENDED, Match, Verdict, outcome_of
 from lab.search.pasts import Past, Pasts, State
@@ -172,7 +173,7 @@ class Explored(NamedTuple):
         """The schedule that comes to its worst end, which there is."""
         assert self.explorer.worst is not None
         choices = self.explorer.schedule(self.explorer.worst.number)
-        return schedule_of(self.explorer.fixture, game.agents, f"explore{game.origin}", choices)
+        return schedule_of(self.explorer.fixture, game.agents, f"explore{game.origin}", choices, game.limit)
 
 
 def check_inside(game: Game) -> None:

@@ -104,7 +104,8 @@ class Hunter:
         """The schedule of the best."""
         if self.best is None:
             raise ValueError("nothing was tried")
-        return schedule_of(self.best.fixture, self.asked.game.agents, self.asked.origin(), self.best.played.choices)
+        game = self.asked.game
+        return schedule_of(self.best.fixture, game.agents, self.asked.origin(), self.best.played.choices, game.limit)
 
     def _repeated(self, played: Played, fixture: Fixture) -> Played:
         """The match, with what its agents say otherwise when they are repeated, if that is asked for."""

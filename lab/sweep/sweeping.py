@@ -54,7 +54,7 @@ def played_case(work: Work, spec: Grid, case: Case) -> Tuple[Schedule, Played]:
     """Plays a run."""
     fixture = spec.fixture(case)
     agents = [case.team.words] * fixture.setup.agents
-    empty = schedule_of(fixture, agents, f"{case.scheduler} {case.seed} on {case.network}", [])
+    empty = schedule_of(fixture, agents, f"{case.scheduler} {case.seed} on {case.network}", [], LIMIT)
     scheduler, team = maker_of(case.scheduler)(case.seed), Together(agents, fixture, LIMIT)
     played = play(engine_of(empty, work.program), team, scheduler, fixture)
     return empty._replace(choices=played.choices), played

@@ -2,8 +2,10 @@
 import pathlib
 import tempfile
 import unittest
+from typing import List, Tuple, cast
 
-from lab.play.schedulers import ANSWER, WAKE, Choice
+from lab.play.bounds import LIMIT
+from lab.play.schedulers import ANSWER, WAKE, Choice, Followed, State
 from lab.play.schedules import NoSchedule, Schedule, choices_of, read, text_of
 from lab.play.teams import INSIDE, AgentWords
 from lab.rules.fixtures import Fixture
@@ -11,6 +13,7 @@ from lab.rules.model import Setup
 from lab.rules.networks import ring
 
 PATH = pathlib.Path("schedule.txt")
+ZERO, ONE = Choice(ANSWER, 0), Choice(ANSWER, 1)
 
 
 class Choices(unittest.TestCase):
@@ -24,7 +27,52 @@ class Choices(unittest.TestCase):
                 choices_of(PATH, [line])
 
 
+class Follows(unittest.TestCase):
+    """A schedule that is followed as far as the agents go along."""
+
+    def followed(self, schedule: List[Choice], *possible: List[Choice]) -> Tuple[List[Choice], str]:
+        following, state = Followed(schedule), cast(State, None)
+        return [following(choices, state) for choices in possible], str(following)
+
+    def test_all_choices(self) -> None:
+        made, said = self.followed([ZERO, ONE], [ZERO, ONE], [ZERO, ONE])
+        self.assertEqual((made, said), ([ZERO, ONE], "followed all 2 choices of the schedule"))
+
+    def test_it_is_left_for_good_at_the_first_choice_that_cannot_happen(self) -> None:
+        made, said = self.followed([ZERO, ONE, ZERO], [ZERO, ONE], [ZERO], [ONE])
+        self.assertEqual(made, [ZERO, ZERO, ONE])
+        self.assertEqual(said, "followed 1 of 3 choices: the next is `answer 1`, and what may happen there is: answer 0"
+                         "; 2 fair choices came then")
+
+    def test_it_goes_on_behind_the_last_choice(self) -> None:
+        made, said = self.followed([ZERO], [ZERO, ONE], [ONE])
+        self.assertEqual((made[1], said), (ONE, "followed all 1 choices of the schedule; 1 fair choices came then"))
+        self.assertEqual(self.followed([ZERO], )[1], "followed 0 of 1 choices: then nothing could happen any more")
+
+    def test_what_comes_then_is_fair(self) -> None:
+        made, _ = self.followed([], *[[ZERO, ONE]] * 200)
+        self.assertTrue(60 < made.count(ZERO) < 140)
+
+
 class Texts(unittest.TestCase):
+    def schedule(self, text: str) -> Schedule:
+        with tempfile.NamedTemporaryFile("w", suffix=".txt") as file:
+            file.write(text)
+            file.flush()
+            return read(pathlib.Path(file.name))
+
+    def test_a_schedule_has_its_limit(self) -> None:
+        fixture = Fixture("lab", Setup(3, ring(3).links, 0, [2], 1, 10, 8), ["k"], [], 3)
+        made = Schedule(fixture, [AgentWords(INSIDE, "examples/agents/ring.py 3")], "trial", [], {}, 0.5)
+        text = text_of(made)
+        self.assertEqual(self.schedule(text).limit, 0.5)
+        self.assertIn('"limit":60,', text_of(made._replace(limit=60.0)))
+        # a schedule of an earlier version has none
+        self.assertEqual(self.schedule(text.replace('"limit":0.5,', "")).limit, LIMIT)
+        for wrong in ("0", "-1", '"5"', "true", "1e999", "null"):
+            with self.subTest(wrong), self.assertRaisesRegex(NoSchedule, "its first line is no head"):
+                self.schedule(text.replace("0.5", wrong))
+
     def test_a_schedule_has_its_naps(self) -> None:
         fixture = Fixture("lab", Setup(3, ring(3).links, 0, [2], 1, 10, 8), ["k"], [], 3)
         made = Schedule(fixture, [AgentWords(INSIDE, "examples/agents/ring.py 3")], "trial", [], {})
