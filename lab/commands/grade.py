@@ -30,7 +30,7 @@ import pathlib
 import sys
 
 from lab.commands.words import add_engine, add_forget, add_workers, program_of
-from lab.course import cells, course
+from lab.course import cells, course, export, points
 from lab.course.cells import Walls, Yard
 from lab.course.grading import Graded, graded_in, hand_ins
 from lab.support.missing import check
@@ -43,12 +43,18 @@ NEEDED = ("jinja2",)
 def add_words(parser: argparse.ArgumentParser) -> None:
     """The words of the command `grade`."""
     group = parser.add_argument_group("the file", course.__doc__)
+    parser.add_argument_group("points", points.__doc__)
+    parser.add_argument_group("exports", export.__doc__)
     group.add_argument("file", metavar="COURSE.toml", type=pathlib.Path, help="the course")
     parser.add_argument("--out", metavar="FOLDER", type=pathlib.Path, required=True, help="write everything there")
     parser.add_argument("--secret", metavar="FILE", type=pathlib.Path, help="take the secret that this file has, such "
                         "as the `secret.txt` of other results, to play the same matches")
     parser.add_argument("--no-repeat", action="store_true", help="count all solved matches, also those whose agents "
                         "would say something else when they are told the same again")
+    parser.add_argument("--export", metavar="KIND", action="extend", nargs="+", choices=export.KINDS,
+                        help="write points for a gradebook too: gradescope, moodle, junit, csv; several at once")
+    parser.add_argument("--students", metavar="FILE", type=pathlib.Path, help="for moodle: the students of teams "
+                        f"({export.STUDENTS} beside the course)")
     add_forget(parser)
     add_workers(parser)
     add_engine(parser)
@@ -65,11 +71,12 @@ def run(words: argparse.Namespace) -> int:
         read.maker(name)
     if strongest is not Walls.ALL:
         print(f"lab: {cells.weakness()}; {strongest.value}", file=sys.stderr)
+    wanted = export.export_of(words.export, words.students, path.parent, list(read.files))
     program = program_of(words)
     with tables.alone_in(words.out):
         handed_in = hand_ins(words.out, read)
         secret = course.secret_in(words.out, words.secret, handed_in)
         yard = Yard(strongest, read.tools, read.has_proc)
         graded = Graded(read.text, path.parent, secret, program, yard, words.out, not words.no_repeat,
-                        forgets=words.drop_caches)
+                        forgets=words.drop_caches, export=wanted)
         return graded_in(graded, words.workers, handed_in)

@@ -37,6 +37,8 @@ has; and `command`, the words that start the program of one agent in the folder 
 {port} and {key} say where it connects and by which key it enters. {nodes}, {links} and {home} say what the team is to
 know of the network; {network} is the network's file, for a team that is to have the map.
 
+`--export` writes the points of teams for gradebooks; the table [points] says how they are given.
+
 Names of files are paths from the folder of the course's file. A hand-in is bounded, and no link in it is followed.
 
 All teams play the same matches, each in an order of its own. Black holes are drawn if `holes` is a number or "by seed":
@@ -58,6 +60,7 @@ from typing import Any, Dict, FrozenSet, List, Mapping, NamedTuple, Optional, Se
 
 from lab.course import walls
 from lab.course.cells import Walls
+from lab.course.points import Points, points_in
 from lab.play.agent_files import digests
 from lab.play.games import maker_of
 from lab.play.programs import HOST
@@ -70,7 +73,7 @@ from lab.sweep.grid import Case, Grid, NoSweep, is_count, is_text, is_texts, tak
 
 FILES = "files"
 KEYS = grid.KEYS - {"bound"} | {"limit", "match_limit", "team_limit", "match_space", "team_space", "tries", "tools",
-                                   "packages", "proc"}
+                                   "packages", "proc", "points"}
 TEAM_KEYS = {"name", "agents", OUTSIDE, FILES}
 LIMIT, TRIES = 20, 100
 # seconds of a match, of all matches of a team, and of these for each match
@@ -111,6 +114,7 @@ class Course(NamedTuple):
     packages: Tuple[str, ...] = ()
     # which of `home` and `ports` the file has
     named: FrozenSet[str] = frozenset()
+    points: Optional[Points] = None
 
     def cases(self) -> List[Case]:
         """All matches, in the order in which they are played. Teams come in an order that is drawn; each plays the same
@@ -231,7 +235,7 @@ def course_of(text: str, folder: pathlib.Path, secret: str) -> Course:
     played = grid.grid_in(found, folder)
     limits = for_matches(terms.limits, sum(1 for _ in played.cases()) // len(played.teams), found)
     return Course(text, folder, Draws(secret), played, files, limits, tries, terms.tools, terms.has_proc,
-                  terms.packages, named)
+                  terms.packages, named, points_in(found, played))
 
 
 def for_matches(limits: Limits, matches: int, found: Dict[str, Any]) -> Limits:

@@ -16,7 +16,9 @@ from lab.course.cells import Walls, Yard
 from lab.course.course import Course
 from lab.course.hand_in import HandIn
 from lab.course.kept import Taken
-from lab.course.league import Failure
+from lab.course.export import Export, Marks
+from lab.course.league import Failure, Refused, Standing
+from lab.course.points import marks
 from lab.course.pool import Budget, Limited, Timed, in_time
 from lab.course.rounds import OF_ALL, Repeating, in_a_line
 from lab.pages import page
@@ -62,6 +64,7 @@ class Graded(NamedTuple):
     repeats: bool = True
     # whether the machine is to forget what it keeps of files before agents are repeated
     forgets: bool = False
+    export: Export = Export()
 
     @property
     def course(self) -> Course:
@@ -320,6 +323,7 @@ def told(graded: Graded, cases: List[Case], workers: int, budget: Budget) -> int
     refused = {case.number: graded.refused(case) for case in cases}
     for name, text in league.pages(graded.course.grid, rows, failures, engine, refused).items():
         (graded.out / name).write_text(text, encoding="utf-8")
+    export(graded, rows, standings, refused)
     print(league.text_of(standings), end="")
     print(f"{len(rows)} matches on {engine}; solved {len(rows) - len(failures)}; failed {len(failures)}")
     print(f"read {graded.out / league.PAGE}; the rows are in {graded.out / tables.RUNS}")
@@ -328,6 +332,17 @@ def told(graded: Graded, cases: List[Case], workers: int, budget: Budget) -> int
         print(f"lab: the lab could not play {len(broken)} matches, such as {broken[0]}: the teams' pages say why",
               file=sys.stderr)
     return 1 if broken else 0
+
+
+def export(graded: Graded, rows: List[Row], standings: Sequence[Standing], refused: Refused) -> None:
+    """Writes the points of all teams for gradebooks, as far as that is asked for."""
+    played = graded.course
+    if played.points is None:
+        return
+    teams = {it.team: marks(played.points, [row for row in rows if row["team"] == it.team]) for it in standings}
+    for name, text in graded.export.files(Marks(played.grid.title, played.points, teams, refused)).items():
+        (graded.out / name).write_text(text, encoding="utf-8")
+        print(f"for a gradebook: {graded.out / name}")
 
 
 def repeat_all(graded: Graded, cases: List[Case], rows: List[Row], workers: int) -> None:

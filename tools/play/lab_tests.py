@@ -30,6 +30,8 @@ PACKAGES = ["python3-greenlet", "python3-hypothesis", "python3-tqdm", "python3-n
             "mypy", "python3-jsonschema",
             # what the search of all schedules is compared with
             "spin",
+            # what reads workflows
+            "python3-yaml",
             # what plays the kits of agents
             "gcc", "libc6-dev", "make", "nodejs"]
 # runs the tests of a file, and says how many passed
