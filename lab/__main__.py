@@ -31,6 +31,8 @@ COMMANDS = {
     "examples": Command("lab.commands.examples", "say where the examples stand, or copy them", ()),
     "play": Command("lab.commands.play", "be the agents yourself, in the terminal or on a page", PAGES + ("aiohttp",)),
     "run": Command("lab.commands.run", "play a team under schedules of a scheduler", PLAYS + PAGES),
+    "check": Command("lab.commands.check", "check an agent before it is handed in",
+                     PLAYS + PAGES + ("hypothesis",)),
     "hunt": Command("lab.commands.hunt", "look for a schedule after which the team fails, or moves most",
                     PLAYS + PAGES + ("hypothesis",)),
     "explore": Command("lab.commands.explore", "try every schedule of a small network", PLAYS + PAGES),

@@ -87,7 +87,7 @@ class Parts:
 
 # what a refusal means; the line itself is in no replay
 MEANINGS = {
-    "line": "the line was no command: `arena-lab run` shows such a line and the likeliest mistake",
+    "line": "the line was no command: `arena-lab check` shows such a line and the likeliest mistake",
     "port": "the node has no such port: ports are 0 to `ports` - 1",
     "long": "the text is longer than a whiteboard holds",
     "spent": "all commands of the agent are used up",
