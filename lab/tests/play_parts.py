@@ -47,7 +47,7 @@ class Escapes(Folder):
     def test_names_of_teams_and_networks_of_a_contest(self) -> None:
         shown = [contest_pages.Shown(0, HOSTILE, "ring.toml", Verdict("solved", 1, 0)),
                  contest_pages.Shown(1, "a", HOSTILE, None)]
-        self.check(contest_pages.page_of(HOSTILE, shown), 4)
+        self.check(contest_pages.page_of(HOSTILE, shown), 5)
 
     def test_names_and_faults_of_a_sweep(self) -> None:
         rows = [row(0, "a", 9, "silent", HOSTILE)]
