@@ -191,7 +191,8 @@ class Cutting(NamedTuple):
             choices = (place / finds.SCHEDULE).read_text(encoding="utf-8").count("\n") - 1
         except FileNotFoundError:
             choices = None
-        return Failure(case.number, choices, has_smallest, said, (place / finds.PAGE).exists())
+        errors = sorted((path.name for path in place.glob(f"{finds.ERRORS}*.txt")), key=lambda name: (len(name), name))
+        return Failure(case.number, choices, has_smallest, said, (place / finds.PAGE).exists(), errors)
 
     def digests(self) -> Dict[str, str]:
         return self.graded.digests()

@@ -66,13 +66,15 @@ class Standing(NamedTuple):
 
 class Failure(NamedTuple):
     """A failed match: its number, how many choices its schedule has, if it was played, whether a smallest schedule was
-    found, what is said of that, and whether there are pages to watch."""
+    found, what is said of that, whether there are pages to watch, and the files of what its programs wrote to standard
+    error."""
 
     number: int
     choices: Optional[int]
     has_smallest: bool
     said: str
     has_pages: bool
+    errors: Sequence[str] = ()
 
 
 def standings_of(rows: Sequence[Row], teams: Sequence[str]) -> List[Standing]:

@@ -23,6 +23,7 @@ from typing import Any, Callable, Deque, Dict, List, Mapping, NamedTuple, Option
 
 from lab.play.agent_files import NoAgent
 from lab.play.bounds import READ_NOTHING, SENT_NOTHING, Clock, Room
+from lab.play.last_words import error_in
 from lab.play.mistakes import plain
 from lab.play.players import DENIALS, DONE, LAST_LINES, TRAVELS, WAITS
 from lab.rules.fixtures import Fixture
@@ -384,15 +385,15 @@ class Player:
         return "\n".join(plain(self._ground.told(line)) for line in lines)
 
     def _last_words(self) -> str:
-        """The last line that the program wrote to standard error, as one that changes nothing where it is shown."""
+        """The line that names the error in what the program wrote to standard error, as one that changes nothing where
+        it is shown."""
         size = self._errors.seek(0, os.SEEK_END)
         self._errors.seek(max(0, size - PIECE))
-        lines = self._errors.read().decode(errors="replace").split("\n")
-        said = [line.strip() for line in lines if line.strip()]
-        if not said:
+        text = self._errors.read().decode(errors="replace")
+        words = self._ground.told(error_in(text))
+        if not words:
             return ""
-        words = self._ground.told(said[-1])
-        return f": {plain(words)[:WORDS]}{self._ground.hint(words)}"
+        return f": {plain(words)[:WORDS]}{self._ground.hint(words) or self._ground.hint(text.strip()[-PIECE // 64:])}"
 
     def _end(self, fault: str) -> None:
         """Ends the program's play; its agent leaves the match if it is in it."""

@@ -52,6 +52,10 @@ class Exports(InFolder):
             self.assertEqual([row["T (Real)"] for row in csv.DictReader(file)], ["0", "7"])
         root = ElementTree.parse(self.out / "junit.xml").getroot()
         self.assertIn("no map", root.findall(".//failure")[0].text or "")
+        # a team's page leads to all that its programs wrote to standard error
+        number = next(path.name for path in (self.out / "failed").iterdir())
+        self.assertIn(f'href="failed/{number}/errors0.txt"', (self.out / "team-b.html").read_text())
+        self.assertEqual((self.out / "failed" / number / "errors0.txt").read_text(), "no map\n")
         self.assertEqual((self.out / "points.csv").read_text(), "team,points,most,ring:4\na,7,7,7\nb,0,7,0\n")
 
     def test_students_are_read_before_anything_is_played(self) -> None:

@@ -1,0 +1,94 @@
+"""What a program says when it crashes: the line that names the error.
+
+Each language ends what it prints otherwise: Node.js with its version, Java with the last frame, Rust with a note. Its
+marks tell the language, and where the error stands in what it prints.
+"""
+import re
+from typing import Callable, List, Optional, Sequence, Tuple
+
+# characters of a line that are looked at
+WIDEST = 1000
+NAMED = r"(?:[\w.]+\.)?\w*(?:Error|Exception|Interrupt|Warning|Rejection)\b"
+# a number of a process or a thread, which is another one on each run
+PROCESS = re.compile(r"(?<===)\d+(?===)|(?<=') \(\d+\)(?= panicked)")
+LOOKS = re.compile(r"\b(?:\w*error|\w*exception|panic\w*|fatal|abort\w*|assert\w*|cannot|denied|segmentation fault)\b",
+                   re.IGNORECASE)
+
+
+def first(lines: Sequence[str], pattern: str) -> Optional[int]:
+    """The place of the first line that begins so."""
+    return next((place for place, line in enumerate(lines) if re.match(pattern, line)), None)
+
+
+def of_python(lines: Sequence[str]) -> Optional[str]:
+    """The line behind the frames of the last traceback, or of a file that cannot be read."""
+    places = [place for place, line in enumerate(lines) if line.startswith("Traceback (most recent call last)")]
+    if places:
+        return next((line for line in lines[places[-1] + 1:] if line.strip() and not line.startswith(" ")), None)
+    start = first(lines, r'  File ".*", line \d+')
+    return None if start is None else next((line for line in lines[start:] if re.match(NAMED, line)), None)
+
+
+def of_java(lines: Sequence[str]) -> Optional[str]:
+    """The first exception of a thread, and what caused it in the end."""
+    place = first(lines, 'Exception in thread "')
+    if place is None:
+        return next((line for line in lines if re.match(r"\S+\.java:\d+: error: ", line)), None)
+    causes = [line for line in lines[place:] if line.startswith("Caused by: ")]
+    return "; ".join([lines[place], *causes[-1:]])
+
+
+def of_rust(lines: Sequence[str]) -> Optional[str]:
+    """A panic, whose message stands in the next line since Rust 1.73."""
+    place = first(lines, r"thread '.*' (?:\(\d+\) )?panicked at ")
+    if place is None:
+        return None
+    behind = lines[place + 1:place + 2] if lines[place].endswith(":") else []
+    return " ".join([lines[place], *behind])
+
+
+def of_go(lines: Sequence[str]) -> Optional[str]:
+    place = first(lines, r"(?:panic|fatal error): ")
+    return None if place is None else lines[place]
+
+
+def of_cpp(lines: Sequence[str]) -> Optional[str]:
+    """An exception that nobody caught, with what it says; or what a sanitizer or an assertion tells."""
+    place = first(lines, "terminate called ")
+    if place is not None:
+        behind = [line.strip() for line in lines[place + 1:place + 2] if line.strip().startswith("what():")]
+        return ": ".join([lines[place], *(it.removeprefix("what():").strip() for it in behind)])
+    place = first(lines, r"==\d+==ERROR: |.*: Assertion .* failed\.$|\S+:\d+(?::\d+)?: (?:fatal )?error: ")
+    return None if place is None else lines[place]
+
+
+def of_dotnet(lines: Sequence[str]) -> Optional[str]:
+    place = first(lines, r"Unhandled exception")
+    return None if place is None else lines[place]
+
+
+def of_javascript(lines: Sequence[str]) -> Optional[str]:
+    """The error, or what else was thrown, which stands behind the line that points to the source."""
+    if first(lines, r"Node\.js v\d") is None and first(lines, r"\s+at .*(?::\d+:\d+\)?|<anonymous>\)?)$") is None:
+        return None
+    place = first(lines, rf"(?:Uncaught )?\[?{NAMED}")
+    if place is not None:
+        return lines[place]
+    pointer = first(lines, r"\s*\^+\s*$")
+    return None if pointer is None else next((line for line in lines[pointer + 1:] if line.strip()), None)
+
+
+# the first that fits is told
+LANGUAGES: Tuple[Callable[[Sequence[str]], Optional[str]], ...] = (
+    of_python, of_java, of_rust, of_go, of_cpp, of_dotnet, of_javascript)
+
+
+def error_in(text: str) -> str:
+    """The line of what a program wrote to standard error that names its error: by language, else the first that looks
+    like an error, else the last."""
+    lines: List[str] = [line[:WIDEST].rstrip() for line in text.split("\n") if line.strip()]
+    found = next((said for said in (of(lines) for of in LANGUAGES) if said), None)
+    if found is None:
+        likely = [line for line in lines if LOOKS.search(line)]
+        found = [*likely, *lines[-1:], ""][0]
+    return PROCESS.sub("", found).strip()
