@@ -39,6 +39,7 @@ class Tallies(unittest.TestCase):
             tally.add(row(failed=True, seed=0, home=0, holes=[1]))  # type: ignore[arg-type]
         best: Any = mock.Mock()
         best.match().faults.return_value = []
+        best.match().played.refused = []
         best.__getitem__ = mock.Mock(return_value=0)
         with mock.patch("lab.commands.run.finds.verdict_text", return_value="solved"):
             report(tally, best, None, said)
