@@ -20,7 +20,8 @@
     home          the home base; if it is absent and black holes are drawn, it is drawn for each match
     ports         "shuffled:SEED" numbers the ports of each node anew, alike in all matches, and "given" leaves them as
                   the network has them; if it is absent and black holes are drawn, they are numbered anew in each match
-    limit         how many seconds a program may take to send a line (20)
+    limit         how many seconds a program may take to send a line (20); a quarter of these on a network on which the
+                  team has hung twice alike
     match_limit   how many seconds the lab waits for the programs of a match in all (60)
     team_limit    how many seconds all matches of a team may take (600, or 5 for each match if that is more)
     match_space   how many MB of lines the programs of a match may send and be told in all (8)

@@ -41,6 +41,8 @@ DIFFERS = ("under the same schedule the match went another way when it was playe
            "something else although they are told the same; look for clocks, random numbers without a seed, and sets")
 NOT_SMALLER = {league.OTHERWISE: "the match was solved when it was played", league.HUNG: HANGS,
                league.UNPLAYED: "the match was not played"}
+# a program that hangs again is waited for this many times less
+HURRIED = 4
 TIME_IS_UP = "the time for this was up, so there may be a smaller one"
 # what came of repeating solved matches
 REPEATS, REPEATS_HEAD = "repeats.csv", ("run", "team", "fault")
@@ -65,6 +67,8 @@ class Graded(NamedTuple):
     # whether the machine is to forget what it keeps of files before agents are repeated
     forgets: bool = False
     export: Export = Export()
+    # whether a program is not waited for as long, as others of its team have hung on the same network
+    is_hurried: bool = False
 
     @property
     def course(self) -> Course:
@@ -135,7 +139,8 @@ class Graded(NamedTuple):
         words, handed_in = case.team.words.words, self.hand_in(case.team.name)
         with cells.grounds_of(self.yard, handed_in, words, fixture.setup, len(agents)) as grounds:
             commands = {number: agent.words for number, agent in enumerate(agents)}
-            team = programs.Team(fixture, commands, limits.line, dict(enumerate(grounds)), limits.match,
+            line = max(1, limits.line // HURRIED) if self.is_hurried else limits.line
+            team = programs.Team(fixture, commands, line, dict(enumerate(grounds)), limits.match,
                                  room=limits.match_space << 20)
             played = play(finds.engine_of(empty, program), team, scheduler, fixture)
         return empty._replace(choices=played.choices), played
@@ -248,7 +253,8 @@ def graded_in(graded: Graded, workers: int, handed_in: Optional[Dict[str, str]] 
             prepare(graded)
             budget = budget_of(graded, cases)
             left = cases[done:]
-            sweeping.write_rows(played_in_time(graded, left, workers, budget), len(left), graded.out)
+            hangs = Hangs(cases, tables.rows_in(graded.out / tables.RUNS))
+            sweeping.write_rows(played_in_time(graded, left, workers, budget, hangs), len(left), graded.out)
             status = told(graded, cases, workers, budget)
         tell_changes(digests, hand_ins(graded.out, graded.course))
         return status
@@ -301,11 +307,40 @@ def prepare(graded: Graded) -> None:
             page.layout({"nodes": network.nodes, "links": network.links})
 
 
-def played_in_time(graded: Graded, left: Sequence[Case], workers: int, budget: Budget) -> Iterator[Result]:
-    """The rows of matches."""
+class Hangs:
+    """How often teams have hung on each network, each time by the same fault."""
+
+    def __init__(self, cases: Sequence[Case], rows: Sequence[Row]) -> None:
+        """With what is known of these cases, of a run that was interrupted."""
+        self._count: Dict[Tuple[str, str, str], int] = {}
+        for case, row in zip(cases, rows):
+            self._note(case, row)
+
+    def note(self, case: Case, cells: Sequence[str]) -> None:
+        """Notes what came of a match."""
+        self._note(case, tables.row_of(cells))
+
+    def are_many(self, case: Case) -> bool:
+        """Whether the team has hung twice alike on the network of this match."""
+        return any(count >= 2 for (team, network, _), count in self._count.items()
+                   if (team, network) == (case.team.name, case.network))
+
+    def _note(self, case: Case, row: Row) -> None:
+        if not report.is_solved(row) and league.kind_of(row) == league.HUNG:
+            key = case.team.name, case.network, league.alike(row[report.FAULTS][0])
+            self._count[key] = self._count.get(key, 0) + 1
+
+
+def played_in_time(graded: Graded, left: Sequence[Case], workers: int, budget: Budget,
+                   hangs: Hangs) -> Iterator[Result]:
+    """The rows of matches. After the second equal hang of a team its other matches on that network are not waited for
+    as long."""
+    def job_of(case: Case) -> Graded:
+        return graded._replace(is_hurried=hangs.are_many(case))
+
     def instead(case: Case) -> List[str]:
         return unplayed(graded.course, case, f"{league.UNPLAYED}: {budget.says(case.team.name)}")
-    return in_time(graded, left, workers, Limited(budget, team_of, instead))
+    return in_time(graded, left, workers, Limited(budget, team_of, instead, job_of, hangs.note))
 
 
 def team_of(case: Case) -> str:

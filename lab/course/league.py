@@ -184,7 +184,7 @@ def team_page(grid: Grid, standing: Standing, rows: Sequence[Row], failures: Dic
              f"{standing.matches} matches, with {standing.moves} moves and {standing.lost} lost agents in these.")
     return filled("team.html", title=f"Team {standing.team}", course=grid.title, about=about, kinds=KINDS,
                   met=met_in([standing]), head=MATCH_HEAD, files=FILES, refused=refused_in(rows, refused),
-                  failed=[failed_match(row, failures[int(row["run"])]) for row in failed],
+                  cards=cards([failed_match(row, failures[int(row["run"])]) for row in failed]),
                   rows=[(row, "" if is_solved(row) else kind_of(row)) for row in rows])
 
 
@@ -193,6 +193,24 @@ def failed_match(row: Row, failure: Failure) -> Dict[str, Any]:
     folder = folder_of(row["team"], failure.number)
     return {"row": row, "failure": failure, "kind": kind_of(row), "folder": folder, "smallest": f"{folder}/{SMALLEST}",
             "came": came(row["outcome"], row["moves"], row["lost"])}
+
+
+def cards(failed: Sequence[Dict[str, Any]]) -> List[Tuple[Dict[str, Any], List[Dict[str, Any]]]]:
+    """Failed matches as cards: the first of each network that failed in a way and with these faults, and the others."""
+    found: Dict[Tuple[str, ...], List[Dict[str, Any]]] = {}
+    for it in failed:
+        found.setdefault((it["row"]["network"], it["kind"], *map(alike, it["row"][FAULTS])), []).append(it)
+    return [(first, others) for first, *others in (sorted(equal, key=has_no_smallest) for equal in found.values())]
+
+
+def alike(fault: str) -> str:
+    """A fault without how long the lab has waited, which is less once a team has hung twice."""
+    return re.sub(rf"({bounds.SENT_NOTHING}|{bounds.READ_NOTHING}) \d+ s", r"\1", fault)
+
+
+def has_no_smallest(failed: Dict[str, Any]) -> bool:
+    """Of equal failures the one whose schedule was made small stands first."""
+    return not failed["failure"].has_smallest
 
 
 def came(outcome: str, moves: str, lost: str) -> str:

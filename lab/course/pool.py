@@ -6,7 +6,7 @@ import multiprocessing
 import os
 from concurrent.futures import FIRST_COMPLETED, Future
 from concurrent.futures.process import BrokenProcessPool
-from typing import Any, Callable, Dict, Iterator, NamedTuple, Sequence
+from typing import Any, Callable, Dict, Iterator, NamedTuple, Optional, Sequence
 
 from lab.play.spread import KILLED, Job, Result, begin, result_of
 
@@ -48,6 +48,9 @@ class Limited(NamedTuple):
     budget: Budget
     team_of: Callable[[Any], str]
     instead: Callable[[Any], Any]
+    # which job plays a match that begins now, and what is told of each that has ended
+    job_of: Optional[Callable[[Any], Job]] = None
+    note: Optional[Callable[[Any, Any], None]] = None
 
 
 def in_time(job: Job, left: Sequence[Any], workers: int, limited: Limited) -> Iterator[Result]:
@@ -86,14 +89,15 @@ class Line:
 
     def _begin(self, pool: concurrent.futures.Executor, workers: int) -> None:
         """Begins as many matches as there are processes. A team whose time is up plays no more."""
-        budget, team_of, instead = self._limited
+        budget, team_of, instead, job_of, _ = self._limited
         while len(self._running) < workers and self._begun < len(self._left):
             match, number = self._left[self._begun], self._begun
             self._begun += 1
             if budget.says(team_of(match)):
                 self._done[number] = Result(instead(match), "")
             else:
-                self._running[pool.submit(result_of, self._job, match)] = number
+                job = job_of(match) if job_of else self._job
+                self._running[pool.submit(result_of, job, match)] = number
 
     def _wait(self) -> None:
         """Waits until a match is over, if one is played."""
@@ -103,4 +107,6 @@ class Line:
             if not result.fault:
                 self._limited.budget.take(self._limited.team_of(self._left[number]), result.found)
                 result = Result(result.found.found, "")
+                if self._limited.note:
+                    self._limited.note(self._left[number], result.found)
             self._done[number] = result

@@ -5,7 +5,7 @@ from typing import Optional, Sized
 # seconds that an agent may take to send or to wait, if nothing else is asked for
 LIMIT = 5
 # what is said of programs that let the lab wait: how their matches go on depends on the machine
-SENT_NOTHING, READ_NOTHING = "has sent no line within", "has not read what it was told within"
+SENT_NOTHING, READ_NOTHING = "has sent no line for", "has not read what it was told within"
 USED_UP = "has used up the time of its match,"
 
 

@@ -247,7 +247,7 @@ class Player:
                     self._take(until)
                 self._look_for_strangers()
             except TimeoutError:
-                self._end(f"{self._team.clock.says(SENT_NOTHING)}{self._last_words()}")
+                self._end(self._hung())
             if self._has_ended and not self.fault:
                 self._note_status(until)
 
@@ -394,6 +394,14 @@ class Player:
         if not words:
             return ""
         return f": {plain(words)[:WORDS]}{self._ground.hint(words) or self._ground.hint(text.strip()[-PIECE // 64:])}"
+
+    def _hung(self) -> str:
+        """What is said of the program once the lab waits for it no more, with what it may have forgotten."""
+        said, words = self._team.clock.says(SENT_NOTHING), self._last_words()
+        if words or not said.startswith(SENT_NOTHING):
+            return f"{said}{words}"
+        asks = "does it end each line with a line feed, and flush?" if self.rest() else "does it flush after each line?"
+        return f"{said}; {asks}"
 
     def _end(self, fault: str) -> None:
         """Ends the program's play; its agent leaves the match if it is in it."""

@@ -527,7 +527,7 @@ class Saying(Course):
         threads = ("import threading, time\nfor _ in range(300):\n"
                    "    threading.Thread(target=time.sleep, args=(60,)).start()\n")
         files = "found = [open('/dev/null') for _ in range(300)]\n"
-        for code, said in ((threads, "has sent no line within 3 s: RuntimeError: can't start new thread (a program may "
+        for code, said in ((threads, "has sent no line for 3 s: RuntimeError: can't start new thread (a program may "
                             "have 256 processes and threads)"),
                            (files, "Too many open files: '/dev/null' (a program may have 256 open files)")):
             with self.subTest(said):

@@ -36,7 +36,7 @@ FAULTS = {
     "garbage": 'was not let in: {"no":"enter"}',
     "flood": "was refused 1000 times in a row",
 }
-SILENT = "agent 0: has sent no line within 1 s"
+SILENT = "agent 0: has sent no line for 1 s; does it flush after each line?"
 ABSENT = "no-such-program: No such file or directory"
 
 

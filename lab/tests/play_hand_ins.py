@@ -82,7 +82,7 @@ class HandIns(Course):
             self.assertEqual(self.row()["outcome"], "solved")
 
     def test_last_words_that_are_the_labs(self) -> None:
-        for words in ("has sent no line within", "not played", "not played, as the lab failed: OSError",
+        for words in ("has sent no line for", "not played", "not played, as the lab failed: OSError",
                       league.SAYS_OTHERWISE):
             with self.subTest(words):
                 shutil.rmtree(self.folder / "out", ignore_errors=True)

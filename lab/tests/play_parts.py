@@ -37,6 +37,19 @@ class Escapes(Folder):
             0: Failure(0, 5, False, "", False)}, "it")
         self.assertEqual(pages["team-a.html"].count("<li>agent"), 2)
 
+    def test_equal_failures_are_one_card(self) -> None:
+        hung, other = "agent 0: has sent no line for 20 s", "agent 1: has connected twice"
+        rows = [row(0, "a", 9, "silent", hung), row(1, "a", 9, "silent", hung), row(2, "a", 9, "silent", hung),
+                row(4, "a", 9, "silent", other)]
+        given = {it: Failure(it, 5, it == 2, "", True) for it in (0, 1, 2, 4)}
+        page = league.pages(self.course().grid, rows, given, "it")["team-a.html"]
+        # one on each network, and one with another fault
+        self.assertEqual(page.count('<section class="match">'), 3)
+        self.assertEqual(page.count("<li>agent"), 3)
+        self.assertIn('<h3 id="match-2">', page)
+        self.assertIn("and 1 other match alike", page)
+        self.assertIn('<li id="match-0">alike: match 0, black hole 1, fair 0: silent, 9 moves, 1 lost (<a href="', page)
+
     def test_the_league_has_the_kinds_of_failures(self) -> None:
         rows = [row(0, "a", 9), row(1, "a", 9, "wrong"), row(2, "b", 9), row(3, "b", 1)]
         grid = self.course("", TEAM + TEAM.replace('"a"', '"b"')).grid

@@ -20,14 +20,14 @@ PYTHON = AgentWords(OUTSIDE, f"{sys.executable} {AGENTS / 'ring.py'} {{host}} {{
 RUDE = pathlib.Path(__file__).resolve().parent / "rude.py"
 FAULTS = {
     "dies": "agent 1: has ended with status 1 before it connected: no such map",
-    "silent": "agent 1: has sent no line within 1 s",
+    "silent": "agent 1: has sent no line for 1 s; does it flush after each line?",
     "stranger": "agent 1: enters with the key of another agent",
-    "endless": "agent 1: has sent no line within 1 s",
+    "endless": "agent 1: has sent no line for 1 s; does it end each line with a line feed, and flush?",
     "twice": "agent 1: has connected twice",
     "flood": "agent 1: was refused 1000 times in a row",
     "garbage": 'agent 1: was not let in: {"no":"enter"}',
     "crash": "agent 1: has ended with status -9 in the middle of its match",
-    "blank": "agent 1: has sent no line within 1 s",
+    "blank": "agent 1: has sent no line for 1 s; does it flush after each line?",
 }
 # who is waited for, and how many seconds: a machine may be slow to start the others
 WAITED_FOR, SHORT, LONG = ("silent", "endless", "blank"), 1, 30

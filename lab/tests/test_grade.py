@@ -236,13 +236,13 @@ class Leagues(Folder):
         for kind, outcome, *faults in (
                 ("wrong", "wrong"), ("guess", "guess 3"), ("silent", "silent"), ("unfinished", "unfinished"),
                 ("crashed", "solved", "agent 1: has ended with status 1 in the middle of its match"),
-                ("crashed", "silent", "agent 0: has ended with status 1 before it connected: has sent no line within"),
+                ("crashed", "silent", "agent 0: has ended with status 1 before it connected: has sent no line for"),
                 ("crashed", "silent", "agent 0: has ended with status 1 before it connected: agent 1: not played"),
                 ("crashed", "silent", "agent 0: cannot be started: the hand-in is refused"),
                 ("does not repeat", "solved", "agent 0: says something else when it is told the same again, at command "
                  "2: in the match `look`, alone `leave` (the program has ended with status 1)"),
                 ("crashed", "silent", "agent 0: has taken more than 2 GB of memory with all that it has started"),
-                ("hung", "silent", "agent 0: has sent no line within 20 s", "agent 1: has connected twice"),
+                ("hung", "silent", "agent 0: has sent no line for 20 s", "agent 1: has connected twice"),
                 ("hung", "silent", "agent 0: has used up the time of its match, 60 s in all"),
                 ("broke a rule", "silent", "agent 0: has connected twice"),
                 ("not played", "not played", "not played: the matches of the team have taken the 3 s that it has")):
@@ -314,9 +314,9 @@ class Words(unittest.TestCase):
 
     def test_a_match_has_a_time_of_its_own(self) -> None:
         clock = bounds.Clock(5, 7)
-        self.assertEqual(clock.says("has sent no line within"), "has sent no line within 5 s")
+        self.assertEqual(clock.says("has sent no line for"), "has sent no line for 5 s")
         clock.waited = 3
-        self.assertIn("has used up the time of its match, 7 s in all", clock.says("has sent no line within"))
+        self.assertIn("has used up the time of its match, 7 s in all", clock.says("has sent no line for"))
         with bounds.Clock(0.01, 1) as until, clock as later:
             self.assertGreater(later - until, 3)
 
