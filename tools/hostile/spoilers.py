@@ -31,6 +31,8 @@ HOST = "127.0.0.1"
 PATIENCE = 20.0
 # how many clients may wait beside each other to be let in, and within how many seconds their first line is to come
 WAITING, FIRST_LINE = 256, 10.0
+# before so many seconds no client has waited for two looks of the server, and how often a busy machine may miss that
+ROOM_AFTER, TRIES = 0.5, 10
 REFUSED, NO_THREADS = 6, 7
 TEAMS = ("red", "blue")
 
@@ -153,10 +155,21 @@ def wrong_keys(program: str, folder: pathlib.Path) -> None:
 
 @case("silent clients of one address make room after a second, the oldest first, and are told why")
 def silent(program: str, folder: pathlib.Path) -> None:
+    if not any(makes_room_in_time(program, folder) for _ in range(TRIES)):
+        raise Wrong(f"{WAITING} clients did not connect in {ROOM_AFTER} s in any of {TRIES} tries: the machine is busy")
+
+
+def makes_room_in_time(program: str, folder: pathlib.Path) -> bool:
+    """Whether the clients connected before the first of them had waited for long: else it is the first that makes
+    room, and not who comes."""
     with serving(program, folder, sessions=1000, turns=2000) as server, contextlib.ExitStack() as stack:
+        begun = time.monotonic()
         clients = [stack.enter_context(server.connect()) for _ in range(WAITING)]
         with server.connect(enter("blue-0")) as client:
-            wants("one that comes at once", answer(client, 100), NO_FULL)
+            said = answer(client, len(NO_FULL))
+        if time.monotonic() - begun > ROOM_AFTER:
+            return False
+        wants("one that comes at once", said, NO_FULL)
         time.sleep(1.6)
         clients += [stack.enter_context(server.connect()) for _ in range(20)]
         with server.connect(enter("blue-0")) as client:
@@ -164,6 +177,7 @@ def silent(program: str, folder: pathlib.Path) -> None:
         wants("the oldest", answer(clients[0], 100), NO_LATE)
         clients[-1].sendall(enter("red-0"))
         wants("the newest", answer(clients[-1], len(HERE)), HERE)
+    return True
 
 
 @case("a client whose first line does not come in some seconds is told so")
