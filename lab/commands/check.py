@@ -18,6 +18,7 @@ import contextlib
 import pathlib
 import signal
 import threading
+import time
 from typing import Any, Iterator, List, NamedTuple, Optional, Tuple
 
 import lab
@@ -39,6 +40,8 @@ SCHEDULERS = ("fair", "slow-agents")
 HUNTED, EXPLORED = "ring:6", "ring:5"
 FOLDER = pathlib.Path("out/check")
 SECONDS, LONGER, MOST = 60, 3, 100_000
+# seconds between two interrupts of a search whose time is up
+AGAIN = 5.0
 
 
 class ToMend(NamedTuple):
@@ -143,11 +146,11 @@ def hunt(asked: Checked) -> Tuple[int, Optional[ToMend]]:
     """Hunts for a schedule under which the team fails; gives how many were tried."""
     name = asked.smallest(HUNTED)
     with bar(None, "schedule") as shown:
-        hunter = Hunter(Hunt(asked.game(name), runs=MOST if asked.agent.kind == OUTSIDE else 3000), shown)
-        with within(asked.seconds) as alarm:
-            hunted(hunter)
+        timed = Timed(shown, asked.seconds)
+        hunter = Hunter(Hunt(asked.game(name), runs=MOST if asked.agent.kind == OUTSIDE else 3000), timed)
+        hunted(hunter)
         shown.clear()
-    if hunter.was_stopped and not alarm.has_rung:
+    if hunter.was_stopped and not timed.is_over():
         raise KeyboardInterrupt
     best = hunter.best
     if best is None or not best.has_failed:
@@ -184,21 +187,40 @@ def every(asked: Checked) -> Tuple[str, Optional[ToMend]]:
     return f"under every schedule of {f'a ring of {ring}' if ring != name else name}", None
 
 
+class Timed:
+    """A bar that ends a hunt behind the first schedule after its time, as Ctrl-C would."""
+
+    def __init__(self, shown: Any, seconds: float) -> None:
+        self._shown, self._until = shown, time.monotonic() + seconds
+
+    def is_over(self) -> bool:
+        return time.monotonic() > self._until
+
+    def update(self) -> None:
+        self._shown.update()
+        if self.is_over():
+            raise KeyboardInterrupt
+
+    def set_postfix_str(self, said: str) -> None:
+        self._shown.set_postfix_str(said)
+
+
 class Alarm:
-    """Interrupts the main thread once, as Ctrl-C does; says whether it has."""
+    """Interrupts the main thread, as Ctrl-C does, once its time is up and now and then after that: a single interrupt
+    may be lost, as in what runs when Python collects garbage. Says whether it has rung."""
 
     def __init__(self, seconds: float) -> None:
         self.has_rung = False
-        self._timer = threading.Timer(seconds, self._ring)
-        self._timer.daemon = True
-        self._timer.start()
+        self._stopped = threading.Event()
+        threading.Thread(target=self._wait, args=(seconds,), daemon=True).start()
 
     def stop(self) -> None:
-        self._timer.cancel()
+        self._stopped.set()
 
-    def _ring(self) -> None:
-        self.has_rung = True
-        signal.pthread_kill(threading.main_thread().ident or 0, signal.SIGINT)
+    def _wait(self, seconds: float) -> None:
+        while not self._stopped.wait(seconds):
+            self.has_rung, seconds = True, AGAIN
+            signal.pthread_kill(threading.main_thread().ident or 0, signal.SIGINT)
 
 
 @contextlib.contextmanager

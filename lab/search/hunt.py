@@ -84,10 +84,10 @@ class Hunter:
         worth = {FAILURE: 0, MOVES: verdict.moves, LOST: verdict.lost}[self.asked.looked_for]
         trial = Trial(worth, played.has_failed(), fixture, played)
         self.tried += 1
-        self._shown.update()
         if self.best is None or (trial.has_failed, worth) > (self.best.has_failed, self.best.worth):
             self.best = trial
             self._shown.set_postfix_str(finds.verdict_text(verdict))
+        self._shown.update()
         return trial
 
     def search(self, phases: Sequence[str]) -> None:
