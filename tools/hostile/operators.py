@@ -272,6 +272,20 @@ def own_turns(program: str, folder: pathlib.Path) -> None:
         raise Wrong(f"red has taken {red} turns, and blue {blue}")
 
 
+@case("a match begins without agents that are missing after the time of --gather, and not before")
+def gathers_as_long_as_said(program: str, folder: pathlib.Path) -> None:
+    def turns() -> int:
+        return int(found(r"\(red\) is open: turns (\d+)", asked(server))[0])
+
+    with heard(program, folder, "--gather", "24000") as server, server.connect(enter("red-0")) as client:
+        answer(client, len(HERE))
+        time.sleep(22)
+        wants("turns after 22 s", turns(), 0)
+        time.sleep(5)
+        if not turns():
+            raise Wrong("the match has not begun after 27 s")
+
+
 @case("the status tells the events of each match")
 def own_events(program: str, folder: pathlib.Path) -> None:
     with heard(program, folder) as server, server.connect(enter("red-0") + LOOK * 20) as client:
