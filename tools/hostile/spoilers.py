@@ -31,7 +31,7 @@ HOST = "127.0.0.1"
 PATIENCE = 20.0
 # how many clients may wait beside each other to be let in, and within how many seconds their first line is to come
 WAITING, FIRST_LINE = 256, 10.0
-# before so many seconds no client has waited for two looks of the server, and how often a busy machine may miss that
+# a client keeps its place for at least these seconds; how often the case is tried if the machine is too busy for them
 ROOM_AFTER, TRIES = 0.5, 10
 REFUSED, NO_THREADS = 6, 7
 TEAMS = ("red", "blue")

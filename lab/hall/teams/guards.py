@@ -27,7 +27,7 @@ MOST = 20_000
 
 
 class Buckets:
-    """How often each may do something: so many times in so many seconds, evenly refilled."""
+    """How often each key may be used: each has a bucket of tries, which fills evenly within these seconds."""
 
     def __init__(self, seconds: float) -> None:
         self._seconds = seconds
