@@ -21,12 +21,12 @@ import sys
 import tempfile
 import threading
 import time
-import tomllib
 from typing import Callable, Counter, Dict, List, NamedTuple, Sequence
 
 from bench.inputs import ring
 from bench.servers import MAX_SESSIONS, Failed, free_port, prepare, started, words
 from lab.play.agent_files import client_module
+from lab.rules import networks
 
 client = client_module()
 search = importlib.import_module("ring").search
@@ -70,19 +70,13 @@ def teams(rules: Rules, contests: int) -> List[str]:
 
 
 def tournament(rules: Rules, network: pathlib.Path, names: List[str]) -> str:
-    node, rows, links = rules.nodes // 2, "", links_in(network)
-    nodes = (node, node + 1)
-    ends = [[v, p] for v, p, w, _ in links if w in nodes] + [[w, q] for v, _, w, q in links if v in nodes]
+    node, rows = rules.nodes // 2, ""
+    ends = [list(place) for place in networks.places_into(networks.named(str(network)).links, (node, node + 1))]
     for name in names:
         holes, held = ([], ends) if f"-{TRAP}-" in name else ([node], [])
         rows += (f'\n[[match]]\nteam = "{name}"\nnetwork = "{network}"\nhome = 0\nholes = {holes}\nquota = {QUOTA}\n'
                  f'board = {BOARD}\nkeys = ["{name}-a", "{name}-b"]\nheld = {held}\n')
     return f'version = 3\nseed = "{"07" * 32}"\n{SCHEDULES[rules.schedule]}{rows}'
-
-
-def links_in(network: pathlib.Path) -> List[List[int]]:
-    links: List[List[int]] = tomllib.loads(network.read_text())["links"]
-    return links
 
 
 def step_out(agent: client.Agent, nodes: int) -> None:

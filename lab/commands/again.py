@@ -19,7 +19,6 @@ from lab.commands.tournament import Entry, key_of, secret_files, sheet_name, wri
 from lab.pages.contest_pages import AGAIN, TOURNAMENT
 from lab.rules import networks
 from lab.rules.fixtures import Fixture, read_tournament
-from lab.rules.model import Setup
 from lab.rules.networks import Network, NoNetwork
 
 NETWORK = "network0.toml"
@@ -61,17 +60,16 @@ def drawn_anew(fixture: Fixture) -> Fixture:
     closed = closed_nodes(fixture)
     drawn = chance.sample([it for it in range(setup.nodes) if it != setup.home], len(setup.holes) + len(closed))
     holes, others = sorted(drawn[:len(setup.holes)]), drawn[len(setup.holes):]
-    held = [(v, p) for v, p, w, _ in network.links if w in others] + [
-        (w, q) for v, _, w, q in network.links if v in others]
     return fixture._replace(setup=setup._replace(links=network.links, holes=holes),
-                            keys=[key_of(fixture.team) for _ in fixture.keys], held=sorted(held))
+                            keys=[key_of(fixture.team) for _ in fixture.keys],
+                            held=networks.places_into(network.links, others))
 
 
 def closed_nodes(fixture: Fixture) -> List[int]:
     """The nodes at which nobody arrives, since all links into them are held."""
-    setup: Setup = fixture.setup
-    far = {(v, p): w for v, p, w, _ in setup.links} | {(w, q): v for v, _, w, q in setup.links}
-    nodes = {far[place] for place in fixture.held}
-    if sorted(place for place, end in far.items() if end in nodes) != sorted(fixture.held):
+    links = fixture.setup.links
+    nodes = {node for node in range(fixture.setup.nodes)
+             if set(networks.places_into(links, [node])).issubset(fixture.held)}
+    if networks.places_into(links, nodes) != sorted(fixture.held):
         raise NoNetwork("some links into a node are held and others are not: write another try of the match by hand")
     return sorted(nodes)

@@ -8,11 +8,11 @@ Two agents (--agents N) search a network for its black hole. You say what each o
 Time passes when you say so: then one of the agents that are on links is chosen by chance, and arrives if it can. With
 --second-person nothing is chosen: another person says who arrives, by `arrive N`, and tries to lead you astray.
 
-With --riddle the network has a black hole, or else a link that lets nobody arrive: which of the two, you are told in
-the end. Can you find out before?
+With --riddle the network has a black hole, or else a node at which nobody arrives, as all links into it are slow for
+ever. In the end you are told which of the two it is. Can you find out before?
 
 With --page you play in a browser, on a page that this machine alone sees: click a port to depart through it. It needs
-Debian's package python3-aiohttp.
+Debian's package python3-aiohttp, and Ctrl-C ends it.
 
 The Python model plays by the rules of a contest. At the end the whole match is shown; --keep FOLDER writes its replay
 and a page on which one can watch it.
@@ -30,6 +30,7 @@ from lab.play.human import AT_A_NODE, ENDED, MATCH_OVER, ON_A_LINK, OUTSIDE, Hum
 from lab.rules import networks
 from lab.rules.fixtures import fixture_of
 from lab.rules.model import Object, Setup
+from lab.support.faults import Fault
 
 HELP = """  enter             enter the match at the home base
   0, 1, ..          depart through this port
@@ -51,7 +52,8 @@ def add_words(parser: argparse.ArgumentParser) -> None:
     parser.add_argument("--agents", metavar="N", type=at_least_one, default=2, help="how many agents (2)")
     parser.add_argument("--hole", metavar="V", type=not_negative, help="the black hole; by default it is drawn")
     parser.add_argument("--seed", metavar="S", type=not_negative, help="draw by this seed, to play the same again")
-    parser.add_argument("--riddle", action="store_true", help="draw whether there is a black hole or a slow link")
+    parser.add_argument("--riddle", action="store_true", help="draw whether there is a black hole, or a node at which "
+                        "nobody arrives")
     parser.add_argument("--second-person", action="store_true", help="another person says who arrives")
     parser.add_argument("--page", action="store_true", help="play in a browser")
     parser.add_argument("--port", metavar="N", type=at_least_one, default=8081, help="the port of the page (8081)")
@@ -59,18 +61,22 @@ def add_words(parser: argparse.ArgumentParser) -> None:
 
 
 def run(words: argparse.Namespace) -> int:
+    if words.page and words.second_person:
+        raise Fault("a second person plays in the terminal: leave out --page or --second-person")
     match = match_of(words)
     if words.page:
         serve(match, words.network, words.port)
-        return 0
-    played(match, words.second_person)
+    else:
+        played(match, words.second_person)
     if words.keep is not None:
+        if not match.is_over:
+            match.end()
         kept(match, words.keep)
     return 0
 
 
 def match_of(words: argparse.Namespace) -> HumanMatch:
-    """The match of the words. A link that lets nobody arrive leads to where the black hole would be."""
+    """The match of the words. In a riddle without a black hole nobody arrives where it would be."""
     chance = random.Random(words.seed)
     network = networks.biconnected(words.network)
     hole = words.hole if words.hole is not None else chance.randrange(1, network.nodes)
@@ -78,9 +84,7 @@ def match_of(words: argparse.Namespace) -> HumanMatch:
     setup = Setup(network.nodes, network.links, 0, [] if is_slow else [hole], words.agents, 1000, 64)
     fixture = fixture_of(setup)
     if is_slow:
-        ends = [(v, p) for v, p, w, _ in network.links if w == hole] + [(w, q) for v, _, w, q in network.links
-                                                                         if v == hole]
-        fixture = fixture._replace(held=ends)
+        fixture = fixture._replace(held=networks.places_into(network.links, [hole]))
     return HumanMatch(fixture, chance)
 
 
@@ -161,8 +165,8 @@ def end_of(match: HumanMatch) -> List[str]:
              f"The home base is node {setup.home}."]
     if setup.holes:
         lines.append(f"The black hole is node {setup.holes[0]}.")
-    for node, port in match.fixture.held:
-        lines.append(f"There is no black hole: nobody arrives over the link from node {node} to {far[node][port][0]}.")
+    for node in sorted({far[node][port][0] for node, port in match.fixture.held}):
+        lines.append(f"There is no black hole: nobody arrives at node {node}.")
     for node in range(setup.nodes):
         ends = ", ".join(f"{port} to node {end}" for port, (end, _) in sorted(far[node].items()))
         lines.append(f"  node {node}: ports {ends}")

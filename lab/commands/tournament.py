@@ -118,8 +118,7 @@ def trap_on(words: argparse.Namespace, number: int, name: str) -> Planned:
     place = places_on(words, number, name)[0]
     setup = place.setup
     nodes = secrets.SystemRandom().sample([it for it in range(setup.nodes) if it != setup.home], 2)
-    held = [(v, p) for v, p, w, _ in setup.links if w in nodes] + [(w, q) for v, _, w, q in setup.links if v in nodes]
-    return place._replace(setup=setup._replace(holes=[]), held=sorted(held))
+    return place._replace(setup=setup._replace(holes=[]), held=networks.places_into(setup.links, nodes))
 
 
 def places_on(words: argparse.Namespace, number: int, name: str) -> List[Planned]:

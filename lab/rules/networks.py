@@ -16,10 +16,10 @@ import pathlib
 import random
 import re
 import tomllib
-from typing import Any, Callable, Dict, List, NamedTuple, Tuple
+from typing import Any, Callable, Collection, Dict, List, NamedTuple, Sequence, Tuple
 
 from lab.rules.limits import MOST_NODES, SMALL_NODES
-from lab.rules.model import link_of
+from lab.rules.model import Place, link_of
 from lab.support.faults import Fault
 from lab.support.missing import needed
 
@@ -28,6 +28,12 @@ Link = Tuple[int, int, int, int]
 NAMES = "ring:N, hypercube:D, complete:N, torus:RxC, ccc:D, random:SEED, random:N:degK:seedS"
 LARGEST = 24
 LARGEST_DEGREE = 6
+
+
+def places_into(links: Sequence[Link], nodes: Collection[int]) -> List[Place]:
+    """The places, each a node and a port, from which a link leads to one of these nodes. If all of them are held,
+    nobody arrives there."""
+    return sorted([(v, p) for v, p, w, _ in links if w in nodes] + [(w, q) for v, _, w, q in links if v in nodes])
 
 
 class Network(NamedTuple):

@@ -81,11 +81,25 @@ class Terminal(unittest.TestCase):
         self.assertEqual(2, said.count("let time pass"))
         self.assertIn('Refused: {"no":"port"}', said)
 
-    def test_a_riddle_has_a_black_hole_or_a_slow_link(self) -> None:
+    def test_a_riddle_has_a_black_hole_or_a_node_at_which_nobody_arrives(self) -> None:
+        kinds = set()
         for seed in range(20):
-            words = mock.Mock(seed=seed, network="ring:4", hole=None, riddle=True, agents=2)
+            words = mock.Mock(seed=seed, network="ring:4", hole=2, riddle=True, agents=2)
             fixture = match_of(words).fixture
-            self.assertEqual((not fixture.setup.holes, 2), (bool(fixture.held), len(fixture.held or [0, 0])))
+            kinds.add((tuple(fixture.setup.holes), tuple(fixture.held)))
+        self.assertEqual({((2,), ()), ((), ((1, 0), (3, 1)))}, kinds)
+
+    def test_the_end_of_a_riddle_names_the_node(self) -> None:
+        found = set()
+        for seed in range(9):
+            said = self.played("end\n", "--riddle", "--seed", str(seed), "--hole", "2").splitlines()
+            found |= {line for line in said if "black hole" in line and "behind" not in line}
+        self.assertEqual({"There is no black hole: nobody arrives at node 2.", "The black hole is node 2."}, found)
+
+    def test_a_second_person_has_no_page(self) -> None:
+        with contextlib.redirect_stderr(io.StringIO()) as told:
+            self.assertEqual(2, main(["play", "--page", "--second-person"]))
+        self.assertIn("leave out --page or --second-person", told.getvalue())
 
 
 if __name__ == "__main__":
