@@ -9,6 +9,7 @@ is answered.
 """
 import argparse
 import pathlib
+import shlex
 from typing import List
 
 import lab
@@ -26,12 +27,12 @@ def add_words(parser: argparse.ArgumentParser) -> None:
 def run(words: argparse.Namespace) -> int:
     kit = write_kit(words.language, words.folder)
     print(f"{words.folder}: an agent in {kit.name}. Go on there:")
-    for line in (f"cd {words.folder}", *next_commands(kit)):
+    for line in (f"cd {shlex.quote(str(words.folder))}", *next_commands(kit)):
         print(f"    {line}")
     return 0
 
 
 def next_commands(kit: Kit) -> List[str]:
     """The commands by which a kit is built, tested and played on a ring of eight nodes, in its folder."""
-    called = lab.called if lab.called == lab.INSTALLED else f"PYTHONPATH={TOP} {lab.called}"
+    called = lab.called if lab.called == lab.INSTALLED else f"PYTHONPATH={shlex.quote(str(TOP))} {lab.called}"
     return [*filter(None, (kit.build, kit.test)), f'{called} run --network ring:8 --command "{played(kit)}"']

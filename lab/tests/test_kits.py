@@ -42,8 +42,8 @@ class Kits(unittest.TestCase):
     def test_it_says_how_to_go_on(self) -> None:
         told = io.StringIO()
         with contextlib.redirect_stdout(told):
-            self.assertEqual(0, main(["new", "c", str(self.folder / "mine")]))
-        for wanted in (f"cd {self.folder / 'mine'}\n", "    make\n", "    make test\n",
+            self.assertEqual(0, main(["new", "c", str(self.folder / "my agent")]))
+        for wanted in (f"cd '{self.folder / 'my agent'}'\n", "    make\n", "    make test\n",
                        '--command "./careful {host} {port} {key} {nodes}"\n'):
             self.assertIn(wanted, told.getvalue())
 
