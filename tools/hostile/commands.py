@@ -13,7 +13,7 @@ TOP = pathlib.Path(__file__).resolve().parents[2]
 
 
 __all__ = ["COMMANDS", "Command", "DONE", "FAILED_STREAM", "Lab", "NO_MEMORY", "NO_THREADS", "PATIENCE", "REFUSED_TEXT",
-           "Run", "TOP", "ended", "free_port"]
+           "Run", "SERVED", "TOP", "WHOLE_OF_PART", "command_named", "ended", "free_port"]
 
 NO_MEMORY, NO_THREADS = 5, 7
 # seconds within which a run must end
@@ -21,13 +21,20 @@ PATIENCE = 60
 
 
 class Command(NamedTuple):
-    """The words of a command, with what stands on its standard input, and the file that it reads first."""
+    """The words of a command, with what stands on its standard input, the file that it reads first, and how its faults
+    name its standard input."""
     name: str
     words: Sequence[str]
     script: str
     reads: Optional[str]
+    given: str = "script"
 
 
+# a replay of the examples without its last two lines, which each folder gets: what a server that was killed leaves
+PART, WHOLE_OF_PART = "examples/first0.jsonl.part", "examples/first0.jsonl"
+TRIES = ["explore", "examples/version1.toml", "0"]
+DRAWS = ["--draws", "20", "--seed", "5", "--by", "slow-agents", "--hunt", "moves"]
+# each order of the program but `serve`, for which the tools have runs of their own: tests/test_commands.py compares
 COMMANDS = [
     Command("check", ["check", "examples/first.toml"], "", "examples/first.toml"),
     Command("rehearse", ["rehearse", "examples/first.toml", "--replay", "kept"], "examples/first.script",
@@ -42,7 +49,15 @@ COMMANDS = [
     Command("twin", ["twin", "examples/guess0.jsonl", "1"], "", "examples/guess0.jsonl"),
     Command("appeal", ["judge", "examples/appeal0.jsonl", "--turns", "examples/appeal0.turns", "--tournament",
                        "examples/appeal.toml", "--match", "0"], "", "examples/appeal0.jsonl"),
+    Command("recover", ["recover", PART], "", PART),
+    Command("explore", TRIES, "examples/triangle.answers", "examples/version1.toml", "host"),
+    Command("draw", [*TRIES, *DRAWS], "examples/triangle.answers", "examples/version1.toml", "host"),
 ]
+SERVED = "serve"
+
+
+def command_named(name: str) -> Command:
+    return next(command for command in COMMANDS if command.name == name)
 
 
 class Run(NamedTuple):
@@ -72,6 +87,8 @@ class Lab:
         self.runs = 0
         self.faults: List[str] = []
         shutil.copytree(TOP / "examples", folder / "examples")
+        lines = (folder / WHOLE_OF_PART).read_bytes().splitlines(keepends=True)
+        (folder / PART).write_bytes(b"".join(lines[:-2]))
         self.whole = {command.name: self.run(command) for command in COMMANDS}
 
     def run(self, command: Command, limit: Optional[Callable[[], None]] = None, **streams: Any) -> Run:

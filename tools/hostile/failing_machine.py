@@ -23,7 +23,7 @@ from typing import Callable, Counter
 
 from bench.inputs import MIB
 from tools.hostile.commands import (COMMANDS, DONE, FAILED_STREAM, NO_MEMORY, NO_THREADS, PATIENCE, REFUSED_TEXT,
-                                    Lab, Run, ended, free_port)
+                                    SERVED, WHOLE_OF_PART, Lab, Run, command_named, ended, free_port)
 
 # of a server; fewer than connections that the system keeps waiting for it
 SESSIONS = 100
@@ -39,7 +39,7 @@ def no_memory(lab: Lab) -> None:
     for command in COMMANDS:
         for most in range(8, 65):
             found = lab.run(command, limited(resource.RLIMIT_AS, most * MIB))
-            places = {"arena", "output", "script", "twin", "kept", *(f"kept{number}.jsonl" for number in range(4)),
+            places = {"arena", "output", command.given, "twin", "kept", *(f"kept{number}.jsonl" for number in range(4)),
                       *(word.rpartition("=")[2] for word in command.words[1:])}
             places |= {f"examples/{path.name}" for path in (lab.folder / "examples").glob("*.toml")}
             allowed = {f"{place}: memory" for place in places}
@@ -69,7 +69,7 @@ def full_disk(lab: Lab) -> None:
     for command in COMMANDS:
         with open("/dev/full", "wb") as full:
             lab.expect("a full disk", command, lab.run(command, stdout=full), {"output: write"}, FAILED_STREAM, seen)
-    rehearse = COMMANDS[1]
+    rehearse = command_named("rehearse")
     kept = lab.folder / "kept0.jsonl"
     kept.unlink()
     kept.symlink_to("/dev/full")
@@ -90,7 +90,7 @@ def closed_streams(lab: Lab) -> None:
         found = lab.run(command, lambda: os.close(1))
         lab.expect("a closed output", command, found, {"output: write"}, FAILED_STREAM, seen)
         found = lab.run(command, lambda: os.close(0))
-        lab.expect("a closed input", command, found, {"script: read"}, FAILED_STREAM, seen)
+        lab.expect("a closed input", command, found, {f"{command.given}: read"}, FAILED_STREAM, seen)
     lab.report("readers that are gone, and streams that are closed", seen)
 
 
@@ -105,16 +105,16 @@ def strange_files(lab: Lab) -> None:
             words = [word.replace(command.reads, name) for word in command.words]
             found = lab.run(command._replace(words=words))
             lab.expect(f"{name} for a file", command, found, {f"{name}: read"}, FAILED_STREAM, seen)
-    whole = (lab.folder / "examples" / "first0.jsonl").read_bytes()
+    judge, whole = command_named("judge"), (lab.folder / WHOLE_OF_PART).read_bytes()
     for cut in range(0, len(whole), 997):
         fifo = lab.folder / "grows.jsonl"
         os.mkfifo(fifo)
         feeder = threading.Thread(target=feed, args=(fifo, whole, cut))
         feeder.start()
-        found = lab.run(COMMANDS[3]._replace(words=["judge", "grows.jsonl"]))
+        found = lab.run(judge._replace(words=["judge", "grows.jsonl"]))
         feeder.join()
         fifo.unlink()
-        lab.expect("a replay that grows", COMMANDS[3], found, {"grows.jsonl: head", "grows.jsonl: end"}, REFUSED_TEXT,
+        lab.expect("a replay that grows", judge, found, {"grows.jsonl: head", "grows.jsonl: end"}, REFUSED_TEXT,
                    seen)
     lab.report("folders, files that are not there, and replays that grow and stop", seen)
 
@@ -130,7 +130,7 @@ def feed(fifo: pathlib.Path, whole: bytes, cut: int) -> None:
 def served(lab: Lab, sessions: int, limit: Callable[[], None]) -> Run:
     """Serves the first tournament with a limit, to clients that connect and close."""
     port = free_port()
-    words = ["serve", "examples/first.toml", "--port", port, "--sessions", sessions, "--turns", 10, "--pause", 1,
+    words = [SERVED, "examples/first.toml", "--port", port, "--sessions", sessions, "--turns", 10, "--pause", 1,
              "--replay", "served"]
     lab.runs += 1
     child = subprocess.Popen([lab.program, *map(str, words)], cwd=lab.folder, preexec_fn=limit, stdout=subprocess.PIPE,

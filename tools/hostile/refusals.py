@@ -42,8 +42,8 @@ import tempfile
 import time
 from typing import Callable, Dict, Iterable, Iterator, List, NamedTuple, Optional, Sequence, Set, Tuple
 
-from tools.hostile.commands import (COMMANDS, DONE, FAILED_STREAM, NO_MEMORY, NO_THREADS, Command, Lab, Run, ended,
-                                    free_port)
+from tools.hostile.commands import (COMMANDS, DONE, FAILED_STREAM, NO_MEMORY, NO_THREADS, SERVED, WHOLE_OF_PART,
+                                    Command, Lab, Run, ended, free_port)
 from tools.hostile.session_lines import HERE, OVER
 from tools.play.program_cases import CUP, REFUSED_WORDS, TRIANGLE
 
@@ -74,7 +74,8 @@ WANTED_OF_PLAYING = re.compile(r"(begins )*own (passed )*")
 OTHERS = [Command("help", ["--help"], "", None), Command("no command", ["rehears"], "", None)]
 # what commands print, as files of the examples or texts
 WANTED = {"check": "first.checked", "rehearse": "first.printed", "built-in": "triangle.printed",
-          "explain": "first.explained", "twin": "guess.twin"}
+          "explain": "first.explained", "twin": "guess.twin", "recover": "first0.jsonl",
+          "explore": "triangle.explored"}
 WANTED_TEXTS = {"judge": b"solved moves 13 lost 1\n", "appeal": b"solved moves 25 lost 1\n", "table": b"""\
   # team             outcome     moves lost
   1 red              solved         13    1
@@ -208,7 +209,7 @@ def wheres(folder: pathlib.Path, command: Command, mode: str) -> Set[str]:
     if any(name.endswith(".toml") for name in files):
         files |= {f"examples/{path.name}" for path in (folder / "examples").glob("*.toml")}
     written = {"output", *(f"kept{number}.jsonl" for number in range(4) if "kept" in named)}
-    read = files | ({"script"} if command.script else set())
+    read = files | ({command.given} if command.script else set())
     made = read | written | {"arena"} | named & {"kept", "twin"}
     return {"read": read, "write": written, "memory": made}[kind_of(mode)]
 
@@ -266,7 +267,7 @@ def wanted_fault(lab: Lab, command: Command, plain: Run, whole: Attempt) -> Opti
         return f"status {plain.status}, `{plain.told.strip()[:200]}`"
     if plain.printed != wanted:
         return f"another text was printed: `{plain.printed[-200:]!r}`"
-    kept, first = whole.replays.get("kept0.jsonl"), (examples / "first0.jsonl").read_bytes()
+    kept, first = whole.replays.get("kept0.jsonl"), (lab.folder / WHOLE_OF_PART).read_bytes()
     if command.name in ("rehearse", "interactive") and kept != first:
         return "its replay is not examples/first0.jsonl"
     return None
@@ -312,7 +313,7 @@ def hears(port: int, said: bytes) -> bytes:
 def hosted(program: str, folder: pathlib.Path, variables: Dict[str, str]) -> Contest:
     """Serves a contest in a folder to two clients, one behind the other. What is printed has N for the port."""
     port = free_port()
-    words = ["serve", "cup.toml", "--port", str(port), "--sessions", "2", "--turns", "40", "--pause", "5", "--replay",
+    words = [SERVED, "cup.toml", "--port", str(port), "--sessions", "2", "--turns", "40", "--pause", "5", "--replay",
              "kept"]
     began = time.monotonic()
     child = subprocess.Popen([program, *words], cwd=folder, env=variables, stdout=subprocess.PIPE,

@@ -384,6 +384,7 @@ EXAMPLES = [
     Example("twin examples/guess0.jsonl 1", printed="guess.twin"),
     Example("judge examples/guess.twin", printed="wrong moves 0 lost 0\n"),
     Example("check examples/version1.toml", printed="match 0 red nodes 3 links 3 agents 2\n"),
+    Example("explore examples/version1.toml 0", "triangle.answers", "triangle.explored"),
 ]
 
 
