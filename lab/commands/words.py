@@ -159,8 +159,3 @@ def add_forget(parser: argparse.ArgumentParser) -> None:
     parser.add_argument("--drop-caches", action="store_true", help="before each round of repetitions, have the whole "
                         "machine forget what it keeps of files in memory, which makes all programs on it slower for a "
                         "while; for root")
-
-
-def check_workers(words: argparse.Namespace) -> None:
-    if words.workers < 1:
-        raise NoAgent("at least one worker is needed: name a whole number from 1 by --workers")

@@ -3,7 +3,7 @@ follows from the arguments alone: then it only spares time."""
 import dis
 import gc
 import types
-from typing import Any, Dict, List, Optional, Set, Tuple
+from typing import Any, Dict, List, Optional, Tuple
 
 from lab.search.codes import code_in, code_name
 from lab.search.cpython import is_made_in_python, result_of

@@ -13,7 +13,7 @@ from unittest import mock
 from lab.course import course, league, pool, users
 from lab.course.cells import Walls
 from lab.course.course import Course, course_of
-from lab.play import bounds, mistakes, programs
+from lab.play import bounds, mistakes
 from lab.play.schedulers import ANSWER, Choice, in_runs
 from lab.search.cutting import Cut, Runs, in_words, runs_of, tidy
 from lab.rules import networks

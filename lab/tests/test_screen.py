@@ -91,7 +91,7 @@ class Rows(unittest.TestCase):
         self.assertEqual([(row["team"], row["page"]) for row in standings(running)], [("blue", True), ("red", True)])
 
 
-class Rows(unittest.TestCase):
+class TwoRows(unittest.TestCase):
     def setUp(self) -> None:
         self.matches = [Match(Setup(3, ring(3).links, 0, [2], 2, 10, 8)) for _ in range(2)]
 

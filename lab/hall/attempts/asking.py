@@ -7,7 +7,7 @@ from django.utils import timezone
 from django.utils.translation import gettext as _
 
 from lab.hall import machine
-from lab.hall.attempts.models import CONTEST, KINDS, PRACTICE, RATED, Attempt, Contest
+from lab.hall.attempts.models import CONTEST, PRACTICE, RATED, Attempt, Contest
 from lab.hall.attempts.playing import forget
 from lab.hall.course import Net
 from lab.hall.steps import step
@@ -121,8 +121,3 @@ def make_contest(contest: Contest) -> int:
             Attempt.objects.create(team=team, network=contest.network, kind=CONTEST, contest=contest)
         note("hall", f"contest {contest.pk} on {contest.network} begins with {len(teams)} teams")
     return len(teams)
-
-
-def kind_name(kind: str) -> str:
-    """How a kind of attempts is called."""
-    return str(dict(KINDS).get(kind, kind))
