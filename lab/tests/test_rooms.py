@@ -4,6 +4,7 @@ import graphlib
 import importlib
 import importlib.util
 import pathlib
+import re
 import unittest
 from typing import Dict, Iterator, Set, Tuple
 
@@ -65,6 +66,16 @@ def defined(module: str) -> Set[str]:
     return found
 
 
+def listed() -> Iterator[str]:
+    """The modules in the table of rooms of the lab's page, by their names behind `lab.`."""
+    table = (LAB / "README.md").read_text(encoding="utf-8").partition("| room | module |")[2].partition("\n\n")[0]
+    room = ""
+    for row in table.splitlines()[2:]:
+        first, named = (re.findall(r"`(\w+)`", cell) for cell in row.split("|")[1:3])
+        room = first[0] if first else room
+        yield from (f"{room}.{name}" for name in named)
+
+
 class Rooms(unittest.TestCase):
     def setUp(self) -> None:
         paths = modules()
@@ -86,6 +97,12 @@ class Rooms(unittest.TestCase):
     def test_no_module_imports_one_that_imports_it(self) -> None:
         order = list(graphlib.TopologicalSorter(self.graph).static_order())
         self.assertEqual(set(order), set(self.graph))
+
+    def test_the_page_of_the_lab_lists_each_module(self) -> None:
+        """A folder in a room is one of them; the commands are listed at the top of the page."""
+        there = {".".join(name.split(".")[:2]) for name in modules() if "." in name}
+        wanted = {name for name in there if not name.startswith("commands.")} - {f"{room}.__init__" for room in ROOMS}
+        self.assertEqual(sorted(listed()), sorted({*wanted, "commands.words"}))
 
     def test_what_others_take_out_of_the_lab_is_there(self) -> None:
         count = 0

@@ -3,9 +3,9 @@ definitions that stand in two crates.
 
     python3 -m tools.prove.unnamed
 
-- A lemma or a definition of `crates/*/specs` or `crates/*/proofs` is unnamed if no other definition of its file has its
-  name, and no file that imports it. The prover names what is `pub` in the folder of a
-  function, and a worked row (`.._row`) is checked where it stands.
+- A lemma or a definition of `crates/*/specs` or `crates/*/proofs` is unnamed if neither another definition of its file
+  nor a file that imports it has its name. The prover names what is `pub` in the folder of a function, and a worked row
+  (`.._row`) is checked where it stands.
 - A library behind a crate in `crates.txt` is unnamed if no file of the crate has its name.
 - A lemma or a definition stands twice if one of another crate has the same text but for its own name, and it is not
   short.
