@@ -93,6 +93,17 @@ def played(hall: Hall, words: argparse.Namespace) -> Dict[str, Any]:
                 agent.wait()
 
 
+def said_of(verdict: Dict[str, Any]) -> str:
+    """What came of a match, in words."""
+    trap = "a trap: " if verdict["trap"] else ""
+    return f"{trap}{verdict['outcome']} moves {verdict['moves']} lost {verdict['lost']}"
+
+
+def is_right(verdict: Dict[str, Any]) -> bool:
+    """Whether a match is solved. In a trap there is nothing to solve, and who accuses is deceived."""
+    return bool(verdict["outcome"] == ("silent" if verdict["trap"] else "solved"))
+
+
 def main() -> int:
     parser = argparse.ArgumentParser(description=__doc__, formatter_class=argparse.RawDescriptionHelpFormatter)
     parser.add_argument("--rated", action="store_true", help="play a rated series, which counts")
@@ -109,9 +120,9 @@ def main() -> int:
     hall, solved = Hall(words.hall, token), 0
     for _ in range(words.times):
         attempt = played(hall, words)
-        came = ", ".join(f"{it['outcome']} moves {it['moves']} lost {it['lost']}" for it in attempt["verdicts"])
+        came = ", ".join(map(said_of, attempt["verdicts"]))
         print(f"attempt {attempt['id']} on {attempt['network']}: {came or attempt['state']}", flush=True)
-        solved += attempt["solved"] == attempt["series"]
+        solved += bool(came) and all(map(is_right, attempt["verdicts"]))
     return 0 if solved == words.times else 1
 
 

@@ -37,6 +37,9 @@ each match or "fixed" ("drawn"), and `map`, true if teams get the network and th
     by            how a series is weighed, by the "mean" or the "worst" of its matches ("mean")
     solved        points of a network for a match that is solved (100)
     moves         more points for moves: the best team has all of them, others as much less as they move more (20)
+    traps         how many matches more a rated attempt has which are traps: they have no black hole, and nobody arrives
+                  at some of their nodes, so a team that takes a long silence for a black hole is deceived (0)
+    deceived      points that a team loses on a network if all traps of its series have deceived it (20)
 
     [limits]
     at_once       how many attempts of a team wait or run at a time (2)
@@ -116,6 +119,13 @@ class Rated(NamedTuple):
     by: str
     solved: int
     moves: int
+    traps: int = 0
+    deceived: int = 20
+
+    @property
+    def matches(self) -> int:
+        """How many matches a rated attempt has, with its traps."""
+        return self.series + self.traps
 
 
 class Limits(NamedTuple):
@@ -194,7 +204,9 @@ def hall_of(text: str, path: pathlib.Path) -> Hall:
     except tomllib.TOMLDecodeError as fault:
         raise NoSweep(f"it is no TOML: {fault}") from None
     check_keys(found, KEYS, "a hall")
-    check_ports(ports_of(found), limits_of(table(found, "limits")), rated_of(table(found, "rated")))
+    nets, rated = nets_of(found, path.parent), rated_of(table(found, "rated"))
+    check_ports(ports_of(found), limits_of(table(found, "limits")), rated)
+    check_traps(nets, rated)
     zone = taken(found, "zone", is_zone, "a time zone such as \"Europe/Berlin\"", "UTC")
     minutes, gather, pause = numbers(found, {"minutes": 8, "gather": 60, "pause": 5})
     return Hall(
@@ -205,7 +217,7 @@ def hall_of(text: str, path: pathlib.Path) -> Hall:
         language=taken(found, "language", lambda it: it in LANGUAGES, f"one of {', '.join(LANGUAGES)}", "en"),
         database=text_in(found, "database", "sqlite"), minutes=minutes, gather=gather, pause=pause,
         public=taken(found, "public", is_bool, "true or false", False), freeze=time_of(found, "freeze", zone),
-        teams=teams_of(found), nets=nets_of(found, path.parent), rated=rated_of(table(found, "rated")),
+        teams=teams_of(found), nets=nets, rated=rated,
         limits=limits_of(table(found, "limits")),
         hand_ins=hand_ins_of(found["hand_ins"], zone) if "hand_ins" in found else None)
 
@@ -219,6 +231,7 @@ def limits_of(found: Dict[str, Any]) -> Limits:
     check_keys(found, Limits._fields, "limits")
     return Limits(*numbers(found, {"at_once": 2, "a_day": 300, "requests": 120, "disk": 200, "matches": 64,
                                    "gradings": 1}))
+
 
 def check_keys(found: Dict[str, Any], keys: Any, name: str) -> None:
     """Refuses a table that has other keys than these."""
@@ -263,9 +276,18 @@ def check_ports(ports: Tuple[int, int], limits: Limits, rated: Rated) -> None:
     count = ports[1] - ports[0] + 1
     if limits.matches > count:
         raise NoSweep(f"[limits] has matches = {limits.matches}, and there are only {count} ports: name more by ports")
-    if rated.series > limits.matches:
-        raise NoSweep(f"a series has {rated.series} matches, and [limits] lets only {limits.matches} be played at a "
+    if rated.matches > limits.matches:
+        raise NoSweep(f"a series has {rated.matches} matches, and [limits] lets only {limits.matches} be played at a "
                       "time")
+
+
+def check_traps(nets: Dict[str, Net], rated: Rated) -> None:
+    """Refuses traps on networks that have room for none: nobody arrives at one node more than there are black holes."""
+    for net in nets.values():
+        if rated.traps and not 1 <= net.holes < net.network.nodes - 1:
+            raise NoSweep(f"[rated] has traps = {rated.traps}, and {net.name} has {net.holes} black holes of "
+                          f"{net.network.nodes} nodes: a trap needs a black hole to hide, and one node more than that "
+                          "besides the home base")
 
 
 def time_of(found: Dict[str, Any], name: str, zone: str) -> Optional[datetime.datetime]:
@@ -324,12 +346,14 @@ def rated_of(found: Dict[str, Any]) -> Rated:
     check_keys(found, Rated._fields, "rated")
     series, a_day = numbers({name: found[name] for name in ("series", "a_day") if name in found},
                             {"series": 3, "a_day": 3})
-    if series > 20:
-        raise NoSweep("series must be 1 to 20 matches")
-    return Rated(series, a_day, taken(found, "counts", lambda it: it in (BEST, LAST), f'"{BEST}" or "{LAST}"', BEST),
-                 taken(found, "by", lambda it: it in (MEAN, WORST), f'"{MEAN}" or "{WORST}"', MEAN),
-                 taken(found, "solved", is_number, "a whole number", 100),
-                 taken(found, "moves", is_number, "a whole number", 20))
+    counts = taken(found, "counts", lambda it: it in (BEST, LAST), f'"{BEST}" or "{LAST}"', BEST)
+    by = taken(found, "by", lambda it: it in (MEAN, WORST), f'"{MEAN}" or "{WORST}"', MEAN)
+    usual = {"solved": 100, "moves": 20, "traps": 0, "deceived": 20}
+    solved, moves, traps, deceived = (taken(found, name, is_number, "a whole number", number)
+                                      for name, number in usual.items())
+    if series + traps > 20:
+        raise NoSweep("a series has 1 to 20 matches, with its traps")
+    return Rated(series, a_day, counts, by, solved, moves, traps, deceived)
 
 
 def hand_ins_of(found: Any, zone: str) -> HandIns:

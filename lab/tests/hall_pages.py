@@ -16,6 +16,7 @@ from django.test import Client, TestCase  # noqa: E402
 from django.utils import timezone, translation  # noqa: E402
 
 from lab.hall import keys  # noqa: E402
+from lab.hall.attempts import seen, shown  # noqa: E402
 from lab.hall.attempts.models import Attempt, Match  # noqa: E402
 from lab.hall.teams import guards  # noqa: E402
 from lab.hall.teams.models import Team  # noqa: E402
@@ -30,6 +31,8 @@ class Hall(TestCase):
     def setUp(self) -> None:
         for buckets in (guards.asked, guards.tried):
             buckets.clear()
+        # numbers of attempts come again in each test
+        shown.PARTS = seen.Parts()
         self.tokens = {team.name: team.new_token() for team in Team.objects.all()}
         keys.set_password(PASSWORD)
         self.addCleanup(shutil.rmtree, PLACE.folder / "attempts", True)

@@ -1,7 +1,8 @@
 """The pages of a hall, as a team, another team and a stranger ask for them."""
 import re
+import shutil
 import unittest
-from typing import List
+from typing import Any, List
 from unittest import mock
 
 from lab.hall import machine
@@ -11,7 +12,7 @@ from django.conf import settings
 from django.test import Client
 from django.utils import timezone
 
-from lab.hall.attempts import shown
+from lab.hall.attempts import draws, shown
 from lab.hall.attempts.models import Attempt, Match
 from lab.hall.teams import guards
 from lab.hall.teams.models import Entry, Grant, Switch, Team
@@ -196,6 +197,21 @@ class Attempts(Hall):
             self.assertEqual(self.rest("get", "/api/matches").status_code, 429)
 
 
+class Headed:
+    """The lines of a match below the head of another."""
+
+    def __init__(self, setup: Any, match: Any) -> None:
+        self.log = match.log
+        self.head = type(match)(setup).head
+
+
+def write_draw(found: Match, is_trap: bool) -> None:
+    """Draws the files of a match."""
+    folder = found.prefix.parent
+    shutil.rmtree(folder)
+    draws.write(draws.drawn(settings.HALL.nets["ring of 5"], "amber", is_trap), folder)
+
+
 class Isolation(Hall):
     """What a team learns of a match that goes on, and of other teams."""
 
@@ -252,6 +268,35 @@ class Isolation(Hall):
         self.assertEqual([it["verdict"] for it in told["matches"]], [None, None])
         self.assertEqual(self.rest("get", f"/api/matches/{attempt.pk}/replays/1").status_code, 404)
         self.assertEqual(first.attempt_id, attempt.pk)
+
+    def test_no_answer_tells_which_match_of_a_series_is_a_trap(self) -> None:
+        """The same lines in the part of a match and of a trap, whose heads and files differ; and afterwards the trap is
+        told, with what came of it."""
+        attempt = self.running(played())
+        Attempt.objects.filter(pk=attempt.pk).update(series=1, traps=1, kind="rated")
+        found = attempt.matches.get()
+        told = []
+        for is_trap in (False, True):
+            shown.PARTS = type(shown.PARTS)()
+            write_draw(found, is_trap)
+            match = played()
+            self.write(found, Headed(match.setup._replace(holes=[] if is_trap else [3]), match))
+            told.append(self.answers(Attempt.objects.get(pk=attempt.pk)))
+        self.assertEqual(told[0], told[1])
+        self.assertEqual(self.rest("get", f"/api/matches/{attempt.pk}").json()["traps"], 1)
+        self.assertFalse(found.is_trap)
+        Match.objects.filter(pk=found.pk).update(is_trap=True, outcome="wrong")
+        Match.objects.create(attempt=attempt, number=1, run=1, host="h", port=2, keys=["kc"], outcome="solved")
+        Attempt.objects.filter(pk=attempt.pk).update(state=machine.OVER, ended=timezone.now(), holder="", series=2)
+        after = self.rest("get", f"/api/matches/{attempt.pk}").json()
+        self.assertEqual([it["trap"] for it in after["verdicts"]], [True, False])
+        self.assertContains(self.client_of("amber").get("/matches"), "a trap: wrong")
+        row = self.rest("get", "/api/standings").json()["teams"][0]
+        self.assertEqual((row["team"], row["points"], row["deceived"], row["traps"]), ("amber", 100.0, 1, 1))
+        self.assertContains(self.client_of("birch").get("/"), "1 of 1")
+        table = self.teacher().get("/teacher/standings.csv").content.decode().splitlines()
+        self.assertTrue(table[0].startswith("place,team,name,points,deceived,traps,ring of 5: solved"))
+        self.assertTrue(table[1].startswith("1,amber,amber,100.0,1,1,1,1,0.0,0,"))
 
     def test_another_teams_match_is_as_if_there_were_none(self) -> None:
         for attempt in (self.running(played()), self.over(played())):

@@ -23,7 +23,8 @@ class Attempts(admin.ModelAdmin):
 
     @admin.display(description=_("outcome"))
     def outcomes(self, attempt: Attempt) -> str:
-        return ", ".join(it.outcome for it in attempt.matches.all()) if attempt.is_over else ""
+        words = [f"{it.outcome} ({_('a trap')})" if it.is_trap else it.outcome for it in attempt.matches.all()]
+        return ", ".join(words) if attempt.is_over else ""
 
     @admin.display(description="")
     def link(self, attempt: Attempt) -> str:

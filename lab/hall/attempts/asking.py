@@ -60,8 +60,9 @@ def ask(team: Team, network: str, kind: str = PRACTICE) -> Attempt:
         # two requests of a team at the same time are taken one after the other
         team = Team.objects.select_for_update().get(pk=team.pk)
         check_limits(team, network, kind)
-        series = settings.HALL.rated.series if kind == RATED else 1
-        made = Attempt.objects.create(team=team, network=network, kind=kind, series=series)
+        rated = settings.HALL.rated
+        series = {"series": rated.matches, "traps": rated.traps} if kind == RATED else {}
+        made = Attempt.objects.create(team=team, network=network, kind=kind, **series)
         note(team.name, f"asks for attempt {made.pk}: {kind} on {network}")
     return made
 

@@ -15,7 +15,7 @@ from lab.hall.teams.models import Team
 PRACTICE, RATED, CONTEST = "practice", "rated", "contest"
 KINDS = [(PRACTICE, _("practice")), (RATED, _("rated")), (CONTEST, _("contest"))]
 # what came of a match: the verdict of the program, but that nobody has entered
-SOLVED, ABSENT = "solved", "absent"
+SOLVED, WRONG, ABSENT = "solved", "wrong", "absent"
 
 
 class Contest(models.Model):
@@ -35,13 +35,15 @@ class Contest(models.Model):
 
 
 class Attempt(Work):
-    """What a team has asked for: one match, or a rated series of them."""
+    """What a team has asked for: one match, or a rated series of them, of which some may be traps."""
 
     team = models.ForeignKey(Team, models.CASCADE, related_name="attempts")
     network = models.CharField(max_length=60)
     kind = models.CharField(max_length=10, choices=KINDS)
     contest = models.ForeignKey(Contest, models.CASCADE, null=True, blank=True)
     series = models.PositiveSmallIntegerField(default=1)
+    # how many matches of the series are traps; which of them, only their files say before all are closed
+    traps = models.PositiveSmallIntegerField(default=0)
     # the team has asked that its matches be closed now
     closing = models.BooleanField(default=False)
     # the teacher may take it out of the standings
@@ -83,6 +85,7 @@ class Match(models.Model):
     map = models.JSONField(null=True)
     since = models.DateTimeField(default=timezone.now)
     outcome = models.CharField(max_length=20, blank=True, default="")
+    is_trap = models.BooleanField(default=False)
     moves = models.PositiveIntegerField(default=0)
     lost = models.PositiveIntegerField(default=0)
 
@@ -111,6 +114,11 @@ class Match(models.Model):
     @property
     def is_solved(self) -> bool:
         return bool(self.outcome == SOLVED)
+
+    @property
+    def has_deceived(self) -> bool:
+        """Whether it is a trap, and the team has accused there."""
+        return bool(self.is_trap and self.outcome == WRONG)
 
 
 class Pages(Work):

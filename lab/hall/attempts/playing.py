@@ -9,13 +9,14 @@ import os
 import pathlib
 import shutil
 import time
-from typing import Iterator, List, NamedTuple
+from typing import Dict, Iterator, List, NamedTuple
 
 from django.conf import settings
 from django.db import OperationalError, connection, models, transaction
 
 from lab.hall import machine
 from lab.hall.attempts import draws, servers
+from lab.hall.attempts.endings import Watched
 from lab.hall.attempts.models import ABSENT, Attempt, Match, Pages
 from lab.hall.attempts.servers import NoServer, Server, Times
 from lab.hall.steps import LEASE, RENEWED, step
@@ -27,7 +28,7 @@ from lab.support.faults import Fault
 HOST = "ARENA_HALL_HOST"
 # seconds between two looks at servers
 LOOK = 0.2
-REPLAY, TURNS = "m0.jsonl", "m0.turns"
+PART = "m0.jsonl.part"
 
 
 class Taken(Exception):
@@ -75,33 +76,34 @@ class Playing:
             raise Fault(f"the hall has no network {self._attempt.network} any more")
         shutil.rmtree(self._folder, ignore_errors=True)
         self._folder.mkdir(mode=0o700, parents=True)
-        kept = self._kept()
-        with self._serving([it for it in range(self._attempt.series) if it not in kept]) as served:
+        with self._serving(self._planned()) as served:
             self._tell(served)
-            self._wait([it.server for it in served])
+            self._wait(served)
         self._finish()
 
     def _times(self) -> Times:
         hall = settings.HALL
         turns = self._attempt.minutes * 60_000 // hall.pause
-        return Times(turns, hall.pause, hall.gather * 1000)
+        return Times(turns, hall.pause, hall.gather * 1000, not self._attempt.traps)
 
-    def _kept(self) -> List[int]:
-        """The matches whose replays an earlier run has made whole."""
-        found = []
-        for match in self._attempt.matches.all():
-            if match.replay.exists():
-                found.append(match.number)
-        return found
+    def _planned(self) -> Dict[int, bool]:
+        """The matches that are to be played, and whether each is a trap. Those whose replays an earlier run has made
+        whole are kept."""
+        kept = {it.number: it for it in self._attempt.matches.all() if it.replay.exists()}
+        left = [number for number in range(self._attempt.series) if number not in kept]
+        count = self._attempt.traps - sum(draws.is_trap(it.prefix.parent) for it in kept.values())
+        traps = draws.traps_among(left, count)
+        return {number: number in traps for number in left}
 
     @contextlib.contextmanager
-    def _serving(self, numbers: List[int]) -> Iterator[List[Served]]:
+    def _serving(self, planned: Dict[int, bool]) -> Iterator[List[Served]]:
         """The servers of these matches, which end with the block."""
         hall, served = settings.HALL, []
         assert self._net is not None
         try:
-            for number in numbers:
-                draw, folder = draws.drawn(self._net, self._attempt.team.name), self._folder / f"match{number}"
+            for number, is_trap in planned.items():
+                draw = draws.drawn(self._net, self._attempt.team.name, is_trap)
+                folder = self._folder / f"match{number}"
                 draws.write(draw, folder)
                 server = servers.start(settings.PLACE.program, folder, self._times(), (hall.address, hall.ports))
                 served.append(Served(number, draw, server))
@@ -119,17 +121,19 @@ class Playing:
                         "port": it.server.port, "keys": it.draw.fixture.keys, "map": it.draw.map}
                 Match.objects.update_or_create(attempt=self._attempt, number=it.number, defaults=told)
 
-    def _wait(self, left: List[Server]) -> None:
+    def _wait(self, left: List[Served]) -> None:
         """Waits until all servers have ended."""
         began, is_closing = time.monotonic(), False
-        while left := [server for server in left if not server.has_ended()]:
+        watched = {it.number: Watched(it.draw.fixture, self._folder / f"match{it.number}" / PART) for it in left}
+        while left := [it for it in left if not it.server.has_ended()]:
             time.sleep(LOOK)
             if time.monotonic() - self._renewed > RENEWED:
                 self._try_to_renew()
-            if not is_closing and (self._attempt.closing or self._is_late(time.monotonic() - began)):
+            is_decided = bool(self._attempt.traps) and all(watched[it.number].is_decided() for it in left)
+            if not is_closing and (is_decided or self._attempt.closing or self._is_late(time.monotonic() - began)):
                 is_closing = True
-                for server in left:
-                    server.close()
+                for it in left:
+                    it.server.close()
 
     def _is_late(self, seconds: float) -> bool:
         """Whether matches are to be closed: they take too long, or nobody has come to any of them."""
@@ -168,7 +172,9 @@ class Playing:
                 raise Taken
             for match, verdict in verdicts.items():
                 outcome = verdict.outcome if has_entered(match.replay) else ABSENT
-                Match.objects.filter(pk=match.pk).update(outcome=outcome, moves=verdict.moves, lost=verdict.lost)
+                is_trap = draws.is_trap(match.prefix.parent)
+                Match.objects.filter(pk=match.pk).update(outcome=outcome, moves=verdict.moves, lost=verdict.lost,
+                                                         is_trap=is_trap)
             Pages.objects.get_or_create(attempt=self._attempt)
 
 

@@ -25,33 +25,41 @@ class Agent:
         return {"agent": number, "entered": self.said > 0, "commands": self.said, "lines": list(self.lines)}
 
 
-class Part:
-    """The part of a replay, which grows: what is new is read when it is asked for."""
+class Tail:
+    """The events of a replay's part, which grows: what is new is read when it is asked for."""
 
-    def __init__(self, path: pathlib.Path, agents: int) -> None:
+    def __init__(self, path: pathlib.Path) -> None:
         self._path = path
-        self._agents = [Agent() for _ in range(agents)]
         self._read, self._rest, self._has_head = 0, b"", False
-        self._lock = threading.Lock()
 
-    def shown(self) -> List[Dict[str, Any]]:
-        with self._lock:
-            self._look()
-            return [agent.shown(number) for number, agent in enumerate(self._agents)]
-
-    def _look(self) -> None:
+    def new(self) -> List[Dict[str, Any]]:
+        """The events that stand there whole and were not read yet; none if the match is closed."""
         try:
             with self._path.open("rb") as file:
                 file.seek(self._read)
                 new = file.read()
         except FileNotFoundError:
-            return
+            return []
         self._read += len(new)
         *lines, self._rest = (self._rest + new).split(b"\n")
-        for line in lines:
-            if self._has_head:
-                self.take(json.loads(line))
-            self._has_head = True
+        events = lines if self._has_head else lines[1:]
+        self._has_head = self._has_head or bool(lines)
+        return [json.loads(line) for line in events]
+
+
+class Part:
+    """What agents were told, as the part of a replay has it."""
+
+    def __init__(self, path: pathlib.Path, agents: int) -> None:
+        self._tail = Tail(path)
+        self._agents = [Agent() for _ in range(agents)]
+        self._lock = threading.Lock()
+
+    def shown(self) -> List[Dict[str, Any]]:
+        with self._lock:
+            for event in self._tail.new():
+                self.take(event)
+            return [agent.shown(number) for number, agent in enumerate(self._agents)]
 
     def take(self, event: Dict[str, Any]) -> None:
         """Takes an event, unless no agent is told of it."""

@@ -24,11 +24,13 @@ class NoServer(Fault):
 
 
 class Times(NamedTuple):
-    """How long a match goes on: its turns, the milliseconds before each, and those it waits for its agents."""
+    """How long a match goes on: its turns, the milliseconds before each, and those it waits for its agents; and whether
+    it is closed earlier, once each agent has ended or is lost."""
 
     turns: int
     pause: int
     gather: int
+    is_early: bool = True
 
     def seconds(self) -> float:
         """How long its server goes on at most."""
@@ -106,7 +108,8 @@ def started(program: str, folder: pathlib.Path, times: Times, place: Tuple[str, 
     """The server on this port, or nothing if another was faster."""
     address, port = place
     words = [program, "serve", TOURNAMENT, "--address", address, "--port", port, "--replay", "m", "--turns",
-             times.turns, "--pause", times.pause, "--gather", times.gather, "--grace", GRACE, "--early", "--log"]
+             times.turns, "--pause", times.pause, "--gather", times.gather, "--grace", GRACE, "--log",
+             *(["--early"] if times.is_early else [])]
     with (folder / "log.txt").open("wb") as log:
         child = subprocess.Popen(bound(words), cwd=folder, stdin=subprocess.PIPE, stdout=subprocess.PIPE, stderr=log,
                                  env={"PATH": os.environ.get("PATH", "/usr/bin:/bin")})

@@ -27,12 +27,13 @@ def brief(it: Attempt) -> Dict[str, Any]:
     """An attempt in a line."""
     verdicts = [verdict(found) for found in it.matches.all()] if it.is_over else []
     return {"id": it.pk, "network": it.network, "kind": it.kind, "state": it.state, "series": it.series,
-            "asked": time_of(it.asked), "begun": time_of(it.begun), "ended": time_of(it.ended), "fault": it.fault,
-            "solved": sum(found["outcome"] == "solved" for found in verdicts), "verdicts": verdicts}
+            "traps": it.traps, "asked": time_of(it.asked), "begun": time_of(it.begun), "ended": time_of(it.ended),
+            "fault": it.fault, "solved": sum(found["outcome"] == "solved" for found in verdicts),
+            "verdicts": verdicts}
 
 
 def verdict(it: Match) -> Dict[str, Any]:
-    return {"outcome": it.outcome, "moves": it.moves, "lost": it.lost}
+    return {"outcome": it.outcome, "moves": it.moves, "lost": it.lost, "trap": it.is_trap}
 
 
 def match(it: Match, of: Attempt) -> Dict[str, Any]:

@@ -2,7 +2,8 @@
 
 Of each network one rated series of a team counts, the best or the last. A series is weighed by the mean of its matches
 or by the worst. A team has points for what it solved, and more points the fewer moves it made; the team with the fewest
-has all of these. Teams with equal points share a place. Who never came stands behind who searched.
+has all of these. A team that traps have deceived loses points: there it took a long silence for a black hole. Teams
+with equal points share a place. Who never came stands behind who searched.
 """
 from typing import Dict, List, NamedTuple, Optional, Sequence, Tuple
 
@@ -18,23 +19,28 @@ class Played(NamedTuple):
 
 
 class Series(NamedTuple):
-    """A rated series that is over; `came` says whether an agent of the team has entered."""
+    """A rated series that is over: its matches without the traps; whether an agent of the team has entered; how many
+    traps there were, and how many have deceived the team."""
 
     team: str
     network: str
     matches: Tuple[Played, ...]
     came: bool
+    traps: int = 0
+    deceived: int = 0
 
 
 class Cell(NamedTuple):
     """What a team has on a network: how many matches of how many it solved, the moves by which it is compared, lost
-    agents of all matches, and its points."""
+    agents of all matches, its points, and how many of how many traps have deceived it."""
 
     solved: int
     played: int
     moves: Optional[float]
     lost: int
     points: float
+    deceived: int
+    traps: int
 
 
 class Row(NamedTuple):
@@ -63,10 +69,18 @@ def moves(series: Series, by: str) -> Optional[float]:
     return float(max(made)) if by == WORST else sum(made) / len(made)
 
 
-def better(series: Series, by: str) -> Tuple[float, float, int]:
+def misled(series: Series, by: str) -> float:
+    """How much of the traps has deceived the team: by the worst of them all or nothing."""
+    if not series.traps:
+        return 0.0
+    return float(series.deceived > 0) if by == WORST else series.deceived / series.traps
+
+
+def better(series: Series, by: str) -> Tuple[float, float, float, int]:
     """Series are better in this order, the best first."""
     made = moves(series, by)
-    return -share(series, by), float("inf") if made is None else made, sum(it.lost for it in series.matches)
+    return (-share(series, by), misled(series, by), float("inf") if made is None else made,
+            sum(it.lost for it in series.matches))
 
 
 def counting(found: Sequence[Series], rule: Rated) -> Dict[Tuple[str, str], Series]:
@@ -86,8 +100,9 @@ def cell(series: Series, rule: Rated, least: Optional[float]) -> Cell:
     points = rule.solved * share(series, rule.by)
     if made is not None and least is not None:
         points += rule.moves * (least / made if made else 1.0)
+    points = max(0.0, points - rule.deceived * misled(series, rule.by))
     return Cell(sum(it.solved for it in series.matches), len(series.matches), made,
-                sum(it.lost for it in series.matches), round(points, 1))
+                sum(it.lost for it in series.matches), round(points, 1), series.deceived, series.traps)
 
 
 def standings(found: Sequence[Series], teams: Sequence[str], rule: Rated) -> List[Row]:

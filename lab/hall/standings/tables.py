@@ -21,6 +21,11 @@ class Table(NamedTuple):
     programs: List[Dict[str, Any]]
     frozen: Optional[datetime.datetime]
 
+    @property
+    def has_traps(self) -> bool:
+        """Whether a series that counts has a trap."""
+        return any(row["traps"] for row in self.rows)
+
 
 def frozen_at() -> Optional[datetime.datetime]:
     """Since when standings are frozen; None if they are not."""
@@ -61,18 +66,20 @@ def series_of(attempts: Any) -> List[rules.Series]:
     found = []
     for attempt in rows.select_related("team").prefetch_related("matches"):
         matches = list(attempt.matches.all())
-        if matches and attempt.network in settings.HALL.nets:
-            played = tuple(rules.Played(it.is_solved, it.moves, it.lost) for it in matches)
+        played = tuple(rules.Played(it.is_solved, it.moves, it.lost) for it in matches if not it.is_trap)
+        if played and attempt.network in settings.HALL.nets:
             came = any(it.outcome != ABSENT for it in matches)
-            found.append(rules.Series(attempt.team.name, attempt.network, played, came))
+            found.append(rules.Series(attempt.team.name, attempt.network, played, came,
+                                      sum(it.is_trap for it in matches), sum(it.has_deceived for it in matches)))
     return found
 
 
 def row_of(row: rules.Row, shown: Dict[str, str], names: List[str]) -> Dict[str, Any]:
     """A row as pages and REST have it, with a cell for each network."""
     cells = [row.cells[name]._asdict() if name in row.cells else None for name in names]
+    deceived, traps = (sum(cell[name] for cell in cells if cell) for name in ("deceived", "traps"))
     return {"place": row.place, "team": row.team, "name": shown[row.team], "points": row.points,
-            "absent": row.is_absent, "cells": cells}
+            "absent": row.is_absent, "deceived": deceived, "traps": traps, "cells": cells}
 
 
 def programs(shown: Dict[str, str], frozen: Optional[datetime.datetime]) -> List[Dict[str, Any]]:

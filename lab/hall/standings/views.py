@@ -45,15 +45,20 @@ def screen(request: Any) -> HttpResponse:
     return render(request, "screen.html", {"table": tables.table(False)})
 
 
+# what the table for a gradebook has of each network, by the names of a cell
+COLUMNS = {"solved": "solved", "of": "played", "moves": "moves", "lost": "lost"}
+
+
 def as_rows(table: tables.Table) -> List[List[Any]]:
     """The standings as a table of texts."""
-    rows: List[List[Any]] = [["place", "team", "name", "points", *(
-        f"{name}: {what}" for name in table.networks for what in ("solved", "of", "moves", "lost"))]]
+    traps = ["deceived", "traps"] if table.has_traps else []
+    rows: List[List[Any]] = [["place", "team", "name", "points", *traps, *(
+        f"{name}: {what}" for name in table.networks for what in COLUMNS)]]
     for row in table.rows:
-        cells = [[cell["solved"], cell["played"], "" if cell["moves"] is None else cell["moves"], cell["lost"]]
-                 if cell else [""] * 4 for cell in row["cells"]]
+        cells = ["" if cell is None or cell[name] is None else cell[name]
+                 for cell in row["cells"] for name in COLUMNS.values()]
         place = "absent" if row["absent"] else row["place"]
-        rows.append([place, row["team"], row["name"], row["points"], *(it for cell in cells for it in cell)])
+        rows.append([place, row["team"], row["name"], row["points"], *(row[name] for name in traps), *cells])
     return rows
 
 
