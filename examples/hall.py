@@ -18,6 +18,7 @@ import json
 import os
 import pathlib
 import shutil
+import signal
 import subprocess
 import sys
 import tempfile
@@ -26,7 +27,7 @@ import time
 import urllib.error
 import urllib.request
 import webbrowser
-from typing import Dict, List, NamedTuple
+from typing import Dict, List, NamedTuple, Optional
 
 TOP = pathlib.Path(__file__).resolve().parent.parent
 sys.path.insert(0, str(TOP))
@@ -130,12 +131,26 @@ class Demo:
             self._is_over.wait(5)
 
 
+def wait(seconds: Optional[float]) -> None:
+    """Waits for this number of seconds, or until Enter is pressed; where nobody can press it, until a signal comes."""
+    if seconds is not None:
+        time.sleep(seconds)
+        return
+    try:
+        input("press Enter to end it\n")
+    except EOFError:
+        threading.Event().wait()
+
+
 def main() -> int:
     parser = argparse.ArgumentParser(description=__doc__, formatter_class=argparse.RawDescriptionHelpFormatter)
     parser.add_argument("--demo-seconds", metavar="N", type=float, help="end after this number of seconds")
     parser.add_argument("--port", metavar="N", type=int, default=0, help="the port of the pages (a free one)")
     parser.add_argument("--no-browser", action="store_true", help="open no browser")
     words = parser.parse_args()
+    # whoever ends it so ends the hall and the teams too
+    for ending in (signal.SIGTERM, signal.SIGHUP):
+        signal.signal(ending, lambda number, _: sys.exit(128 + number))
     with tempfile.TemporaryDirectory(prefix="hall-") as name:
         demo = Demo(pathlib.Path(name), words.port or free_port())
         try:
@@ -144,10 +159,7 @@ def main() -> int:
                   f"the teacher's pages: {demo.address}/teacher/, user teacher, password {demo.password()}", flush=True)
             if not words.no_browser and words.demo_seconds is None:
                 webbrowser.open(demo.address)
-            if words.demo_seconds is None:
-                input("press Enter to end it\n")
-            else:
-                time.sleep(words.demo_seconds)
+            wait(words.demo_seconds)
             print(demo.standings(), end="", flush=True)
         finally:
             demo.end()
