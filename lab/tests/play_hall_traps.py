@@ -3,7 +3,6 @@ import contextlib
 import json
 import pathlib
 import socket
-import subprocess
 import tempfile
 import time
 import unittest

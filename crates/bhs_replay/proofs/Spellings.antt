@@ -37,7 +37,7 @@ refusal_in-data Line = refl
 refusal_in-data Port = refl
 refusal_in-data Long = refl
 
-reply_in-data : (reply : Reply) → ReplyFits (Some reply) → reply_in (data_of reply) ≡ Some reply
+pub reply_in-data : (reply : Reply) → ReplyFits (Some reply) → reply_in (data_of reply) ≡ Some reply
 reply_in-data (Here ports None board) fits = rw (small ports fits.0)
 reply_in-data (Here ports (Some port) board) fits = rw (small ports fits.0, small port fits.1)
 reply_in-data Written fits = refl

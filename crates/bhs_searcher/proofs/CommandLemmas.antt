@@ -1,0 +1,61 @@
+-- What a client writes is read as the command that it was written for.
+use Rattle.std.proofs.Common.{◌≡◌, ℕ, ◌<◌, ◌≤◌, ◌^◌, List, true, false, cond, nat_lt, None, Some, refl, ap, arith}
+use Rattle.std.proofs.Common.{lt-ltb, ◌∙◌}
+use Rattle.std.specs.Str.{IsUtf8}
+use Rattle.std.proofs.lemmas.Str.{is_utf8-from_IsUtf8}
+use Rattle.serde_json.specs.Data.{depth}
+use Rattle.serde_json.specs.Read.{read, max_depth}
+use Rattle.serde_json.specs.Written.{has_float}
+use Rattle.bhs_model.specs.declared.commands.Command.{Command}
+use Rattle.bhs_model.specs.declared.commands.Command.TheVariants.{Enter, Look, Write, Depart, Accuse, Leave, Bad}
+use Rattle.bhs_wire.specs.First.{first_of, first_of_read, first_in}
+use Rattle.bhs_replay.proofs.Flat.{IsPlain}
+use Rattle.bhs_searcher.specs.CommandLines.{data_of, meant, PortFits}
+
+small : (port : ℕ) → port < 2 ^ 16 → nat_lt port (2 ^ 16) ≡ true
+small port fits = lt-ltb port (2 ^ 16) fits
+
+-- the object says what the command is
+pub first_in-data_of : (key : List ℕ) (command : Command) → PortFits command
+    → first_in (data_of key command) ≡ meant key command
+first_in-data_of key Enter fits = refl
+first_in-data_of key Look fits = refl
+first_in-data_of key (Write expect put) fits = refl
+first_in-data_of key (Depart port) fits = rw (small port fits)
+first_in-data_of key (Accuse port) fits = rw (small port fits)
+first_in-data_of key Leave fits = refl
+first_in-data_of key Bad fits = refl
+
+-- a text that reads as such an object says it too
+pub first_of-data_of : (line key : List ℕ) (command : Command) → PortFits command → IsUtf8 line
+    → read line ≡ Some (data_of key command) → first_of line ≡ meant key command
+first_of-data_of line key command fits text same =
+    ap (λ b. first_of_read (cond b (read line) None)) (is_utf8-from_IsUtf8 line text)
+    ∙ ap first_of_read same ∙ first_in-data_of key command fits
+
+pub shallow : (key : List ℕ) (command : Command) → depth (data_of key command) ≤ max_depth
+shallow key Enter = omega arith
+shallow key Look = omega arith
+shallow key (Write expect put) = omega arith
+shallow key (Depart port) = omega arith
+shallow key (Accuse port) = omega arith
+shallow key Leave = omega arith
+shallow key Bad = omega arith
+
+pub no_float : (key : List ℕ) (command : Command) → has_float (data_of key command) ≡ false
+no_float key Enter = refl
+no_float key Look = refl
+no_float key (Write expect put) = refl
+no_float key (Depart port) = refl
+no_float key (Accuse port) = refl
+no_float key Leave = refl
+no_float key Bad = refl
+
+pub is_plain : (key : List ℕ) (command : Command) → PortFits command → IsPlain (data_of key command)
+is_plain key Enter fits = (tt, (tt, tt))
+is_plain key Look fits = (tt, tt)
+is_plain key (Write expect put) fits = (tt, (tt, (tt, tt)))
+is_plain key (Depart port) fits = (tt, (omega arith, tt))
+is_plain key (Accuse port) fits = (tt, (omega arith, tt))
+is_plain key Leave fits = (tt, tt)
+is_plain key Bad fits = tt

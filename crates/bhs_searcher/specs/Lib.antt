@@ -1,0 +1,4 @@
+pub mod CommandLines
+pub mod ReplyLines
+pub mod Protocols
+pub mod Talks

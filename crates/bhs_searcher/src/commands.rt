@@ -1,0 +1,37 @@
+//! The lines of commands.
+
+ghost use Rattle.std.specs.Prelude.{◌≡◌, false, string_bytes, IfOk, OnOk};
+ghost use Rattle.std.specs.List.{list_any};
+ghost use Rattle.serde_json.specs.View.{view};
+ghost use Rattle.bhs_wire.specs.First.{first_of};
+ghost use Rattle.bhs_wire.specs.Lines.{is_line_feed};
+ghost use Rattle.bhs_searcher.specs.CommandLines as specs;
+
+use bhs_model::Command;
+use serde_json::{Value, json};
+use std::alloc::{AllocError, Global};
+
+/// The line by which a client that enters with this key says a command, without its line feed.
+pub fn line_of(alloc: Global, key: &str, command: &Command) -> Result<String, AllocError>
+    ensures meant { IfOk result (λ line. first_of (string_bytes line) ≡ specs.meant key.now command.now) }
+    ensures flat { IfOk result (λ line. list_any is_line_feed (string_bytes line) ≡ false) }
+{
+    value_of(alloc, key, command)?.to_string(alloc)
+}
+
+fn value_of(alloc: Global, key: &str, command: &Command) -> Result<Value, AllocError>
+    ensures value { IfOk result (λ value. view value ≡ specs.data_of key.now command.now) }
+    ensures fits { OnOk result (specs.PortFits command.now) }
+{
+    match command {
+        Command::Enter => json!(in alloc; {"do": "enter", "key": key}),
+        Command::Look => json!(in alloc; {"do": "look"}),
+        Command::Write { expect, put } => {
+            json!(in alloc; {"do": "write", "expect": expect.as_str(), "put": put.as_str()})
+        }
+        Command::Depart { port } => json!(in alloc; {"do": "depart", "port": *port}),
+        Command::Accuse { port } => json!(in alloc; {"do": "accuse", "port": *port}),
+        Command::Leave => json!(in alloc; {"do": "leave"}),
+        Command::Bad => Ok(Value::Null),
+    }
+}
