@@ -15,17 +15,17 @@ use std::test::Fail;
 
 fn write(alloc: Global, put: &str) -> Result<Command, Fail> {
     Ok(Command::Write {
-        expect: Text::from(String::new(alloc)),
-        put: Text::from(String::from_str(alloc, put)?),
+        expect: Text::empty(),
+        put: Text::new(alloc, put)?,
     })
 }
 
 /// The reply at the home base where nothing is written.
-fn here(alloc: Global) -> Reply {
+fn here() -> Reply {
     Reply::Here {
         ports: 2,
         came: None,
-        board: Text::from(String::new(alloc)),
+        board: Text::empty(),
     }
 }
 
@@ -46,10 +46,10 @@ fn the_first_write_counts(rt: HostRuntime) -> Result<(), Fail> {
         0,
         Match::new(alloc, network(alloc)?, setup(alloc)?)?,
     )?;
-    let board = Text::from(String::from_str(alloc, "a")?);
+    let board = Text::new(alloc, "a")?;
     for (agent, command, place, reply) in vec![in alloc;
-        (0, Command::Enter, Some(0), here(alloc)),
-        (1, Command::Enter, Some(1), here(alloc)),
+        (0, Command::Enter, Some(0), here()),
+        (1, Command::Enter, Some(1), here()),
         (0, write(alloc, "a")?, Some(2), Reply::Written),
         (1, write(alloc, "b")?, Some(3), Reply::Changed { board }),
         (1, Command::Enter, None, Reply::No(Why::Twice)),
@@ -61,7 +61,7 @@ fn the_first_write_counts(rt: HostRuntime) -> Result<(), Fail> {
     assert_eq!(rt; places(alloc, &passes[0])?.as_slice(), [0, 2].as_slice());
     assert_eq!(rt; places(alloc, &passes[1])?.as_slice(), [1, 3].as_slice());
     assert_eq!(rt; hall.state().log().len(), 4);
-    assert_eq!(rt; hall.state().seen(1), "a");
+    assert_eq!(rt; hall.state().seen(1)?.as_str(), "a");
     Ok(())
 }
 

@@ -20,14 +20,8 @@ fn claimed<R: Abort + Wait>(rt: &R, cell: &Cell, agent: u16) -> Pass {
 }
 
 fn write(alloc: Global, expect: &str, put: &str) -> Command {
-    match (
-        String::from_str(alloc, expect),
-        String::from_str(alloc, put),
-    ) {
-        (Ok(expect), Ok(put)) => Command::Write {
-            expect: Text::from(expect),
-            put: Text::from(put),
-        },
+    match (Text::new(alloc, expect), Text::new(alloc, put)) {
+        (Ok(expect), Ok(put)) => Command::Write { expect, put },
         _ => Command::Bad,
     }
 }

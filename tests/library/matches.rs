@@ -37,8 +37,8 @@ fn depart(port: u16) -> Command {
 
 fn write(alloc: Global, expect: &str, put: &str) -> Result<Command, AllocError> {
     Ok(Command::Write {
-        expect: Text::from(String::from_str(alloc, expect)?),
-        put: Text::from(String::from_str(alloc, put)?),
+        expect: Text::new(alloc, expect)?,
+        put: Text::new(alloc, put)?,
     })
 }
 
@@ -181,7 +181,7 @@ fn a_whiteboard_holds_65535_bytes(rt: HostRuntime) -> Result<(), Fail> {
     let longer = write(alloc, text.as_str(), format!(in alloc; "{text}a")?.as_str())?;
     assert_eq!(rt; game.apply(tell(0, full)).mark, Some(Mark::Written));
     assert_eq!(rt; game.apply(tell(0, longer)).mark, no(Why::Long));
-    assert_eq!(rt; game.seen(0).len(), 65_535);
+    assert_eq!(rt; game.seen(0)?.as_str().len(), 65_535);
     Ok(())
 }
 
@@ -239,7 +239,11 @@ fn a_match_shows_what_follows_from_its_log(rt: HostRuntime) -> Result<(), Fail> 
         port: 0,
     };
     assert_eq!(rt; game.pool(), [bound].as_slice());
-    assert_eq!(rt; (game.seen(0), game.seen(1), game.seen(2)), ("a", "", "a"));
+    let seen = (game.seen(0)?, game.seen(1)?, game.seen(2)?);
+    assert_eq!(rt;
+        (seen.0.as_str(), seen.1.as_str(), seen.2.as_str()),
+        ("a", "", "a")
+    );
     let away = [0, 1, 2].map(|agent| game.is_away(agent));
     assert_eq!(rt; away, [false, true, false]);
 
@@ -248,7 +252,7 @@ fn a_match_shows_what_follows_from_its_log(rt: HostRuntime) -> Result<(), Fail> 
     let mark = look.expect(&rt, "a look is answered");
     assert_eq!(rt; game.text(&mark), "a");
     assert_eq!(rt; game.text(&Mark::Gone), "");
-    let board = Text::from(String::from_str(alloc, "a")?);
+    let board = Text::new(alloc, "a")?;
     let reply = Reply::Here {
         ports: 2,
         came: Some(0),

@@ -43,7 +43,7 @@ fn triangle(alloc: Global) -> Option<(Match, Held)> {
 
 fn write(alloc: Global) -> Result<Command, AllocError> {
     Ok(Command::Write {
-        expect: Text::from(String::new(alloc)),
-        put: Text::from(String::from_str(alloc, "ab")?),
+        expect: Text::empty(),
+        put: Text::new(alloc, "ab")?,
     })
 }

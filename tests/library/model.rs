@@ -1,11 +1,13 @@
 //! Copies of what the model is made of, and the texts that marks name.
 
-use bhs_model::{Command, DarkLinks, Event, Holes, Kept, Mark, Reply, Setup, Text, read, text_at};
+use bhs_model::{
+    Command, DarkLinks, Event, Holes, Kept, Mark, Reply, Setup, Text, read, text_at, text_shared,
+};
 use std::alloc::{AllocError, Global};
 use std::test::Fail;
 
 fn text(alloc: Global, word: &str) -> Result<Text, AllocError> {
-    Ok(Text::from(String::from_str(alloc, word)?))
+    Ok(Text::new(alloc, word)?)
 }
 
 fn write(alloc: Global, expect: &str, put: &str) -> Result<Command, AllocError> {
@@ -60,9 +62,10 @@ fn a_place_names_the_text_of_its_write(rt: HostRuntime) -> Result<(), Fail> {
     })?;
     for (place, board) in [(Some(0), "b"), (Some(1), ""), (Some(2), ""), (None, "")] {
         assert_eq!(rt; text_at(&log, place), board);
+        assert_eq!(rt; text_shared(&log, place)?.as_str(), board);
     }
     let mark = Mark::Changed { board: Some(0) };
     let board = text(alloc, "b")?;
-    assert_eq!(rt; read(alloc, &log, &mark)?, Reply::Changed { board });
+    assert_eq!(rt; read(&log, &mark)?, Reply::Changed { board });
     Ok(())
 }

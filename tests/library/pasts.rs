@@ -71,7 +71,7 @@ fn text(alloc: Global, words: &mut Dealer) -> Result<Text, Fail> {
         2 => "é",
         _ => "long",
     };
-    Ok(Text::from(String::from_str(alloc, text)?))
+    Ok(Text::new(alloc, text)?)
 }
 
 fn event(alloc: Global, words: &mut Dealer) -> Result<Event, Fail> {

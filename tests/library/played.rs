@@ -66,8 +66,8 @@ fn event(alloc: Global, word: &[u8]) -> Result<Event, Fail> {
         Some(b'e') => Command::Enter,
         Some(b'l') => Command::Look,
         Some(b'w') => Command::Write {
-            expect: Text::from(String::new(alloc)),
-            put: Text::from(String::from_str(alloc, "b")?),
+            expect: Text::empty(),
+            put: Text::new(alloc, "b")?,
         },
         Some(b'd') => Command::Depart {
             port: digit(word, 2),

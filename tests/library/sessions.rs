@@ -287,7 +287,7 @@ fn reply_of(alloc: Global, word: &str) -> Result<Reply, Memory> {
     Ok(Reply::Here {
         ports: 2,
         came,
-        board: Text::from(String::new(alloc)),
+        board: Text::empty(),
     })
 }
 

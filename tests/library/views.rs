@@ -72,7 +72,7 @@ fn answers(alloc: Global, row: &str, places: &[u32]) -> Result<Vec<Option<Reply>
 }
 
 fn here(alloc: Global, came: Option<u16>, board: &str) -> Result<Option<Reply>, Fail> {
-    let board = Text::from(String::from_str(alloc, board)?);
+    let board = Text::new(alloc, board)?;
     Ok(Some(Reply::Here {
         ports: 2,
         came,

@@ -70,8 +70,8 @@ fn tell(agent: u16, command: Command) -> Event {
 
 fn write(alloc: Global, put: &str) -> Result<Command, Fail> {
     Ok(Command::Write {
-        expect: Text::from(String::new(alloc)),
-        put: Text::from(String::from_str(alloc, put)?),
+        expect: Text::empty(),
+        put: Text::new(alloc, put)?,
     })
 }
 

@@ -17,7 +17,7 @@ import time
 from typing import Iterator, List, Sequence, Tuple
 
 from tools.hostile.cases import Cases, Wrong
-from tools.hostile.session_lines import HERE, LOOK, OVER
+from tools.hostile.session_lines import HERE, LOOK, OVER, WRITTEN
 from tools.hostile.spoilers import TEAMS, WAITING, Server, answer, enter, serving, tournament, wants
 
 # turns that no test waits for
@@ -25,6 +25,8 @@ LONG = 1_000_000
 LEAVE, ACCUSE = b'{"do":"leave"}\n', b'{"do":"accuse","port":1}\n'
 # the row of the last of two teams
 LAST_ROW = "  2 "
+# looks at a whiteboard with a text of so many bytes, and the most kilobytes that a server may take more for them
+LOOKS, BOARD, MOST_GROWN = 3000, 60_000, 20_000
 # how many cases run beside each other
 BESIDE = 12
 FULL, LATE = b'{"no":"full"}\n', b'{"no":"late"}\n'
@@ -42,6 +44,12 @@ def asked(server: Server, last: str = LAST_ROW) -> str:
     """What the operator is told that asks for the status."""
     server.hears(b"status\n")
     return server.tells(last)
+
+
+def peak_of(server: Server) -> int:
+    """The most kilobytes that a server has had in memory."""
+    status = pathlib.Path(f"/proc/{server.child.pid}/status").read_text()
+    return int(found(r"VmHWM:\s+(\d+) kB", status)[0])
 
 
 def found(pattern: str, text: str) -> Tuple[str, ...]:
@@ -134,6 +142,25 @@ def denied_makes_room(program: str, folder: pathlib.Path) -> None:
                         if client.recv(100) == FULL:
                             raise Wrong(f"client {number} was told full, though nobody plays")
             time.sleep(0.02)
+
+
+@case("thousands of looks at a whiteboard of 60,000 bytes keep its text once")
+def looks_keep_one_text(program: str, folder: pathlib.Path) -> None:
+    text = tournament_of(["red"], agents=1).replace("version = 2", "version = 3")
+    text = text.replace("quota = 1000", "quota = 65535").replace("board = 64", "board = 65535")
+    with played(program, folder, text) as server, \
+            server.connect(enter("red-0")) as client:
+        wants("enter", answer(client, len(HERE)), HERE)
+        client.sendall(b'{"do":"write","expect":"","put":"%b"}\n' % (b"x" * BOARD))
+        wants("write", answer(client, len(WRITTEN)), WRITTEN)
+        before, shown = peak_of(server), len(HERE) + BOARD
+        for _ in range(LOOKS // 10):
+            client.sendall(LOOK * 10)
+            if len(answer(client, 10 * shown)) != 10 * shown:
+                raise Wrong("the looks are not answered")
+        grown = peak_of(server) - before
+    if grown > MOST_GROWN:
+        raise Wrong(f"{LOOKS} looks took {grown} KB")
 
 
 @case("each client has a number of its own in the log")

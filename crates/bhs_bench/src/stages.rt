@@ -97,7 +97,7 @@ fn replies(alloc: Global) -> Result<Vec<Reply>, Memory> {
     let here = Reply::Here {
         ports: 4,
         came: Some(1),
-        board: Text::from(String::from_str(alloc, "been here")?),
+        board: Text::new(alloc, "been here")?,
     };
     Ok(vec![in alloc; here, Reply::Gone, Reply::Written, Reply::No(Why::Line)]?)
 }

@@ -114,8 +114,8 @@ fn command_of(alloc: Global, place: u16) -> Result<Command, Memory> {
     }
     Ok(match place % 4 {
         1 => Command::Write {
-            expect: Text::from(String::new(alloc)),
-            put: Text::from(String::from_str(alloc, "to the east")?),
+            expect: Text::empty(),
+            put: Text::new(alloc, "to the east")?,
         },
         2 => Command::Accuse { port: PORTS },
         _ => Command::Look,

@@ -122,9 +122,9 @@ impl Workload {
         match deed {
             Deed::Look { agent } => self.apply_command(agent, Command::Look),
             Deed::Write { agent } => {
-                let expect = Text::from(String::from_str(alloc, self.game.seen(agent))?);
+                let expect = self.game.seen(agent)?;
                 let word = self.words.next();
-                let put = Text::from(format!(in alloc; "{word}")?);
+                let put = Text::new(alloc, format!(in alloc; "{word}")?.as_str())?;
                 self.apply_command(agent, Command::Write { expect, put });
             }
             Deed::Depart { agent, port } => self.apply_command(agent, Command::Depart { port }),

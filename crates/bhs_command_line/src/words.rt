@@ -64,5 +64,5 @@ pub(crate) fn entries_in(alloc: Global, words: &[&str]) -> Result<Option<Entries
 pub(crate) fn text(alloc: Global, text: &str) -> Result<Text, AllocError>
     ensures { IfOk result (λ copy. copy ≡ text.now) }
 {
-    Ok(Text::from(String::from_str(alloc, text)?))
+    Ok(Text::new(alloc, text)?)
 }

@@ -128,7 +128,7 @@ pub fn pair(value: &Value) -> Option<(u16, u16)>
 pub fn copied(alloc: Global, text: &str) -> Result<Text, Memory>
     ensures { IfOk result (λ copy. copy ≡ text.now) }
 {
-    Ok(Text::from(String::from_str(alloc, text)?))
+    Ok(Text::new(alloc, text)?)
 }
 
 fn key_texts(alloc: Global, items: &[Value]) -> Result<Option<Vec<Text>>, Memory>

@@ -257,32 +257,17 @@ fn spare(alloc: Global, play: &Match, agent: u16, command: &Command) -> Result<S
 {
     if play.shows(agent, command) {
         Ok(Spare {
-            text: seen(alloc, play, agent)?,
-            again: seen(alloc, play, agent)?,
+            text: play.seen(agent)?,
+            again: play.seen(agent)?,
             kept: KeptCommand::copy_of(alloc, command)?,
         })
     } else {
         Ok(Spare {
-            text: no_text(alloc),
-            again: no_text(alloc),
+            text: Text::empty(),
+            again: Text::empty(),
             kept: KeptCommand::kind_of(command),
         })
     }
-}
-
-fn no_text(alloc: Global) -> Text
-    ensures { result ≡ [] }
-{
-    Text::from(String::new(alloc))
-}
-
-// A copy of the text that the agent sees.
-fn seen(alloc: Global, play: &Match, agent: u16) -> Result<Text, Memory>
-    ensures { IfOk result (λ text. text ≡ shown_at (world_in play.now) (state_of play.now)
-        ((state_of play.now).position agent)) }
-{
-    let text = String::from_str(alloc, play.seen(agent))?;
-    Ok(Text::from(text))
 }
 
 // The reply of a mark whose whiteboard shows this text.

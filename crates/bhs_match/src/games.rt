@@ -30,7 +30,7 @@ use crate::reading;
 use crate::seals::Sealed;
 use crate::sites::{Site, site_of};
 use bhs_agent::{Agent, Standing};
-use bhs_model::{Command, Event, Kept, Mark, Reply, Setup, read, text_at};
+use bhs_model::{Command, Event, Kept, Mark, Reply, Setup, Text, read, text_shared};
 use bhs_net::{Memory, Net};
 use bhs_world::{SetupFault, World};
 use std::alloc::{AllocError, Global};
@@ -157,12 +157,14 @@ impl Match {
 
     /// What the agent sees of a whiteboard: of the one where it is; of the one at the home base before it enters, and
     /// so for a number without an agent; the empty text on a link and after its end.
-    pub fn seen(&self, agent: u16) -> &str
-        ensures { result.now ≡ shown_at (world_in self.now) (state_of self.now) ((state_of self.now).position agent) }
+    /// The text shares its bytes with the log.
+    pub fn seen(&self, agent: u16) -> Result<Text, Memory>
+        ensures { IfOk result (λ text. text
+            ≡ shown_at (world_in self.now) (state_of self.now) ((state_of self.now).position agent)) }
     {
         match node_seen(&self.world, agent) {
-            Some(node) => text_at(&self.log, self.world.last(node)),
-            None => "",
+            Some(node) => text_shared(&self.log, self.world.last(node)),
+            None => Ok(Text::empty()),
         }
     }
 
@@ -234,7 +236,7 @@ impl Match {
     pub fn reply(&self, mark: &Mark) -> Result<Reply, Memory>
         ensures { IfOk result (λ reply. reply ≡ read self.now.log mark.now) }
     {
-        read(*self.log.allocator(), &self.log, mark)
+        read(&self.log, mark)
     }
 
     /// The site of each event of the log: the node at which the command was said, or for which the agent of the Deliver

@@ -26,7 +26,7 @@ pub use limits::{
     MAX_AGENTS, MAX_BOARD, MAX_LINE, MAX_QUOTA, MAX_TEXT, MAX_TURNS, SEED_BYTES, SMALL_BOARD,
     SMALL_NODES, SMALL_QUOTA,
 };
-pub use marks::{Kept, Mark, read, text_at};
+pub use marks::{Kept, Mark, read, text_at, text_shared};
 pub use port_marks::{is_port_marked, make_room, mark_port, no_port_marks};
 pub use replies::{Reply, Why};
 pub use setups::Setup;

@@ -1,6 +1,6 @@
 //! Replies as a log keeps them: a text is named by the place of its Write.
 
-ghost use Rattle.std.specs.Prelude.{◌≡◌, IfOk};
+ghost use Rattle.std.specs.Prelude.{◌≡◌, [], IfOk, option_map, unwrap_or};
 ghost use Rattle.bhs_model.specs.Marks.{text_at, read};
 
 use crate::commands::Command;
@@ -8,7 +8,6 @@ use crate::events::Event;
 use crate::replies::{Reply, Why};
 use bhs_net::Memory;
 use bhs_text::Text;
-use std::alloc::Global;
 
 /// A reply as a match stores it: the text of a whiteboard is named by the place of the event that wrote
 /// it in the log; None stands for the empty text of a whiteboard that no Write has changed.
@@ -46,15 +45,11 @@ pub struct Kept {
     pub mark: Option<Mark>,
 }
 
-/// The text that a whiteboard shows whose last change is the Write at this place of the log; empty where
-/// there is none.
-pub fn text_at(log: &[Kept], board: Option<u32>) -> &str
-    ensures { result.now ≡ text_at log.now board }
+// The text that a whiteboard shows whose last change is the Write at this place of the log; None where there is none.
+fn put_at(log: &[Kept], board: Option<u32>) -> Option<&Text>
+    ensures { unwrap_or (option_map (λ text. text.now) result) [] ≡ text_at log.now board }
 {
-    let Some(place) = board else {
-        return "";
-    };
-    match log.get(place as usize) {
+    match log.get(board? as usize) {
         Some(
             Kept {
                 event: Event::Tell {
@@ -63,24 +58,45 @@ pub fn text_at(log: &[Kept], board: Option<u32>) -> &str
                 },
                 ..
             },
-        ) => put.as_str(),
-        _ => "",
+        ) => Some(put),
+        _ => None,
     }
 }
 
-/// The reply that a mark stands for, in its log. The text of a whiteboard is copied.
-pub fn read(alloc: Global, log: &[Kept], mark: &Mark) -> Result<Reply, Memory>
+/// The text that a whiteboard shows whose last change is the Write at this place of the log; empty where
+/// there is none.
+pub fn text_at(log: &[Kept], board: Option<u32>) -> &str
+    ensures { result.now ≡ text_at log.now board }
+{
+    match put_at(log, board) {
+        Some(text) => text.as_str(),
+        None => "",
+    }
+}
+
+/// The same text, which shares its bytes with the log.
+pub fn text_shared(log: &[Kept], board: Option<u32>) -> Result<Text, Memory>
+    ensures { IfOk result (λ text. text ≡ text_at log.now board) }
+{
+    match put_at(log, board) {
+        Some(text) => Ok(text.clone()?),
+        None => Ok(Text::empty()),
+    }
+}
+
+/// The reply that a mark stands for, in its log. The text of a whiteboard shares its bytes with the log.
+pub fn read(log: &[Kept], mark: &Mark) -> Result<Reply, Memory>
     ensures { IfOk result (λ reply. reply ≡ read log.now mark.now) }
 {
     Ok(match mark {
         Mark::Here { ports, came, board } => Reply::Here {
             ports: *ports,
             came: *came,
-            board: text_copied(alloc, log, *board)?,
+            board: text_shared(log, *board)?,
         },
         Mark::Written => Reply::Written,
         Mark::Changed { board } => Reply::Changed {
-            board: text_copied(alloc, log, *board)?,
+            board: text_shared(log, *board)?,
         },
         Mark::Gone => Reply::Gone,
         Mark::Noted => Reply::Noted,
@@ -88,11 +104,4 @@ pub fn read(alloc: Global, log: &[Kept], mark: &Mark) -> Result<Reply, Memory>
         Mark::Over => Reply::Over,
         Mark::No(why) => Reply::No(*why),
     })
-}
-
-fn text_copied(alloc: Global, log: &[Kept], board: Option<u32>) -> Result<Text, Memory>
-    ensures { IfOk result (λ text. text ≡ text_at log.now board) }
-{
-    let text = String::from_str(alloc, text_at(log, board))?;
-    Ok(Text::from(text))
 }

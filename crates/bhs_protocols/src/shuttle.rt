@@ -325,15 +325,15 @@ fn board_text(alloc: Global, right: u16, left: u16) -> Result<Text, AllocError>
     requires left { left ≤ 4096 }
     ensures { IfOk result (λ text. text ≡ specs.board_text right left) }
 {
-    let mut text = String::new(alloc);
     if right == 0 && left == 0 {
-        return Ok(Text::from(text));
+        return Ok(Text::empty());
     }
+    let mut text = String::new(alloc);
     push(&mut text, right / 64)?;
     push(&mut text, right % 64)?;
     push(&mut text, left / 64)?;
     push(&mut text, left % 64)?;
-    Ok(Text::from(text))
+    Text::new(alloc, text.as_str())
 }
 
 fn push(text: &mut String, digit: u16) -> Result<(), AllocError>

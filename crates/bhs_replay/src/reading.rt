@@ -260,7 +260,7 @@ pub(crate) fn why_by(word: &str) -> Option<Why>
 fn copied(alloc: Global, text: &str) -> Result<Text, Memory>
     ensures { IfOk result (λ copy. copy ≡ text.now) }
 {
-    Ok(Text::from(String::from_str(alloc, text)?))
+    Ok(Text::new(alloc, text)?)
 }
 
 fn text_of<'v>(value: &'v Value, key: &str) -> Option<&'v str>

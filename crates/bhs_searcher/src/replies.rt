@@ -118,5 +118,5 @@ fn port_at(value: &Value, key: &str) -> Option<u16>
 fn text_of(alloc: Global, text: &str) -> Result<Text, Memory>
     ensures { IfOk result (λ copy. copy ≡ text.now) }
 {
-    Ok(Text::from(String::from_str(alloc, text)?))
+    Text::new(alloc, text)
 }

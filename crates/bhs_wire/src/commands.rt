@@ -132,5 +132,5 @@ fn accuse_in(said: &Said<'_>) -> Command
 fn text_of(alloc: Global, text: &str) -> Result<Text, Memory>
     ensures { IfOk result (λ copy. copy ≡ text.now) }
 {
-    Ok(Text::from(String::from_str(alloc, text)?))
+    Ok(Text::new(alloc, text)?)
 }

@@ -151,7 +151,7 @@ fn a_match_under_its_lock_is_made_and_told_again(rt: HostRuntime) -> Result<(), 
         Ok(Reply::Here {
             ports: 2,
             came: None,
-            board: Text::from(String::from_str(alloc, board)?),
+            board: Text::new(alloc, board)?,
         })
     };
     let entered = told(&rt, alloc, &cell, &mut pass, || Ok(Command::Enter))?;
