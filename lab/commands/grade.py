@@ -76,7 +76,7 @@ def run(words: argparse.Namespace) -> int:
     with tables.alone_in(words.out):
         handed_in = hand_ins(words.out, read)
         secret = course.secret_in(words.out, words.secret, handed_in)
-        yard = Yard(strongest, read.tools, read.has_proc)
+        yard = Yard(strongest, read.tools, read.has_proc, calls=read.calls)
         graded = Graded(read.text, path.parent, secret, program, yard, words.out, not words.no_repeat,
                         forgets=words.drop_caches, export=wanted)
         return graded_in(graded, words.workers, handed_in)

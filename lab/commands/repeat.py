@@ -42,7 +42,7 @@ def run(words: argparse.Namespace) -> int:
         draws = course.Draws(grid.text_in(out / course.SECRET).strip())
         if strongest is not Walls.ALL:
             print(f"lab: {cells.weakness()}; {strongest.value}", file=sys.stderr)
-        plain = Yard(strongest, terms.tools, terms.has_proc)
+        plain = Yard(strongest, terms.tools, terms.has_proc, calls=terms.calls)
         with cells.furnished(plain, terms.commands.values(), terms.packages) as yard:
             job = Repeating(out, text, draws, yard, terms.limits, words.drop_caches)
             found = rounds.repeated(job, solved, words.workers, random.SystemRandom())

@@ -1,90 +1,72 @@
-"""Writes to standard output the filter of system calls for programs behind walls (lab/course/cells.py), for bubblewrap.
+"""Writes to standard output the filter of system calls for programs behind walls (lab/course/cells.py), for bubblewrap:
+`python3 cell_filter.py TABLE LANGUAGE [CALL ..]`
 
-It refuses calls by which programs could talk past the network and the whiteboards, through the kernel or through files
-of the system that both read, and calls that show how busy the machine is. Needs Debian's python3-seccomp, which
+It allows what the table (lab/course/calls.toml) has for the language, and these calls besides. All others are answered
+ENOSYS, as if the system had none, but where the table names another error. Needs Debian's python3-seccomp, which
 Debian's Python sees.
 """
 import errno
-import fcntl
-import socket
+import itertools
 import sys
+import tomllib
+from typing import Any, Dict, Iterator, List, Sequence, Set
 
 import seccomp
 
-REFUSED = (
-    # locks, and notices when a file is opened or read
-    "flock", "inotify_init", "inotify_init1", "inotify_add_watch", "fanotify_init", "fanotify_mark",
-    # keys, which outlive a program
-    "add_key", "keyctl", "request_key",
-    # memory, queues and semaphores with names
-    "shmget", "shmat", "shmctl", "shmdt", "semget", "semop", "semctl", "semtimedop", "msgget", "msgsnd", "msgrcv",
-    "msgctl", "mq_open", "mq_unlink", "mq_timedsend", "mq_timedreceive", "mq_notify", "mq_getsetattr",
-    # other processes and the kernel
-    "ptrace", "process_vm_readv", "process_vm_writev", "kcmp", "perf_event_open", "bpf", "userfaultfd", "syslog",
-    "personality", "lookup_dcookie", "quotactl",
-    # how much of the machine's memory is free, and how many processes it has
-    "sysinfo",
-    # memory that belongs to no process, so that nobody could say whose it is
-    "memfd_create", "memfd_secret",
-    # calls that do what others do, and would do it past this filter
-    "io_uring_setup", "io_uring_enter", "io_uring_register",
-    # what lies in the machine's memory of a file that others read too
-    "mincore", "readahead",
-    # a bound that all programs of the machine share, so that one sees how much of it others use
-    "io_setup",
-)
-# those that C libraries do without if the kernel has none; a process as a file has a number of the whole machine
-ABSENT = ("preadv2", "clone3", "pidfd_open", "pidfd_send_signal", "pidfd_getfd")
-# those that say that all is well, and do nothing: times of files such as /dev/null, which all programs may write, and
-# what is kept in memory of a file
-IDLE = ("utime", "utimes", "futimesat", "utimensat", "fadvise64")
-# calls that the kernel has got later, by numbers that all machines share: what they can tell is not known
-LATER = range(449, 520)
-# of fcntl: locks of processes and of open files, leases, notes of a folder, hints on how a file is written
-ON_FILES = (fcntl.F_GETLK, fcntl.F_SETLK, fcntl.F_SETLKW, 36, 37, 38, fcntl.F_SETLEASE, fcntl.F_GETLEASE,
-            fcntl.F_NOTIFY, 1035, 1036, 1037, 1038)
-# of getsockopt: numbers that the machine gives to sockets and networks, one after the other
-COOKIES = (57, 71)
-# the kinds of sockets that programs need, in the order of their numbers; all others have names that the machine shares.
-# One of the last kind tells C libraries which addresses the machine has, and nothing else
-FAMILIES = (socket.AF_UNIX, socket.AF_INET, socket.AF_INET6, socket.AF_NETLINK)
-# of ioctl: what file systems keep for a file, whose codes have this letter
-OF_FILES, LETTER = ord("f") << 8, 0xFF00
-# the bits of an argument that is an int, as the kernel looks at no others; and how many protocols netlink has
-INT, PROTOCOLS = 0xFFFFFFFF, 32
+# the bits of an argument that is an int, as the kernel looks at no others; and the language of all calls together
+INT, ANY = 0xFFFFFFFF, "any"
+# what libseccomp says of a name that it does not know
+UNKNOWN = -1
+Table = Dict[str, Any]
 
 
-def made() -> "seccomp.SyscallFilter":
-    """The filter."""
-    found = seccomp.SyscallFilter(seccomp.ALLOW)
-    for kind, calls in ((errno.EPERM, REFUSED), (errno.ENOSYS, [*ABSENT, *LATER]), (0, IDLE)):
-        for call in calls:
-            found.add_rule(seccomp.ERRNO(kind), call)
-    for command in ON_FILES:
-        found.add_rule(seccomp.ERRNO(errno.EPERM), "fcntl", is_int(1, command))
-    found.add_rule(seccomp.ERRNO(errno.ENOTTY), "ioctl", seccomp.Arg(1, seccomp.MASKED_EQ, LETTER, OF_FILES))
-    add_sockets(found)
+def allowed(table: Table, language: str) -> Set[str]:
+    """The calls that a language may make, with those of which some are allowed by their arguments."""
+    languages: Dict[str, Any] = table["languages"]
+    chosen = list(languages.values()) if language == ANY else [languages[language]]
+    return {call for it in [table["every"], *chosen] for call in it["calls"]} | by_arguments(table)
+
+
+def by_arguments(table: Table) -> Set[str]:
+    """The calls of which some are allowed by their arguments."""
+    return {row["call"] for row in table["arguments"]}
+
+
+def made(table: Table, language: str, more: Sequence[str] = ()) -> "seccomp.SyscallFilter":
+    """The filter of a language, which allows these calls besides."""
+    found = seccomp.SyscallFilter(seccomp.ERRNO(errno.ENOSYS))
+    for call in sorted((allowed(table, language) | set(more)) - by_arguments(table)):
+        if seccomp.resolve_syscall(seccomp.Arch(), call) == UNKNOWN:
+            sys.exit(f"{call} is no call of Linux: write names as `strace` shows them")
+        found.add_rule(seccomp.ALLOW, call)
+    for row in table["arguments"]:
+        action = seccomp.ERRNO(number_of(row["error"])) if "error" in row else seccomp.ALLOW
+        for conditions in conditions_of(row):
+            found.add_rule(action, row["call"], *conditions)
+    for row in [*table["answers"], *table["never"]]:
+        error = number_of(row.get("error", "EPERM"))
+        for call in row["calls"] if error != errno.ENOSYS else ():
+            found.add_rule(seccomp.ERRNO(error), call)
     return found
 
 
-def add_sockets(found: "seccomp.SyscallFilter") -> None:
-    """Adds what is refused of sockets. Families and protocols are refused one by one, as a rule can look at an argument
-    once."""
-    for call in ("socket", "socketpair"):
-        for family in set(range(max(FAMILIES))) - set(FAMILIES):
-            found.add_rule(seccomp.ERRNO(errno.EAFNOSUPPORT), call, is_int(0, family))
-        found.add_rule(seccomp.ERRNO(errno.EAFNOSUPPORT), call, seccomp.Arg(0, seccomp.GT, max(FAMILIES)))
-        for protocol in range(1, PROTOCOLS):
-            found.add_rule(seccomp.ERRNO(errno.EPROTONOSUPPORT), call, is_int(0, socket.AF_NETLINK),
-                           is_int(2, protocol))
-    for number in COOKIES:
-        found.add_rule(seccomp.ERRNO(errno.ENOPROTOOPT), "getsockopt", is_int(1, socket.SOL_SOCKET), is_int(2, number))
+def number_of(error: Any) -> int:
+    """The number of an error that has a name, or none."""
+    return 0 if error == 0 else int(getattr(errno, error))
 
 
-def is_int(argument: int, value: int) -> "seccomp.Arg":
-    """The condition that an argument of a call is this int."""
-    return seccomp.Arg(argument, seccomp.MASKED_EQ, INT, value)
+def conditions_of(row: Table) -> Iterator[List["seccomp.Arg"]]:
+    """The conditions under which a row of arguments holds, each as what must hold together."""
+    mask = row.get("mask", INT)
+    for it in row["rows"]:
+        for values in itertools.product(*it.values()):
+            yield [seccomp.Arg(int(place), seccomp.MASKED_EQ, mask, value) for place, value in zip(it, values)]
+
+
+def main(place: str, language: str, *more: str) -> None:
+    with open(place, "rb") as file:
+        made(tomllib.load(file), language, more).export_bpf(sys.stdout)
 
 
 if __name__ == "__main__":
-    made().export_bpf(sys.stdout)
+    main(*sys.argv[1:])

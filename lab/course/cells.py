@@ -16,6 +16,7 @@ import enum
 import functools
 import os
 import pathlib
+import re
 import select
 import shutil
 import signal
@@ -25,7 +26,7 @@ import sys
 import tempfile
 from typing import Any, Dict, Iterable, Iterator, List, NamedTuple, Optional, Sequence, Tuple
 
-from lab.course import root, users, walls
+from lab.course import calls, root, users, walls
 from lab.course.cell_start import READY
 from lab.course.hand_in import NETWORK, HandIn
 from lab.course.walls import HOME, PATH, PORT, SPACES, NoCell
@@ -51,6 +52,11 @@ HINTS = {
     "No space left on device": "a program's folder, /tmp and /dev/shm take 64 MB each",
 }
 
+# last words of programs that make a call of the system which is refused; what is said of it
+NO_CALL = re.compile("function not implemented|operation not permitted|bad system call|ENOSYS|EPERM", re.IGNORECASE)
+A_CALL = ("calls of the system are refused to it that {language} does not need: examples/README.md says how to see "
+          "which this was, and `calls` in course.toml allows more")
+
 
 class Walls(enum.Enum):
     """What keeps a program apart, besides a folder of its own."""
@@ -64,24 +70,33 @@ class Walls(enum.Enum):
 
 class Yard(NamedTuple):
     """What all cells of a course share: what keeps programs apart, which folders they see besides the system's,
-    whether they see /proc, and which folder has the copy of the system that they see, if there is one."""
+    whether they see /proc, which folder has the copy of the system that they see, if there is one, and which calls of
+    the system they may make besides those of their languages."""
 
     walls: Walls
     tools: Tuple[str, ...] = ()
     has_proc: bool = False
     root: str = ""
+    calls: Tuple[str, ...] = ()
+
+
+class Kept(NamedTuple):
+    """What a team's programs have: their files as an archive, what is told of the network, and their language."""
+
+    files: bytes
+    facts: Dict[str, str] = {}
+    language: str = calls.ANY
 
 
 class Cell:
     """A place for one program: its team's files and what is told of the network, its user, and what keeps it apart."""
 
-    def __init__(self, yard: Yard, files: bytes, user: Optional[int], place: Optional[pathlib.Path],
-                 facts: Dict[str, str]) -> None:
+    def __init__(self, yard: Yard, kept: Kept, user: Optional[int], place: Optional[pathlib.Path]) -> None:
         self.yard = yard
         self.user = user
         self.place = place
-        self.facts = facts
-        self._files = files
+        self.facts = kept.facts
+        self._files, self._language = kept.files, kept.language
         self._child: Optional["subprocess.Popen[bytes]"] = None
         # the first process behind walls, as a file
         self._first: Optional[int] = None
@@ -95,7 +110,7 @@ class Cell:
             given, command, port = [theirs.fileno(), files], self._before(), 0
             if self.place is None:
                 port = PORT
-                given.append(held.enter_context(in_memory(walls.system_filter())))
+                given.append(held.enter_context(in_memory(walls.system_filter(self._language, self.yard.calls))))
                 command += walls.words(self.yard.tools, self.yard.has_proc, self.yard.root)
                 command += ["--seccomp", str(given[-1])]
             command += [python(), "-I", "-S", "-c", STARTER.read_text(encoding="utf-8"), str(theirs.fileno()),
@@ -163,7 +178,10 @@ class Cell:
 
     def hint(self, words: str) -> str:
         """What to change, as far as a program's last words show it."""
-        return next((f" ({said})" for known, said in HINTS.items() if known in words), "")
+        said = next((said for known, said in HINTS.items() if known in words), "")
+        if not said and self.place is None and NO_CALL.search(words):
+            said = A_CALL.format(language="a program" if self._language == calls.ANY else self._language)
+        return f" ({said})" if said else ""
 
     def fault(self) -> str:
         """Why the program was ended, if it has taken too much."""
@@ -196,7 +214,7 @@ def opened(processes: Sequence[int]) -> Optional[int]:
 
 
 @contextlib.contextmanager
-def cells(yard: Yard, files: bytes, count: int, facts: Dict[str, str]) -> Iterator[List[Cell]]:
+def cells(yard: Yard, kept: Kept, count: int) -> Iterator[List[Cell]]:
     """Cells of a team's programs, each with a copy of the files of an archive."""
     with contextlib.ExitStack() as left:
         made = []
@@ -204,7 +222,7 @@ def cells(yard: Yard, files: bytes, count: int, facts: Dict[str, str]) -> Iterat
             has_user = os.geteuid() == 0 and yard.walls is not Walls.NONE
             user = left.enter_context(users.claimed()) if has_user else None
             place = None if yard.walls is Walls.ALL else left.enter_context(folder_for(user))
-            made.append(Cell(yard, files, user, place, facts))
+            made.append(Cell(yard, kept, user, place))
         left.enter_context(Watch([cell.used for cell in made], [cell.end_for for cell in made]))
         yield made
 
@@ -214,6 +232,9 @@ def furnished(yard: Yard, commands: Iterable[str], packages: Sequence[str]) -> I
     """The yard with a copy of the system for these commands, and these packages besides, if there can be one. If not, a
     line says why."""
     with contextlib.ExitStack() as held:
+        if yard.walls is Walls.ALL and yard.calls:
+            # so that a name which is none is told before the first match
+            walls.system_filter(calls.ANY, yard.calls)
         try:
             folder = held.enter_context(root.copied(commands, packages)) if yard.walls is Walls.ALL else ""
         except root.NoCopy as fault:
@@ -236,13 +257,14 @@ def grounds_of(yard: Yard, handed_in: HandIn, words: str, setup: Setup, count: i
     network = networks.text_of(networks.Network(setup.nodes, setup.links)).encode()
     has_map = "{network}" in words
     files = handed_in.archive(**({NETWORK: network} if has_map else {}))
-    with cells(yard, files, count, {"network": NETWORK} if has_map else {}) as made:
+    kept = Kept(files, {"network": NETWORK} if has_map else {}, calls.language_of(words, handed_in))
+    with cells(yard, kept, count) as made:
         yield made
 
 
 def try_out(yard: Yard) -> None:
     """Starts a program that does nothing; if even that cannot be started, NoCell says why."""
-    with cells(yard, NOTHING, 1, {}) as made, tempfile.TemporaryFile() as errors:
+    with cells(yard, Kept(NOTHING), 1) as made, tempfile.TemporaryFile() as errors:
         child, listener_of = made[0].start(["true"], 0, errors)
         listener_of().close()
         if child.wait() != 0:

@@ -31,6 +31,8 @@
     packages      packages of Debian that programs see, besides those of the programs that commands name, such as
                   ["python3-numpy"]
     proc          true if programs need /proc, as those in Java do (false)
+    calls         calls of the system that programs may make, besides those that their language needs, such as
+                  ["splice"]; `python3 -m lab.course.calls --help` says how to see which a program makes
 
 Each [[team]] has a `name`, of 1 to 16 characters out of a to z, 0 to 9 and -; `agents`, a number or "degree" for one
 more than the network's greatest degree (2); `files`, a list of files and folders, whose copies each of its programs
@@ -59,7 +61,7 @@ import shlex
 import sys
 from typing import Any, Dict, FrozenSet, List, Mapping, NamedTuple, Optional, Sequence, Tuple
 
-from lab.course import walls
+from lab.course import calls, walls
 from lab.course.cells import Walls
 from lab.course.points import Points, points_in
 from lab.play.agent_files import digests
@@ -74,7 +76,7 @@ from lab.sweep.grid import Case, Grid, NoSweep, is_count, is_text, is_texts, tak
 
 FILES = "files"
 KEYS = grid.KEYS - {"bound"} | {"limit", "match_limit", "team_limit", "match_space", "team_space", "tries", "tools",
-                                   "packages", "proc", "points"}
+                                   "packages", "proc", "calls", "points"}
 TEAM_KEYS = {"name", "agents", OUTSIDE, FILES}
 LIMIT, TRIES = 20, 100
 # seconds of a match, of all matches of a team, and of these for each match
@@ -113,6 +115,7 @@ class Course(NamedTuple):
     tools: Tuple[str, ...]
     has_proc: bool
     packages: Tuple[str, ...] = ()
+    calls: Tuple[str, ...] = ()
     # which of `home` and `ports` the file has
     named: FrozenSet[str] = frozenset()
     points: Optional[Points] = None
@@ -173,13 +176,15 @@ class Limits(NamedTuple):
 
 class Terms(NamedTuple):
     """What a course's file says besides its matches: how many seconds programs may take, the words that start those of
-    each team, which folders they see besides the system's, and whether they see /proc."""
+    each team, which folders they see besides the system's, whether they see /proc, and which calls of the system they
+    may make besides those of their languages."""
 
     limits: Limits
     commands: Dict[str, str]
     tools: Tuple[str, ...]
     has_proc: bool
     packages: Tuple[str, ...]
+    calls: Tuple[str, ...]
 
 
 def read(path: pathlib.Path, secret: str) -> Course:
@@ -236,7 +241,7 @@ def course_of(text: str, folder: pathlib.Path, secret: str) -> Course:
     played = grid.grid_in(found, folder)
     limits = for_matches(terms.limits, sum(1 for _ in played.cases()) // len(played.teams), found)
     return Course(text, folder, Draws(secret), played, files, limits, tries, terms.tools, terms.has_proc,
-                  terms.packages, named, points_in(found, played))
+                  terms.packages, terms.calls, named, points_in(found, played))
 
 
 def for_matches(limits: Limits, matches: int, found: Dict[str, Any]) -> Limits:
@@ -256,7 +261,7 @@ def terms_in(found: Dict[str, Any]) -> Terms:
     teams = taken(found, "team", grid.is_tables, "given: write [[team]] and its keys below it")
     commands = {check_team(row): str(row[OUTSIDE]) for row in teams}
     packages = tuple(taken(found, "packages", lambda it: it == [] or is_texts(it), "a list of names", []))
-    return Terms(limits, commands, tools, has_proc, packages)
+    return Terms(limits, commands, tools, has_proc, packages, calls_in(found))
 
 
 @functools.lru_cache(maxsize=4)
@@ -265,6 +270,16 @@ def terms_of(text: str, matches: int) -> Terms:
     found = grid.table_of(text)
     terms = terms_in(found)
     return terms._replace(limits=for_matches(terms.limits, matches, found))
+
+
+def calls_in(found: Dict[str, Any]) -> Tuple[str, ...]:
+    """The calls that a course allows its programs."""
+    names = tuple(taken(found, "calls", lambda it: it == [] or is_texts(it), "a list of names", []))
+    for name in names:
+        why = calls.never(name)
+        if why:
+            raise NoSweep(f"calls has {name}, which no course may allow: {why}")
+    return names
 
 
 def tools_of(names: List[str]) -> Tuple[str, ...]:

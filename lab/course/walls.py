@@ -4,8 +4,9 @@ import functools
 import os
 import pathlib
 import subprocess
-from typing import List, Optional, Sequence
+from typing import List, Optional, Sequence, Tuple
 
+from lab.course import calls
 from lab.support.faults import Fault
 from lab.support.missing import DEBIANS_PYTHON
 
@@ -36,6 +37,8 @@ def words(tools: Sequence[str], has_proc: bool, root: str = "") -> List[str]:
              "--hostname", "cell", "--die-with-parent", "--new-session", "--clearenv", "--setenv", "PATH", PATH,
              "--setenv", "TMPDIR", "/tmp", "--setenv", "COUNTED", "yes"]
     found += [*disk_words(root), *(proc_words() if has_proc else ["--dir", "/proc"]), "--dev", "/dev"]
+    # the machine has a number of terminals for all
+    found += ["--tmpfs", "/dev/pts", "--remount-ro", "/dev/pts"]
     for path in SPACES:
         found += ["--size", str(SPACE), "--tmpfs", path]
     for path in tools:
@@ -45,12 +48,13 @@ def words(tools: Sequence[str], has_proc: bool, root: str = "") -> List[str]:
     return [*found, "--remount-ro", "/dev", "--remount-ro", "/", "--chdir", HOME]
 
 
-@functools.lru_cache(maxsize=1)
-def system_filter() -> bytes:
-    """The filter of system calls, as bubblewrap takes it."""
-    ran = subprocess.run([DEBIANS_PYTHON, str(FILTER)], capture_output=True)
+@functools.lru_cache(maxsize=8)
+def system_filter(language: str, more: Tuple[str, ...]) -> bytes:
+    """The filter of system calls for programs in a language, which allows these besides, as bubblewrap takes it."""
+    ran = subprocess.run([DEBIANS_PYTHON, str(FILTER), str(calls.TABLE), language, *more], capture_output=True)
     if ran.returncode != 0:
-        raise NoCell(f"the filter of system calls cannot be made: {ran.stderr.decode(errors='replace').strip()}")
+        said = ran.stderr.decode(errors="replace").strip().rpartition("\n")[2]
+        raise NoCell(f"the filter of system calls cannot be made: {said}")
     return ran.stdout
 
 

@@ -7,6 +7,7 @@ import json
 import os
 import pathlib
 import shlex
+import shutil
 import socket
 import subprocess
 import sys
@@ -14,13 +15,18 @@ import threading
 import time
 from typing import Any, Dict, Optional, Sequence, Tuple
 
+from lab.course import cells
+from lab.course.cells import Walls
 from lab.play.kits import KITS, Kit, write_kit
 from lab.support.built import TOP
+from lab.support.missing import DEBIANS_PYTHON
 
 # what a client says, and the lines that answer it
 Turn = Tuple[Dict[str, Any], Tuple[str, ...]]
 Talk = Sequence[Turn]
 
+# of a kit that is built, what is no part of the hand-in
+NOT_HANDED_IN = ("build", "debug", "deps", "incremental", ".fingerprint", "cargo")
 ENTER = {"do": "enter", "key": 'k"1'}
 GONE = '{"ok":"gone"}'
 SECONDS = 60
@@ -166,9 +172,31 @@ class Played:
             if "solved 1; failed 0" not in said:
                 raise AssertionError(f"{self.kit.name}, black hole {hole}: {said}")
 
+    def grade(self) -> None:
+        """As a hand-in of a course, where programs may make the calls of the system that their language needs. It has
+        to repeat too."""
+        if cells.strongest() is not Walls.ALL:
+            return
+        handed_in, file = self._folder.parent / f"in-{self._folder.name}", self._folder.parent / "course.toml"
+        shutil.copytree(self._folder, handed_in, ignore=shutil.ignore_patterns(*NOT_HANDED_IN))
+        file.write_text(f"""title = "A kit"
+networks = ["ring:6"]
+holes = 1
+schedulers = ["fair"]
+proc = {str(self.kit.name == "Java").lower()}
+[[team]]
+name = "kit"
+files = ["{handed_in.name}"]
+command = "{self.kit.play} {{host}} {{port}} {{key}} {{nodes}}"
+""")
+        out = self._folder.parent / f"out-{self._folder.name}"
+        said = want(ran(TOP, f"{DEBIANS_PYTHON} -m lab grade {file} --out {out} --engine model --workers 1"))
+        if "solved 1; failed 0" not in said:
+            raise AssertionError(f"{self.kit.name}, as a hand-in: {said}\n{(out / 'runs.csv').read_text()}")
+
     def all(self) -> float:
         """Builds, tests and plays the kit; gives for how many seconds."""
         started = time.monotonic()
-        for step in (self.build, self.own_test, self.talk, self.solve):
+        for step in (self.build, self.own_test, self.talk, self.solve, self.grade):
             step()
         return time.monotonic() - started

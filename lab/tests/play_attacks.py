@@ -4,6 +4,8 @@ import contextlib
 import io
 import os
 import pathlib
+import re
+import shutil
 import subprocess
 import tempfile
 import threading
@@ -13,7 +15,7 @@ from typing import Any, Dict, Iterator, List
 from unittest import mock
 
 from lab.__main__ import main
-from lab.course import cells, traces, watch
+from lab.course import calls, cells, traces, watch
 from lab.course.cells import Walls, Yard
 from lab.course.grading import Graded
 from lab.course.walls import NoCell
@@ -209,9 +211,17 @@ libc.syscall.restype = ctypes.c_long
 file = os.open("/usr/bin/env", os.O_RDONLY)
 buffer = ctypes.create_string_buffer(4096)
 lock = struct.pack("hhqqi", fcntl.F_RDLCK, 0, 0, 0, 0)
-def call(number, *given):
-    if libc.syscall(number, *given) < 0:
+def call_of(number, *given):
+    found = libc.syscall(number, *given)
+    if found < 0:
         raise OSError(ctypes.get_errno(), "refused")
+    return found
+def call(number, *given):
+    call_of(number, *given)
+def ended(child):
+    if child == 0:
+        os._exit(0)
+    os.waitpid(child, 0)
 def in_a_child(way):
     def ran():
         child = os.fork()
@@ -275,6 +285,10 @@ ways = {
     "netlink": lambda: socket.socket(socket.AF_NETLINK, socket.SOCK_RAW, 4),
     "netlink past a filter": lambda: call(41, (1 << 32) + 16, 3, (1 << 32) + 4),
     "cookie": lambda: socket.socket(socket.AF_UNIX).getsockopt(socket.SOL_SOCKET, 57, 8),
+    "terminal": lambda: os.openpty(), "terminals": lambda: os.open("/dev/ptmx", os.O_RDWR),
+    "clone gives a file": lambda: ended(call_of(56, 0x1000 | 17, None, ctypes.byref(ctypes.c_int()), None, None)),
+    "clone in a new user": lambda: ended(call_of(56, 0x10000000 | 17, None, None, None, None)),
+    "peer as a file": lambda: socket.socketpair()[0].getsockopt(socket.SOL_SOCKET, 77, 4),
     "network's cookie": lambda: socket.socket(socket.AF_UNIX).getsockopt(socket.SOL_SOCKET, 71, 8),
 }
 found = []
@@ -296,6 +310,30 @@ class Talking(Course):
         for has_proc in (False, True):
             self.assertEqual(self.said(Walls.ALL, WAYS, has_proc=has_proc), ["all are shut"])
 
+    def test_ways_are_closed_in_each_language(self) -> None:
+        for language in calls.languages():
+            with self.subTest(language), mock.patch.object(calls, "language_of", return_value=language):
+                self.assertEqual(self.said(Walls.ALL, WAYS), ["all are shut"])
+
+    def test_a_refused_call_says_what_the_teacher_may_change(self) -> None:
+        code = "import os\nos.nice(1)"
+        self.assertRegex(self.said(Walls.ALL, code)[0], "Function not implemented .calls of the system are refused to "
+                         "it that python does not need: examples/README.md says .*`calls` in course.toml allows more")
+        (self.team / "evil.py").write_text(code + "\nraise SystemExit('was allowed')")
+        rows = self.graded(HEAD + 'calls = ["setpriority"]\n' + team("evil", ["evil"], EVIL))
+        self.assertIn("was allowed", rows["evil"][0]["fault"])
+
+    @unittest.skipUnless(shutil.which("strace"), "Debian's strace is not installed")
+    def test_which_calls_a_program_makes_is_told_by_the_commands_of_the_examples(self) -> None:
+        text = (TOP / "examples" / "README.md").read_text(encoding="utf-8")
+        for command in re.findall(r"^    (python3 -m lab.*/tmp/calls.*)$", text, re.MULTILINE):
+            for name, path in (("/tmp/calls", f"{self.folder}/calls"), ("python3 -m", f"{DEBIANS_PYTHON} -m"),
+                               ("agent.py", str(AGENTS / "ring.py"))):
+                command = command.replace(name, path)
+            ran = subprocess.run(command, shell=True, text=True, capture_output=True)
+            self.assertEqual((ran.returncode, ran.stderr), (0, ""))
+        self.assertRegex(ran.stdout, "^python: of .. calls that were traced 1 are refused\n.* sysinfo: how much")
+
     def test_proc_is_seen_if_the_course_asks_for_it(self) -> None:
         code = "import os, sys; sys.exit(str(os.path.exists('/proc/self')))"
         for has_proc in (False, True):
@@ -304,10 +342,10 @@ class Talking(Course):
     def test_the_ways_are_good_ones(self) -> None:
         """Without walls they are open, so that the test above would show it if one were."""
         said = self.said(Walls.USER if IS_ROOT else Walls.NONE, WAYS)[0]
-        self.assertRegex(said, "^[345][0-9] open")
+        self.assertRegex(said, "^[3-6][0-9] open")
         shut = set(said.partition("shut are ")[2].split(", "))
         self.assertFalse(shut & {"flock", "lock", "inotify", "shared memory", "load", "counts", "memfd", "touch",
-                                  "aio", "netlink", "cookie"})
+                                  "aio", "netlink", "cookie", "terminal", "clone gives a file"})
 
     def test_what_programs_see_of_the_system_is_in_memory(self) -> None:
         """There the kernel keeps no names of files that do not exist, which a later program could ask for."""

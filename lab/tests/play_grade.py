@@ -12,7 +12,7 @@ from unittest import mock
 
 from lab.__main__ import main
 from lab.course import cells, league
-from lab.course.cells import Cell, Walls, Yard
+from lab.course.cells import Cell, Kept, Walls, Yard
 from lab.course.grading import Graded
 from lab.course.hand_in import HandIn
 from lab.play import schedulers
@@ -278,7 +278,7 @@ class Spies(unittest.TestCase):
     def test_in_one_folder_they_find_all(self) -> None:
         """The spies are good ones: in a body that runs all teams in one folder they find what they look for."""
         shutil.copy(self.folder / "rich" / "plan.txt", self.folder)
-        shared = Cell(Yard(Walls.NONE), HandIn({}).archive(), None, self.folder, {})
+        shared = Cell(Yard(Walls.NONE), Kept(HandIn({}).archive()), None, self.folder)
         with mock.patch.object(cells, "cells", lambda *_: in_one_folder(shared)):
             for said in self.found(Walls.NONE):
                 self.assertIn("TREASURE-plan", said)

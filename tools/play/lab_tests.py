@@ -25,7 +25,7 @@ PACKAGES = ["python3-greenlet", "python3-hypothesis", "python3-tqdm", "python3-n
             # what a hall is served by
             "python3-django", "python3-djangorestframework", "gunicorn", "openssl", "python3-jsonschema", "gettext",
             # what keeps programs of a course apart
-            "bubblewrap", "python3-seccomp",
+            "bubblewrap", "python3-seccomp", "strace",
             # what looks at the lab's types, and at lines of agents
             "mypy", "python3-jsonschema",
             # what the search of all schedules is compared with
