@@ -26,11 +26,12 @@ import sys
 import tempfile
 from typing import Any, Dict, Iterable, Iterator, List, NamedTuple, Optional, Sequence, Tuple
 
-from lab.course import calls, root, users, walls
+from lab.course import calls, groups, root, users, walls, watch
 from lab.course.cell_start import READY
 from lab.course.hand_in import NETWORK, HandIn
 from lab.course.walls import HOME, PATH, PORT, SPACES, NoCell
-from lab.course.watch import Watch, memory_of, processes_below, space_of
+from lab.course.groups import Group
+from lab.course.watch import TOO_MUCH, Watch, memory_of, processes_below, space_of
 from lab.play import programs
 from lab.play.programs import NoStart, Started
 from lab.rules import networks
@@ -70,14 +71,16 @@ class Walls(enum.Enum):
 
 class Yard(NamedTuple):
     """What all cells of a course share: what keeps programs apart, which folders they see besides the system's,
-    whether they see /proc, which folder has the copy of the system that they see, if there is one, and which calls of
-    the system they may make besides those of their languages."""
+    whether they see /proc, which folder has the copy of the system that they see, if there is one, which calls of the
+    system they may make besides those of their languages, and which control group has those of programs, if there is
+    one."""
 
     walls: Walls
     tools: Tuple[str, ...] = ()
     has_proc: bool = False
     root: str = ""
     calls: Tuple[str, ...] = ()
+    groups: str = ""
 
 
 class Kept(NamedTuple):
@@ -91,8 +94,10 @@ class Kept(NamedTuple):
 class Cell:
     """A place for one program: its team's files and what is told of the network, its user, and what keeps it apart."""
 
-    def __init__(self, yard: Yard, kept: Kept, user: Optional[int], place: Optional[pathlib.Path]) -> None:
+    def __init__(self, yard: Yard, kept: Kept, user: Optional[int], place: Optional[pathlib.Path],
+                 group: Optional[Group] = None) -> None:
         self.yard = yard
+        self._group = group
         self.user = user
         self.place = place
         self.facts = kept.facts
@@ -124,7 +129,7 @@ class Cell:
 
     def _before(self) -> List[str]:
         """The words that make a program the first that is ended if memory is short, and another user."""
-        first = ["choom", "-n", "1000", "--"]
+        first = [*(self._group.words() if self._group else []), "choom", "-n", "1000", "--"]
         if self.user is None:
             return first
         return [*first, "setpriv", f"--reuid={self.user}", f"--regid={self.user}", "--clear-groups", "--no-new-privs",
@@ -185,7 +190,13 @@ class Cell:
 
     def fault(self) -> str:
         """Why the program was ended, if it has taken too much."""
+        if self._group and self._group.has_met_its_bound():
+            self._fault = TOO_MUCH
         return self._fault
+
+    def takes_too_much(self) -> bool:
+        """Whether the program has more memory than it may. In a group of its own the kernel sees to that."""
+        return self._group.has_met_its_bound() if self._group else self.used() > watch.MOST
 
     def used(self) -> int:
         """The bytes of memory that the program takes."""
@@ -222,15 +233,15 @@ def cells(yard: Yard, kept: Kept, count: int) -> Iterator[List[Cell]]:
             has_user = os.geteuid() == 0 and yard.walls is not Walls.NONE
             user = left.enter_context(users.claimed()) if has_user else None
             place = None if yard.walls is Walls.ALL else left.enter_context(folder_for(user))
-            made.append(Cell(yard, kept, user, place))
-        left.enter_context(Watch([cell.used for cell in made], [cell.end_for for cell in made]))
+            made.append(Cell(yard, kept, user, place, left.enter_context(groups.group_in(yard.groups))))
+        left.enter_context(Watch([cell.takes_too_much for cell in made], [cell.end_for for cell in made]))
         yield made
 
 
 @contextlib.contextmanager
 def furnished(yard: Yard, commands: Iterable[str], packages: Sequence[str]) -> Iterator[Yard]:
-    """The yard with a copy of the system for these commands, and these packages besides, if there can be one. If not, a
-    line says why."""
+    """The yard with control groups, and with a copy of the system for these commands, and these packages besides, if
+    there can be one. If not, a line says why."""
     with contextlib.ExitStack() as held:
         if yard.walls is Walls.ALL and yard.calls:
             # so that a name which is none is told before the first match
@@ -243,7 +254,7 @@ def furnished(yard: Yard, commands: Iterable[str], packages: Sequence[str]) -> I
             print(f"lab: programs see the system's own disk, where the kernel keeps names for later ones: {fault}",
                   file=sys.stderr)
             folder = ""
-        yield yard._replace(root=folder)
+        yield yard._replace(root=folder, groups=held.enter_context(groups.divided()))
 
 
 @contextlib.contextmanager

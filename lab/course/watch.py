@@ -22,8 +22,9 @@ SHARED = "/dev/zero (deleted)"
 class Watch:
     """While it is open, looks at all programs, and ends one that takes too much by its own call."""
 
-    def __init__(self, used: Sequence[Callable[[], int]], ends: Sequence[Callable[[str], None]]) -> None:
-        self._used = used
+    def __init__(self, looks: Sequence[Callable[[], bool]], ends: Sequence[Callable[[str], None]]) -> None:
+        """The first say of each program whether it takes too much."""
+        self._looks = looks
         self._ends = ends
         self._is_over = threading.Event()
         self._thread = threading.Thread(target=self._look, daemon=True)
@@ -38,9 +39,9 @@ class Watch:
 
     def _look(self) -> None:
         while not self._is_over.wait(EVERY):
-            for used, end in zip(self._used, self._ends):
+            for takes_too_much, end in zip(self._looks, self._ends):
                 with contextlib.suppress(OSError):
-                    if used() > MOST:
+                    if takes_too_much():
                         end(TOO_MUCH)
 
 
