@@ -28,7 +28,7 @@ SCHEDULES, STATES = 20, 1_000_000_000
 HEAD = ("network", "agent", "questions", "merges", "checked", "answers, s", "with checks, s", "more",
         "drawn schedules, s")
 # of each match the questions of the program, in order
-Questions = List[List[asking.Found]]
+Questions = List[List[bytes]]
 
 
 class Taken(NamedTuple):
@@ -50,7 +50,7 @@ def asked(game: Game) -> Questions:
     """What the program asks while it searches all matches."""
     found, plain, machines = [], asking.Run.answer, machines_of(game, 0)
 
-    def noted(run: asking.Run, question: asking.Found) -> bytes:
+    def noted(run: asking.Run, question: bytes) -> bytes:
         found[-1].append(question)
         return plain(run, question)
     try:

@@ -74,9 +74,14 @@ def compiled(path: str, text: bytes) -> CodeType:
     return made
 
 
+def module_name(path: pathlib.Path) -> str:
+    """What the module in a file is called."""
+    return f"lab_agent_{path.stem}"
+
+
 def executed(path: pathlib.Path) -> ModuleType:
     """The module in a file, which is executed now."""
-    spec = importlib.util.spec_from_file_location(f"lab_agent_{path.stem}", path)
+    spec = importlib.util.spec_from_file_location(module_name(path), path)
     if spec is None or not isinstance(spec.loader, SourceFileLoader):
         raise NoAgent(f"{path}: it is not in Python: its name ends with .py then")
     module = importlib.util.module_from_spec(spec)
@@ -115,7 +120,7 @@ CLIENT = str(AGENTS / "client.py")
 def loaded_anew(path: pathlib.Path, modules: OwnModules) -> Tuple[ModuleType, ModuleType]:
     """The module in a file, and the client that it imports, among the modules of one agent."""
     modules.begin([str(path.parent.resolve()), str(AGENTS)], [CLIENT])
-    return executed(path), importlib.import_module("client")
+    return modules.kept.get(module_name(path)) or executed(path), importlib.import_module("client")
 
 
 def script_of(words: str, setup: Setup) -> Script:

@@ -51,9 +51,9 @@ LOADED = Notes()
 
 
 @contextlib.contextmanager
-def loading() -> Iterator[None]:
-    """Notes what agents' files read while they are loaded for the first time."""
-    LOADING.append(LOADED)
+def loading(notes: Notes = LOADED) -> Iterator[None]:
+    """Notes what agents' files reach and read while they are loaded for the first time."""
+    LOADING.append(notes)
     try:
         yield
     finally:
@@ -74,7 +74,7 @@ def watch() -> None:
         if thread.parent is not None:
             note_of(notes_of(thread), event, given)
         elif LOADING:
-            note_of(LOADED, event, given)
+            note_of(LOADING[-1], event, given)
     sys.addaudithook(note)
 
 

@@ -7,15 +7,15 @@ import sys
 import threading
 import weakref
 from types import ModuleType
-from typing import Collection, Dict, FrozenSet, List, Sequence, Set
+from typing import Collection, Dict, FrozenSet, List, Mapping, Sequence, Set, Tuple
 
 # one thread at a time changes which modules there are
 LOADING = threading.RLock()
 # all folders out of which agents were loaded
 FOLDERS: Set[str] = set()
 RANDOM = "random"
-# modules, by their names, that stand in none of these folders: they are asked once
-FOREIGN: Dict[str, ModuleType] = {}
+# by the files that all agents share, the modules that are none of an agent's own, by their identities
+FOREIGN: Dict[Tuple[str, ...], Dict[int, ModuleType]] = {}
 FOREIGN_TO: Set[str] = set()
 # of each module the folders that it stands in, as long as there is the module: it is asked at each turn of an agent
 STANDS_IN: "weakref.WeakKeyDictionary[ModuleType, FrozenSet[str]]" = weakref.WeakKeyDictionary()
@@ -38,13 +38,21 @@ def own_names(folders: Collection[str], shared: Collection[str] = ()) -> List[st
         # what stands in none of the folders so far may stand in a new one
         FOREIGN.clear()
         FOREIGN_TO.update(FOLDERS)
-    tops = set()
-    for name, module in list(sys.modules.items()):
-        if FOREIGN.get(name) is not module and "." not in name and name != "lab":
-            if is_beside(module, folders) and getattr(module, "__file__", None) not in shared:
-                tops.add(name)
-            elif FOREIGN_TO.issuperset(folders) and not is_beside(module, FOREIGN_TO):
-                FOREIGN[name] = module
+    foreign = FOREIGN.setdefault(tuple(shared), {})
+    unknown = set(map(id, list(sys.modules.values()))).difference(foreign)
+    if not unknown:
+        return []
+    tops, others = set(), {}
+    for name, module in [(name, it) for name, it in list(sys.modules.items()) if id(it) in unknown]:
+        if "." in name or name == "lab":
+            others[id(module)] = module
+        elif is_beside(module, folders) and getattr(module, "__file__", None) not in shared:
+            tops.add(name)
+        elif FOREIGN_TO.issuperset(folders) and (not is_beside(module, FOREIGN_TO) or folders is FOLDERS):
+            foreign[id(module)] = module
+    if not tops and folders is FOLDERS:
+        # what is in a package that stands in none of the folders
+        foreign.update(others)
     return [name for name in sys.modules if name.partition(".")[0] in tops] if tops else []
 
 
@@ -64,6 +72,8 @@ class OwnModules:
 
     def __init__(self, seed: int) -> None:
         self.random = random_from(seed)
+        # loaded modules that it takes instead of loading them anew
+        self.kept: Mapping[str, ModuleType] = {}
         self._own: Dict[str, ModuleType] = {}
         self._folders: List[str] = []
         self._files: Collection[str] = ()
@@ -77,7 +87,7 @@ class OwnModules:
         self._folders, self._files = list(folders), files
         FOLDERS.update(folders)
         self._shared.update({name: sys.modules.pop(name) for name in own_names(FOLDERS, files)})
-        self._own = {RANDOM: self.random}
+        self._own = {**self.kept, RANDOM: self.random}
         self._put(self._own)
 
     def own(self) -> Dict[str, ModuleType]:

@@ -9,12 +9,14 @@ from typing import Any, Callable, Dict, List, NamedTuple, Optional, Tuple
 
 from lab.rules.engines import Refused, text_of_fault
 from lab.rules.fixtures import Fixture, write_tournament
-from lab.rules.model import spelled
 from lab.search.machines import Machines
-from lab.search.seats import SLEEP, WAKES
+from lab.search.seats import SAYS, SLEEP, WAKES
 
 SOLVES, COMES, FAILS, BREAKS, ENDLESS, EXCEEDS = "solves", "comes", "fails", "breaks", "endless", "exceeds"
 TOO_MANY = "states"
+# how the program's questions begin
+BEGIN, ASK = b'{"begin":', b'{"ask":'
+QUESTIONS = BEGIN, ASK
 STOPPED, MORE = "stopped", "more states than were to be visited"
 LONGER = "a drawn schedule has more turns than --states allows"
 Found = Dict[str, Any]
@@ -54,7 +56,7 @@ class Run:
 
     def __init__(self, machines: Machines) -> None:
         self._machines = machines
-        self._numbers: Dict[int, int] = {}
+        self._answers: Dict[int, bytes] = {}
         self.back: List[int] = []
         self._after: Dict[Tuple[int, str], int] = {}
 
@@ -71,20 +73,22 @@ class Run:
         seen = self._machines.seen_by(memory) if self._machines.looks(woken) else None
         return seen is not None and (woken, seen) not in self._after
 
-    def answer(self, question: Found) -> bytes:
-        """The lines that answer a question of the program."""
+    def answer(self, line: bytes) -> bytes:
+        """The lines that answer a question, which is a line of the program."""
         machines = self._machines
-        if "begin" in question:
-            memory = machines.begin(question["begin"])
-        else:
-            news, before = WAKES if "wakes" in question else spelled(question["hears"]), self.back[question["ask"]]
+        if line.startswith(ASK):
+            number, _, told = line[len(ASK):].partition(b",")
+            before, news = self.back[int(number)], machines.news_in(told)
             memory = self._after[before, news] = machines.next(before, news)
-        if memory not in self._numbers:
-            self._numbers[memory] = len(self.back)
+        else:
+            memory = machines.begin(json.loads(line)["begin"])
+        found = self._answers.get(memory)
+        if found is None:
+            step = machines.steps[memory]
+            said = b"\n%b\n" % step.line if step.does == SAYS else b"\n"
+            found = self._answers[memory] = b"%d %b%b" % (len(self.back), step.does.encode(), said)
             self.back.append(memory)
-        step = machines.steps[memory]
-        line = f"{self._numbers[memory]} {step.does}\n".encode()
-        return line + step.line + b"\n" if step.does == "says" else line
+        return found
 
 
 class Watch:
@@ -142,12 +146,13 @@ def asked(program: str, fixture: Fixture, machines: Machines, most: int, shown: 
         try:
             with Watch(child, said) as watch:
                 for line in child.stdout:
-                    told = json.loads(line)
-                    if "begin" in told or "ask" in told:
-                        child.stdin.write(run.answer(told))
+                    if line.startswith(QUESTIONS):
+                        child.stdin.write(run.answer(line))
                         child.stdin.flush()
                         shown(1)
-                    elif "visited" in told:
+                        continue
+                    told = json.loads(line)
+                    if "visited" in told:
                         watch.visited(told)
                     else:
                         last.append(told)

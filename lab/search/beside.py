@@ -13,9 +13,11 @@ MERGES, ONE_OF, OF_EACH, STEPS = 1000, 16, 8, 4
 
 
 class Second(NamedTuple):
-    """A program that came to a memory second, how it came there, and for how many steps it still goes on."""
+    """A program that came to a memory second, that memory, how it came there, and for how many steps it still goes
+    on."""
 
     one: Seated
+    memory: int
     way: Way
     steps: int
 
@@ -45,8 +47,20 @@ class Beside:
         if not self._is_chosen(one):
             return False
         self.checked += 1
-        self._go_on(memory, Second(one, way, STEPS))
+        self._go_on(memory, Second(one, memory, way, STEPS))
         return True
+
+    def part(self) -> None:
+        """Plays those that wait once more, as what they had in common with others has changed."""
+        waiting = [second for of_memory in self._waiting.values() for second in of_memory]
+        self._waiting, self._count = {}, 0
+        for second in waiting:
+            self._again(second)
+
+    def _again(self, second: Second) -> None:
+        """Plays a program once more to where it came second, and lets it go on from there."""
+        second.one.player.stop()
+        self._go_on(second.memory, second._replace(one=self._machines.told(second.way), steps=STEPS))
 
     def _is_chosen(self, one: Seated) -> bool:
         """All are, while there are few; then one of many, and some of each place in each program."""
@@ -82,7 +96,9 @@ class Beside:
         """Tells the second what the first was told at a memory, and compares what it does then, and after its last step
         what it holds."""
         machines, one = self._machines, second.one
-        machines.tell(one, news)
+        if not machines.tell(one, news):
+            self._again(second)
+            return
         self.compared += 1
         is_last = second.steps == 1 or one.is_over()
         if one.step() != machines.steps[after] or is_last and machines.name_of(

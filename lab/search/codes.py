@@ -7,6 +7,8 @@ Name = Any
 # the names of code, and of its variables, by its identity; the code is kept, so that no other code gets that
 CODES: Dict[int, Tuple[types.CodeType, Name]] = {}
 VARIABLES: Dict[int, Tuple[str, ...]] = {}
+# of what code is and does, a number
+NUMBERS: Dict[Tuple[str, int, str, str], int] = {}
 
 
 def digest_of(value: Any, size: int = 16) -> str:
@@ -21,7 +23,9 @@ def code_name(code: types.CodeType) -> Name:
         parts = (code.co_code, code.co_names, code.co_varnames, code.co_freevars, code.co_cellvars, code.co_flags,
                  code.co_exceptiontable, code.co_argcount, code.co_kwonlyargcount, code.co_posonlyargcount,
                  tuple(map(constant_name, code.co_consts)))
-        found = CODES[id(code)] = code, (code.co_filename, code.co_firstlineno, code.co_qualname, digest_of(parts, 12))
+        name = code.co_filename, code.co_firstlineno, code.co_qualname, digest_of(parts, 12)
+        # a number says the same in this process, and is shorter
+        found = CODES[id(code)] = code, (NUMBERS.setdefault(name, len(NUMBERS)),)
     return found[1]
 
 

@@ -159,9 +159,20 @@ def slots_of(frame: types.FrameType) -> List[Any]:
     if top < 0:
         raise Unnamed(f"the stack of {frame.f_code.co_qualname}, which waits inside a function that is not in Python",
                       instead="call the agent in a loop of your own")
-    words = (ctypes.c_size_t * top).from_address(at + SLOTS)
-    values = (ctypes.py_object * top).from_address(at + SLOTS)
-    return list(values) if all(words) else [values[place] if words[place] else NOTHING for place in range(top)]
+    words, objects = kinds_of_slots(top)
+    values = objects.from_address(at + SLOTS)
+    try:
+        return list(values)
+    except ValueError:
+        # some have no value
+        has_value = words.from_address(at + SLOTS)
+        return [values[place] if has_value[place] else NOTHING for place in range(top)]
+
+
+@functools.lru_cache(maxsize=None)
+def kinds_of_slots(count: int) -> Tuple[Any, Any]:
+    """The types of this many words, and of as many objects."""
+    return ctypes.c_size_t * count, ctypes.py_object * count
 
 
 @functools.lru_cache(maxsize=None)

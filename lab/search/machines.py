@@ -14,7 +14,7 @@ is played on beside the first for some steps, and a difference is told: see `Bes
 import collections
 import contextlib
 import json
-from typing import Any, ContextManager, Dict, List, Optional, OrderedDict, Set, Tuple
+from typing import Any, ContextManager, Dict, Iterator, List, Optional, OrderedDict, Set, Tuple
 
 from lab.play.outside import watch
 from lab.play.players import Player
@@ -27,6 +27,8 @@ from lab.search.seats import SAYS, WAKES, Seated, Seats, Step, Way
 
 # how many programs are left where they wait, to go on from there: inside the lab, and of their own
 MOST_LEFT, MOST_PROCESSES = 4096, 200
+# of this many programs that are played again one is played from its start
+FROM_START = 16
 
 
 class Left:
@@ -71,17 +73,23 @@ class Machines:
         self.asked = 0
         self.names: List[bytes] = []
         self.ways: List[Way] = []
+        # of each memory the ways by which programs have come there last, the shortest, and how long it is
+        self._into: List[List[Way]] = []
+        self._short: List[Way] = []
+        self._length: List[int] = []
         self._seats = Seats(fixture, agents, seconds)
         self.unnamed = self._seats.unnamed
         self._numbers: Dict[bytes, int] = {}
         self._starts: Dict[int, int] = {}
         self._after: Dict[Tuple[int, str], int] = {}
+        self._news: Dict[bytes, str] = {}
         # of each memory, what was answered of it first
         self._first: Dict[int, Tuple[str, int]] = {}
         # memories at which a program may share state with others
         self._alone: Set[int] = set()
         most = MOST_LEFT if all(agent.kind == INSIDE for agent in agents) else MOST_PROCESSES
-        self._left = Left(most)
+        self._left, self._most_left = Left(most), most
+        self._replayed = 0
         self.beside = Beside(self, merges, most // 2)
 
     def start(self) -> None:
@@ -104,18 +112,27 @@ class Machines:
     def begin(self, agent: int) -> int:
         """What an agent holds at the start."""
         if agent not in self._starts:
-            self._starts[agent] = self._number(self._seats.begun(agent), (-1 - agent, ""))
+            one = self._seats.begun(agent)
+            if self._parts():
+                one = self._seats.begun(agent)
+            self._starts[agent] = self._number(one, (-1 - agent, ""))
         return self._starts[agent]
 
     def next(self, before: int, news: str) -> int:
         """What an agent holds that held this before, and that wakes now or hears this reply."""
         found = self._after.get((before, news))
         if found is None:
-            one = self._left.take(before) or self._played(before)
-            self._seats.tell(one, news)
-            found = self._after[before, news] = self._number(one, (before, news))
+            found = self._after[before, news] = self._number(self.told((before, news)), (before, news))
             self._first.setdefault(before, (news, found))
             self.beside.answered(before, news, found)
+        return found
+
+    def news_in(self, told: bytes) -> str:
+        """What a question of the program tells an agent, as the program spells it behind the memory that it asks of."""
+        found = self._news.get(told)
+        if found is None:
+            question = json.loads(b"{" + told)
+            found = self._news[told] = WAKES if "wakes" in question else spelled(question["hears"])
         return found
 
     def known(self, before: int, news: str) -> Optional[int]:
@@ -156,8 +173,35 @@ class Machines:
         step = self.steps[memory]
         return step.does == SAYS and command_of(text_of(step.line)).get("do") == "look"
 
-    def tell(self, one: Seated, news: str) -> None:
+    def told(self, way: Way) -> Seated:
+        """A program that has come this way."""
+        before, news = way
+        self._parts()
+        if before < 0:
+            one = self._seats.begun(-1 - before)
+        else:
+            one = self._left.take(before) or self._played(before)
+            self._seats.tell(one, news)
+        return self.told(way) if self._parts() else one
+
+    def tell(self, one: Seated, news: str) -> bool:
+        """Tells a program a line, or wakes it; false if it had modules in common with others, and something has changed
+        in them."""
+        if self._parts() or self._seats.is_stale(one):
+            return False
         self._seats.tell(one, news)
+        return not self._parts()
+
+    def _parts(self) -> bool:
+        """Whether something has changed in modules that programs have in common. No program has such any more then, and
+        those that wait end: they are played anew."""
+        if not self._seats.has_changed():
+            return False
+        self._seats.part()
+        self._left.stop()
+        self._left = Left(self._most_left)
+        self.beside.part()
+        return True
 
     def name_of(self, one: Seated, way: Way) -> bytes:
         """A name of what a program holds and does next."""
@@ -165,26 +209,50 @@ class Machines:
 
     def leave(self, memory: int, one: Seated) -> None:
         """Leaves a program where it waits. One that was played alone ends, and what it has changed is put back."""
-        if memory in self._alone:
+        if self._seats.is_stale(one):
+            one.player.stop()
+        elif memory in self._alone:
             one.player.stop()
             self._seats.shared.restore()
         else:
             self._left.put(memory, one)
 
     def _played(self, memory: int) -> Seated:
-        """A program that is played from its start up to a memory."""
-        agent, all_news = self.way_to(memory)
-        one = self._seats.begun(agent)
+        """A program that is played up to a memory, from the nearest one before it at which a program is left, or from
+        its start."""
+        one, all_news = self._nearest(memory)
         modules: ContextManager[Any] = contextlib.nullcontext()
         if isinstance(one.player, Player):
             modules = one.player.modules
         with modules:
             for news in all_news:
                 self._seats.tell(one, news)
-        if one.step() != self.steps[memory]:
-            raise NoFunction(f"agent {agent} does something else when it is played again: explore needs agents that "
-                             "are functions of what they are told")
+        if one.step() != self.steps[memory] and not self._seats.has_changed():
+            raise NoFunction(f"agent {one.player.number} does something else when it is played again: explore needs "
+                             "agents that are functions of what they are told")
         return one
+
+    def _nearest(self, memory: int) -> Tuple[Seated, List[str]]:
+        """A program, and what it is to be told to come to a memory: one that is left before it, or that begins. As a
+        check one of many begins, and each that may share state with others."""
+        self._replayed += 1
+        is_left = self._replayed % FROM_START and memory not in self._alone
+        behind: Dict[int, Way] = {memory: (-1, "")}
+        waiting = collections.deque([memory])
+        while waiting and is_left:
+            at = waiting.popleft()
+            one = self._left.take(at)
+            if one is not None:
+                return one, list(news_behind(behind, at))
+            for before, news in self._into[at]:
+                if before >= 0 and before not in behind and before not in self._alone:
+                    behind[before] = at, news
+                    waiting.append(before)
+        way, all_news = self._short[memory], []
+        while way[0] >= 0:
+            all_news.append(way[1])
+            way = self._short[way[0]]
+        return self._seats.begun(-1 - way[0]), all_news[::-1]
 
     def _number(self, one: Seated, way: Way) -> int:
         """The number of what a program holds, which is left there, or goes on beside the program that was there
@@ -195,11 +263,32 @@ class Machines:
         if number is None:
             number = self._numbers[name] = len(self.ways)
             self.ways.append(way)
+            self._short.append(way)
+            self._into.append([way])
+            self._length.append(self._length_of(way))
             self.steps.append(one.step())
             self.names.append(name)
             if one.is_alone:
                 self._alone.add(number)
-        elif self.beside.takes(number, one, way):
-            return number
+        else:
+            self._into[number].append(way)
+            self._shorten(number, way)
+            if self.beside.takes(number, one, way):
+                return number
         self.leave(number, one)
         return number
+
+    def _length_of(self, way: Way) -> int:
+        return self._length[way[0]] + 1 if way[0] >= 0 else 0
+
+    def _shorten(self, number: int, way: Way) -> None:
+        """Takes a way to a memory if it is shorter than those known. What is played again then takes it."""
+        if self._length_of(way) < self._length[number]:
+            self._short[number], self._length[number] = way, self._length_of(way)
+
+
+def news_behind(behind: Dict[int, Way], memory: int) -> Iterator[str]:
+    """What is told from a memory on, up to the one behind which there is nothing."""
+    while behind[memory][0] >= 0:
+        memory, news = behind[memory]
+        yield news

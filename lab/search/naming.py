@@ -9,7 +9,7 @@ from importlib.machinery import ModuleSpec, SourceFileLoader
 from typing import Any, Dict, Iterable, Iterator, List, NamedTuple, Optional, Protocol, Set, Tuple
 
 from lab.search.codes import Name, code_name, variables_of
-from lab.search.cpython import NOTHING, function_places, has_attributes, is_made_in_python, said_at, slots_of
+from lab.search.cpython import NOTHING, function_places, has_attributes, is_made_in_python, slots_of, views_of
 from lab.search.kinds import (NAMES, Plan, complex_name, exception_name, is_abstract, number_name, parts_name,
                               plan_of)
 from lab.search.live import may_be_read
@@ -48,6 +48,8 @@ class Namer:
         # keeps what is named, so that no other value gets its identity
         self._kept: List[Any] = []
         self._waiting: Set[int] = set()
+        # names of modules that others have too, by the identity of their variables: they stand as long as this namer
+        self._others: Dict[int, Name] = {}
 
     def name(self, value: Any) -> Name:
         kind = type(value)
@@ -89,15 +91,13 @@ class Namer:
 
     def frame(self, frame: types.FrameType) -> Name:
         """A frame: its place in its code, its variables, its stack, and the variables of its module."""
-        code, named, names = frame.f_code, [], variables_of(frame.f_code)
+        code, named, key = frame.f_code, [], self._known.key
         for place, value in enumerate(slots_of(frame)):
             try:
-                if type(value) is str and value == self._known.key and place < len(names) and not may_be_read(
-                        code, frame.f_lasti, names[place]):
-                    named.append(("key",))
-                else:
-                    named.append(self.name(value))
+                is_key = type(value) is str and value == key and is_read_no_more(frame, place)
+                named.append(("key",) if is_key else self.name(value))
             except Unnamed as what:
+                names = variables_of(code)
                 raise what.at(f"the variable {names[place]} of {code.co_qualname}" if place < len(names) else
                               f"an unfinished expression of {code.co_qualname}")
         return (code_name(code), frame.f_lasti, self.globals(frame.f_globals), *named)
@@ -106,13 +106,16 @@ class Namer:
 
     def globals(self, variables: Dict[str, Any]) -> Name:
         """The variables of a module that is the agent's own, each module once; else the module's name."""
-        module = variables.get("__name__")
+        if id(variables) in self._others:
+            return self._others[id(variables)]
         if id(variables) in self._seen:
             return ("module again", self._seen[id(variables)])
+        module = variables.get("__name__")
         is_own = self._known.is_own(variables)
         loaded = sys.modules.get(module) if isinstance(module, str) else None
         if not is_own and loaded is not None and vars(loaded) is variables:
-            return self.module_of(loaded)
+            found = self._others[id(variables)] = self.module_of(loaded)
+            return found
         self._seen[id(variables)] = len(self._seen)
         self._kept.append(variables)
         if self._known.draws_by(variables):
@@ -175,14 +178,16 @@ class Namer:
 
     def function(self, value: types.FunctionType) -> Name:
         """A function. One of a module that programs share is named once, and again if it has changed."""
-        if type(self) is not Namer or self._known.is_own(value.__globals__) or not is_simple(value):
+        if type(self) is not Namer:
             return self._function_by_parts(value)
         found = self._known.shared.functions.get(id(value))
-        says = said_at(function_places(value))
-        if found is None or found.says != says:
-            name = Namer(self._known.apart())._function_by_parts(value)
-            found = self._known.shared.functions[id(value)] = SharedFunction(value, says, name)
-        return found.name
+        if found is not None and b"".join(found.views) == found.says:
+            return found.name
+        if self._known.is_own(value.__globals__) or not is_simple(value):
+            return self._function_by_parts(value)
+        name = Namer(self._known.apart())._function_by_parts(value)
+        self._known.shared.functions[id(value)] = shared_function(value, name)
+        return name
 
     def _function_by_parts(self, value: types.FunctionType) -> Name:
         defaults, more, closure = value.__defaults__, value.__kwdefaults__, value.__closure__
@@ -207,12 +212,28 @@ class Namer:
             return ("cell",)
 
 
-class SharedFunction(NamedTuple):
-    """A function of a module that programs share, what its parts were, and its name."""
+def is_read_no_more(frame: types.FrameType, place: int) -> bool:
+    """Whether the variable at a place of a frame is not read again."""
+    names = variables_of(frame.f_code)
+    return place < len(names) and not may_be_read(frame.f_code, frame.f_lasti, names[place])
 
-    function: types.FunctionType
+
+class SharedFunction(NamedTuple):
+    """A function of a module that programs share with the dicts that belong to it, where its parts lie, what they were,
+    and its name."""
+
+    held: Tuple[Any, ...]
+    views: List[memoryview]
     says: bytes
     name: Name
+
+
+def shared_function(function: types.FunctionType, name: Name) -> SharedFunction:
+    """A function of this name, as it is now."""
+    # asked for first, as asking may make the dicts
+    held = function, function.__kwdefaults__, function.__annotations__, vars(function)
+    views = views_of(function_places(function))
+    return SharedFunction(held, views, b"".join(views), name)
 
 
 def is_given(name: str, value: Any) -> bool:
@@ -249,7 +270,7 @@ ALIAS = {"_name", "_inst", "_getitem", "__doc__", "__module__", "__bound__", "__
 def is_simple(function: types.FunctionType) -> bool:
     """Whether a function has no closure, no attributes, and defaults that are plain."""
     held = (*(function.__defaults__ or ()), *(function.__kwdefaults__ or {}).values())
-    return not function.__closure__ and not has_attributes(function) and all(
+    return not function.__closure__ and not (has_attributes(function) and vars(function)) and all(
         type(it) in (int, str, bytes, bool, float, type(None)) for it in held)
 
 

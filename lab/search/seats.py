@@ -4,7 +4,7 @@ import collections
 import hashlib
 import json
 import pathlib
-from typing import Any, Dict, List, NamedTuple, Optional, Tuple
+from typing import Any, Dict, List, Mapping, NamedTuple, Optional, Tuple
 
 from lab.play import programs
 from lab.play.agent_files import AGENTS, CLIENT
@@ -15,6 +15,7 @@ from lab.play.teams import INSIDE, AgentWords
 from lab.rules.fixtures import Fixture
 from lab.rules.model import GONE, LAST, OVER as TOLD_OVER, command_of, denial, spelled, text_of
 from lab.search.caches import Caches
+from lab.search.common import ONE_OF, Common, common_of
 from lab.search.live import may_tell_itself
 from lab.search.memories import memory_of, own_modules
 from lab.search.pasts import EARLY, NoFunction
@@ -26,9 +27,11 @@ WAKES = "wakes"
 SAYS, SLEEP, STOP, FAIL, LEAVE = "says", "sleeps", "stops", "fails", b'{"do":"leave"}'
 # what an agent is told last, and that after which it sees nothing
 ENDS = {spelled(reply) for reply in LAST}
-OVER, BLIND = spelled(TOLD_OVER), ENDS | {spelled(GONE)}
+OVER, DEPARTED = spelled(TOLD_OVER), spelled(GONE)
+BLIND = ENDS | {DEPARTED}
 # how a memory was met first: from which memory, or from the start of which agent, and by what
 Way = Tuple[int, str]
+EMPTY: Mapping[int, str] = {}
 
 
 class Step(NamedTuple):
@@ -53,6 +56,8 @@ class Seated:
         self.known: Optional[Known] = None
         # whether it may share state with others
         self.is_alone = False
+        # whether it has modules in common with other programs
+        self.has_common = False
 
     def is_over(self) -> bool:
         """Whether nothing more comes of the program."""
@@ -99,6 +104,9 @@ class Seats:
         self._parts = frozenset[str]()
         # by the words of an agent and the names of its modules, whether it is one machine for each number
         self._is_apart: Dict[Tuple[str, ...], bool] = {}
+        # by the words of an agent, the modules that its programs have in common, if they may
+        self._common: Dict[str, Optional[Common]] = {}
+        self._begun = 0
 
     def start(self) -> None:
         self._team.start()
@@ -113,7 +121,7 @@ class Seats:
             player: Any = Player(self._team, agent, key, self._scripts[words])
             self._parts = self._parts or frozenset(vars(player))
             one = Seated(player)
-            one.known = Known({id(player): "lines"}, self._is_own, self.shared, self._caches, player.modules.random)
+            one.known = self._known_of(one, words, {id(player): "lines"})
             one.known.key, one.known.own = key, player.modules.own
             player.go_on()
         else:
@@ -124,6 +132,37 @@ class Seats:
             one = Seated(player)
         self._deny(one)
         return one
+
+    def _known_of(self, one: Seated, words: str, labels: Dict[int, str]) -> Known:
+        """What is known of a program that has not begun. It takes the modules that programs of its words have in
+        common, but for one of many."""
+        drawing, common = one.player.modules.random, self._common_of(words)
+        self._begun += 1
+        if common is None or self._begun % ONE_OF == 0:
+            return self._knows(drawing, labels)
+        one.has_common, one.player.modules.kept = True, common.modules
+        return common.known.of_program(labels, drawing)
+
+    def _knows(self, drawing: Any, labels: Mapping[int, str] = EMPTY) -> Known:
+        return Known(labels, self._is_own, self.shared, self._caches, drawing)
+
+    def _common_of(self, words: str) -> Optional[Common]:
+        if words not in self._common:
+            is_file = all(agent.function is None for agent in self._agents if agent.words == words)
+            self._common[words] = common_of(words, self._knows) if is_file else None
+        return self._common[words]
+
+    def has_changed(self) -> bool:
+        """Whether something has changed in modules that programs have in common."""
+        return any(common is not None and not common.is_as_before() for common in self._common.values())
+
+    def part(self) -> None:
+        """From now on each program that begins has modules of its own."""
+        self._common = dict.fromkeys(self._common)
+
+    def is_stale(self, one: Seated) -> bool:
+        """Whether a program has modules that others have changed."""
+        return one.has_common and self._common[self._agents[one.player.number].words] is None
 
     def tell(self, one: Seated, news: str) -> None:
         """Tells a program a line, or wakes it."""
@@ -142,7 +181,7 @@ class Seats:
         one.has_ended = one.has_ended or news in ENDS
         if news in BLIND and news != OVER:
             self._wake(player)
-        if news == spelled(GONE) and player.state == WAITS and player.line is not None:
+        if news == DEPARTED and player.state == WAITS and player.line is not None:
             raise NoFunction(EARLY.format(player.number))
 
     def _wake(self, player: Any) -> None:

@@ -75,10 +75,25 @@ class Known:
         self._changes: Dict[int, int] = collections.Counter()
         # of each cache: how many results were computed when it was looked at, and which keys it had
         self.cached: Dict[int, Tuple[int, Set[int], List[Tuple[Any, Any]], Any]] = {}
+        self.kept: List[Any] = []
+        self._draw_by(drawing)
+
+    def _draw_by(self, drawing: Any) -> None:
+        """Takes the agent's own module `random`."""
         self._random, self._random_version, self._inst = vars(drawing), version_of(vars(drawing)), drawing._inst
         self._numbers_at_start = self._numbers()
         self.labels[id(drawing._inst)] = "random"
-        self.kept: List[Any] = [drawing]
+        self.kept.append(drawing)
+
+    def of_program(self, labels: Mapping[int, str], drawing: Any) -> "Known":
+        """What is known of another program that has the same modules, but for its module `random`."""
+        other = copy.copy(self)
+        other.labels, other.plans, other.cached = {**self.labels, **labels}, dict(self.plans), {}
+        other._standing, other._changes = dict(self._standing), collections.Counter(self._changes)
+        # what the modules hold is kept by what is known of them
+        other.kept = [self]
+        other._draw_by(drawing)
+        return other
 
     def look(self) -> None:
         """Looks at the agent's own modules, of which more may be loaded now."""
@@ -120,6 +135,11 @@ class Known:
         if len(more) > 1 or gauss is not None and type(gauss) is not float:
             raise Unnamed("attributes of its module random", instead="keep them in variables of your own")
         return ("at the start" if numbers == self._numbers_at_start else digest_of(numbers), repr(gauss))
+
+    def has_not_drawn(self) -> bool:
+        """Whether nothing was drawn by the agent's own module `random`, nor changed in it."""
+        return len(vars(self._inst)) <= 1 and self._numbers() == self._numbers_at_start and (
+            version_of(self._random) == self._random_version)
 
     def _numbers(self) -> bytes:
         return ctypes.string_at(id(self._inst) + NUMBERS, SIZE)

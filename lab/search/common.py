@@ -1,0 +1,62 @@
+"""Modules that all programs of an agent's words have in common, so that they are loaded and named once.
+
+These are modules in which nothing can change but what is watched (lab/search/standing.py): functions, classes and plain
+values, all of which are named. Before and after each turn of a program it is looked whether something has changed. Once
+something has, no program has a module in common with others any more, and what has changed is named.
+"""
+import pathlib
+import types
+from typing import Any, Callable, Dict, List, NamedTuple, Optional
+
+from lab.play import outside
+from lab.play.agent_files import file_of, loaded_anew
+from lab.play.own_modules import RANDOM, OwnModules
+from lab.search.standing import Known, Standing
+
+# of this many programs one loads its modules anew, as a check: it must come to the same memories
+ONE_OF = 16
+# what is known of a program that draws by this module
+Knows = Callable[[Any], Known]
+
+
+class Common(NamedTuple):
+    """Modules that programs have in common, by their names, and what is known of them."""
+
+    modules: Dict[str, types.ModuleType]
+    known: Known
+    standing: List[Standing]
+
+    def is_as_before(self) -> bool:
+        """Whether nothing in them has changed."""
+        return all(it.is_as_before() for it in self.standing)
+
+
+def common_of(words: str, knows: Knows) -> Optional[Common]:
+    """The modules of agents of these words, if programs may have them in common. They are loaded twice, so that what is
+    another each time, such as the time of day, is told."""
+    path = file_of(words.split()[0].partition(":")[0])
+    first, second = loaded_once(path, knows), loaded_once(path, knows)
+    if first is None or second is None or [it.names for it in first.standing] != [it.names for it in second.standing]:
+        return None
+    return first
+
+
+def loaded_once(path: pathlib.Path, knows: Knows) -> Optional[Common]:
+    """The modules of an agent's file, if nothing can change in them but what is watched, if they reach nothing outside
+    while they are loaded, and if neither draws nor a cache belongs to them."""
+    modules, notes = OwnModules(0), outside.Notes()
+    known = knows(modules.random)
+    # what a program draws by is its own: a module that has it is none that programs have in common
+    known.labels.clear()
+    known.own = modules.own
+    try:
+        with modules, outside.loading(notes):
+            loaded_anew(path, modules)
+        own = {name: it for name, it in modules.own().items() if name != RANDOM}
+        known.look()
+        standing = [known.standing(vars(it)) for it in own.values()]
+        is_still = not any(it.others or it.caches for it in standing) and known.has_not_drawn()
+    except (Exception, SystemExit):
+        # a program that loads them is told of this, or its history stands for what it holds
+        return None
+    return Common(own, known, standing) if is_still and notes.reaches is None else None
