@@ -16,7 +16,7 @@ is_over = threading.Event()
 games = []
 
 
-class PatientGame(server.Game):
+class PatientGame(server.ServedMatch):
     def __init__(self, *given: object) -> None:
         super().__init__(*given)
         games.append(self)
@@ -46,6 +46,6 @@ def wait_for_the_end() -> None:
 
 
 if __name__ == "__main__":
-    server.Game = PatientGame
+    server.ServedMatch = PatientGame
     threading.Thread(target=wait_for_the_end, daemon=True).start()
     sys.exit(main())

@@ -11,7 +11,7 @@ from lab.rules.model import (ENDED, GONE, LAST, MAX_LINE, OUTSIDE, OVER, Match, 
                              denial, judge, rank, spelled, text_of)
 
 
-class Game:
+class ServedMatch:
     """One match under its lock, with its held links and the arrivals that were not told yet."""
 
     def __init__(self, fixture: Fixture, turns: Turns) -> None:
@@ -73,7 +73,7 @@ class Game:
 class Session:
     """One connection of a client."""
 
-    def __init__(self, connection: socket.socket, keys: Dict[str, Tuple[Game, int]], taken: Set[str]) -> None:
+    def __init__(self, connection: socket.socket, keys: Dict[str, Tuple[ServedMatch, int]], taken: Set[str]) -> None:
         self.connection = connection
         self.reader = connection.makefile("rb")
         self.keys = keys
@@ -118,7 +118,7 @@ class Session:
         self.taken.add(command["key"])
         return self.keys[command["key"]]
 
-    def play(self, game: Game, agent: int, lines: Any) -> None:
+    def play(self, game: ServedMatch, agent: int, lines: Any) -> None:
         reply = game.tell(agent, {"do": "enter"})
         try:
             self.say(reply)
@@ -135,12 +135,12 @@ class Session:
             game.tell(agent, {"do": "leave"})
 
 
-def games_of(path: str) -> Tuple[List[Game], Dict[str, Tuple[Game, int]]]:
+def games_of(path: str) -> Tuple[List[ServedMatch], Dict[str, Tuple[ServedMatch, int]]]:
     """The matches of a tournament file and the seats of its keys. The files must be right: ask `arena check`."""
     tournament = read_tournament(path)
     games, keys = [], {}
     for number, fixture in enumerate(tournament.fixtures):
-        game = Game(fixture, Turns(tournament.delays, tournament.seed, number))
+        game = ServedMatch(fixture, Turns(tournament.delays, tournament.seed, number))
         games.append(game)
         keys.update({key: (game, agent) for agent, key in enumerate(fixture.keys)})
     return games, keys
@@ -155,7 +155,7 @@ def table(rows: List[Tuple[str, Verdict]]) -> str:
     return "".join(f"{a:>3} {b:<16} {c:<10} {d:>6} {e:>4}\n" for a, b, c, d, e in lines)
 
 
-def host(listener: socket.socket, sessions: int, keys: Dict[str, Tuple[Game, int]]) -> None:
+def host(listener: socket.socket, sessions: int, keys: Dict[str, Tuple[ServedMatch, int]]) -> None:
     """Serves this number of sessions to their ends."""
     taken: Set[str] = set()
     threads = []

@@ -4,7 +4,7 @@ import tempfile
 import unittest
 from typing import List, Optional
 
-from lab.play.server import Game
+from lab.play.server import ServedMatch
 from lab.rules.delays import Delays, Turns
 from lab.rules.fixtures import fixture_of, read_tournament, tournament_text
 from lab.rules.model import Setup
@@ -17,7 +17,7 @@ SEED = "07" * 32
 def turns_of_moves(delays: Optional[Delays], is_other_destroyed: bool, moves: int) -> List[int]:
     """After how many turns each move of agent 0 ends, on a ring whose black hole agent 1 departs for or not."""
     network = ring(6)
-    game = Game(fixture_of(Setup(network.nodes, network.links, 0, [5], 2, 1000, 64)), Turns(delays, SEED, 0))
+    game = ServedMatch(fixture_of(Setup(network.nodes, network.links, 0, [5], 2, 1000, 64)), Turns(delays, SEED, 0))
     for agent in range(2):
         game.tell(agent, {"do": "enter"})
     if is_other_destroyed:

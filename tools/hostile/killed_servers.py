@@ -59,7 +59,7 @@ class Kill(NamedTuple):
     turns: int
 
 
-class Player(threading.Thread):
+class Client(threading.Thread):
     """An agent that enters and looks, and when it was answered."""
 
     def __init__(self, port: int, team: str) -> None:
@@ -112,16 +112,16 @@ def try_kill(program: str, kill: Kill, folder: pathlib.Path) -> None:
                           stderr=subprocess.DEVNULL) as server:
         if server.stdout.readline() != f"listening {port}\n".encode():
             raise Wrong("the server did not start")
-        players = [Player(port, team) for team in TEAMS]
-        for player in players:
-            player.start()
+        clients = [Client(port, team) for team in TEAMS]
+        for client in clients:
+            client.start()
         time.sleep(kill.after)
         server.kill()
         end = time.monotonic()
-    for number, player in enumerate(players):
-        player.join(PATIENCE)
+    for number, client in enumerate(clients):
+        client.join(PATIENCE)
         found = told_events(replay_of(program, folder, number))
-        old = sum(moment < end - OLD for moment in player.answered)
+        old = sum(moment < end - OLD for moment in client.answered)
         if found < old:
             raise Wrong(f"match {number} has {found} commands, and {old} were answered {OLD} s before")
 

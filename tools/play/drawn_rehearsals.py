@@ -195,7 +195,7 @@ def files_of(ready: Sequence[Ready]) -> Dict[str, str]:
     return {**files, "cup.toml": "".join(rows)}
 
 
-class Player:
+class ScriptMaker:
     """Makes a script, instruction by instruction, and has what each prints."""
 
     def __init__(self, ready: Sequence[Ready], chance: random.Random) -> None:
@@ -270,14 +270,14 @@ def drawn(agents: int) -> Drawn:
     chance = random.Random(agents)
     ready = [ready_by_chance(0, agents, chance), ready_by_chance(1, 65 - agents, chance)]
     files = files_of(ready)
-    player = Player(ready, chance)
-    player.all_depart()
+    maker = ScriptMaker(ready, chance)
+    maker.all_depart()
     for turn in range(4 * 65):
-        player.draw(turn % 2)
+        maker.draw(turn % 2)
     for _ in range(300):
-        player.anything(70)
+        maker.anything(70)
     for game in range(2):
-        player.close(game)
+        maker.close(game)
     for conn in range(0, 70, 7):
-        player.say(conn, b'{"do":"look"}')
-    return Drawn(files, player.script, player.printed, player.rehearsal.seen)
+        maker.say(conn, b'{"do":"look"}')
+    return Drawn(files, maker.script, maker.printed, maker.rehearsal.seen)
