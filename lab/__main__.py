@@ -8,6 +8,7 @@ from typing import List, NamedTuple, Optional, Tuple
 
 import lab
 from lab import BY_PYTHON
+from lab.commands import ways
 from lab.rules import refusals
 from lab.rules.engines import Refused
 from lab.support.faults import Fault
@@ -30,6 +31,8 @@ COMMANDS = {
     "new": Command("lab.commands.new", "begin an agent in Python, JavaScript, Java, C, C++, Rust or Go", ()),
     "examples": Command("lab.commands.examples", "say where the examples stand, or copy them", ()),
     "play": Command("lab.commands.play", "be the agents yourself, in the terminal or on a page", PAGES + ("aiohttp",)),
+    "try": Command("lab.commands.ways", "try a team: play it, hunt, explore or draw schedules, by --how",
+                   PLAYS + PAGES + ("hypothesis",)),
     "run": Command("lab.commands.run", "play a team under schedules of a scheduler", PLAYS + PAGES),
     "check": Command("lab.commands.check", "check an agent before it is handed in",
                      PLAYS + PAGES + ("hypothesis",)),
@@ -106,7 +109,7 @@ def end(*_: object) -> None:
 
 def main(given: Optional[List[str]] = None, name: str = BY_PYTHON) -> int:
     lab.called = name
-    words, strange = parser(name).parse_known_args(given)
+    words, strange = parser(name).parse_known_args(ways.spelled(sys.argv[1:] if given is None else given))
     if strange:
         # with the usage of the command, where argparse has that of the lab
         words.refuse(f"unrecognized arguments: {' '.join(strange)}")

@@ -118,7 +118,7 @@ def play(network: NetworkLike, agents: Union[AgentLike, Sequence[AgentLike]], sc
 
 def said_of(record: Record) -> str:
     """The verdict of a match, and what else failed in it."""
-    return "; ".join([finds.verdict_text(record.verdict), *record.played.faults])
+    return "; ".join([str(record.verdict), *record.played.faults])
 
 
 class Exploration(NamedTuple):

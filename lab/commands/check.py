@@ -139,7 +139,7 @@ def matches(asked: Checked) -> Tuple[int, Optional[ToMend]]:
 def failure(record: Record, where: str) -> str:
     """What is wrong with a match."""
     faults = [*record.played.faults, *record.played.refused]
-    return "; ".join([f"{where} the match came to {finds.verdict_text(record.verdict)}", *faults])
+    return "; ".join([f"{where} the match came to {record.verdict}", *faults])
 
 
 def hunt(asked: Checked) -> Tuple[int, Optional[ToMend]]:

@@ -6,7 +6,7 @@ from typing import Any, List, NamedTuple, Sequence, Tuple
 from lab.commands.trying import FAILURES, Search, Wanted, all_tried, in_turn, shown_failure, shown_schedule
 from lab.rules.engines import Differs
 from lab.rules.fixtures import Fixture
-from lab.rules.model import Object
+from lab.rules.model import SOLVED, Object, Verdict
 from lab.search.asking import BREAKS, EXCEEDS, Draws, asked
 from lab.search.machines import Machines
 from lab.search.pasts import NoFunction
@@ -97,8 +97,9 @@ def shown_worst(wanted: Wanted, draws: Draws, tries: List[Tried]) -> None:
     worst = max(tries, key=lambda tried: measure_of(draws, found_in(tried)))
     found, setup = found_in(worst), worst.fixture.setup
     what = "agents lost" if draws.hunt == "lost" else "moves"
-    print(f"most {what}: home {setup.home} holes {setup.holes}, solved moves {found['moves']} lost {found['lost']}")
-    shown_schedule(wanted, worst, ("solved", found["moves"], found["lost"]))
+    verdict = Verdict(SOLVED, found["moves"], found["lost"])
+    print(f"most {what}: home {setup.home} holes {setup.holes}, {verdict}")
+    shown_schedule(wanted, worst, verdict)
 
 
 def measure_of(draws: Draws, found: Object) -> Tuple[int, int]:

@@ -66,7 +66,7 @@ def told(hunter: Hunter, best: Trial, keep: pathlib.Path, program: Optional[str]
     print(f"{hunter.tried} schedules were tried: {said}")
     if best.has_failed or looked_for != FAILURE:
         print(f"{'it comes to' if best.has_failed else 'the most ' + looked_for}: home {setup.home} holes "
-              f"{setup.holes}, {finds.verdict_text(best.played.verdict())}")
+              f"{setup.holes}, {best.played.verdict()}")
         for fault in best.played.faults:
             if SAYS_OTHERWISE in fault:
                 print(fault)

@@ -13,7 +13,6 @@ from typing import Dict, List, NamedTuple, Optional, Tuple
 
 from lab import api
 from lab.commands.words import add_program
-from lab.play.finds import verdict_text
 from lab.rules.engines import program_at
 from lab.rules.model import Verdict
 from lab.support.built import LAB
@@ -91,7 +90,7 @@ def caught(name: str, program: str) -> Tuple[Caught, Caught]:
 def line_of(name: str, hunted: Caught, explored: Caught) -> str:
     found = f"{hunted.tries} schedules, {hunted.seconds:.1f} s" if hunted.is_caught else "NOT CAUGHT"
     tried = f"{explored.tries} states, {explored.seconds:.1f} s" if explored.is_caught else "NOT CAUGHT"
-    verdict = verdict_text(hunted.verdict) if hunted.verdict else ""
+    verdict = str(hunted.verdict or "")
     return f"{name:<20} hunt: {found:<24} {verdict:<28} explore {PLANS[name].explored.network}: {tried}"
 
 

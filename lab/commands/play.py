@@ -161,7 +161,7 @@ def sight(match: HumanMatch, now: int) -> str:
 def end_of(match: HumanMatch) -> List[str]:
     """Ends the match, and says all of it."""
     found, setup, far = match.end(), match.fixture.setup, match.match.far
-    lines = ["", f"The match is over: {found.outcome} moves {found.moves} lost {found.lost}",
+    lines = ["", f"The match is over: {found}",
              f"The home base is node {setup.home}."]
     if setup.holes:
         lines.append(f"The black hole is node {setup.holes[0]}.")

@@ -54,7 +54,7 @@ def run(words: argparse.Namespace) -> int:
         print(f"lab: {file} is another file than when the schedule was made", file=sys.stderr)
     program = program_of(words)
     played = finds.played_again(schedule, program)
-    print(finds.verdict_text(played.verdict()))
+    print(played.verdict())
     for fault in [*played.faults, *played.refused]:
         print(fault)
     if words.out:
@@ -73,7 +73,7 @@ def follow(words: argparse.Namespace, schedule: Schedule) -> int:
     """Follows the schedule as far as the agents go along."""
     program = program_of(words)
     made, played, followed = finds.followed_again(schedule, program)
-    print("\n".join([str(followed), finds.verdict_text(played.verdict()), *played.faults, *played.refused]))
+    print("\n".join([str(followed), str(played.verdict()), *played.faults, *played.refused]))
     if words.out:
         words.out.write_bytes(played.replay)
     if words.keep:

@@ -35,7 +35,7 @@ import sys
 from typing import Counter, Iterable, List, Optional, TextIO, Tuple
 
 from lab.commands.words import add_engine, add_match, add_repeat, at_least_one, game_of, program_of
-from lab.play import finds, games
+from lab.play import games
 from lab.play.games import Asked, Row
 
 
@@ -122,7 +122,7 @@ def report(tally: Tally, best: Row, keep: Optional[pathlib.Path], out: TextIO) -
     beside = f", of which {tally.beside} solved, but an agent failed" if tally.beside else ""
     lines: List[str] = [f"{played} schedule{'' if played == 1 else 's'}: {counts}; failed {tally.failed}{beside}",
                         f"{told}: seed {best['seed']}, home {best['home']}, holes {best['holes']}, "
-                        f"{finds.verdict_text(record.verdict)}", *record.faults(), *record.played.refused]
+                        f"{record.verdict}", *record.faults(), *record.played.refused]
     print("\n".join(lines), file=out)
     if keep:
         print("\n".join(record.keep(keep)), file=out)

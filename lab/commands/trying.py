@@ -9,6 +9,7 @@ from lab.play.schedules import schedule_of
 from lab.play.teams import INSIDE, Game
 from lab.rules.engines import name_of
 from lab.rules.fixtures import Fixture
+from lab.rules.model import Verdict
 from lab.search.asking import BREAKS, ENDLESS, EXCEEDS, FAILS, SOLVES, asked
 from lab.search.checking import Checks
 from lab.search.explore import Explored, explored
@@ -190,18 +191,18 @@ def shown_failure(wanted: Wanted, tried: Tried) -> int:
         most = "at most " if tried.fixture.held else ""
         print(f"it comes to: home {setup.home} holes {setup.holes}, {found['outcome']} moves {found['moves']} lost "
               f"{most}{found['lost']}")
-    verdict = (found["outcome"], found["moves"], found["lost"]) if found["found"] == FAILS else None
+    verdict = Verdict(found["outcome"], found["moves"], found["lost"]) if found["found"] == FAILS else None
     keep(wanted, tried, choices, verdict)
     return 1
 
 
-def shown_schedule(wanted: Wanted, tried: Tried, verdict: Tuple[str, int, int]) -> None:
+def shown_schedule(wanted: Wanted, tried: Tried, verdict: Verdict) -> None:
     """Writes the schedule that the program tells, once the agents have played it to this verdict."""
     found, game = found_in(tried), wanted.game
     keep(wanted, tried, choices_of(tried.fixture, game.agents, found["schedule"], None, game.limit), verdict)
 
 
-def keep(wanted: Wanted, tried: Tried, choices: List[Choice], verdict: Optional[Tuple[str, int, int]]) -> None:
+def keep(wanted: Wanted, tried: Tried, choices: List[Choice], verdict: Optional[Verdict]) -> None:
     """Writes a schedule, once the agents have played it."""
     game, found = wanted.game, found_in(tried)
     schedule = schedule_of(tried.fixture, game.agents, f"explore{game.origin}", choices, game.limit)
@@ -239,7 +240,7 @@ def told_by_model(game: Game, all_found: List[Explored], keep: pathlib.Path, pro
     if end is not None:
         setup = worst.explorer.fixture.setup
         print(f"{'it comes to' if end.has_failed else 'most moves'}: home {setup.home} holes {setup.holes}, "
-              f"{finds.verdict_text(end.verdict)}")
+              f"{end.verdict}")
         played = finds.keep(keep, worst.schedule(game), program)
         if played.verdict() != end.verdict:
             raise NoFunction("played again it comes to another verdict: explore needs agents that are functions of "

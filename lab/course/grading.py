@@ -28,7 +28,9 @@ from lab.play.matches import Played, play
 from lab.play.schedulers import Scheduler, in_runs
 from lab.play.schedules import Schedule, schedule_of
 from lab.play.spread import Result
+from lab.play.summaries import Summary
 from lab.rules.engines import name_of
+from lab.rules.model import SOLVED, Verdict
 from lab.search.cutting import Cut, Runs, in_words, noted, runs_of
 from lab.support.missing import Missing
 from lab.support.progress import along
@@ -91,7 +93,7 @@ class Graded(NamedTuple):
         row = sweeping.row_for(case, schedule, played, self.program)
         place = self.place(case)
         cells.remove(place)
-        if played.has_failed() or row[tables.COLUMNS.index("outcome")] != "solved":
+        if played.has_failed() or tables.row_of(row)["outcome"] != SOLVED:
             finds.write_find(place, schedule, played, self.program)
         else:
             self.replay_of(case).parent.mkdir(exist_ok=True)
@@ -163,10 +165,7 @@ def written(out: pathlib.Path, cases: Sequence[Case]) -> Dict[str, float]:
 
 def unplayed(played: Course, case: Case, fault: str) -> List[str]:
     """The row of a match that was not played."""
-    setup = played.fixture(case).setup
-    found = (case.number, case.network, setup.nodes, len(setup.links), setup.home, case.hole, case.team.name,
-             setup.agents, case.scheduler, case.seed, league.UNPLAYED, 0, 0, 0, 0, "", "", " ".join(fault.split()))
-    return tables.checked(list(map(str, found)))
+    return sweeping.cells_for(case, played.fixture(case), Summary(Verdict(league.UNPLAYED, 0, 0), faults=[fault]))
 
 
 class Cutting(NamedTuple):

@@ -58,7 +58,7 @@ def place_of(shown: Shown) -> Tuple[int, int, int, str]:
 
 def page_of(title: str, matches: List[Shown]) -> str:
     """The page that lists the matches."""
-    solved = sum(one.verdict is not None and one.verdict.outcome == "solved" for one in matches)
+    solved = sum(one.verdict is not None and one.verdict.is_solved for one in matches)
     came = [Came(one.team, one.name, one.verdict, one.has_entered, one.is_trap) for one in matches]
     return filled("contest.html", title=title, matches=sorted(matches, key=place_of), solved=solved,
                   teams=ranked(came), networks=networks_of(came))

@@ -31,7 +31,7 @@ def shown(watched: Watched, all_closed: bool) -> Row:
         entered = sum(agent.standing != OUTSIDE for agent in match.agents)
         return {"team": team, "state": RUNS, "entered": entered, "agents": match.setup.agents, "since": since}
     verdict, has_come = judge(match), any(agent.standing != OUTSIDE for agent in match.agents)
-    outcome = verdict.outcome if all_closed else verdict.outcome.partition(" ")[0]
+    outcome = verdict.outcome if all_closed else verdict.kind
     return {"team": team, "state": OVER, "outcome": outcome, "moves": verdict.moves, "lost": verdict.lost,
             "came": has_come}
 

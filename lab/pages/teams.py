@@ -9,9 +9,7 @@ hole accuses there, and is deceived; there is nothing to solve.
 """
 from typing import Dict, List, NamedTuple, Optional, Sequence, Tuple
 
-from lab.rules.model import Verdict
-
-SOLVED, WRONG = "solved", "wrong"
+from lab.rules.model import WRONG, Verdict
 
 
 class Came(NamedTuple):
@@ -67,7 +65,7 @@ def row_of(team: str, own: Sequence[Came]) -> Ranked:
 
 
 def is_solved(it: Came) -> bool:
-    return it.verdict is not None and it.verdict.outcome == SOLVED
+    return it.verdict is not None and it.verdict.is_solved
 
 
 def networks_of(found: Sequence[Came]) -> List[str]:

@@ -12,7 +12,6 @@ from lab.play.schedules import Schedule, schedule_of, text_of
 from lab.play.teams import Together
 from lab.rules.engines import Engine, Program, judged, name_of
 from lab.rules.fixtures import write_tournament
-from lab.rules.model import Verdict
 from lab.rules.rehearsal import Rehearsal
 from lab.support import built
 from lab.support.missing import Missing
@@ -54,10 +53,6 @@ def followed_again(schedule: Schedule, program: Optional[str]) -> Tuple[Schedule
     return made, played, following
 
 
-def verdict_text(verdict: Verdict) -> str:
-    return f"{verdict.outcome} moves {verdict.moves} lost {verdict.lost}"
-
-
 def write_find(folder: pathlib.Path, schedule: Schedule, played: Played, program: Optional[str]) -> List[str]:
     """Writes a match that was played: its schedule, the tournament and the script for `arena rehearse`, its replay, and
     a page of it. Gives what is to be said of it."""
@@ -74,7 +69,7 @@ def write_find(folder: pathlib.Path, schedule: Schedule, played: Played, program
         said.append("the Python model played it, which proves nothing: the program was not asked")
         return said + written_page(folder, None, schedule.title(), played.refused)
     by = "" if name_of(program) == built.PROGRAM else f" (by {name_of(program)})"
-    said.append(f"the program's verdict: {verdict_text(judged(program, folder / REPLAY))}{by}")
+    said.append(f"the program's verdict: {judged(program, folder / REPLAY)}{by}")
     return said + written_page(folder, program, schedule.title(), played.refused)
 
 

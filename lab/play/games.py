@@ -2,6 +2,7 @@
 
 The commands `run` and `hunt` and the functions of lab/api.py play games.
 """
+import dataclasses
 import hashlib
 import html
 import json
@@ -16,8 +17,9 @@ from lab.play.matches import Played, play
 from lab.play.repeating import all_repeated
 from lab.play.schedules import Schedule, schedule_of
 from lab.play.spread import over_processes
+from lab.play.summaries import Summary, summary_of, verdict_by
 from lab.play.teams import Game, Together
-from lab.rules.engines import Differs, judged
+from lab.rules.engines import Differs
 from lab.rules.model import Verdict
 from lab.support.faults import Fault
 from lab.support.progress import along
@@ -103,12 +105,11 @@ class Record(NamedTuple):
 
     def judged(self) -> Verdict:
         """The verdict of the engine that played it."""
-        if self.program is None:
-            return self.verdict
-        with tempfile.NamedTemporaryFile(suffix=".jsonl") as file:
-            file.write(self.played.replay)
-            file.flush()
-            return judged(self.program, pathlib.Path(file.name))
+        return verdict_by(self.program, self.played)
+
+    def summary(self) -> Summary:
+        """What came of it, with what is said of agents that have used all of their commands."""
+        return dataclasses.replace(summary_of(self.played, self.program), faults=self.faults())
 
     def _repr_html_(self) -> str:
         return framed(self.page())
@@ -123,16 +124,13 @@ class Row(Dict[str, Any]):
     """A row of a table: what was played and what came of it. pandas.DataFrame takes a list of them."""
 
     def __init__(self, asked: "Asked", record: Record) -> None:
-        fixture, match, verdict = record.schedule.fixture, record.played.match, record.judged()
-        setup = fixture.setup
+        setup, summary = record.schedule.fixture.setup, record.summary()
         super().__init__(
             network=asked.game.name, nodes=setup.nodes, links=len(setup.links), home=setup.home,
             holes=list(setup.holes), dark=[list(place) for place in setup.dark], agents=setup.agents,
-            scheduler=name_of(asked.scheduler), seed=asked.seed, outcome=verdict.outcome, moves=verdict.moves,
-            lost=verdict.lost, commands=sum(agent.used for agent in match.agents), events=len(match.log),
-            choices=len(record.schedule.choices), failed=record.has_failed,
-            replay=hashlib.sha256(record.played.replay).hexdigest(), faults=record.faults(),
-            refused=record.played.refused)
+            scheduler=name_of(asked.scheduler), seed=asked.seed, **summary.columns(),
+            choices=len(record.schedule.choices), failed=record.has_failed, replay=summary.replay,
+            faults=list(summary.faults), refused=record.played.refused)
         self._asked = asked
         self._record: Optional[Record] = record
 

@@ -68,7 +68,7 @@ class Played(NamedTuple):
 
     def has_failed(self) -> bool:
         """Whether the team has not solved its network, or one of its agents has a fault."""
-        return bool(self.faults) or self.verdict().outcome != "solved"
+        return bool(self.faults) or not self.verdict().is_solved
 
 
 def changes_board(event: Object) -> bool:

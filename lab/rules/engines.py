@@ -85,9 +85,7 @@ def asked(program: str, *words: str) -> str:
 
 def judged(program: str, replay: pathlib.Path) -> Verdict:
     """The program's verdict on a replay, which it prints as `guess 1 moves 0 lost 0`."""
-    outcome, _, counts = asked(program, "judge", str(replay)).strip().partition(" moves ")
-    moves, _, lost = counts.partition(" lost ")
-    return Verdict(outcome, int(moves), int(lost))
+    return Verdict.printed(asked(program, "judge", str(replay)))
 
 
 class Program:

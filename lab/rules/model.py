@@ -314,14 +314,34 @@ class Verdict(NamedTuple):
     moves: int
     lost: int
 
+    def __str__(self) -> str:
+        """As the program prints it."""
+        return f"{self.outcome} moves {self.moves} lost {self.lost}"
+
+    @classmethod
+    def printed(cls, line: str) -> "Verdict":
+        """The verdict that the program has printed so."""
+        outcome, _, counts = line.strip().partition(" moves ")
+        moves, _, lost = counts.partition(" lost ")
+        return cls(outcome, int(moves), int(lost))
+
+    @property
+    def kind(self) -> str:
+        """The outcome, without the node of a guess."""
+        return self.outcome.partition(" ")[0]
+
+    @property
+    def is_solved(self) -> bool:
+        return self.outcome == SOLVED
+
 
 # what a match may come to, best first, as the arena's table ranks it
-RANKS = ("solved", "guess", "unfinished", "silent", "wrong")
+RANKS = SOLVED, GUESS, UNFINISHED, SILENT, WRONG = ("solved", "guess", "unfinished", "silent", "wrong")
 
 
 def rank(verdict: Verdict, team: str) -> Tuple[int, int, int, str]:
     """Where a verdict stands in the table: by its kind, then by few moves, few lost agents, and the team's name."""
-    return RANKS.index(verdict.outcome.partition(" ")[0]), verdict.moves, verdict.lost, team
+    return RANKS.index(verdict.kind), verdict.moves, verdict.lost, team
 
 
 def judge(match: Match) -> Verdict:

@@ -145,7 +145,7 @@ class Explorer:
         verdict = Verdict(outcome_of(match), sum(past.moves for past in state.pasts), lost)
         stuck = any(past.state == SLEEPS for past in state.pasts)
         ended = [own.closed(past) if past.state == TRAVELS else past for own, past in zip(self._pasts, state.pasts)]
-        has_failed = verdict.outcome != "solved" or stuck or any(past.fault for past in ended)
+        has_failed = not verdict.is_solved or stuck or any(past.fault for past in ended)
         end = End(has_failed, verdict, number)
         self.most_lost = max(self.most_lost, lost)
         if self.worst is None or end.rank() > self.worst.rank():

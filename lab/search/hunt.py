@@ -3,7 +3,7 @@
 import pathlib
 from typing import Any, Callable, Dict, NamedTuple, Optional, Sequence, Tuple
 
-from lab.play import finds, teams
+from lab.play import teams
 from lab.play.matches import Played, play
 from lab.play.repeating import all_repeated
 from lab.play.schedulers import in_runs
@@ -86,7 +86,7 @@ class Hunter:
         self.tried += 1
         if self.best is None or (trial.has_failed, worth) > (self.best.has_failed, self.best.worth):
             self.best = trial
-            self._shown.set_postfix_str(finds.verdict_text(verdict))
+            self._shown.set_postfix_str(str(verdict))
         self._shown.update()
         return trial
 

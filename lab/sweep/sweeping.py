@@ -2,7 +2,6 @@
 import hashlib
 import pathlib
 import sys
-import tempfile
 from typing import Any, Dict, Iterable, Iterator, List, NamedTuple, Optional, Sequence, Tuple
 
 from lab.play.agent_files import digests
@@ -12,14 +11,15 @@ from lab.play.matches import Played, play
 from lab.play.outside import watch
 from lab.play.schedules import Schedule, schedule_of
 from lab.play.spread import Result, over_cluster, over_processes
+from lab.play.summaries import Summary, summary_of
 from lab.play.teams import Together
-from lab.rules.engines import NAMES, Differs, judged, name_of
+from lab.rules.engines import NAMES, Differs, name_of
 from lab.rules.fixtures import Fixture
 from lab.support.progress import along
 from lab.sweep import grid, report, verify
 from lab.sweep.grid import Case, Grid, NoSweep
-from lab.sweep.tables import (RUNS, NoTable, cells_in, changed_in, checked, done_in, line_of, made_by, note_read,
-                              rows_in)
+from lab.sweep.tables import (COLUMNS, RUNS, NoTable, cells_in, changed_in, checked, done_in, line_of, made_by,
+                              note_read, rows_in)
 
 SUMMARY, REPORT, WORST = "summary.csv", "report.html", "worst"
 # an agent may wait for a processor that has much other work: a row is not to depend on that
@@ -62,24 +62,22 @@ def played_case(work: Work, spec: Grid, case: Case) -> Tuple[Schedule, Played]:
 
 def row_for(case: Case, schedule: Schedule, played: Played, program: Optional[str]) -> List[str]:
     """The row of a run that was played. The program judges it, if there is one."""
-    match, verdict = played.match, played.verdict()
-    if program:
-        with tempfile.NamedTemporaryFile(suffix=".jsonl") as file:
-            file.write(played.replay)
-            file.flush()
-            verdict = judged(program, pathlib.Path(file.name))
-    commands = sum(agent.used for agent in match.agents)
-    found = (verdict.outcome, verdict.moves, verdict.lost, commands, len(match.log),
-             hashlib.sha256(played.replay).hexdigest(), "")
-    faults = [" ".join(fault.split()) for fault in played.faults]
-    return checked([*asked_of(case, schedule.fixture), *map(str, found), *(faults or [""])])
+    return cells_for(case, schedule.fixture, summary_of(played, program))
 
 
-def asked_of(case: Case, fixture: Fixture) -> List[str]:
+def cells_for(case: Case, fixture: Fixture, summary: Summary) -> List[str]:
+    """The row of a run, of which this came."""
+    row = {**asked_of(case, fixture), **summary.columns(), "replay": summary.replay, "check": ""}
+    faults = [" ".join(fault.split()) for fault in summary.faults]
+    return checked([*(str(row[name]) for name in COLUMNS[:-1]), *(faults or [""])])
+
+
+def asked_of(case: Case, fixture: Fixture) -> Dict[str, Any]:
     """The columns of a row that say which run it is."""
     setup = fixture.setup
-    return list(map(str, (case.number, case.network, setup.nodes, len(setup.links), setup.home, case.hole,
-                          case.team.name, setup.agents, case.scheduler, case.seed)))
+    return {"run": case.number, "network": case.network, "nodes": setup.nodes, "links": len(setup.links),
+            "home": setup.home, "hole": case.hole, "team": case.team.name, "agents": setup.agents,
+            "scheduler": case.scheduler, "seed": case.seed}
 
 
 def check_rows(spec: Grid, cases: Sequence[Case], folder: pathlib.Path) -> None:
@@ -90,7 +88,7 @@ def check_rows(spec: Grid, cases: Sequence[Case], folder: pathlib.Path) -> None:
         raise NoTable(f"{path}: it has {len(rows)} rows, and the sweep has {len(cases)} runs: name another folder")
     for case, row in zip(cases, rows):
         wanted = asked_of(case, spec.fixture(case))
-        if row[:len(wanted)] != wanted:
+        if any(cell != str(wanted[name]) for name, cell in zip(COLUMNS, row) if name in wanted):
             raise NoTable(f"{path}: line {case.number + 2} is of another run than the sweep has there: name another "
                           "folder, or remove this line and all below it, and start the same command again")
 

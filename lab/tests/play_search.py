@@ -11,7 +11,6 @@ from unittest import mock
 from lab.__main__ import main, parser
 from lab.commands import mutants
 from lab.commands.words import games_of
-from lab.play import finds
 from lab.play.matches import play
 from lab.play.schedulers import Choice
 from lab.play.teams import INSIDE, AgentWords, Together
@@ -130,7 +129,7 @@ class Exploring(Searches):
         words = ["--network", "ring:3", "--hole", "1", "--agents", "3", "--agent", MAP.words]
         worst = self.explored(*words).worst.verdict
         self.command("explore", *BY_MODEL, *words, *self.kept())
-        self.assertIn(f"the program's verdict: {finds.verdict_text(worst)}", self.said)
+        self.assertIn(f"the program's verdict: {worst}", self.said)
 
 
 class Hunting(Searches):

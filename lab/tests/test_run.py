@@ -41,8 +41,7 @@ class Tallies(unittest.TestCase):
         best.match().faults.return_value = []
         best.match().played.refused = []
         best.__getitem__ = mock.Mock(return_value=0)
-        with mock.patch("lab.commands.run.finds.verdict_text", return_value="solved"):
-            report(tally, best, None, said)
+        report(tally, best, None, said)
         self.assertIn("60 schedules: solved 60; failed 60, of which 60 solved, but an agent failed\n", said.getvalue())
 
 
