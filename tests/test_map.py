@@ -1,38 +1,74 @@
-"""CONTRIBUTING.md names each file that has to say something of a new command: those that name `Accuse` now."""
+"""CONTRIBUTING.md names each file that has to say something of a new command, option, column or scheduler: those that
+name one which is there."""
 import re
 import unittest
-from typing import Iterator
+from typing import Iterator, List, NamedTuple, Set
 
 from tests import TOP
 
-FOLDERS = ("src", "specs")
 PATH = re.compile(r"`([\w./-]+)`")
+KEPT = ("crates/", "docs/", "lab/", "tests/", "tools/", "examples/")
+CRATES = ("crates/*/src/**/*.rt", "crates/*/specs/**/*.antt")
+OWN = ("lab/**/*.py",)
+ROWS = ("tests/program/*.rows",)
 
 
-def section() -> str:
-    """What the page says of a new rule."""
+class Example(NamedTuple):
+    """What is looked for, and in which files; the tests of the lab are left out."""
+    pattern: str
+    globs: List[str]
+
+
+# by the second column of the table
+EXAMPLES = {
+    "`recover`": Example(r"\b[Rr]ecover(ed)?\b|print_recovered", [*CRATES, *ROWS, "tools/hostile/commands.py"]),
+    "`--gather`": Example(r"\bgather\b", [*CRATES, *ROWS, "lab/commands/*.py"]),
+    "`lost`": Example(r"\blost\b", ["crates/bhs_standings/s*/**/*.*t", "lab/play/server.py", "lab/pages/[st]*.py"]),
+    "`events`": Example(r'"events"', ["lab/play/*.py", "lab/sweep/*.py"]),
+    "`endure`": Example(r"commands\.endure|lab endure", [*OWN, "*.md", "docs/*.md", "lab/*.md"]),
+    "`slow-links`": Example(r"slow-links|SlowLinks", [*CRATES, *ROWS, *OWN]),
+}
+
+
+def section(head: str) -> str:
+    """What the page says under a head."""
     text = (TOP / "CONTRIBUTING.md").read_text(encoding="utf-8")
-    return text.partition("\n## To add a rule of the model\n")[2].partition("\n## ")[0]
+    return text.partition(f"\n## {head}\n")[2].partition("\n## ")[0]
 
 
-def files_with_it() -> Iterator[str]:
-    """The files of the code and of its definitions that name the command."""
-    for folder in FOLDERS:
-        for path in sorted(TOP.glob(f"crates/*/{folder}/**/*.*t")):
-            if re.search(r"\bAccuse\b", path.read_text(encoding="utf-8")):
-                yield str(path.relative_to(TOP))
+def files_with(pattern: str, globs: List[str]) -> Iterator[str]:
+    """The files in which the pattern stands."""
+    for glob in globs:
+        for path in sorted(TOP.glob(glob)):
+            name = str(path.relative_to(TOP))
+            if not name.startswith("lab/tests/") and re.search(pattern, path.read_text(encoding="utf-8")):
+                yield name
+
+
+def files_in(text: str) -> Set[str]:
+    """The files that a text names."""
+    return {name for name in PATH.findall(text) if "/" in name and name.startswith(KEPT)}
 
 
 class Map(unittest.TestCase):
-    def test_each_file_that_names_the_command_is_on_the_map(self) -> None:
-        named = set(PATH.findall(section()))
-        found = list(files_with_it())
+    def test_each_file_that_names_a_command_of_agents_is_on_the_map(self) -> None:
+        named = files_in(section("To add a rule of the model"))
+        found = list(files_with(r"\bAccuse\b", list(CRATES)))
         self.assertGreater(len(found), 20)
         self.assertEqual([file for file in found if file not in named], [])
 
+    def test_each_file_that_names_an_example_is_in_its_row(self) -> None:
+        rows = [row.split(" | ") for row in section("To add something else").splitlines() if row.startswith("| ")][1:]
+        self.assertEqual([row[1] for row in rows], list(EXAMPLES))
+        for _, like, files in rows:
+            with self.subTest(like):
+                found = set(files_with(*EXAMPLES[like]))
+                self.assertGreater(len(found), 1)
+                self.assertEqual(sorted(found - files_in(files)), [])
+
     def test_what_is_on_the_map_is_there(self) -> None:
-        for name in PATH.findall(section()):
-            if "/" in name and name.startswith(("crates/", "docs/", "lab/", "tests/", "tools/", "examples/")):
+        for head in ("To add a rule of the model", "To add something else"):
+            for name in files_in(section(head)):
                 with self.subTest(name):
                     self.assertTrue((TOP / name).exists())
 
