@@ -19,6 +19,8 @@ class Versions(unittest.TestCase):
     def test_who_cites_it_names_it(self) -> None:
         cited = re.findall(r"^version: (\S+)$", (TOP / "CITATION.cff").read_text(), re.M)
         self.assertEqual(cited, [VERSION])
+        noted = re.findall(r"Version (\S+)}", (TOP / "docs" / "PROTOCOLS.md").read_text())
+        self.assertEqual(noted, [VERSION])
 
 
 if __name__ == "__main__":
