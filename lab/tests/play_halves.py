@@ -58,7 +58,40 @@ def fixture(network: Network, hole: int, home: int, quota: int) -> Fixture:
     return fixture_of(Setup(network.nodes, network.links, home, [hole], 2, quota, 4))
 
 
+def worst_distance(nodes: int) -> int:
+    """`worst_distance` of crates/bhs_protocols/specs/Attained.antt."""
+    half = nodes // 2
+    return half - 2 ** (rounds(half) - 1) if half > 1 else 1
+
+
+def one_after_the_other(first: int) -> schedulers.Scheduler:
+    """This agent goes on as long as it can, then the other."""
+    return lambda choices, state: min(choices, key=lambda choice: choice.agent != first)
+
+
 class Protocols(unittest.TestCase):
+    def moves(self, name: str, nodes: int, hole: int, first: int, bounds: Bounds) -> int:
+        """The moves of a match in which one agent goes on until it is lost, and then the other."""
+        given = fixture(ring(nodes), hole, 0, bounds.commands)
+        found = play(Rehearsal(given), Together(team(name), given, 5), one_after_the_other(first), given)
+        self.check(found, bounds)
+        self.assertEqual(found.verdict().lost, 1)
+        return found.verdict().moves
+
+    def test_the_bound_of_the_halves_is_attained(self) -> None:
+        for nodes in SIZES:
+            with self.subTest(nodes=nodes):
+                bounds = halves(nodes)
+                self.assertEqual(self.moves("halves.py", nodes, worst_distance(nodes), 0, bounds), bounds.moves)
+
+    def test_the_bound_of_the_shuttle_is_attained(self) -> None:
+        for nodes in range(3, 10):
+            for hole in range(1, nodes):
+                with self.subTest(nodes=nodes, hole=hole):
+                    first = 0 if nodes - hole > 1 else 1
+                    found = self.moves("shuttle.py", nodes, hole, first, shuttle(nodes))
+                    self.assertEqual(found, hole ** 2 + (nodes - hole) ** 2 - 1)
+
     def check(self, found: Played, bounds: Bounds) -> None:
         self.assertFalse(found.has_failed())
         self.assertLessEqual(found.verdict().moves, bounds.moves)

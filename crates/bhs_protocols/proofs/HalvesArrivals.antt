@@ -206,7 +206,7 @@ module _ {game : Game} (on : Turn game) where
       → port ≡ ways.ahead s M.mine → picture.accused s ≡ None
       → ((k : ℕ) → picture.reached k ≡ true → seen k ≡ true)
       → ((k : ℕ) → 0 < k → k ≤ M.mine + 1 → seen (ways.node s k) ≡ true) → costs ≤ 1
-      → (B - 2) + 0 + W ≤ owing B W M.mine M.phase
+      → (B - 2) + 0 + W ≡ owing B W M.mine M.phase
       → 2 ≤ paces M.phase + stale game s M M.phase picture.shown
       → Onward game s o v w picture (turn_in trial picture s)
   learns place news costs port came seen becomes is there more next ahead none grows reached once dues fewer =
@@ -263,7 +263,7 @@ module _ {game : Game} (on : Turn game) where
       → port ≡ ways.ahead (opposite s) steps → picture.accused s ≡ None
       → ((k : ℕ) → picture.reached k ≡ true → seen k ≡ true)
       → ((k : ℕ) → 0 < k → k ≤ M.mine → seen (ways.node s k) ≡ true) → costs ≤ 1
-      → moved + ((B - 0) + 0 + (W - (M.mine + steps))) ≤ owing B W M.mine M.phase
+      → moved + ((B - 0) + 0 + (W - (M.mine + steps))) ≡ owing B W M.mine M.phase
       → 2 ≤ paces M.phase + stale game s M M.phase picture.shown + 2 * moved
       → Onward game s o v w picture (turn_in trial picture s)
   follows_at steps port place news costs moved came seen becomes is there done few ahead none grows reached once

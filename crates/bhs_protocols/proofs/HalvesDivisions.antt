@@ -1,5 +1,5 @@
 -- The search by halves: an agent divides what is left.
-use Rattle.std.proofs.Common.{ℕ, zero, suc, ◌+◌, ◌-◌, ◌*◌, ◌/◌, ◌<◌, ◌≤◌, ◌≡◌, true, false, not, ◌==◌, Option, None}
+use Rattle.std.proofs.Common.{ℕ, zero, suc, ◌+◌, ◌-◌, ◌*◌, ◌/◌, ◌<◌, ◌≤◌, ◌≡◌, true, false, ◌==◌, Option, None}
 use Rattle.std.proofs.Common.{List, length, refl, sym, ap, ◌∙◌, subst, nat_lt, inl, inr, arith}
 use Rattle.std.specs.Prelude.{◌≢◌, bytes_eq}
 use Rattle.std.proofs.lemmas.Bool.{lt-ltb, ltb-true, true≢false, eq-eqb, cond-true, cond-false}
@@ -212,15 +212,11 @@ module _ {game : Game} (on : Turn game) where
       ways_are (walks_at n (rest_of game s after 0)) in
       let ways_o : ways_due (walks_at n (rest_of game o O mark)) O.mine O.phase ≤ walks_at n (rest_of game o O mark) =
       ways_small (walks_at n (rest_of game o O mark)) O.mine O.phase in
-      let numbers : (due game s after 0 + due game o O mark ≤ due game s M v + due game o O w)
-      × (rounds (rest_of game s after 0) + rounds (rest_of game o O mark) + 1
-      ≤ rounds (rest_of game s M v) + rounds (rest_of game o O w)) =
-      by_cases (nat_lt (part n after 0) (distance game s))
-      ((due game s after 0 + due game o O mark ≤ due game s M v + due game o O w)
-      × (rounds (rest_of game s after 0) + rounds (rest_of game o O mark) + 1
-      ≤ rounds (rest_of game s M v) + rounds (rest_of game o O w)))
-      (λ yes.
-      let before : part n after 0 < distance game s = ltb-true (part n after 0) (distance game s) yes in
+      let exactly : part n after 0 < distance game s
+      → 0 + due game s after 0 + due game o O mark + W
+      ≡ due game s M v + due game o O w + 2 * (n - 1 - rest) + walks_at n (rest - rest / 2) = λ before.
+      let yes : nat_lt (part n after 0) (distance game s) ≡ true =
+      lt-ltb (part n after 0) (distance game s) before in
       let last_s_after : last (part n after 0) (distance game s) ≡ 0 = cond-true _ _ _ yes in
       let rest_after : rest_of game s after 0 ≡ rest - rest / 2 =
       cond-true _ _ _ yes ∙ halves_left M.mine steps rest all in
@@ -231,24 +227,43 @@ module _ {game : Game} (on : Turn game) where
       let walks_after : walks_at n (rest_of game s after 0) ≡ walks_at n (rest - rest / 2) =
       ap (walks_at n) rest_after in
       let walks_o_after : walks_at n (rest_of game o O mark) ≡ 0 = ap (walks_at n) rest_o_after in
+      let ways_same : ways_due (walks_at n (rest_of game o O mark)) O.mine O.phase
+      ≡ ways_due (walks_at n (rest_of game o O w)) O.mine O.phase =
+      ap (λ (k : ℕ). ways_due k O.mine O.phase) (walks_o_after ∙ sym walks_o) in
+      omega (
+        arith,
+        q,
+        none_spent,
+        back_is,
+        ways_after,
+        ways_same,
+        last_s,
+        last_s_after,
+        last_o,
+        last_o_after,
+        walks_after,
+        paid,
+        all,
+      ) in
+      let numbers : (due game s after 0 + due game o O mark ≤ due game s M v + due game o O w)
+      × (rounds (rest_of game s after 0) + rounds (rest_of game o O mark) + 1
+      ≤ rounds (rest_of game s M v) + rounds (rest_of game o O w)) =
+      by_cases (nat_lt (part n after 0) (distance game s))
+      ((due game s after 0 + due game o O mark ≤ due game s M v + due game o O w)
+      × (rounds (rest_of game s after 0) + rounds (rest_of game o O mark) + 1
+      ≤ rounds (rest_of game s M v) + rounds (rest_of game o O w)))
+      (λ yes.
+      let before : part n after 0 < distance game s = ltb-true (part n after 0) (distance game s) yes in
+      let exact : 0 + due game s after 0 + due game o O mark + W
+      ≡ due game s M v + due game o O w + 2 * (n - 1 - rest) + walks_at n (rest - rest / 2) = exactly before in
+      let rest_after : rest_of game s after 0 ≡ rest - rest / 2 =
+      cond-true _ _ _ yes ∙ halves_left M.mine steps rest all in
+      let over : nat_lt (part n O mark) (distance game o) ≡ false =
+      not_lt (part n O mark) (distance game o) (omega (arith, before, part_s, part_o, all, last_node, ds)) in
+      let rest_o_after : rest_of game o O mark ≡ 1 = cond-false _ _ _ over in
       let rounds_after : rounds (rest_of game s after 0) ≡ rounds (rest - rest / 2) = ap rounds rest_after in
       let rounds_o_after : rounds (rest_of game o O mark) ≡ 0 = ap rounds rest_o_after in (
-        omega (
-          arith,
-          q,
-          none_spent,
-          back_is,
-          ways_after,
-          ways_o,
-          last_s,
-          last_s_after,
-          last_o,
-          last_o_after,
-          walks_after,
-          walks_o_after,
-          paid,
-          all,
-        ),
+        omega (arith, exact, paid),
         omega (arith, rounds_after, rounds_o_after, halved, rounds_more),
       ))
       (λ none.
@@ -366,6 +381,15 @@ module _ {game : Game} (on : Turn game) where
         };
         once = omega arith;
         dues = omega (arith, dues);
+        progress = inr (inl (record {
+          rest = rest;
+          all = omega (arith, all, last_node);
+          more = enough_left;
+          explored = part_is;
+          part_is = part_s;
+          told_is = last_node;
+          exactly = exactly;
+        }));
         fewer = omega (arith, dues, rounds_fewer, small, st, st_after, p, one);
       })
     where
@@ -414,7 +438,11 @@ module _ {game : Game} (on : Turn game) where
       (ap (does_in n M) is ∙ cond-true _ _ _ only) placed.3.at there (omega (arith, one_left, two, last_node))
       (inr ((λ i. link game (ways.node (opposite s) (last_node i)) (placed.2 i))
       ∙ ap (λ (k : ℕ). link game (ways.node (opposite s) O.mine) (ways.ahead (opposite s) k)) last_node)) refl refl
-      refl)
+      refl (inr (record {
+        one = omega (arith, one_left, two, last_node);
+        explored = (done_part on done).0;
+        unknown = omega (arith, done.two, (done_part on done).1);
+      })))
       (λ more.
       let not_one : left_by n M.mine steps ≢ 1 =
       λ h. true≢false (sym (eq-eqb (left_by n M.mine steps) 1 h) ∙ more) in

@@ -162,7 +162,7 @@ module _ (game : Game) where
       let second : 0 < left = search.nor_around in
       omega (arith, dues, few, sum, first, second)
 
-  first_inv : Inv game 0 1 0 0 blank
+  pub first_inv : Inv game 0 1 0 0 blank
   first_inv =
       let three : 3 ≤ n = search.ring.three in
       let dues : due game 0 (mem game blank 0) 0 + due game 1 (mem game blank 1) 0 ≤ most_moves n = first_numbers.0 in

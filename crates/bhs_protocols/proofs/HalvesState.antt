@@ -1,5 +1,6 @@
 -- The search by halves: what holds of it at each time, and what a turn has to keep.
-use Rattle.std.proofs.Common.{ℕ, ◌+◌, ◌-◌, ◌*◌, ◌<◌, ◌≤◌, ◌≡◌, ◌⊎◌, Bool, true, false, ◌==◌, Option, Some, None, List}
+use Rattle.std.proofs.Common.{ℕ, ◌+◌, ◌-◌, ◌*◌, ◌/◌, ◌<◌, ◌≤◌, ◌≡◌, ◌⊎◌, Bool, true, false, ◌==◌, Option, Some, None}
+use Rattle.std.proofs.Common.{List}
 use Rattle.std.proofs.Common.{sym, ap, ◌∙◌, subst, if◌then◌else◌, nat_lt, inl, inr, arith}
 use Rattle.std.specs.Prelude.{◌≢◌, bytes_eq}
 use Rattle.std.proofs.lemmas.Bool.Decides.{eqb_tells}
@@ -217,10 +218,46 @@ module _ (game : Game) where
 
   -- ---- one turn more
 
+  -- What an agent held and the other one holds, and what the agent holds after its turn: the turn spends what was owed,
+  -- to the last move, and both parts are as they were.
+  pub record IsSpent (s o v w mark mark_too : ℕ) (was other now : Memory) (moved : ℕ) : Type 0 where
+    pub exactly : moved + due s now mark + due o other mark_too ≡ due s was v + due o other w
+    pub part_is : part n now mark ≡ part n was v
+    pub told_is : told now mark ≡ told was v
+    pub still : mark_too ≡ w
+
+  -- Or it divides the nodes that are left. If the black hole is not in the agent's half, what was owed for ways pays
+  -- for the way to here and back, and for all ways that are to come once half of the nodes are left.
+  pub record IsDivided (s o v w mark mark_too : ℕ) (was other now : Memory) (moved : ℕ) : Type 0 where
+    pub rest : ℕ
+    pub all : was.mine + other.mine + rest + 1 ≡ n
+    pub more : 2 ≤ rest
+    pub explored : part n was v ≡ was.mine
+    pub part_is : part n now mark ≡ was.mine + rest / 2
+    pub told_is : told now mark ≡ other.mine
+    pub exactly : part n now mark < distance s
+        → moved + due s now mark + due o other mark_too + walks_at n (rest_of s was v)
+        ≡ due s was v + due o other w + 2 * (n - 1 - rest) + walks_at n (rest - rest / 2)
+
+  -- Or it has come all the way to the other side and sees there that one node is left.
+  pub record IsLate (s v : ℕ) (was other : Memory) : Type 0 where
+    pub one : was.mine + other.mine + 2 ≡ n
+    pub explored : part n was v ≡ was.mine
+    pub unknown : was.mine + told was v + 3 ≤ n
+
+  abbrev pub Progress : (s o v w mark mark_too : ℕ) (was other now : Memory) (moved : ℕ) → Type 0
+  Progress s o v w mark mark_too was other now moved =
+      IsSpent s o v w mark mark_too was other now moved
+      ⊎ (IsDivided s o v w mark mark_too was other now moved ⊎ IsLate s v was other)
+
   pub record Onward (s o v w : ℕ) (old new : Picture) : Type 0 where
     pub mark : ℕ
     pub mark_too : ℕ
     pub inv : Inv s o mark mark_too new
+    pub moved : ℕ
+    pub moves : new.moves ≡ old.moves + moved
+    pub other : mem new o ≡ mem old o
+    pub progress : Progress s o v w mark mark_too (mem old s) (mem old o) (mem new s) moved
     pub fewer : turns_due s (mem new s) mark new.shown + turns_due o (mem new o) mark_too new.shown
         < turns_due s (mem old s) v old.shown + turns_due o (mem old o) w old.shown
 
@@ -230,6 +267,7 @@ module _ (game : Game) where
     pub state : State s o mark mark_too a (seat old o) shown seen
     pub once : costs ≤ 1
     pub dues : moved + due s a.memory mark + due o (mem old o) mark_too ≤ due s (mem old s) v + due o (mem old o) w
+    pub progress : Progress s o v w mark mark_too (mem old s) (mem old o) a.memory moved
     pub fewer : turns_due s a.memory mark shown + turns_due o (mem old o) mark_too shown
         < turns_due s (mem old s) v old.shown + turns_due o (mem old o) w old.shown
 
@@ -289,6 +327,11 @@ module _ (game : Game) where
                     omega (arith, before, here, turns, fewer)
               ];
         };
+        moved = moved;
+        moves = moves;
+        other = other_mem;
+        progress = subst (λ (m : Memory). Progress s o v w mark mark_too (mem old s) (mem old o) m moved) (sym own_mem)
+            keeps.progress;
         fewer = omega (arith, turns, fewer);
       }
 

@@ -1,5 +1,5 @@
 -- The search by halves: turns of an agent at a node.
-use Rattle.std.proofs.Common.{ℕ, zero, suc, ◌+◌, ◌-◌, ◌*◌, ◌<◌, ◌≤◌, ◌≡◌, ◌⊎◌, Bool, true, false, ◌&&◌, ◌==◌, Option}
+use Rattle.std.proofs.Common.{ℕ, zero, suc, ◌+◌, ◌-◌, ◌*◌, ◌<◌, ◌≤◌, ◌≡◌, ◌⊎◌, Bool, true, ◌&&◌, ◌==◌, Option}
 use Rattle.std.proofs.Common.{Some, None, refl, sym, ap, ◌∙◌, subst, if◌then◌else◌, nat_lt, inl, inr, arith}
 use Rattle.std.specs.Prelude.{◌≢◌}
 use Rattle.std.proofs.lemmas.Bool.{lt-ltb, ltb-true, true≢false, eq-eqb, cond-true, cond-false}
@@ -25,9 +25,9 @@ use Rattle.bhs_protocols.proofs.SearchLemmas.{opposite}
 use Rattle.bhs_protocols.proofs.HalvingLemmas.{last_ways_are_paid}
 use Rattle.bhs_protocols.proofs.TurnLemmas.{Becomes, enters, departs, accuses as accuses_link}
 use Rattle.bhs_protocols.proofs.HalvesMarks.{both_true, equal}
-use Rattle.bhs_protocols.proofs.HalvesState.{Fit, Game, IsDone, IsPlaced, Onward, Turn, agents_two, assembled, distance}
-use Rattle.bhs_protocols.proofs.HalvesState.{due, link, mem, nodes_due, rest_of, seat, stale, sum_is, trial as trial_of}
-use Rattle.bhs_protocols.proofs.HalvesState.{turns_due, within_n}
+use Rattle.bhs_protocols.proofs.HalvesState.{Fit, Game, IsDone, IsLate, IsPlaced, Onward, Turn, agents_two, assembled}
+use Rattle.bhs_protocols.proofs.HalvesState.{distance, due, link, mem, nodes_due, rest_of, seat, stale, sum_is}
+use Rattle.bhs_protocols.proofs.HalvesState.{trial as trial_of, turns_due, within_n}
 
 module _ {game : Game} (on : Turn game) where
   open game use {world, n, ways, search, enough}
@@ -81,7 +81,7 @@ module _ {game : Game} (on : Turn game) where
   }
 
   -- a turn that explores and divides nothing
-  pub paced : (target theirs own other : ℕ) (phase : Phase) (place : Position) (news : Item) (costs moved : ℕ)
+  paced_by : (target theirs own other : ℕ) (phase : Phase) (place : Position) (news : Item) (costs moved : ℕ)
       (accused : Option (ℕ × ℕ)) (seen : ℕ → Bool)
       → Becomes picture (turn_in trial picture s) s place news costs moved accused picture.shown seen
       → after_in n M M.phase news ≡ held target theirs own other phase
@@ -93,9 +93,10 @@ module _ {game : Game} (on : Turn game) where
       → moved + owing B W M.mine phase ≤ owing B W M.mine M.phase
       → paces phase + stale game s (held target theirs own other phase) phase picture.shown + 1
       ≤ paces M.phase + stale game s M M.phase picture.shown + 2 * moved
+      → (moved + owing B W M.mine phase ≡ owing B W M.mine M.phase) ⊎ IsLate game s v M O
       → Onward game s o v w picture (turn_in trial picture s)
-  paced target theirs own other phase place news costs moved accused seen becomes is same same_too reachable known
-      placed grows reached once dues fewer =
+  paced_by target theirs own other phase place news costs moved accused seen becomes is same same_too reachable known
+      placed grows reached once dues fewer exact_or_late =
       let after : Memory = held target theirs own other phase in
       let rests : rest_of game s after v ≡ rest_of game s M v =
       λ i. if nat_lt (same i) (distance game s) then n - 1 - same i - same_too i else 1 in
@@ -133,8 +134,36 @@ module _ {game : Game} (on : Turn game) where
         };
         once = once;
         dues = omega (arith, dues, due_is);
+        progress = elim exact_or_late [
+          | inl exact ↦ inl (record {
+            exactly = omega (arith, exact, due_is);
+            part_is = same;
+            told_is = same_too;
+            still = refl;
+          })
+          | inr late ↦ inr (inr late)
+        ];
         fewer = omega (arith, dues, due_is, rounds_are, fewer);
       })
+
+  -- one that spends what was owed
+  pub paced : (target theirs own other : ℕ) (phase : Phase) (place : Position) (news : Item) (costs moved : ℕ)
+      (accused : Option (ℕ × ℕ)) (seen : ℕ → Bool)
+      → Becomes picture (turn_in trial picture s) s place news costs moved accused picture.shown seen
+      → after_in n M M.phase news ≡ held target theirs own other phase
+      → target_by n M.mine target v ≡ part n M v → theirs_by theirs v ≡ told M v → M.mine ≤ target
+      → theirs ≤ O.mine
+      → IsPlaced game s (held target theirs own other phase) O.mine v phase place accused
+      → ((k : ℕ) → picture.reached k ≡ true → seen k ≡ true)
+      → ((k : ℕ) → 0 < k → k ≤ come M.mine phase → seen (ways.node s k) ≡ true) → costs ≤ 1
+      → moved + owing B W M.mine phase ≡ owing B W M.mine M.phase
+      → paces phase + stale game s (held target theirs own other phase) phase picture.shown + 1
+      ≤ paces M.phase + stale game s M M.phase picture.shown + 2 * moved
+      → Onward game s o v w picture (turn_in trial picture s)
+  paced target theirs own other phase place news costs moved accused seen becomes is same same_too reachable known
+      placed grows reached once dues fewer =
+      paced_by target theirs own other phase place news costs moved accused seen becomes is same same_too reachable
+      known placed grows reached once (omega (arith, dues)) fewer (inl dues)
 
   pub has_room : 1 ≤ paces M.phase → picture.used s < world.quota
   has_room some =
@@ -154,7 +183,7 @@ module _ {game : Game} (on : Turn game) where
       (picture.accused s)
       → paces M.phase ≡ 1 → paces phase ≡ 2
       → stale game s (held M.target M.theirs M.own M.other phase) phase picture.shown ≡ 0
-      → 1 + owing B W M.mine phase ≤ owing B W M.mine M.phase
+      → 1 + owing B W M.mine phase ≡ owing B W M.mine M.phase
       → Onward game s o v w picture (turn_in trial picture s)
   goes phase node port came is says at there came_to placed one two none dues =
       paced M.target M.theirs M.own M.other phase (Bound node port) (Heard Gone) 1 1 (picture.accused s)
@@ -356,17 +385,18 @@ module _ {game : Game} (on : Turn game) where
       → ((link game node port ≡ link game (ways.node s M.mine) (ways.ahead s M.mine))
       ⊎ (link game node port ≡ link game (ways.node (opposite s) O.mine) (ways.ahead (opposite s) O.mine)))
       → spent phase ≡ 0 → come M.mine phase ≡ M.mine → paces phase ≡ 1
+      → (0 + owing B W M.mine Ends ≡ owing B W M.mine M.phase) ⊎ IsLate game s v M O
       → Onward game s o v w picture (turn_in trial picture s)
-  accuse_turn phase node port came is holds says at there all right_one none c one =
+  accuse_turn phase node port came is holds says at there all right_one none c one exact_or_late =
       let q : owing B W M.mine M.phase ≡ owing B W M.mine phase = ap (owing B W M.mine) is in
       let p : paces M.phase ≡ paces phase = ap paces is in
       let come_is : come M.mine M.phase ≡ come M.mine phase = ap (come M.mine) is in
-      paced M.target M.theirs M.own M.other Ends After (Heard Noted) 1 0 (Some (node, port)) picture.reached
+      paced_by M.target M.theirs M.own M.other Ends After (Heard Noted) 1 0 (Some (node, port)) picture.reached
       (accuses_link trial picture s (agents_two game s pair.own) node port came at says
       (has_room (omega (arith, p, one)))
       there) holds refl refl own_fit.reachable own_fit.known (refl, all, right_one) (λ k was. was)
       (λ k some far. own_fit.reached k some (omega (arith, far, come_is, c))) (omega arith)
-      (omega (arith, q, none)) (omega (arith, p, one))
+      (omega (arith, q, none)) (omega (arith, p, one)) exact_or_late
 
   pub out_turn : (steps port : ℕ) → M.phase ≡ GoesOut steps port → Onward game s o v w picture (turn_in trial picture s)
   out_turn steps port is =
@@ -390,12 +420,14 @@ module _ {game : Game} (on : Turn game) where
       by_cases (left_by n M.mine M.theirs == 1) (Onward game s o v w picture (turn_in trial picture s))
       (λ only.
       let one_left : n - 1 - M.mine - M.theirs ≡ 1 = equal (left_by n M.mine M.theirs) 1 only in
+      let nothing : W ≡ 0 = none_to_walk all_of_it one_left in
       accuse_turn (GoesOut steps port) (ways.node s steps) port placed.3.came is
       (ap (λ (ph : Phase). after_in n M ph (Heard Noted)) is)
       (ap (does_in n M) is ∙ cond-true _ _ _ yes ∙ cond-true _ _ _ only) placed.3.at there
       (omega (arith, one_left, two, known))
       (inl ((λ i. link game (ways.node s (here i)) (ahead i))
-      ∙ ap (λ (k : ℕ). link game (ways.node s M.mine) (ways.ahead s k)) here)) refl refl refl)
+      ∙ ap (λ (k : ℕ). link game (ways.node s M.mine) (ways.ahead s k)) here)) refl refl refl
+      (inl (omega (arith, q, here, nothing))))
       (λ more.
       let not_one : n - 1 - M.mine - M.theirs ≢ 1 =
       λ h. true≢false (sym (eq-eqb (left_by n M.mine M.theirs) 1 h) ∙ more) in
@@ -453,3 +485,15 @@ module _ {game : Game} (on : Turn game) where
           let sum : part n M v + part n O w + 1 ≡ n = inv.state.sum in
           let two_too : part n O w + told O w + 2 ≤ n = other_fit.two in
           omega (arith, part_is, sum, two_too)
+
+      -- no way is owed where one node is left
+      none_to_walk : M.mine ≡ M.target → n - 1 - M.mine - M.theirs ≡ 1 → W ≡ 0
+      none_to_walk all_of_it one_left =
+          let unmarked : v ≡ 0 = (placed_as (GoesOut steps port) is).2 all_of_it in
+          let part_is : part n M v ≡ M.mine = ap (part n M) unmarked ∙ sym all_of_it in
+          let told_is : told M v ≡ M.theirs = ap (told M) unmarked in
+          let safe : M.mine < distance game s = own_fit.safe in
+          let rest : rest_of game s M v ≡ n - 1 - part n M v - told M v =
+          cond-true _ _ _ (part_small (omega (arith, part_is, safe))) in
+          let one : rest_of game s M v ≡ 1 = omega (arith, rest, part_is, told_is, one_left) in
+          ap (walks_at n) one

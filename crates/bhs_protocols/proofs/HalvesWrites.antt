@@ -320,6 +320,12 @@ module _ {game : Game} (on : Turn game) where
         };
         once = omega arith;
         dues = omega (arith, q, lasts, walks_are, next);
+        progress = inl (record {
+          exactly = omega (arith, q, lasts, walks_are, next);
+          part_is = sym part_is;
+          told_is = sym told_is;
+          still = refl;
+        });
         fewer = omega (arith, q, p, lasts, walks_are, rounds_are, next, small, st_is);
       }))
       (λ none.

@@ -7,7 +7,7 @@ use Rattle.bhs_protocols.specs.Halving.{doubled, rounds_to, rounds, walks, walks
 use Rattle.bhs_protocols.specs.Halving.{WaysArePaid, LastWaysArePaid, MovesAre, MovesAreFew, RoundsAreLeast}
 use Rattle.bhs_protocols.specs.Halving.{RoundsReach}
 
-doubled_some : (k : ℕ) → 0 < doubled k
+pub doubled_some : (k : ℕ) → 0 < doubled k
 doubled_some zero = omega arith
 doubled_some (suc k) = let rest : 0 < doubled k = doubled_some k in omega (arith, rest)
 
@@ -26,7 +26,7 @@ doubled_mono j (suc k) =
     let at : doubled (j + suc k) ≡ doubled (suc (j + k)) = ap doubled same in
     omega (arith, rest, at)
 
-doubled_within : (j k : ℕ) → j ≤ k → doubled j ≤ doubled k
+pub doubled_within : (j k : ℕ) → j ≤ k → doubled j ≤ doubled k
 doubled_within j k within =
     let is : j + (k - j) ≡ k = omega (arith, within) in
     let at : doubled (j + (k - j)) ≡ doubled k = ap doubled is in

@@ -322,7 +322,7 @@ accused_later trial picture (agent ∷ schedule) k link has =
 
 -- ---- an accusation is right where the match is solved
 
-turns_in_append : (trial : Trial) (picture : Picture) (xs ys : List ℕ)
+pub turns_in_append : (trial : Trial) (picture : Picture) (xs ys : List ℕ)
     → turns_in trial picture (xs ++ ys) ≡ turns_in trial (turns_in trial picture xs) ys
 turns_in_append trial picture [] ys = refl
 turns_in_append trial picture (x ∷ xs) ys = turns_in_append trial (turn_in trial picture x) xs ys

@@ -28,3 +28,7 @@ pub mod HalvesRest
 pub mod HalvesVerdict
 pub mod HalvesLemmas
 pub mod HalvesRings
+pub mod AttainedLemmas
+pub mod HalvesWorst
+pub mod ShuttleWorst
+pub mod AttainedOnRings

@@ -5,7 +5,6 @@ use Rattle.std.proofs.Common.{length, map, refl, sym, ap, ◌∙◌, subst, inl,
 use Rattle.std.specs.Prelude.{◌≢◌}
 use Rattle.std.specs.List.{list_any, range_with_len}
 use Rattle.std.proofs.Math.Dec.{eqb}
-use Rattle.std.proofs.Math.ListN.{get_or-eq_default}
 use Rattle.std.proofs.lemmas.Bool.{true≢false, eq-eqb, lt-ltb, ltb-true, eqb-true, cond-false}
 use Rattle.std.proofs.lemmas.Bool.Decides.{eqb_tells}
 use Rattle.std.proofs.lemmas.List.FromFn.{get_or-map-range_with_len, length-map-range_with_len}
@@ -470,7 +469,7 @@ module _ (n one other : ℕ) (sum : one + other ≡ n) (some : 0 < one) (some_to
         | inr h ↦ h.0
       ]
 
-square : (n : ℕ) → 2 ≤ n → (n - 2) * (n - 1) + (n - 1) ≡ (n - 1) * (n - 1)
+pub square : (n : ℕ) → 2 ≤ n → (n - 2) * (n - 1) + (n - 1) ≡ (n - 1) * (n - 1)
 square n two =
     let next : n - 1 ≡ n - 2 + 1 = omega (arith, two) in
     subst (λ (k : ℕ). (n - 2) * k + k ≡ k * k) (sym next) (one_more (n - 2))

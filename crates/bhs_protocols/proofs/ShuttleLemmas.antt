@@ -1,5 +1,5 @@
 -- The shuttle solves every ring.
-use Rattle.std.proofs.Common.{ℕ, zero, suc, ◌+◌, ◌-◌, ◌*◌, ◌<◌, ◌≤◌, ◌≡◌, ◌⊎◌, true, false, ◌&&◌, ◌==◌, Option, refl}
+use Rattle.std.proofs.Common.{ℕ, zero, suc, ◌+◌, ◌-◌, ◌*◌, ◌<◌, ◌≤◌, ◌≡◌, ◌⊎◌, true, ◌&&◌, ◌==◌, Option, refl}
 use Rattle.std.proofs.Common.{sym, ap, ◌∙◌, subst, inl, inr, arith}
 use Rattle.std.specs.Prelude.{◌≢◌}
 use Rattle.std.proofs.lemmas.Bool.{cond-true, cond-false}
@@ -126,7 +126,7 @@ module _ (game : Game) where
   one_ended Writes = omega arith
   one_ended Ends = omega arith
 
-  spent_in : (s o : ℕ) (picture : Picture) → Pair s o → Inv game s o picture →
+  pub spent_in : (s o : ℕ) (picture : Picture) → Pair s o → Inv game s o picture →
       (spent (mem game picture s) ≤ moves_on (distance game s))
       × (progress (mem game picture s) ≤ commands_on n (distance game s) + moves_on (distance game s) + 1)
       × (picture.used s ≤ commands_on n (distance game s))
@@ -180,7 +180,7 @@ module _ (game : Game) where
     pub inv : Inv game 0 1 picture
     pub total : progress (mem game picture 0) + progress (mem game picture 1) + turns ≡ bounds.turns
 
-  first_inv : Inv game 0 1 blank
+  pub first_inv : Inv game 0 1 blank
   first_inv = record {
     own = record {
       side = refl;

@@ -1,5 +1,5 @@
--- The search by halves on the rings of 3, 4 and 5 nodes, worked out: schedules with the most moves.
-use Rattle.std.specs.Prelude.{ℕ, ◌≡◌, List, [], ◌∷◌}
+-- The search by halves on the rings of 3, 4, 5 and 6 nodes, worked out: schedules with the most moves.
+use Rattle.std.specs.Prelude.{ℕ, ◌≡◌, List, [], ◌∷◌, replicate}
 use Rattle.bhs_model.specs.Setups.{network_of}
 use Rattle.bhs_model.specs.Worlds.{World}
 use Rattle.bhs_referee.specs.declared.verdicts.Outcome.TheVariants.{Solved}
@@ -38,3 +38,7 @@ abbrev pub OnFive : Type 0
 OnFive = IsWorst 5 2
     (0 ∷ 0 ∷ 0 ∷ 0 ∷ 0 ∷ 1 ∷ 1 ∷ 1 ∷ 1 ∷ 1 ∷ 1 ∷ 0 ∷ 1 ∷ 1 ∷ 1 ∷ 1 ∷ 1 ∷ 1 ∷ 1 ∷ 1 ∷ 1 ∷ 1 ∷ 1 ∷ 1 ∷
     1 ∷ 1 ∷ 0 ∷ 0 ∷ 0 ∷ 0 ∷ 0 ∷ 1 ∷ 1 ∷ 1 ∷ 1 ∷ 1 ∷ [])
+
+-- agent 0 takes two turns, and then agent 1 all others
+abbrev pub OnSix : Type 0
+OnSix = IsWorst 6 1 (0 ∷ 0 ∷ replicate 52 1)

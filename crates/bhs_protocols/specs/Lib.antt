@@ -15,3 +15,4 @@ pub mod Halving
 pub mod Halves
 pub mod HalvesExamples
 pub mod HalvesLaws
+pub mod Attained

@@ -2,8 +2,11 @@
 
 ghost use Rattle.bhs_protocols.specs.AllRings.{RingsAreRings, ShuttleSolvesAllRings};
 ghost use Rattle.bhs_protocols.specs.Alone.{OneAloneFails, OneAloneFailsOnNetworks};
+ghost use Rattle.bhs_protocols.specs.Attained.{HalvesAttain, HalvesAttainOnAllRings, HalvesAttainOnStandardRings};
+ghost use Rattle.bhs_protocols.specs.Attained.{ShuttleAttains, ShuttleAttainsOnAllRings, ShuttleAttainsSquares};
+ghost use Rattle.bhs_protocols.specs.Attained.{WorstDistances, WorstIsWithin};
 ghost use Rattle.bhs_protocols.specs.Endless.{LookersDoNotRest, LookersSolveAtRest};
-ghost use Rattle.bhs_protocols.specs.HalvesExamples.{OnFive, OnFour, OnThree};
+ghost use Rattle.bhs_protocols.specs.HalvesExamples.{OnFive, OnFour, OnSix, OnThree};
 ghost use Rattle.bhs_protocols.specs.HalvesLaws.{HalvesSolve, HalvesSolveAllRings, TurnsAreFew};
 ghost use Rattle.bhs_protocols.specs.Halving.{LastWaysArePaid, MovesAre, MovesAreFew, RoundsAreLeast, RoundsReach};
 ghost use Rattle.bhs_protocols.specs.Halving.{WaysArePaid};
@@ -53,6 +56,13 @@ pub fn the_shuttle_solves_all_rings()
     ensures solves { ShuttleSolvesAllRings }
 {}
 
+/// The bound of the shuttle is attained: on each ring, with each black hole, some schedule makes all those moves.
+pub fn the_shuttle_bound_is_attained()
+    ensures attained { ShuttleAttains }
+    ensures squares { ShuttleAttainsSquares }
+    ensures all_rings { ShuttleAttainsOnAllRings }
+{}
+
 /// A team that solves the match whichever node is the black hole has reached all the others before it accuses.
 pub fn accusations_come_last()
     ensures { AccusationsComeLast }
@@ -85,6 +95,16 @@ pub fn halves_examples()
     ensures three { OnThree }
     ensures four { OnFour }
     ensures five { OnFive }
+    ensures six { OnSix }
+{}
+
+/// The bound of the search by halves is attained: on each ring some schedule makes all those moves.
+pub fn the_halves_bound_is_attained()
+    ensures within { WorstIsWithin }
+    ensures attained { HalvesAttain }
+    ensures standard { HalvesAttainOnStandardRings }
+    ensures all_rings { HalvesAttainOnAllRings }
+    ensures distances { WorstDistances }
 {}
 
 /// The search by halves solves every ring, in order n log n moves.
