@@ -234,7 +234,7 @@ module _ (world : World) (naps : ℕ) (minds : Minds) where
 
   -- ---- it has not solved
 
-  unsolved_by : (a b c d : Bool) (first : Option ℕ) → (b ≡ false → d ≡ true) → (first ≡ None → ⊥) →
+  pub unsolved_by : (a b c d : Bool) (first : Option ℕ) → (b ≡ false → d ≡ true) → (first ≡ None → ⊥) →
       (if a then Wrong else (if b then Silent else (if c then Unfinished
       else (if d then guess_or_solved first else Solved)))) ≡ Solved → ⊥
   unsolved_by true b c d first accused some h = cc
@@ -250,7 +250,7 @@ module _ (world : World) (naps : ℕ) (minds : Minds) where
   silent_by false true c x silent h = cc
   silent_by false false c x silent h = cc
 
-  find_some : (test : ℕ → Bool) (start count node : ℕ) → start ≤ node → node < start + count → test node ≡ true
+  pub find_some : (test : ℕ → Bool) (start count node : ℕ) → start ≤ node → node < start + count → test node ≡ true
       → find test (range_with_len start count) ≡ None → ⊥
   find_some test start zero node after before passes_it none = omega (arith, after, before)
   find_some test start (suc count) node after before passes_it none = by_cases (test start) ⊥
@@ -261,13 +261,13 @@ module _ (world : World) (naps : ℕ) (minds : Minds) where
       (sym (cond-false _ _ _ not_here) ∙ none))
 
   -- a number below 3 that is neither of two
-  record IsThird (one two : ℕ) : Type 0 where
-    it : ℕ
-    small : it < 3
-    first : it ≢ one
-    second : it ≢ two
+  pub record IsThird (one two : ℕ) : Type 0 where
+    pub it : ℕ
+    pub small : it < 3
+    pub first : it ≢ one
+    pub second : it ≢ two
 
-  third : (one two : ℕ) → IsThird one two
+  pub third : (one two : ℕ) → IsThird one two
   third one two = elim (eqb_tells 0 one) [
     | inl a ↦ elim (eqb_tells 1 two) [
       | inl b ↦ record {
@@ -294,7 +294,7 @@ module _ (world : World) (naps : ℕ) (minds : Minds) where
     ]
   ]
 
-  not_equal : (a b : ℕ) → a ≢ b → (a == b) ≡ false
+  pub not_equal : (a b : ℕ) → a ≢ b → (a == b) ≡ false
   not_equal a b apart = elim (eqb_tells a b) [
     | inl h ↦ absurd (apart h.1)
     | inr h ↦ h.0

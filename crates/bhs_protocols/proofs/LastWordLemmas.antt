@@ -231,7 +231,7 @@ own_at held naps (At node came) woken Sleeps agent = either (IsOwn agent) (nat_l
 own_at held naps (At node came) woken Stops agent = tt
 own_at held naps (At node came) woken Fails agent = tt
 
-own_in : (trial : Trial) (picture : Picture) (agent : ℕ) → IsOwn agent (deed_in trial picture agent)
+pub own_in : (trial : Trial) (picture : Picture) (agent : ℕ) → IsOwn agent (deed_in trial picture agent)
 own_in trial picture agent =
     either (IsOwn agent) (nat_lt agent trial.world.agents)
     (deed_at trial.held trial.naps (picture.position agent) (picture.woken agent)
@@ -393,7 +393,7 @@ module _ (world : World) (held : Held) (naps : ℕ) (minds : Minds) (hole node :
   record IsAlike (picture : Picture) (agent : ℕ) : Type 0 where
     either : (turn_in two picture agent ≡ turn_in one picture agent) ⊎ (turn_in one picture agent ≡ picture)
 
-  doomed_is : (at start port : ℕ) → doomed (searched world held naps minds at).world start port
+  pub doomed_is : (at start port : ℕ) → doomed (searched world held naps minds at).world start port
       ≡ (at == (world.net.far start port).0)
   doomed_is at start port = or_none (at == (world.net.far start port).0)
     where
@@ -438,11 +438,11 @@ module _ (world : World) (held : Held) (naps : ℕ) (minds : Minds) (hole node :
   alike_by picture agent Wakes never = inl refl
   alike_by picture agent Rests never = inl refl
 
-  record IsSameRun (picture : Picture) (schedule : List ℕ) : Type 0 where
-    other : List ℕ
-    same : turns_in two picture other ≡ turns_in one picture schedule
+  pub record IsSameRun (picture : Picture) (schedule : List ℕ) : Type 0 where
+    pub other : List ℕ
+    pub same : turns_in two picture other ≡ turns_in one picture schedule
 
-  same_run : (schedule : List ℕ) (picture : Picture) → (turns_in one picture schedule).reached node ≡ false
+  pub same_run : (schedule : List ℕ) (picture : Picture) → (turns_in one picture schedule).reached node ≡ false
       → IsSameRun picture schedule
   same_run [] picture never = record { other = []; same = refl }
   same_run (agent ∷ schedule) picture never =

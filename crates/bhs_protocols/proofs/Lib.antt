@@ -14,6 +14,7 @@ pub mod AloneLemmas
 pub mod AloneOnNetworks
 pub mod RingLemmas
 pub mod LastWordLemmas
+pub mod LossLemmas
 pub mod SizeLemmas
 pub mod EndlessLemmas
 pub mod HalvingLemmas

@@ -8,6 +8,7 @@ pub mod StandardRings
 pub mod Alone
 pub mod AllRings
 pub mod LastWord
+pub mod Losses
 pub mod Sizes
 pub mod Open
 pub mod Endless

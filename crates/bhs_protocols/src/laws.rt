@@ -11,6 +11,8 @@ ghost use Rattle.bhs_protocols.specs.HalvesLaws.{HalvesSolve, HalvesSolveAllRing
 ghost use Rattle.bhs_protocols.specs.Halving.{LastWaysArePaid, MovesAre, MovesAreFew, RoundsAreLeast, RoundsReach};
 ghost use Rattle.bhs_protocols.specs.Halving.{WaysArePaid};
 ghost use Rattle.bhs_protocols.specs.LastWord.{AccusationsComeLast};
+ghost use Rattle.bhs_protocols.specs.Losses.{ALossIsNeeded, ALossIsNeededOnNetworks, EachBlackHoleDestroys};
+ghost use Rattle.bhs_protocols.specs.Losses.{TheHalvesSolveEverywhere};
 ghost use Rattle.bhs_protocols.specs.Laws.{InvariantsSolve, PicturesFollow, ShuttleSolves};
 ghost use Rattle.bhs_protocols.specs.Sizes.{NoTeamSolvesTwoSizes};
 ghost use Rattle.bhs_protocols.specs.StandardRings.{MovesAreSquares, ShuttleSolvesStandardRings, StandardRings};
@@ -66,6 +68,14 @@ pub fn the_shuttle_bound_is_attained()
 /// A team that solves the match whichever node is the black hole has reached all the others before it accuses.
 pub fn accusations_come_last()
     ensures { AccusationsComeLast }
+{}
+
+/// A team that solves the match whichever node is the black hole loses an agent to each of them under some schedule.
+pub fn a_loss_is_needed()
+    ensures each { EachBlackHoleDestroys }
+    ensures needed { ALossIsNeeded }
+    ensures on_networks { ALossIsNeededOnNetworks }
+    ensures halves { TheHalvesSolveEverywhere }
 {}
 
 /// A team that is not told how many nodes a ring has does not solve rings of two sizes that follow each other.
