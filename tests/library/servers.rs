@@ -6,7 +6,7 @@ mod gates;
 mod logs;
 
 use bhs_lock::{Cell, Gate, Open};
-use bhs_server::{Blind, Contest, Lack, Limits, Outside, Served, Watch, run_server};
+use bhs_server::{Blind, Contest, Lack, Limits, Outside, Served, Strays, Watch, run_server};
 use bhs_session::Ended;
 use clients::{
     ACCUSE, BYE, COME, Client, DEPART, DEPART_TO_THE_HOLE, GONE, HERE, LEAVE, LOOK, NOTED, OVER,
@@ -420,6 +420,8 @@ impl<C: Clock> Watch for Late<'_, C> {
     fn let_in(&self, _session: u32, _game: u32, _agent: u16) {}
 
     fn ended(&self, _session: u32, _ended: Ended, _game: u32, _agent: u16) {}
+
+    fn strayed(&self, _session: u32, _strays: &Strays) {}
 
     fn left_outside(&self, _session: u32, _why: Outside) {}
 

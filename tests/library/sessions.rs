@@ -11,6 +11,7 @@ use super::streams::{Narrow, Pieces};
 use bhs_model::{Command, MAX_LINE, Reply, Text};
 use bhs_net::Memory;
 use bhs_session::{Entered, Port, serve};
+use bhs_wire::Raw;
 use std::alloc::Global;
 use std::process::Abort;
 use std::test::Fail;
@@ -265,6 +266,8 @@ impl Port for Script<'_> {
         let alloc = self.alloc;
         reply_of(alloc, self.answer()?)
     }
+
+    fn show(&self, _line: &Raw<'_>) {}
 
     fn news(&mut self) -> Result<Reply, Memory> {
         self.note("news")?;

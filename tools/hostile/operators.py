@@ -17,7 +17,7 @@ import time
 from typing import Iterator, List, Sequence, Tuple
 
 from tools.hostile.cases import Cases, Wrong
-from tools.hostile.session_lines import HERE, LOOK, OVER, WRITTEN
+from tools.hostile.session_lines import BYE, HERE, LOOK, NO_LINE, OVER, WRITTEN
 from tools.hostile.spoilers import TEAMS, WAITING, Server, answer, enter, serving, tournament, wants
 
 # turns that no test waits for
@@ -142,6 +142,36 @@ def denied_makes_room(program: str, folder: pathlib.Path) -> None:
                         if client.recv(100) == FULL:
                             raise Wrong(f"client {number} was told full, though nobody plays")
             time.sleep(0.02)
+
+
+@case("with --log it is reported how many lines of an agent were no commands, and the first of them")
+def told_strays(program: str, folder: pathlib.Path) -> None:
+    with heard(program, folder, "--log", sessions=2) as server:
+        strays = b'debug: \x1b[31mhere\r\n{"do":"jump"}\n' + b"x" * 70_000 + b"\n"
+        with server.connect(enter("red-0") + b"\n" + LOOK + strays + LEAVE) as client:
+            said = HERE + HERE + NO_LINE * 3 + BYE
+            wants("what the agent is told", answer(client, len(said)), said)
+        told = server.tells("no commands")
+        wants("what the operator is told", found(r"(serve: session 0 played .*)\n.*(serve: session 0: .*)", told), (
+            "serve: session 0 played match 0 (red) agent 0: its agent left",
+            r'serve: session 0: 3 lines were no commands, the first: "debug: \u001b[31mhere\u000d"'))
+
+
+@case("with --log a long line that was no command is cut, and one that is too long for a line is reported as that")
+def told_cut(program: str, folder: pathlib.Path) -> None:
+    with heard(program, folder, "--log", sessions=2) as server:
+        told = ""
+        for key, line in (("red-0", "ä".encode() * 1000), ("red-1", b"x" * 70_000)):
+            with server.connect(enter(key) + line + b"\n" + LEAVE) as client:
+                said = HERE + NO_LINE + BYE
+                wants("what the agent is told", answer(client, len(said)), said)
+            told += server.tells("was no command")
+        with server.connect(enter("blue-0") + LOOK + LEAVE) as client:
+            wants("an agent without such lines", answer(client, len(HERE + HERE + BYE)), HERE + HERE + BYE)
+        server.hears(b"close\n")
+        told += server.ended()[2]
+    wants("what the operator is told", re.findall(r"serve: session (\d+: .*)", told), [
+        f'0: 1 line was no command: "{"ä" * 80}.."', "1: 1 line was no command: more than 65536 bytes"])
 
 
 @case("thousands of looks at a whiteboard of 60,000 bytes keep its text once")

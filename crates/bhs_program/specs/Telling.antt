@@ -1,5 +1,5 @@
 -- The lines that tell the operator of a contest what happens.
-use Rattle.std.specs.Prelude.{ℕ, ◌/◌, ◌%◌, List, [], ◌∷◌, ◌++◌, codes, decimal}
+use Rattle.std.specs.Prelude.{ℕ, ◌/◌, ◌%◌, List, [], ◌∷◌, ◌++◌, codes, decimal, ◌==◌, if◌then◌else◌}
 use Rattle.bhs_session.specs.declared.endings.Ended.{Ended}
 use Rattle.bhs_session.specs.declared.endings.Ended.TheVariants as endings
 use Rattle.bhs_wire.specs.declared.denials.Denial.{Denial}
@@ -34,6 +34,13 @@ abbrev pub played_line : (session game : ℕ) (team : List ℕ) (agent : ℕ) �
 played_line session game team agent ended =
     codes "serve: session " ++ (decimal session ++ (codes " played match " ++ (decimal game ++ (codes " (" ++ (team
     ++ (codes ") agent " ++ (decimal agent ++ (codes ": " ++ (ended_words ended ++ codes "\n")))))))))
+
+-- how many lines of a session were no commands, with the first of them in words
+abbrev pub strays_line : (session lines : ℕ) → (first : List ℕ) → List ℕ
+strays_line session lines first = if lines == 1
+    then codes "serve: session " ++ (decimal session ++ (codes ": 1 line was no command: " ++ (first ++ codes "\n")))
+    else codes "serve: session " ++ (decimal session ++ (codes ": " ++ (decimal lines
+    ++ (codes " lines were no commands, the first: " ++ (first ++ codes "\n")))))
 
 -- why a first line was denied, in words
 abbrev pub denied_words : Denial → List ℕ

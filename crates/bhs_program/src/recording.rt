@@ -8,14 +8,15 @@ use crate::parts::Parts;
 use crate::standing::{Standing, Standings};
 use crate::telling::{
     closed_line, judged_line, missing_line, open_line, outsiders_line, played_line, plays_line,
-    sessions_line, standings_lines, unjudged_line, unknown_line, unplayed_line,
+    sessions_line, standings_lines, stray_words, strays_line, unjudged_line, unknown_line,
+    unplayed_line,
 };
 use bhs_host::table_by;
 use bhs_lock::Cell;
 use bhs_model::Text;
 use bhs_net::Memory;
 use bhs_referee::Verdict;
-use bhs_server::{Outside, Watch};
+use bhs_server::{Outside, Strays, Watch};
 use bhs_session::Ended;
 use std::alloc::Global;
 use std::net::SocketAddr;
@@ -106,6 +107,12 @@ impl<R: Keep + Wait + Clock> Recorder<'_, R> {
         if self.scene.is_telling {
             self.scene.log.tell(self.rt, made);
         }
+    }
+
+    // The line about the lines of a session that were no commands.
+    fn strays_told(&self, session: u32, strays: &Strays) -> Result<String, Memory> {
+        let first = stray_words(self.alloc, &strays.first)?;
+        strays_line(self.alloc, session, strays.lines, first.as_str())
     }
 
     // Tells how far the matches are, and who has not entered.
@@ -224,6 +231,12 @@ impl<R: Keep + Wait + Clock> Watch for Recorder<'_, R> {
         going.sessions = going.sessions.saturating_sub(1);
         let team = self.team(game as usize);
         self.tell(played_line(self.alloc, session, game, team, agent, ended));
+    }
+
+    fn strayed(&self, session: u32, strays: &Strays) {
+        if self.scene.is_telling {
+            self.tell(self.strays_told(session, strays));
+        }
     }
 
     fn left_outside(&self, session: u32, why: Outside) {

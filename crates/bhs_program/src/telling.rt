@@ -2,19 +2,24 @@
 
 ghost use Rattle.std.specs.Prelude.{◌≡◌, ◌/◌, ◌%◌, IfOk, string_bytes};
 ghost use Rattle.bhs_program.specs.Telling.{ended_words, plays_line, played_line, unplayed_line};
-ghost use Rattle.bhs_program.specs.Telling.{judged_line, unjudged_line, sessions_line};
+ghost use Rattle.bhs_program.specs.Telling.{judged_line, unjudged_line, sessions_line, strays_line};
 ghost use Rattle.bhs_program.specs.Telling.{denied_words, outside_words, unserved_words, outsiders_line, unread_line};
 ghost use Rattle.bhs_program.specs.Telling.{part_waits_line, part_goes_on_line};
 ghost use Rattle.bhs_program.specs.Telling.{open_line, closed_line, missing_line, numbers, number_after_space};
 ghost use Rattle.bhs_program.specs.Telling.{standings_lines, all_closing_line, closing_line, unknown_line, timed_line};
 
+use bhs_model::MAX_LINE;
 use bhs_net::Memory;
 use bhs_orders::verdict_line;
 use bhs_referee::Verdict;
 use bhs_server::{Outside, Unserved};
 use bhs_session::Ended;
+use bhs_terminal::visible;
 use bhs_wire::Denial;
 use std::alloc::Global;
+
+// How many characters of a line that was no command are told at most.
+const STRAY: usize = 80;
 
 /// A session was let in as an agent of a match.
 pub(crate) fn plays_line(
@@ -44,6 +49,39 @@ pub(crate) fn played_line(
     format!(in alloc;
         "serve: session {session} played match {game} ({team}) agent {agent}: {how}\n"
     )
+}
+
+/// In a session this many lines were no commands, and this is the first of them in words.
+pub(crate) fn strays_line(
+    alloc: Global,
+    session: u32,
+    lines: u32,
+    first: &str,
+) -> Result<String, Memory>
+    ensures { IfOk result (λ text. string_bytes text ≡ strays_line session lines first.now) }
+{
+    if lines == 1 {
+        return format!(in alloc; "serve: session {session}: 1 line was no command: {first}\n");
+    }
+    format!(in alloc;
+        "serve: session {session}: {lines} lines were no commands, the first: {first}\n"
+    )
+}
+
+/// A line that was no command, of which this is kept, in words: its first characters, as a terminal may show them. Of a
+/// line that was too long nothing is kept.
+pub(crate) fn stray_words(alloc: Global, kept: &[u8]) -> Result<String, Memory> {
+    if kept.is_empty() {
+        return Ok(format!(in alloc; "more than {MAX_LINE} bytes")?);
+    }
+    let text = String::from_utf8_lossy(alloc, kept)?;
+    let mut start = String::new(alloc);
+    for character in text.chars().take(STRAY) {
+        start.push(character)?;
+    }
+    let more = if start.len() < text.len() { ".." } else { "" };
+    let shown = visible(alloc, start.as_str())?;
+    Ok(format!(in alloc; "\"{shown}{more}\"")?)
 }
 
 /// A client is gone whose agent has not entered.

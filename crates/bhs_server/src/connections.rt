@@ -5,10 +5,11 @@ ghost use Rattle.std.specs.Prelude.{IfOk};
 ghost use Rattle.std.specs.Counts.{IsPrefixLen};
 
 use crate::ending::Ending;
+use crate::strays::Strays;
 use crate::unserved::{Unserved, turn_away};
 use crate::watching::Watch;
 use bhs_net::Memory;
-use bhs_wire::{Denial, denial_of};
+use bhs_wire::{Denial, Raw, denial_of};
 use std::alloc::Global;
 use std::cell::{Cell, RefCell};
 use std::io;
@@ -30,6 +31,9 @@ pub trait SessionHooks {
     /// The session was let in as this agent of a match. Its Enter has not been played yet.
     fn let_in(&self, game: u32, agent: u16);
 
+    /// A line of the client was no command.
+    fn no_command(&self, line: &Raw<'_>);
+
     /// The session is about to wait for an arrival: what it has written so far is to reach its client.
     fn before_waiting(&self);
 }
@@ -42,6 +46,7 @@ pub(crate) struct Connection {
     has_failed: Cell<bool>,
     is_in: Cell<bool>,
     unserved: Cell<Option<Unserved>>,
+    strays: RefCell<Strays>,
 }
 
 impl Connection {
@@ -53,6 +58,7 @@ impl Connection {
             has_failed: Cell::new(false),
             is_in: Cell::new(false),
             unserved: Cell::new(None),
+            strays: RefCell::new(Strays::new(alloc)),
         })
     }
 
@@ -77,6 +83,15 @@ impl Connection {
     /// Tells the client why it is not served.
     pub(crate) fn turn_away(&self, why: Unserved) {
         turn_away(&self.stream, why);
+    }
+
+    /// Tells who watches of the lines of the client that were no commands, if there are any.
+    pub(crate) fn tell_strays<W: Watch>(&self, session: u32, watch: &W) {
+        if let Ok(strays) = self.strays.try_borrow_mut() {
+            if strays.lines > 0 {
+                watch.strayed(session, &strays);
+            }
+        }
     }
 
     /// Whether some of what was held back could not be sent.
@@ -135,6 +150,12 @@ impl<R: Wait, W: Watch> SessionHooks for Guest<'_, R, W> {
         self.connection.is_in.set(true);
         self.ending.is_in(self.rt, self.session);
         self.watch.let_in(self.session, game, agent);
+    }
+
+    fn no_command(&self, line: &Raw<'_>) {
+        if let Ok(mut strays) = self.connection.strays.try_borrow_mut() {
+            strays.add(line);
+        }
     }
 
     fn before_waiting(&self) {

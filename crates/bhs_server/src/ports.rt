@@ -9,6 +9,7 @@ use bhs_lock::{Cell, Gate, Pass};
 use bhs_model::{Command, Reply, Why};
 use bhs_net::Memory;
 use bhs_session::{Entered, Port};
+use bhs_wire::Raw;
 use std::marker::Model;
 use std::sync::Wait;
 
@@ -119,6 +120,10 @@ impl<R: Wait, G: Gate, H: SessionHooks> Port for CellPort<'_, R, G, H> {
         };
         let answer = cell.submit(self.rt, self.gate, pass, command)?;
         Ok(agreed(answer.reply))
+    }
+
+    fn show(&self, line: &Raw<'_>) {
+        self.hooks.no_command(line);
     }
 
     fn news(&mut self) -> Result<Reply, Memory> {

@@ -1,5 +1,6 @@
 //! Watching a contest while it goes on.
 
+use crate::strays::Strays;
 use crate::unserved::Unserved;
 use bhs_lock::Cell;
 use bhs_session::Ended;
@@ -28,6 +29,9 @@ pub trait Watch {
     /// A session ended that had played this agent of a match.
     fn ended(&self, session: u32, ended: Ended, game: u32, agent: u16);
 
+    /// A session ended in which some lines were no commands.
+    fn strayed(&self, session: u32, strays: &Strays);
+
     /// A client is gone whose agent has not entered.
     fn left_outside(&self, session: u32, why: Outside);
 
@@ -48,6 +52,8 @@ impl Watch for Blind {
     fn let_in(&self, _session: u32, _game: u32, _agent: u16) {}
 
     fn ended(&self, _session: u32, _ended: Ended, _game: u32, _agent: u16) {}
+
+    fn strayed(&self, _session: u32, _strays: &Strays) {}
 
     fn left_outside(&self, _session: u32, _why: Outside) {}
 

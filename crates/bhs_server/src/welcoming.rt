@@ -77,6 +77,7 @@ impl<R: Wait, G: Gate, W: Watch> Host<'_, R, G, W> {
             (Some(played), _) => {
                 self.watch
                     .ended(session, ended, played.game, played.pass.agent());
+                connection.tell_strays(session, self.watch);
                 self.sessions.keep(self.rt, Session { ended, played });
                 self.ending.session_ended(self.rt);
             }

@@ -58,9 +58,17 @@ fn take_line<W: Output, P: Port>(
         return Err(Stop::between_lines(has_entered, Ended::Memory));
     };
     if has_entered {
+        show_no_command(port, line, &first);
         take_later(last, writer, port, first)
     } else {
         take_first(last, writer, port, first)
+    }
+}
+
+// Shows the port a line that is no command.
+fn show_no_command<P: Port>(port: &P, line: &Raw<'_>, first: &First) {
+    if matches!(first, First::Tell(Command::Bad)) {
+        port.show(line);
     }
 }
 

@@ -4,6 +4,7 @@ ghost use Rattle.bhs_session.specs.Port.{Asked, Enters, Tells, News, Heard, ente
 
 use bhs_model::{Command, Reply};
 use bhs_net::Memory;
+use bhs_wire::Raw;
 
 /// What a port answers to a key.
 #[derive(Clone, Debug, PartialEq, Eq, Drop)]
@@ -29,6 +30,9 @@ pub trait Port {
     /// Tells what the agent says.
     fn tell(&mut self, command: Command) -> Result<Reply, Memory>
         ensures { calls self.old (Tells command) (answered result) self.new };
+
+    /// Is shown a line that is no command, before it is told. The client sees nothing of it.
+    fn show(&self, line: &Raw<'_>);
 
     /// Waits for the agent's next arrival, or for the end of the match.
     fn news(&mut self) -> Result<Reply, Memory>
