@@ -25,6 +25,8 @@ from lab.rules.engines import program_at
 from lab.tests.halls import Served, play
 
 SEED, FLOODS, EVERY = 5, 8, 0.5
+# tests of processes that are killed take workers for gone earlier
+USUAL_LEASE = "30"
 COURSE = """
 title = "A load"
 ports = [{first}, {last}]
@@ -95,6 +97,7 @@ def served(teams: int) -> Iterator[Served]:
     """A hall with this number of teams, and one more."""
     with tempfile.TemporaryDirectory(prefix="hall-") as name:
         hall = Served(pathlib.Path(name), workers=2)
+        hall.lease = USUAL_LEASE
         hall.course.write_text(COURSE.format(first=21_000, last=21_199) + "".join(
             f'[[team]]\nname = "team{number}"\n' for number in range(teams + 1)))
         try:

@@ -65,7 +65,10 @@ AUTH_PASSWORD_VALIDATORS = [{"NAME": "django.contrib.auth.password_validation.Mi
 LANGUAGE_CODE = HALL.language
 LANGUAGES = [("en", "English"), ("de", "Deutsch"), ("fr", "Français")]
 LOCALE_PATHS = [HERE / "locale"]
-USE_I18N, USE_L10N, USE_TZ = True, True, True
+USE_I18N, USE_TZ = True, True
+if django.VERSION < (4,):
+    # later versions do so anyhow
+    USE_L10N = True
 TIME_ZONE = HALL.zone
 
 STATIC_URL = "/static/"

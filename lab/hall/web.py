@@ -1,10 +1,15 @@
 """The worker of gunicorn that serves a hall. A connection that says nothing takes no thread, as browsers open some for
-later. One that says its request slowly is cut after some seconds, or once others of its address come."""
+later. One that says its request slowly is cut after some seconds, or once others of its address come.
+
+It stands on what gunicorn's own worker with threads keeps: 20.1, 23 and 26 were tried, which name its queue of waiting
+connections in two ways.
+"""
 import contextlib
 import errno
 import functools
 import selectors
 import socket
+import threading
 import time
 from typing import Any, Dict, List, NamedTuple
 
@@ -30,37 +35,58 @@ class Worker(gthread.ThreadWorker):
         # the connections whose request is on its way, oldest first, and those that are answered
         self._asking: Dict[Any, Begun] = {}
         self._answering: Dict[Any, Begun] = {}
+        self._own = threading.RLock()
 
-    def accept(self, server: Any, listener: Any) -> None:
-        """Takes a connection, and waits for its first bytes as for those of one that is kept alive."""
+    def accept(self, *given: Any) -> None:
+        """Takes a connection of a listener, which is named last, and waits for its first bytes as for those of one that
+        is kept alive."""
+        listener = given[-1]
         try:
             sock, client = listener.accept()
         except OSError as fault:
             if fault.errno not in PASSING:
                 raise
             return
-        conn = gthread.TConn(self.cfg, sock, client, server)
+        conn = gthread.TConn(self.cfg, sock, client, listener.getsockname())
         self.nr_conns += 1
         conn.set_timeout()
-        with self._lock:
-            self._keep.append(conn)
-            self.poller.register(sock, selectors.EVENT_READ, functools.partial(self.reuse_connection, conn))
+        with self._guard():
+            self._waiting().append(conn)
+            self.poller.register(sock, selectors.EVENT_READ, functools.partial(self._begin, conn))
+
+    def _begin(self, conn: Any, sock: Any) -> None:
+        """Gives a connection that has said something to a thread, unless its time was up."""
+        with self._guard():
+            self.poller.unregister(sock)
+            try:
+                self._waiting().remove(conn)
+            except ValueError:
+                return
+        self.enqueue_req(conn)
+
+    def _waiting(self) -> Any:
+        """The connections that say nothing, in gunicorn's queue: it ends those whose time is up."""
+        return self.keepalived_conns if hasattr(self, "keepalived_conns") else self._keep
+
+    def _guard(self) -> Any:
+        """What guards that queue: gunicorn's lock, or none where its first thread alone uses the queue."""
+        return getattr(self, "_lock", None) or self._own
 
     def handle(self, conn: Any) -> Any:
         begun = Begun(time.monotonic(), str(conn.client[0]) if conn.client else "")
-        with self._lock:
+        with self._own:
             own = [it for it, other in self._asking.items() if other.address == begun.address]
             self._asking[conn] = begun
         cut(own[:len(own) + 1 - MOST_ASKING] if len(own) >= MOST_ASKING else [])
         try:
             return super().handle(conn)
         finally:
-            with self._lock:
+            with self._own:
                 self._asking.pop(conn, None)
                 self._answering.pop(conn, None)
 
     def handle_request(self, req: Any, conn: Any) -> Any:
-        with self._lock:
+        with self._own:
             begun = self._asking.pop(conn, None)
             if begun is not None:
                 self._answering[conn] = begun
@@ -70,7 +96,7 @@ class Worker(gthread.ThreadWorker):
         """Ends connections that say nothing, and requests that take too long."""
         super().murder_keepalived()
         now = time.monotonic()
-        with self._lock:
+        with self._own:
             late = [conn for conn, begun in self._asking.items() if now - begun.at > SECONDS_TO_ASK]
             late += [conn for conn, begun in self._answering.items() if now - begun.at > SECONDS_IN_ALL]
         cut(late)

@@ -63,7 +63,7 @@ holes = 1
 schedulers = ["fair"]
 seeds = 1
 """
-SECONDS = 60.0
+SECONDS = 180.0
 # seconds after which a worker that is silent is taken for gone
 LEASE = "4"
 # what gunicorn says when it begins
@@ -115,6 +115,7 @@ class Served:
         self.write(more)
         self.folder = folder / "trial.hall"
         self._workers = ["--cluster", cluster] if cluster else ["--workers", str(workers)]
+        self.lease = LEASE
         self.child: Optional["subprocess.Popen[str]"] = None
 
     def write(self, more: str) -> None:
@@ -129,7 +130,7 @@ class Served:
         self.child = subprocess.Popen(
             [*self.words(self.course), "--program", program(), "--port", str(self.port), *self._workers], cwd=TOP,
             stdout=subprocess.DEVNULL, stderr=subprocess.DEVNULL, text=True,
-            env={**os.environ, "ARENA_HALL_LEASE": LEASE})
+            env={**os.environ, "ARENA_HALL_LEASE": self.lease})
         self.wait(self.answers, "the hall answers")
 
     def stop(self) -> None:

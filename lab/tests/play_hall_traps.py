@@ -20,6 +20,8 @@ HALL: List[Served] = []
 def setUpModule() -> None:
     folder = unittest.enterModuleContext(tempfile.TemporaryDirectory(prefix="hall-"))
     hall = Served(pathlib.Path(folder))
+    # nobody is killed here: on a busy machine no attempt is to be lost
+    hall.lease = "60"
     text = hall.course.read_text().replace("series = 2\na_day = 2", "series = 1\ntraps = 1\na_day = 9")
     hall.course.write_text(text)
     unittest.addModuleCleanup(hall.stop)

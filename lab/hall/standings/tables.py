@@ -32,7 +32,7 @@ def frozen_at() -> Optional[datetime.datetime]:
     freeze = settings.HALL.freeze
     if freeze is None or timezone.now() < freeze or Reveal.objects.exists():
         return None
-    return timezone.datetime.fromtimestamp(freeze.timestamp(), timezone.utc)
+    return freeze.astimezone(datetime.timezone.utc)
 
 
 def table(for_teacher: bool) -> Table:

@@ -1,4 +1,5 @@
 """Teams, what the teacher grants them, and the hall's log."""
+import datetime
 import hashlib
 import hmac
 import secrets
@@ -108,8 +109,6 @@ def granted(team: Team, kind: str, network: str = "") -> int:
     return int(Grant.objects.filter(team=team, kind=kind, network=network, at__gte=today()).count())
 
 
-def today() -> timezone.datetime:
+def today() -> datetime.datetime:
     """When today began, by the hall's time zone."""
     return timezone.localtime().replace(hour=0, minute=0, second=0, microsecond=0)
-
-
