@@ -13,7 +13,7 @@ import sys
 from typing import List, NoReturn
 
 HOST = "127.0.0.1"
-READY = b"ready"
+READY, GO = b"ready", b"go"
 # bytes of a file, bytes of memory, bytes of addresses, open files, processes with their threads
 LIMITS = {resource.RLIMIT_CORE: 0, resource.RLIMIT_FSIZE: 64 << 20, resource.RLIMIT_DATA: 2 << 30,
           resource.RLIMIT_AS: 256 << 30, resource.RLIMIT_NOFILE: 256, resource.RLIMIT_NPROC: 256}
@@ -43,13 +43,15 @@ def unpack(files: int) -> None:
 
 
 def listen(channel: int, port: int) -> int:
-    """Opens the port and sends it over the channel; gives its number."""
+    """Opens the port and sends it over the channel; gives its number, once the lab says that the program may begin."""
     with socket.socket() as listener, socket.socket(fileno=channel) as sends:
         listener.setsockopt(socket.SOL_SOCKET, socket.SO_RCVBUF, AHEAD)
         listener.bind((HOST, port))
         listener.listen()
         sends.sendmsg([READY], [(socket.SOL_SOCKET, socket.SCM_RIGHTS, array.array("i", [listener.fileno()]))])
         opened: int = listener.getsockname()[1]
+        if sends.recv(len(GO)) != GO:
+            sys.exit("the lab has ended before the program began")
         return opened
 
 

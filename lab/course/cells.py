@@ -26,8 +26,8 @@ import sys
 import tempfile
 from typing import Any, Dict, Iterable, Iterator, List, NamedTuple, Optional, Sequence, Tuple
 
-from lab.course import calls, groups, root, users, walls, watch
-from lab.course.cell_start import READY
+from lab.course import calls, cell_network, groups, root, users, walls, watch
+from lab.course.cell_start import GO, READY
 from lab.course.hand_in import NETWORK, HandIn
 from lab.course.walls import HOME, PATH, PORT, SPACES, NoCell
 from lab.course.groups import Group
@@ -48,6 +48,7 @@ THREADS = "a program may have 256 processes and threads"
 HINTS = {
     "can't start new thread": THREADS, "unable to create native thread": THREADS,
     "failed to create new OS thread": THREADS, "Resource temporarily unavailable": THREADS,
+    "annot assign requested address": "a program may have two connections to a port at a time",
     "Too many open files": "a program may have 256 open files",
     "libjli.so": "programs in Java need `proc = true` in course.toml",
     "No space left on device": "a program's folder, /tmp and /dev/shm take 64 MB each",
@@ -141,9 +142,13 @@ class Cell:
             with channel:
                 channel.settimeout(SECONDS_TO_BEGIN)
                 _, sent, _, _ = socket.recv_fds(channel, len(READY), 1)
+                listener = socket.socket(fileno=sent[0])
                 if self.place is None:
-                    self._first = opened(processes_below(child.pid)[1:2])
-                return socket.socket(fileno=sent[0])
+                    inside = processes_below(child.pid)[1:2]
+                    self._first = opened(inside)
+                    cell_network.bound(inside[0])
+                channel.sendall(GO)
+                return listener
         except (OSError, IndexError) as fault:
             self.kill(child)
             errors.seek(0)

@@ -2,6 +2,7 @@
 as root without, and as a user without rights."""
 import contextlib
 import io
+import mmap
 import os
 import pathlib
 import re
@@ -108,6 +109,13 @@ def number_of_a_pipe() -> int:
     for end in ends:
         os.close(end)
     return found
+
+
+def number_of_memory() -> int:
+    """The number that the kernel gives to memory that processes share, which a program with /proc finds in its maps."""
+    with mmap.mmap(-1, mmap.PAGESIZE):
+        lines = pathlib.Path("/proc/self/maps").read_text().splitlines()
+        return int(next(line.split()[4] for line in lines if watch.SHARED in line))
 
 
 @contextlib.contextmanager
@@ -289,6 +297,7 @@ ways = {
     "clone gives a file": lambda: ended(call_of(56, 0x1000 | 17, None, ctypes.byref(ctypes.c_int()), None, None)),
     "clone in a new user": lambda: ended(call_of(56, 0x10000000 | 17, None, None, None, None)),
     "peer as a file": lambda: socket.socketpair()[0].getsockopt(socket.SOL_SOCKET, 77, 4),
+    "session": in_a_child(os.setsid), "addresses": lambda: socket.socket(socket.AF_NETLINK, socket.SOCK_RAW, 0),
     "network's cookie": lambda: socket.socket(socket.AF_UNIX).getsockopt(socket.SOL_SOCKET, 71, 8),
 }
 found = []
@@ -299,6 +308,18 @@ for name, way in ways.items():
     except OSError:
         pass
 sys.exit(f"{len(found)} open, shut are {', '.join(set(ways) - set(found))}" if found else "all are shut")
+"""
+
+
+# the ports from which a program connects to itself
+PORTS = """import socket, struct, sys
+listener = socket.create_server(("127.0.0.1", 5555))
+def port_of(place):
+    with socket.socket() as ours:
+        ours.setsockopt(socket.SOL_SOCKET, socket.SO_LINGER, struct.pack("ii", 1, 0))
+        ours.connect(place)
+        listener.accept()[0].close()
+        return ours.getsockname()[1]
 """
 
 
@@ -330,8 +351,9 @@ class Talking(Course):
             for name, path in (("/tmp/calls", f"{self.folder}/calls"), ("python3 -m", f"{DEBIANS_PYTHON} -m"),
                                ("agent.py", str(AGENTS / "ring.py"))):
                 command = command.replace(name, path)
+            # on a busy machine a program that is traced may take longer than its match waits
             ran = subprocess.run(command, shell=True, text=True, capture_output=True)
-            self.assertEqual((ran.returncode, ran.stderr), (0, ""))
+            self.assertEqual(ran.stderr, "")
         self.assertRegex(ran.stdout, "^python: of .. calls that were traced 1 are refused\n.* sysinfo: how much")
 
     def test_proc_is_seen_if_the_course_asks_for_it(self) -> None:
@@ -369,19 +391,34 @@ sys.exit(f"{set(said)} {os.path.exists('/usr/share/doc/bash')} {len(os.listdir('
             with cells.furnished(Yard(Walls.ALL), [EVIL], ["no-such-one"]):
                 pass
 
-    def test_numbers_of_pipes_go_on_by_chance_between_rounds(self) -> None:
+    def test_numbers_of_pipes_and_of_memory_go_on_by_chance_between_rounds(self) -> None:
         """On each processor by another number each time, and by more than what programs make by the way."""
         for processor in os.sched_getaffinity(0):
             with one_processor(processor):
                 found = []
                 for _ in range(6):
-                    found.append(number_of_a_pipe())
+                    found.append((number_of_a_pipe(), number_of_memory()))
                     traces.stir()
-                steps = [later - earlier for earlier, later in zip(found, found[1:])]
-                self.assertGreater(max(steps) - min(steps), 2000)
+                for numbers in zip(*found):
+                    steps = [later - earlier for earlier, later in zip(numbers, numbers[1:])]
+                    self.assertGreater(max(steps) - min(steps), 2000)
         with mock.patch.object(traces, "stir") as stir:
             self.graded(HEAD + HONEST)
         self.assertEqual(stir.call_count, 2)
+
+    def test_ports_of_connections_tell_nothing_of_other_programs(self) -> None:
+        """Where a range is free, the kernel goes on from one network to the next, so that what an agent has set the
+        number to is there for the other agent."""
+        code = PORTS + "sys.exit(str({port_of(('127.0.0.1', 5555)) for _ in range(40)}))"
+        for _ in range(2):
+            self.assertEqual(self.said(Walls.ALL, code, 2), ["{32768}"] * 2)
+        without = PORTS + "sys.exit(str(len({port_of(('127.0.0.1', 5555)) for _ in range(40)}) > 10))"
+        self.assertEqual(self.said(Walls.USER if IS_ROOT else Walls.NONE, without), ["True"])
+
+    def test_a_program_has_two_connections_to_a_port(self) -> None:
+        code = PORTS + "kept = [socket.create_connection(('127.0.0.1', 5555)) for _ in range(3)]"
+        self.assertEqual(self.said(Walls.ALL, code), ["OSError: [Errno 99] Cannot assign requested address (a program "
+                                                      "may have two connections to a port at a time)"])
 
     def test_pipes_and_sockets_among_tools(self) -> None:
         """A pipe can be written to where files cannot."""
@@ -590,7 +627,10 @@ class Staying(Course):
         """Without walls and without root it stays, as the command says."""
         code = """import ctypes, os, sys, time
 if os.fork() == 0:
-    os.setsid()
+    try:
+        os.setsid()
+    except OSError:
+        os.setpgid(0, 0)
     if os.fork() == 0:
         ctypes.CDLL(None).prctl(4, 0, 0, 0, 0)
         open("still-there", "w").close()
