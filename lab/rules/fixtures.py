@@ -85,7 +85,8 @@ def read_tournament(path: str) -> Tournament:
     """The tournament of a file, which must be right: ask `arena check`."""
     try:
         found = tomllib.loads(pathlib.Path(path).read_text(encoding="utf-8"))
-        return Tournament(seed_in(found), [fixture_in(row) for row in found["match"]], delays_in(found))
+        fixtures = [fixture_in(row, pathlib.Path(path).parent) for row in found["match"]]
+        return Tournament(seed_in(found), fixtures, delays_in(found))
     except (ValueError, KeyError, TypeError) as fault:
         raise NoMatch(f"{path}: it is no tournament ({networks.fault_text(fault)}); `arena check` says more") from None
 
@@ -103,13 +104,19 @@ def delays_in(found: Object) -> Optional[Delays]:
     return Delays(found["delay_scales"], found["delay_odds"]) if found.get("schedule") == OBLIVIOUS else None
 
 
-def fixture_in(row: Dict[str, Any]) -> Fixture:
-    """The fixture of a match's table."""
-    network = networks.in_file(row["network"])
+def fixture_in(row: Dict[str, Any], folder: pathlib.Path) -> Fixture:
+    """The fixture of a match's table, in a tournament whose file is in this folder."""
+    network = networks.in_file(network_path(row["network"], folder))
     holes = row["holes"] if "holes" in row else [row["hole"]] if row["hole"] != "none" else []
     dark = list(map(place_of, row.get("dark", [])))
     setup = Setup(network.nodes, network.links, row["home"], holes, len(row["keys"]), row["quota"], row["board"], dark)
     return Fixture(row["team"], checked(setup), row["keys"], list(map(place_of, row.get("held", []))))
+
+
+def network_path(name: str, folder: pathlib.Path) -> str:
+    """The file of a network: from the working directory or, if nothing is there, from the tournament's folder."""
+    near = folder / name
+    return str(near) if near.exists() and not pathlib.Path(name).exists() else name
 
 
 def match_text(fixture: Fixture, network: str) -> str:

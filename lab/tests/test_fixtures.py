@@ -1,4 +1,5 @@
 """What the lab refuses of a match, as the program does."""
+import os
 import pathlib
 import tempfile
 import unittest
@@ -63,6 +64,21 @@ class Files(unittest.TestCase):
                     in_file(str(file))
                 with self.subTest(text), self.assertRaisesRegex(NoMatch, "it is no tournament"):
                     read_tournament(str(file))
+
+    def test_a_network_is_looked_for_as_the_program_does(self) -> None:
+        with tempfile.TemporaryDirectory() as name:
+            folder, elsewhere = pathlib.Path(name, "week"), pathlib.Path(name, "elsewhere")
+            for place, nodes in ((folder, 5), (elsewhere, 4)):
+                place.mkdir()
+                (place / "net.toml").write_text(text_of(ring(nodes)), encoding="utf-8")
+            tournament = folder / "t.toml"
+            tournament.write_text(tournament_text(SEED, [(fixture_of(RIGHT), "net.toml")]), encoding="utf-8")
+            before = os.getcwd()
+            self.addCleanup(os.chdir, before)
+            for place, nodes in ((name, 5), (elsewhere, 4), (folder, 5)):
+                os.chdir(place)
+                self.assertEqual(read_tournament(str(tournament)).fixtures[0].setup.nodes, nodes)
+            os.chdir(before)
 
 
 if __name__ == "__main__":

@@ -2,6 +2,7 @@
 share."""
 import os
 import pathlib
+import re
 import shutil
 import subprocess
 from typing import Any, Callable, Counter, List, NamedTuple, Optional, Sequence, Set
@@ -75,7 +76,12 @@ def ended(child: subprocess.Popen) -> Run:
         child.kill()
         child.communicate()
         return Run(-1, b"", "it did not end")
-    return Run(child.returncode, printed or b"", (told or b"").decode(errors="replace"))
+    return Run(child.returncode, printed or b"", without_help((told or b"").decode(errors="replace")))
+
+
+def without_help(told: str) -> str:
+    """What is told without the lines of what helps, which begin with two spaces."""
+    return re.sub(r"(?m)^  .*\n?", "", told)
 
 
 class Lab:

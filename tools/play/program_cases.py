@@ -11,7 +11,8 @@ import sys
 import threading
 from typing import Callable, Dict, List, NamedTuple, Sequence, Tuple
 
-from tools.play.program_rows import DONE, FAILED_STREAM, PATIENCE, REFUSED_TEXT, Run, Stage, Wrong, difference, expect
+from tools.play.program_rows import DONE, FAILED_STREAM, PATIENCE, REFUSED_TEXT, SOME_HELP, Run, Stage, Wrong
+from tools.play.program_rows import difference, expect
 
 TOP = pathlib.Path(__file__).resolve().parents[2]
 MAX_LINE = 65_536
@@ -248,7 +249,8 @@ def longest_name(stage: Stage) -> None:
     (stage.folder / name).write_text(TRIANGLE)
     writes(stage, cup=CUP.replace("tri.toml", name), long=CUP.replace("tri.toml", f"{name}n"))
     expect(stage.run(["check", "cup.toml"]), b"match 0 red nodes 3 links 3 agents 2\n")
-    expect(stage.run(["check", "long.toml"]), b"", b"long.toml: match 0 shape network\n", REFUSED_TEXT)
+    told = b"long.toml: match 0 shape network\n" + SOME_HELP
+    expect(stage.run(["check", "long.toml"]), b"", told, REFUSED_TEXT)
 
 
 @case("tournaments have 64 matches")
@@ -257,7 +259,7 @@ def most_matches(stage: Stage) -> None:
     writes(stage, tri=TRIANGLE, cup=SEED + "".join(matches[:64]), long=SEED + "".join(matches))
     lines = "".join(f"match {number} red nodes 3 links 3 agents 2\n" for number in range(64))
     expect(stage.run(["check", "cup.toml"]), lines.encode())
-    expect(stage.run(["check", "long.toml"]), b"", b"long.toml: shape match\n", REFUSED_TEXT)
+    expect(stage.run(["check", "long.toml"]), b"", b"long.toml: shape match\n" + SOME_HELP, REFUSED_TEXT)
 
 
 # Words and the help.

@@ -27,7 +27,8 @@ hold names of tables that stand before theirs.
 A row whose second line is `~ SOURCE TARGET` is a table of changes, for `check cup.toml`. In a line `OLD => NEW => LINE`
 the first OLD in the file SOURCE, as it is written before each row, becomes NEW, and the file TARGET is written so. LINE
 is what is printed, if it begins with `match`, or told, with the exit status 6 if it ends with `: read`, and else
-3. `right` stands for the line of the match of a file in which nothing is changed.
+3. `right` stands for the line of the match of a file in which nothing is changed. Behind `shape`, `toml` and `read` a
+line of what helps is told, any that begins with two spaces.
 """
 import itertools
 import pathlib
@@ -45,6 +46,8 @@ FIRST = "Before each row"
 ARROW = " => "
 RIGHT = "match 0 red nodes 3 links 3 agents 2"
 DONE, REFUSED_TEXT, FAILED_STREAM = 0, 3, 6
+# a line of what helps, whatever it says
+SOME_HELP = b"  ..\n"
 
 Word = Union[str, bytes]
 
@@ -115,10 +118,16 @@ def shown(line: Union[bytes, None]) -> str:
 
 def expect(ran: Run, printed: bytes, told: bytes = b"", status: int = DONE) -> None:
     """What a run told and printed, and its status, are these."""
-    difference("told", told, ran.told)
+    difference("told", helped(told, ran.told), ran.told)
     difference("printed", printed, ran.printed)
     if ran.status != status:
         raise Wrong(f"exit status: wanted {status}, came {ran.status}")
+
+
+def helped(wanted: bytes, came: bytes) -> bytes:
+    """What is wanted, with the lines of help that came for those that may say anything."""
+    pairs = itertools.zip_longest(wanted.splitlines(True), came.splitlines(True), fillvalue=b"")
+    return b"".join(other if line == SOME_HELP and other.startswith(b"  ") else line for line, other in pairs)
 
 
 def play(row: Row, stage: Stage) -> None:
@@ -229,11 +238,16 @@ def checks(files: Dict[str, bytes], lines: Sequence[str]) -> Iterator[Tuple[str,
         text = changed(files[source].decode(), old, new)
         told = f"{RIGHT if told == 'right' else told}\n"
         status = DONE if told.startswith("match") else FAILED_STREAM if told.endswith(": read\n") else REFUSED_TEXT
-        printed, fault = (told, "") if status == DONE else ("", told)
+        printed, fault = (told, "") if status == DONE else ("", told + help_behind(told))
         yield f"{lines[0]} {line}", [
             Step("@", target, text.encode(), b"", b"", DONE),
             Step("$", "check cup.toml", b"", printed.encode(), fault.encode(), status),
         ]
+
+
+def help_behind(told: str) -> str:
+    """The line of help that is told behind a fault of a file, if there is one."""
+    return SOME_HELP.decode() if " shape " in told or told.endswith((": toml\n", ": read\n")) else ""
 
 
 def rows_of(text: str) -> List[Row]:

@@ -10,6 +10,8 @@ ghost use Rattle.bhs_orders.specs.Showing.{Prints, Reports};
 ghost use Rattle.bhs_orders.specs.Summary.{IsAssembled, IsRead, IsSummary};
 
 use crate::faults::{Fault, report};
+use crate::helping::{report_file, report_unread};
+use crate::network_places::place_of;
 use crate::showing::show_made;
 use crate::summaries::summary;
 use bhs_assembly::assemble;
@@ -22,13 +24,6 @@ use std::alloc::Global;
 use std::fs;
 use std::io::Write;
 use std::rt::Files;
-
-// What is wrong, and with which file.
-#[derive(Clone, Copy)]
-struct Blamed<'a> {
-    name: &'a str,
-    fault: Fault,
-}
 
 /// Reads a tournament and its networks as `lineup_of` does. Then a line for each match goes to `writer`. The answer is
 /// the exit status.
@@ -49,7 +44,7 @@ pub fn check<F: Files, W: Output, E: Write>(
 
 /// Reads the tournament's file, then the files of the networks that it names, in the order in which its matches name
 /// them, and puts them together. The first fault goes to `errors`, as a line `NAME: FAULT` with the name of the file,
-/// and ends it: the answer is then its exit status.
+/// perhaps with a line of what helps, and ends it: the answer is then its exit status.
 pub fn lineup_of<F: Files, E: Write>(
     alloc: Global,
     files: &F,
@@ -60,14 +55,8 @@ pub fn lineup_of<F: Files, E: Write>(
     ensures fresh { IfOk result (λ lineup. AreFresh lineup.ready.items) }
     ensures fault { IfErr result IsOfFault }
 {
-    let tournament = match tournament_of(alloc, files, name) {
-        Ok(tournament) => tournament,
-        Err(fault) => return Err(report(name, fault, errors)),
-    };
-    let networks = match networks_of(alloc, files, name, &tournament) {
-        Ok(networks) => networks,
-        Err(blamed) => return Err(report(blamed.name, blamed.fault, errors)),
-    };
+    let tournament = tournament_of(alloc, files, name, errors)?;
+    let networks = networks_of(alloc, files, name, &tournament, errors)?;
     match assemble(alloc, tournament, &networks) {
         Ok(lineup) => Ok(lineup),
         Err(fault) => Err(report(name, Fault::from(fault), errors)),
@@ -81,52 +70,73 @@ fn text_of<F: Files>(alloc: Global, files: &F, name: &str) -> Result<String, Fau
     String::from_utf8(bytes).map_err(|_| Fault::Text)
 }
 
-fn tournament_of<F: Files>(alloc: Global, files: &F, name: &str) -> Result<Tournament, Fault>
-    ensures { IfOk result (λ tournament. (text : List ℕ) × (tournament_in text ≡ Ok (plan tournament))) }
+fn tournament_of<F: Files, E: Write>(
+    alloc: Global,
+    files: &F,
+    name: &str,
+    errors: &mut E,
+) -> Result<Tournament, u8>
+    ensures said { IfOk result
+        (λ tournament. (text : List ℕ) × (tournament_in text ≡ Ok (plan tournament))) }
+    ensures fault { IfErr result IsOfFault }
 {
-    let text = text_of(alloc, files, name)?;
-    Ok(read_tournament(alloc, text.as_str())?)
+    let text = match text_of(alloc, files, name) {
+        Ok(text) => text,
+        Err(fault) => return Err(report(name, fault, errors)),
+    };
+    match read_tournament(alloc, text.as_str()) {
+        Ok(tournament) => Ok(tournament),
+        Err(fault) => Err(report_file(alloc, name, text.as_str(), fault, errors)),
+    }
 }
 
-fn network_of<F: Files>(alloc: Global, files: &F, name: &str) -> Result<Net, Fault>
-    ensures { IfOk result IsRead }
+// The network of this name in a tournament, whose own file is `own`.
+fn network_of<F: Files, E: Write>(
+    alloc: Global,
+    files: &F,
+    own: &str,
+    name: &str,
+    errors: &mut E,
+) -> Result<Net, u8>
+    ensures read { IfOk result IsRead }
+    ensures fault { IfErr result IsOfFault }
 {
-    let text = text_of(alloc, files, name)?;
-    Ok(read_network(alloc, text.as_str())?)
+    let Ok(place) = place_of(alloc, files, own, name) else {
+        return Err(report(name, Fault::Memory, errors));
+    };
+    let text = match text_of(alloc, files, place.as_str()) {
+        Ok(text) => text,
+        Err(fault) => return Err(report_unread(own, name, fault, errors)),
+    };
+    match read_network(alloc, text.as_str()) {
+        Ok(network) => Ok(network),
+        Err(fault) => Err(report_file(alloc, place.as_str(), text.as_str(), fault, errors)),
+    }
 }
 
 // The networks that a tournament names, in the order of `Tournament::networks`, each judged before the next is read.
 // `own` is the name of the tournament's file.
-fn networks_of<'a, F: Files>(
+fn networks_of<F: Files, E: Write>(
     alloc: Global,
     files: &F,
-    own: &'a str,
-    tournament: &'a Tournament,
-) -> Result<Vec<Net>, Blamed<'a>>
+    own: &str,
+    tournament: &Tournament,
+    errors: &mut E,
+) -> Result<Vec<Net>, u8>
     ensures count { IfOk result (λ networks. length networks.items
         ≡ length (first_seen (map (λ fixture. fixture.network) tournament.now.matches.items))) }
     ensures read { IfOk result (λ networks. All IsRead networks.items) }
+    ensures fault { IfErr result IsOfFault }
 {
     let mut networks = Vec::new(alloc);
     let names = match tournament.networks(alloc) {
         Ok(names) => names,
-        Err(memory) => return Err(Blamed {
-            name: own,
-            fault: Fault::from(memory),
-        }),
+        Err(memory) => return Err(report(own, Fault::from(memory), errors)),
     };
     for name in names.as_slice() {
-        let name = *name;
-        match network_of(alloc, files, name) {
-            Ok(network) => {
-                if networks.push(network).is_err() {
-                    return Err(Blamed {
-                        name,
-                        fault: Fault::Memory,
-                    });
-                }
-            }
-            Err(fault) => return Err(Blamed { name, fault }),
+        let network = network_of(alloc, files, own, *name, errors)?;
+        if networks.push(network).is_err() {
+            return Err(report(*name, Fault::Memory, errors));
         }
     }
     Ok(networks)

@@ -8,7 +8,6 @@ use Rattle.bhs_deal.specs.declared.timeliness.Untimely.{Untimely}
 use Rattle.bhs_deal.specs.declared.timeliness.Untimely.TheVariants.{Early, LeftOut, Late}
 use Rattle.bhs_orders.specs.Appeals.{Case, IsAstrayAt, IsHeldAt, IsWrongWith, fault_of, fault_of_late}
 use Rattle.bhs_orders.specs.declared.appeal_faults.AppealFault.{AppealFault}
-use Rattle.bhs_orders.specs.declared.appeal_faults.AppealFault.TheVariants as appeals
 use Rattle.bhs_orders.specs.declared.faults.Fault.TheVariants.{Appeal}
 use Rattle.bhs_orders.proofs.appealing.compared.Goals as goal
 

@@ -23,6 +23,6 @@ pub loop-name-preserved : goal.loop-name-preserved
 loop-name-preserved g c = (
   search rules,
   search rules,
-  all_read _ c.loop-name.networks.items c.push.new.self.items c.in-Ok-network_of.network
-      c.push.ensures.items c.loop-name.invariant.2 c.in-Ok-network_of.ensures,
+  all_read _ c.loop-name.networks.items c.push.new.self.items c.in_ok-network.network c.push.ensures.items
+      c.loop-name.invariant.2 c.in_ok-network.ensures.read,
 )
