@@ -18,11 +18,12 @@ all of a team of `count`; a list names each. A scheduler is a name, or a functio
 (choices, state). `engine` is "model" for the Python model, of which nothing is proved, "program" for the program that
 `python3 -m lab` takes, or the path of a program.
 
-    proof = lab.explore("ring:8", "examples/agents/ring.py {nodes}", engine="program")
+    proof = lab.explore("ring:3..8", "examples/agents/ring.py {nodes}", engine="program")
     proof.solves, proof.most_moves          # a theorem about agents that are functions of what they are told
-    pandas.DataFrame(proof.rows)            # a row for each black hole
+    proof.frame()                           # a row for each network and black hole: a frame of pandas, or a list
 """
 import contextlib
+import importlib
 import pathlib
 from typing import Any, Callable, Dict, Iterable, List, NamedTuple, Optional, Sequence, Union
 
@@ -40,6 +41,7 @@ from lab.rules.model import Place, Verdict
 from lab.rules.networks import Network
 from lab.search import asking, explore as exploring, hunt as hunting
 from lab.search.asking import BREAKS, COMES, SOLVES, Draws
+from lab.search.checking import Counted
 from lab.search.machines import Machines
 from lab.search.proving import CHECKED, FOUND, Proving, Tried, choices_of, found_in
 from lab.support.progress import bar
@@ -189,6 +191,10 @@ class Proof(NamedTuple):
     def most_lost(self) -> Optional[int]:
         return max((row["lost"] for row in self.rows if row["lost"] is not None), default=None)
 
+    def frame(self) -> Any:
+        """The rows as a frame of pandas, or as a list of dicts where there is no pandas."""
+        return pandas_or_none().DataFrame(self.rows) if pandas_or_none() else list(self.rows)
+
     def __str__(self) -> str:
         if self.fails:
             said = f"a schedule fails; {said_of(self.worst)}" if self.worst else ""
@@ -204,25 +210,42 @@ class Proof(NamedTuple):
         return f"<p>{self}</p>{self.worst._repr_html_() if self.worst else ''}"
 
 
-def explore(network: NetworkLike, agents: Union[AgentLike, Sequence[AgentLike]], *,
+def pandas_or_none() -> Any:
+    """The module pandas, or None where it is not installed."""
+    try:
+        return importlib.import_module("pandas")
+    except ModuleNotFoundError:
+        return None
+
+
+def explore(network: Union[NetworkLike, Sequence[NetworkLike]], agents: Union[AgentLike, Sequence[AgentLike]], *,
             states: int = exploring.MOST_STATES, engine: str = MODEL, draws: Optional[Draws] = None,
             check: int = CHECKED, **more: Any) -> Union[Exploration, Proof]:
-    """Tries every schedule, with each node but the home base as the black hole unless something that destroys is named.
-    The program proves what it finds; with `draws` it draws schedules instead. The engine "model" searches without a
-    proof. Of `check` drawn schedules the agents play, what they do is compared with what they answered."""
-    asked, path = game(network, agents, **more), path_of(engine)
+    """Tries every schedule on a network, or on several: a list, or a range of sizes such as "ring:3..8". Each node but
+    the home base is the black hole unless something that destroys is named. The program proves what it finds, up to the
+    first match that fails; with `draws` it draws schedules instead. The engine "model" searches without a proof. Of
+    `check` drawn schedules the agents play on each network, what they do is compared with what they answered."""
+    all_asked, path = [game(one, agents, **more) for one in networks_in(network)], path_of(engine)
     if path is not None:
-        return proved(asked, path, Wanted(states, draws, check))
+        return proved(all_asked, path, Wanted(states, draws, check))
     if draws is not None:
         raise ValueError("draws need a program: name it by engine, or hunt")
     with bar(None, "state") as shown:
-        found = list(exploring.tried(asked, states, shown))
+        by_game = [(one, list(exploring.tried(one, states, shown))) for one in all_asked]
+    found = [it for _, of_one in by_game for it in of_one]
     worst, record = max(found, key=exploring.Explored.rank), None
     if worst.explorer.worst:
-        schedule = worst.schedule(asked)
+        schedule = worst.schedule(next(one for one, of_one in by_game if worst in of_one))
         record = Record(schedule, finds.played_again(schedule, path), path)
     return Exploration(sum(one.explorer.states() for one in found), all(one.is_whole for one in found),
                        worst.rank()[0], sum(one.seconds for one in found), record)
+
+
+def networks_in(network: Union[NetworkLike, Sequence[NetworkLike]]) -> List[NetworkLike]:
+    """The networks that are named, each by itself."""
+    if isinstance(network, (list, tuple)) and not isinstance(network, Network):
+        return [found for one in network for found in networks_in(one)]
+    return list(networks.in_range(network)) if isinstance(network, str) else [network]
 
 
 class Wanted(NamedTuple):
@@ -234,29 +257,39 @@ class Wanted(NamedTuple):
     check: int
 
 
-def proved(given: Game, path: str, wanted: Wanted) -> Proof:
-    """What the program finds of the schedules of a game."""
+def proved(games: Sequence[Game], path: str, wanted: Wanted) -> Proof:
+    """What the program finds of the schedules of games, up to the first match that fails or is not tried as a whole."""
     def one(machines: Machines, fixture: Fixture, shown: Any) -> Tried:
         return Tried(fixture, asking.asked(path, fixture, machines, wanted.states, shown.update,
                                            shown.set_postfix_str, wanted.draws))
-    proving = Proving(given, wanted.check)
-    with bar(None, "answer") as shown:
-        rows = [row_of(tried) for tried in proving.tried(one, shown)]
-    last, worst = proving.tries[-1], None
-    if last.has_failed():
-        found = found_in(last)
-        turns, breaks = found["schedule"] + found.get("round", []), found["agent"] if found["found"] == BREAKS else None
-        choices = choices_of(last.fixture, given.agents, turns, breaks, given.limit)
-        schedule = schedule_of(last.fixture, given.agents, f"explore{given.origin}", choices, given.limit)
-        worst = Record(schedule, finds.played_again(schedule, path), path)
-    return Proof(rows, str(proving.checks), worst, wanted.draws is not None)
+    rows, counted = [], Counted()
+    for given in games:
+        proving = Proving(given, wanted.check)
+        with bar(None, "answer") as shown:
+            rows += [row_of(given, tried) for tried in proving.tried(one, shown)]
+        counted, last = counted.more(proving.checks.counted()), proving.tries[-1]
+        if last.has_failed():
+            return Proof(rows, str(counted), failure(given, last, path), wanted.draws is not None)
+        if not last.is_whole():
+            break
+    return Proof(rows, str(counted), None, wanted.draws is not None)
 
 
-def row_of(tried: Tried) -> Dict[str, Any]:
+def failure(given: Game, tried: Tried, path: str) -> Record:
+    """The match that fails under the schedule that the program tells, as the agents play it."""
+    found = found_in(tried)
+    turns, breaks = found["schedule"] + found.get("round", []), found["agent"] if found["found"] == BREAKS else None
+    choices = choices_of(tried.fixture, given.agents, turns, breaks, given.limit)
+    schedule = schedule_of(tried.fixture, given.agents, f"explore{given.origin}", choices, given.limit)
+    return Record(schedule, finds.played_again(schedule, path), path)
+
+
+def row_of(given: Game, tried: Tried) -> Dict[str, Any]:
     """A match that was tried, as a row: what was found, in how many states, and the most moves and lost agents. What
     the program does not say is None."""
     setup, answered, found = tried.fixture.setup, tried.answered, tried.answered.found or {}
-    return {"nodes": setup.nodes, "home": setup.home, "holes": setup.holes, "found": found.get("found"),
+    return {"network": given.name, "nodes": setup.nodes, "home": setup.home, "holes": setup.holes,
+            "found": found.get("found"),
             "states": answered.counts.get("states"), "moves": found.get("moves"), "lost": found.get("lost"),
             "turns": found.get("turns"), "drawn": drawn_of(answered.counts), "seconds": answered.seconds,
             "why": answered.why}

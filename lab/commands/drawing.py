@@ -1,14 +1,12 @@
 """`explore --draws` by the program: it draws schedules of matches that have too many to try, and the lab answers what
 agents do (lab/search/asking.py). The worst schedule is kept, and the agents play it."""
 import statistics
-from typing import Any, List, NamedTuple, Sequence, Tuple
+from typing import List, NamedTuple, Sequence, Tuple
 
 from lab.commands.trying import FAILURES, Search, Wanted, all_tried, in_turn, shown_failure, shown_schedule
 from lab.rules.engines import Differs
-from lab.rules.fixtures import Fixture
 from lab.rules.model import SOLVED, Object, Verdict
-from lab.search.asking import BREAKS, EXCEEDS, Draws, asked
-from lab.search.machines import Machines
+from lab.search.asking import BREAKS, EXCEEDS, Draws
 from lab.search.pasts import NoFunction
 from lab.search.proving import FOUND, Tried, found_in
 
@@ -44,10 +42,7 @@ def at(pairs: Pairs, place: int) -> int:
 def run(all_wanted: Sequence[Wanted], draws: Draws) -> int:
     """Draws schedules of all matches of some games, up to the first game in which one fails."""
     def drawn(wanted: Wanted) -> Tuple[int, Search]:
-        def one(machines: Machines, fixture: Fixture, shown: Any) -> Tried:
-            return Tried(fixture, asked(wanted.program, fixture, machines, wanted.states, shown.update,
-                                        shown.set_postfix_str, draws))
-        search = all_tried(wanted, one, line_of)
+        search = all_tried(wanted, wanted.work(draws), lambda tried, shown: tried, line_of)
         return told(wanted, draws, search), search
     return in_turn(all_wanted, drawn)
 

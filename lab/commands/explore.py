@@ -41,13 +41,24 @@ counting, as for a timeout, fails once another agent is slower than it counts. W
 nap more often. A warning tells if some agent still sleeps after that many naps, and might do something else after one
 more.
 
+With --workers N the matches of a network are tried N at a time, each by a process, and with --cluster by the workers of
+a Dask scheduler, as `sweep` has it. What is found is the same; each process asks the agents anew.
+
+With --out FOLDER each match all of whose schedules solve it gets a row in `matches.csv`, and `moves.svg` shows the most
+moves of each network over its nodes, beside each --bound. If you interrupt the command, run it again: it goes on behind
+the last row. `made.json` has the SHA-256 of all that rows depend on, as that of a sweep, and if one of them is another,
+the command refuses to go on.
+
+    python3 -m lab explore --network ring:3..16 --agent "examples/agents/ring.py {nodes}" --workers 4 --out out/rings \
+        --bound "2 n log2 n"
+
 A round of turns that may go on for ever is told with the schedule that leads to it. It is fair if each agent that can
 move throughout it has a turn in it; if it is not fair, agents may wait for one that never has a turn. A round in which
 agents use commands ends with their quota, so there the Python model's search takes over.
 """
 import argparse
 import pathlib
-from typing import Optional
+from typing import List, Optional
 
 from lab.commands import drawing, trying
 from lab.commands.words import add_engine, add_match, at_least_one, games_of, not_negative, program_of
@@ -57,8 +68,13 @@ from lab.rules.engines import MODEL, PROGRAM, program_at
 from lab.search.asking import Draws
 from lab.search.explore import MOST_STATES, check_inside, tried
 from lab.search.proving import CHECKED
+from lab.search.spreading import Way
 from lab.support.faults import Fault
+from lab.support.missing import check
 from lab.support.progress import bar
+from lab.sweep.grid import BOUNDS
+from lab.sweep.proofs import MATCHES, Folder
+from lab.sweep.tables import alone_in
 
 FOLDER = finds.FOLDER
 # whose turn it is in drawn schedules, and what is hunted for
@@ -84,19 +100,54 @@ def add_words(parser: argparse.ArgumentParser) -> None:
     parser.add_argument("--check", metavar="N", type=not_negative, default=CHECKED, help="after the program's search, "
                         "play this many drawn schedules by the agents, and compare what they do with what they "
                         f"answered ({CHECKED}); with 0 merges of histories are not checked either")
+    parser.add_argument("--workers", metavar="N", type=at_least_one, default=1, help="how many matches of a network "
+                        "are tried at a time (1); each takes the memory of its own states")
+    parser.add_argument("--cluster", metavar="ADDRESS", help="let the workers of a Dask scheduler try them, such as "
+                        "tcp://192.0.2.7:8786; each needs this folder at the same path")
+    parser.add_argument("--out", metavar="FOLDER", type=pathlib.Path, help="write a row for each match that is proved, "
+                        "and a plot, and go on there if there are rows")
+    parser.add_argument("--bound", choices=BOUNDS, action="append", help="moves that the plot shows beside, and more "
+                        "by more of these")
     add_engine(parser)
 
 
 def run(words: argparse.Namespace) -> int:
     games, engine = games_of(words), program_of(words)
     draws = draws_of(words)
+    check_way(words)
     if (words.search or words.engine) == PROGRAM:
-        program = engine or program_at(words.program)
-        wanted = [trying.Wanted(game, program, engine, words.states, words.check, words.keep) for game in games]
+        program, way = engine or program_at(words.program), Way(words.workers, words.cluster)
+        wanted = [trying.Wanted(game, program, engine, words.states, words.check, words.keep, way) for game in games]
+        if words.out:
+            return written(words, wanted)
         return drawing.run(wanted, draws) if draws else trying.run(wanted)
     if draws:
         raise Fault("--draws needs the program's search: give no --search model, or use `lab hunt`")
     return max(searched(words, game) for game in games)
+
+
+def check_way(words: argparse.Namespace) -> None:
+    """Refuses what does not belong together."""
+    is_model = (words.search or words.engine) == MODEL
+    if words.out and words.draws is not None:
+        raise Fault("--out is for all schedules: leave --draws out")
+    if is_model and (words.out or words.cluster or words.workers > 1):
+        raise Fault("--workers, --cluster and --out need the program's search: give no --search model")
+    if words.bound and not words.out:
+        raise Fault("--bound is for the plot that --out writes: name a folder by --out")
+
+
+def written(words: argparse.Namespace, wanted: List[trying.Wanted]) -> int:
+    """Tries the schedules of all matches that have no row yet, and writes rows and a plot."""
+    check("matplotlib")
+    games = [one.game for one in wanted]
+    with alone_in(words.out):
+        folder = Folder(words.out, games, wanted[0].program)
+        status = trying.run([one._replace(before=folder.of(games, place), write=folder.add)
+                             for place, one in enumerate(wanted)])
+        print(f"the rows are in {words.out / MATCHES}" + (f"; look at {folder.draw(words.bound or [])}" if not status
+                                                          else ": the same command goes on there"))
+        return status
 
 
 def draws_of(words: argparse.Namespace) -> Optional[Draws]:

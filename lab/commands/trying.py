@@ -1,7 +1,7 @@
 """`explore` by the program: it tries the schedules, and the lab answers what agents do (lab/search/asking.py). Where
 the program says nothing, as an agent may use more than its quota, the Python model's search takes over, and says so."""
 import pathlib
-from typing import Any, Callable, List, NamedTuple, Optional, Sequence, Tuple
+from typing import Any, Callable, Iterator, List, NamedTuple, Optional, Sequence, Tuple, Union
 
 from lab.play import finds, games
 from lab.play.schedulers import Choice
@@ -10,12 +10,12 @@ from lab.play.teams import INSIDE, Game
 from lab.rules.engines import name_of
 from lab.rules.fixtures import Fixture
 from lab.rules.model import Verdict
-from lab.search.asking import BREAKS, ENDLESS, EXCEEDS, FAILS, SOLVES, asked
-from lab.search.checking import Checks
+from lab.search.asking import BREAKS, ENDLESS, EXCEEDS, FAILS, SOLVES, Draws, asked
 from lab.search.explore import Explored, explored
 from lab.search.machines import Machines
 from lab.search.pasts import NoFunction
-from lab.search.proving import Proving, Tried, Try, bounds_of, choices_of, found_in
+from lab.search.proving import After, Proving, Tried, bounds_of, choices_of, found_in
+from lab.search.spreading import Spread, Way, Work
 from lab.support import built
 from lab.support.progress import bar
 
@@ -30,7 +30,7 @@ FAIRNESS = {True: "and it is fair", False: "and it is not fair: an agent that ca
 
 
 class Wanted(NamedTuple):
-    """What is to be tried, by which program, and what of it is kept."""
+    """What is to be tried, by which program, what of it is kept, and who tries it."""
 
     game: Game
     program: str
@@ -39,6 +39,14 @@ class Wanted(NamedTuple):
     states: int
     check: int
     keep: pathlib.Path
+    way: Way = Way()
+    # the matches that were tried before, and what writes those that are tried now
+    before: Sequence[Tried] = ()
+    write: Optional[Callable[[Tried], None]] = None
+
+    def work(self, draws: Optional[Draws] = None) -> Work:
+        """What a process needs to try the matches."""
+        return Work(self.game, self.program, self.states, self.check, draws)
 
 
 class Search(NamedTuple):
@@ -46,7 +54,7 @@ class Search(NamedTuple):
     their agents were taken for machines."""
 
     tries: List[Tried]
-    checks: Checks
+    checks: str
 
 
 def run(all_wanted: Sequence[Wanted]) -> int:
@@ -56,11 +64,10 @@ def run(all_wanted: Sequence[Wanted]) -> int:
 
 def tried_one(wanted: Wanted) -> Tuple[int, Search]:
     """Tries the schedules of all matches of a game, up to the first that fails."""
-    def one(machines: Machines, fixture: Fixture, shown: Any) -> Tried:
-        found = asked(wanted.program, fixture, machines, wanted.states, shown.update, shown.set_postfix_str)
+    def after(tried: Tried, shown: Any) -> Tried:
         shown.clear()
-        return beside(wanted, Tried(fixture, found), shown)
-    search = all_tried(wanted, one, line_of)
+        return beside(wanted, tried, shown)
+    search = all_tried(wanted, wanted.work(), after, line_of)
     return told(wanted, search), search
 
 
@@ -96,15 +103,30 @@ def table_of(rows: Sequence[Sequence[str]]) -> List[str]:
             for row in rows]
 
 
-def all_tried(wanted: Wanted, one: Try, line: Callable[[Tried], str]) -> Search:
+def all_tried(wanted: Wanted, work: Work, after: After, line: Callable[[Tried], str]) -> Search:
     """Tries the matches of a game, and prints a line for each."""
-    search = Proving(wanted.game, wanted.check)
-    with bar(None, "answer") as shown:
-        for tried in search.tried(one, shown):
+    for tried in wanted.before:
+        print(f"{line(tried)}, as it was written before", flush=True)
+    # what is written is checked first, as other processes do
+    is_here = wanted.way.is_here() and not wanted.write
+    search: Union[Proving, Spread] = (Proving(wanted.game, wanted.check) if is_here else
+                                      Spread(work, wanted.way, wanted.before))
+    with bar(None, "answer" if is_here else "match") as shown:
+        for tried in tries_of(search, work, after, shown):
             print(line(tried), flush=True)
-    for what, count in search.machines.unnamed.items():
+            if wanted.write and tried.is_whole() and not tried.has_failed():
+                wanted.write(tried)
+    for what, count in search.unnamed.items():
         print(f"{count} times history stands for what a program holds: {what}")
-    return Search(search.tries, search.checks)
+    return Search(search.tries, str(search.checks))
+
+
+def tries_of(search: Union[Proving, Spread], work: Work, after: After, shown: Any) -> Iterator[Tried]:
+    """The matches as they are tried, by this process or by others."""
+    def one(machines: Machines, fixture: Fixture, shown: Any) -> Tried:
+        return after(Tried(fixture, asked(work.program, fixture, machines, work.states, shown.update,
+                                          shown.set_postfix_str, work.draws)), shown)
+    return search.tried(after, shown) if isinstance(search, Spread) else search.tried(one, shown)
 
 
 def beside(wanted: Wanted, tried: Tried, shown: Any) -> Tried:

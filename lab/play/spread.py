@@ -91,29 +91,34 @@ def end_with(parent: int) -> None:
         os._exit(1)
 
 
-def over_processes(job: Job, cases: Sequence[Numbered], workers: int, at_a_time: int = 4
+def over_processes(job: Job, cases: Sequence[Numbered], workers: int, at_a_time: int = 4, is_cut_short: bool = False
                    ) -> Generator[Result, None, None]:
-    """The results of all matches, in order, by this number of processes, each of which takes some at a time."""
+    """The results of all matches, in order, by this number of processes, each of which takes some at a time. If it is
+    cut short, what they play when no more results are taken is not waited for."""
     over = multiprocessing.Event()
     pool = concurrent.futures.ProcessPoolExecutor(workers, initializer=begin, initargs=(over, os.getpid()))
     try:
         yield from pool.map(functools.partial(result_of, job), cases, chunksize=at_a_time)
+        is_cut_short = False
     except BrokenProcessPool:
         yield Result(None, KILLED.format(workers=workers))
     finally:
         # also those that wait in the pipe of a worker, which cannot be cancelled
         over.set()
+        for process in multiprocessing.active_children() if is_cut_short else ():
+            process.terminate()
         pool.shutdown(wait=True, cancel_futures=True)
 
 
-def over_cluster(job: Job, cases: Sequence[Numbered], address: str) -> Iterator[Result]:
+def over_cluster(job: Job, cases: Sequence[Numbered], address: str, at_a_time: int = BATCH
+                 ) -> Generator[Result, None, None]:
     """The results of all matches, in order, by the workers of a Dask scheduler.
 
     A worker plays a batch in a process of its own, as agents inside the lab need a main thread. So a worker needs
     nothing of the lab but its folder, at the same path, and the same Python.
     """
     client = client_at(address)
-    batches = [cases[at:at + BATCH] for at in range(0, len(cases), BATCH)]
+    batches = [cases[at:at + at_a_time] for at in range(0, len(cases), at_a_time)]
     files = {**job.digests(), **own_digests()}
     futures = [client.submit(subprocess.run, [sys.executable, "-c", PLAY], input=pickle.dumps((job, batch, files)),
                              cwd=os.getcwd(), capture_output=True, pure=False) for batch in batches]

@@ -1,6 +1,6 @@
 """How `explore` checks that agents are the machines for which the lab takes them: the merges of their histories, drawn
 schedules that the agents play, and on small matches the Python model's search, which merges nothing."""
-from typing import Any, Optional
+from typing import Any, NamedTuple, Optional
 
 from lab.play.teams import INSIDE, Game
 from lab.rules.engines import Differs
@@ -15,6 +15,38 @@ from lab.search.pasts import NoFunction
 SECONDS, STATES = 1.0, 20_000
 
 
+class Counted(NamedTuple):
+    """What was checked of matches, and agreed: how many merges of histories of how many, drawn schedules, and matches
+    that the Python model searched, of how many. `str` says it."""
+
+    checked: int = 0
+    merged: int = 0
+    schedules: int = 0
+    searched: int = 0
+    matches: int = 0
+    is_wanted: bool = True
+
+    def more(self, other: "Counted") -> "Counted":
+        """What was checked in both."""
+        return Counted(self.checked + other.checked, self.merged + other.merged, self.schedules + other.schedules,
+                       self.searched + other.searched, self.matches + other.matches,
+                       self.is_wanted and other.is_wanted)
+
+    def since(self, other: "Counted") -> "Counted":
+        """What was checked since then."""
+        return Counted(self.checked - other.checked, self.merged - other.merged, self.schedules - other.schedules,
+                       self.searched - other.searched, self.matches - other.matches, self.is_wanted)
+
+    def __str__(self) -> str:
+        merges = f"{self.checked} of {self.merged} merges of histories"
+        if not self.is_wanted:
+            return f"nothing was checked: {merges}"
+        said = [merges, f"{self.schedules} drawn schedules"]
+        if self.searched:
+            said.append(f"the Python model's search of {self.searched} of {self.matches} matches")
+        return f"checked, and all agree: {', '.join(said)}"
+
+
 class Checks:
     """What was checked of a search. `str` says what, and that it agreed."""
 
@@ -25,13 +57,13 @@ class Checks:
         # whether the Python model's search of each match has come to an end in time so far
         self._is_small = all(agent.kind == INSIDE for agent in game.agents)
 
-    def check(self, fixture: Fixture, found: Optional[Found], shown: Any) -> None:
-        """Checks a match of which the program has found this."""
-        before, self._seen = self._seen, self._seen + 1
+    def check(self, fixture: Fixture, found: Optional[Found], shown: Any, number: int) -> None:
+        """Checks the match of a number, of which the program has found this."""
+        self._seen += 1
         if not self._wanted or found is None:
             return
         if found["found"] in (SOLVES, COMES):
-            first, last = (self._wanted * it // self._matches for it in (before, self._seen))
+            first, last = (self._wanted * it // self._matches for it in (number, number + 1))
             for seed in range(first, last):
                 follow(fixture, self._game.agents, self._machines, seed, self._game.limit)
             self._schedules += last - first
@@ -52,14 +84,13 @@ class Checks:
             shown.clear()
         return compared(fixture, found, beside)
 
+    def counted(self) -> Counted:
+        """What was checked so far."""
+        beside = self._machines.beside
+        return Counted(beside.checked, beside.merged, self._schedules, self._searched, self._seen, bool(self._wanted))
+
     def __str__(self) -> str:
-        merges = f"{self._machines.beside.checked} of {self._machines.beside.merged} merges of histories"
-        if not self._wanted:
-            return f"nothing was checked: {merges}"
-        said = [merges, f"{self._schedules} drawn schedules"]
-        if self._searched:
-            said.append(f"the Python model's search of {self._searched} of {self._seen} matches")
-        return f"checked, and all agree: {', '.join(said)}"
+        return str(self.counted())
 
 
 def compared(fixture: Fixture, found: Found, beside: Explored) -> bool:

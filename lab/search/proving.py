@@ -41,6 +41,8 @@ class Tried(NamedTuple):
 
 # tries the schedules of one match, whose agents are these machines, and shows that it does
 Try = Callable[[Machines, Fixture, Any], Tried]
+# what is made of a match that the program has tried, such as one that the Python model searches too
+After = Callable[[Tried, Any], Tried]
 
 
 class Proving:
@@ -52,6 +54,7 @@ class Proving:
         self.tries: List[Tried] = []
         self.machines = Machines(self._fixtures[0], game.agents, game.limit, MERGES if check else 0)
         self.checks = Checks(self.machines, game, check, len(self._fixtures))
+        self.unnamed = self.machines.unnamed
 
     def tried(self, one: Try, shown: Any) -> Iterator[Tried]:
         """Tries the matches, one after the other."""
@@ -63,7 +66,7 @@ class Proving:
                 self.tries.append(tried)
                 yield tried
                 if tried.beside is None and tried.is_whole():
-                    self.checks.check(fixture, tried.answered.found, shown)
+                    self.checks.check(fixture, tried.answered.found, shown, len(self.tries) - 1)
                 if not tried.is_whole() or tried.has_failed():
                     break
             if not self.tries[-1].has_failed():

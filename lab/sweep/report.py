@@ -117,10 +117,7 @@ def places(spec: Grid) -> Dict[str, float]:
 
 def plot(spec: Grid, groups: Sequence[Group]) -> str:
     """The plot of moves, as an SVG element: means with their confidence, the most moves, and the bound."""
-    matplotlib = needed("matplotlib")
-    matplotlib.use("svg")
-    matplotlib.rcParams.update({"svg.hashsalt": "lab", "font.size": 9, "font.family": "DejaVu Sans"})
-    figure = needed("matplotlib.figure").Figure(figsize=SIZE, layout="constrained")
+    figure = new_figure()
     axes = figure.add_subplot()
     spots = places(spec)
     lines = sorted({group.name[1:] for group in groups}, key=[group.name[1:] for group in groups].index)
@@ -128,9 +125,21 @@ def plot(spec: Grid, groups: Sequence[Group]) -> str:
         draw_line(axes, [group for group in groups if group.name[1:] == line], spots, (number, len(lines), spec))
     draw_bound(axes, spec, spots)
     label_axes(axes, spec, spots)
+    return svg_of(figure)
+
+
+def new_figure() -> Any:
+    """A figure that is the same each time it is drawn."""
+    matplotlib = needed("matplotlib")
+    matplotlib.use("svg")
+    matplotlib.rcParams.update({"svg.hashsalt": "lab", "font.size": 9, "font.family": "DejaVu Sans"})
+    return needed("matplotlib.figure").Figure(figsize=SIZE, layout="constrained")
+
+
+def svg_of(figure: Any) -> str:
+    """A figure as an SVG element. A page has the element alone, without the head of an XML file."""
     text = io.StringIO()
     figure.savefig(text, format="svg", metadata={"Date": None, "Creator": None})
-    # a page has the element alone, without the head of an XML file
     return "".join(text.getvalue().partition("<svg")[1:])
 
 
@@ -164,15 +173,24 @@ def draw_bound(axes: Any, spec: Grid, spots: Dict[str, float]) -> None:
 
 
 def label_axes(axes: Any, spec: Grid, spots: Dict[str, float]) -> None:
-    axes.set_ylabel("moves")
-    axes.set_ylim(bottom=0)
-    whole = needed("matplotlib.ticker").MaxNLocator
-    axes.yaxis.set_major_locator(whole(integer=True))
     if is_one_family(spec):
-        axes.set_xlabel("nodes")
-        axes.xaxis.set_major_locator(whole(integer=True))
+        over_nodes(axes)
     else:
         axes.set_xticks(list(spots.values()), list(spots), rotation=25, ha="right")
+    moves_up(axes)
+
+
+def over_nodes(axes: Any) -> None:
+    """Draws over the numbers of nodes."""
+    axes.set_xlabel("nodes")
+    axes.xaxis.set_major_locator(needed("matplotlib.ticker").MaxNLocator(integer=True))
+
+
+def moves_up(axes: Any) -> None:
+    """Draws moves, with a legend above."""
+    axes.set_ylabel("moves")
+    axes.set_ylim(bottom=0)
+    axes.yaxis.set_major_locator(needed("matplotlib.ticker").MaxNLocator(integer=True))
     for side in ("top", "right"):
         axes.spines[side].set_visible(False)
     axes.grid(axis="y", color="#dddddd", linewidth=0.6)

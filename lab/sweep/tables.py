@@ -39,25 +39,28 @@ def line_of(row: Iterable[str]) -> str:
     return text.getvalue()
 
 
-def check_of(cells: Sequence[str]) -> str:
+def check_of(cells: Sequence[str], columns: Sequence[str] = COLUMNS) -> str:
     """What the column `check` has: digits of the SHA-256 of the row without it."""
-    text = line_of([*cells[:CHECK], *cells[CHECK + 1:]])
+    place = columns.index(COLUMNS[CHECK])
+    text = line_of([*cells[:place], *cells[place + 1:]])
     return hashlib.sha256(text.encode()).hexdigest()[:DIGITS]
 
 
-def checked(cells: Sequence[str]) -> List[str]:
+def checked(cells: Sequence[str], columns: Sequence[str] = COLUMNS) -> List[str]:
     """A row with its check."""
-    return [*cells[:CHECK], check_of(cells), *cells[CHECK + 1:]]
+    place = columns.index(COLUMNS[CHECK])
+    return [*cells[:place], check_of(cells, columns), *cells[place + 1:]]
 
 
-def cells_in(path: pathlib.Path) -> List[List[str]]:
+def cells_in(path: pathlib.Path, columns: Sequence[str] = COLUMNS) -> List[List[str]]:
     """The rows of a file, each as it must be."""
     with path.open(encoding="utf-8", newline="") as file:
         head, *rows = list(csv.reader(file)) or [[]]
-    if tuple(head) != COLUMNS:
+    if tuple(head) != tuple(columns):
         raise NoTable(f"{path}: its first line has other columns than rows of this lab: name another folder")
     for number, cells in enumerate(rows):
-        if len(cells) < len(COLUMNS) or cells[0] != str(number) or cells[CHECK] != check_of(cells):
+        is_whole = len(cells) >= len(columns) and cells[0] == str(number)
+        if not is_whole or cells[columns.index(COLUMNS[CHECK])] != check_of(cells, columns):
             raise NoTable(f"{path}: line {number + 2} is not as it was written: name another folder, or remove this "
                           "line and all below it, and start the same command again")
     return rows
@@ -74,17 +77,17 @@ def row_of(cells: Sequence[str]) -> Row:
     return {**row, FAULTS: faults, MORE: faults[1:]}
 
 
-def done_in(path: pathlib.Path) -> int:
+def done_in(path: pathlib.Path, columns: Sequence[str] = COLUMNS) -> int:
     """How many rows a file has. A row that was not written whole is dropped."""
     if not path.exists():
-        path.write_text(line_of(COLUMNS), encoding="utf-8")
+        path.write_text(line_of(columns), encoding="utf-8")
     text = path.read_bytes()
     whole = text[:text.rfind(b"\n") + 1]
     if whole != text:
         path.write_bytes(whole)
     if not whole:
-        path.write_text(line_of(COLUMNS), encoding="utf-8")
-    return len(cells_in(path))
+        path.write_text(line_of(columns), encoding="utf-8")
+    return len(cells_in(path, columns))
 
 
 def made_by(program: Optional[str]) -> Dict[str, Any]:
@@ -123,11 +126,12 @@ def record_in(folder: pathlib.Path) -> Dict[str, Any]:
         raise NoTable(f"{path}: it is not as it was written: name another folder") from None
 
 
-def prepared(folder: pathlib.Path, made: Mapping[str, Any]) -> int:
-    """Makes the folder of a table, or takes up one that was interrupted; gives how many runs are done."""
+def prepared(folder: pathlib.Path, made: Mapping[str, Any], name: str = RUNS, columns: Sequence[str] = COLUMNS
+             ) -> int:
+    """Makes the folder of a table, or takes up one that was interrupted; gives how many rows are done."""
     folder.mkdir(parents=True, exist_ok=True)
     path = folder / MADE
-    if path.exists() or (folder / RUNS).exists():
+    if path.exists() or (folder / name).exists():
         changed = changed_in(folder, made)
         if changed:
             others = f" and {len(changed) - 1} more" if len(changed) > 1 else ""
@@ -135,7 +139,7 @@ def prepared(folder: pathlib.Path, made: Mapping[str, Any]) -> int:
                           "folder by --out, or remove this one")
     else:
         write_record(folder, made)
-    return done_in(folder / RUNS)
+    return done_in(folder / name, columns)
 
 
 def note_read(folder: pathlib.Path, read: Mapping[str, str]) -> None:

@@ -7,6 +7,7 @@ import subprocess
 import sys
 import unittest
 from typing import Any, Dict, List
+from unittest import mock
 
 import networkx
 
@@ -172,6 +173,27 @@ class Api(InFolder):
         few = lab.explore("ring:6", RING.words, states=10, engine=program())
         self.assertFalse(few.is_whole or few.solves or few.fails)
 
+    def test_several_networks_are_proved_in_one_call(self) -> None:
+        proof = lab.explore(["ring:3..4", networkx.cycle_graph(3)], RING.words, engine=program())
+        self.assertTrue(proof.solves)
+        self.assertEqual([row["nodes"] for row in proof.rows], [3, 3, 4, 4, 4, 3, 3])
+        self.assertEqual([row["network"] for row in proof.rows[:3]], ["ring:3", "ring:3", "ring:4"])
+        self.assertEqual(proof.most_moves, 9)
+        self.assertIn("60 drawn schedules", proof.checked)
+        self.assertEqual(lab.explore("ring:3..4", RING.words).most_moves, 9)
+        wrong = lab.explore(["ring:4", "ring:5"], f"{TOP}/lab/mutants/reads_once.py {{nodes}}", engine=program())
+        self.assertTrue(wrong.fails)
+        self.assertEqual({row["network"] for row in wrong.rows}, {"ring:4"})
+
+    def test_rows_are_a_frame_if_there_is_pandas(self) -> None:
+        proof = lab.Proof([{"network": "ring:3", "moves": 4}], "", None, False)
+        with mock.patch.dict(sys.modules, pandas=None):
+            self.assertEqual(proof.frame(), proof.rows)
+        pandas = mock.Mock()
+        with mock.patch.dict(sys.modules, pandas=pandas):
+            self.assertIs(proof.frame(), pandas.DataFrame.return_value)
+        pandas.DataFrame.assert_called_once_with(proof.rows)
+
     def test_the_program_draws_schedules(self) -> None:
         draws = lab.Draws(500, 3, "fair", "moves")
         found = lab.explore("ring:8", RING.words, holes=[4], engine=program(), draws=draws)
@@ -227,8 +249,8 @@ class Notebook(unittest.TestCase):
         code = ["".join(cell["source"]) for cell in cells if cell["cell_type"] == "code"]
         self.assertGreater(len(code), 4)
         said = json.dumps([printed(cell) for cell in cells if cell["cell_type"] == "code"])
-        ran = subprocess.run([sys.executable, "-c", RUNNER, json.dumps(code)], cwd=TOP / "examples", text=True,
-                             capture_output=True)
+        ran = subprocess.run([sys.executable, "-c", RUNNER, json.dumps(code), program()], cwd=TOP / "examples",
+                             text=True, capture_output=True)
         self.assertEqual(ran.returncode, 0, ran.stderr)
         found: List[str] = json.loads(ran.stdout)
         for text, wanted, source in zip(found, json.loads(said), code):
@@ -241,9 +263,12 @@ def printed(cell: Dict[str, Any]) -> str:
     return "".join("".join(it["text"]) for it in cell["outputs"] if it["output_type"] == "stream")
 
 
-# runs cells one after the other, and gives what each printed
+# runs cells one after the other, and gives what each printed; the program is the one of these tests
 RUNNER = """
-import contextlib, io, json, sys
+import contextlib, io, json, pathlib, sys
+sys.path.insert(0, str(pathlib.Path.cwd().parent))
+from lab.support import built
+built.any_program = lambda: pathlib.Path(sys.argv[2])
 variables, found = {"__name__": "__main__"}, []
 for place, cell in enumerate(json.loads(sys.argv[1])):
     said = io.StringIO()

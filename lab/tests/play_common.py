@@ -103,6 +103,21 @@ class InCommon(unittest.TestCase):
                 left.append(machines.next(memory, spelled(news)))
             seen.add(memory)
 
+    def test_a_program_is_played_again_from_the_nearest_one_that_waits(self) -> None:
+        machines = Machines(fixture(), [AgentWords(INSIDE, RING)] * 2, 5, merges=0)
+        machines.start()
+        self.addCleanup(machines.stop)
+        entered, again = (machines.next(machines.begin(agent), spelled(ENTERED)) for agent in (0, 1))
+        self.assertEqual(entered, again)
+        written = machines.next(entered, spelled({"ok": "written"}))
+        departed = machines.next(written, spelled({"ok": "gone"}))
+        # the second agent's program still waits where both had entered
+        self.assertNotEqual(machines.next(written, spelled({"ok": "over"})), departed)
+        self.assertEqual(machines._seats._begun, 2)
+        # now nobody waits there
+        machines.next(written, spelled({"no": "spent"}))
+        self.assertEqual(machines._seats._begun, 3)
+
     def test_what_one_program_changes_no_other_sees(self) -> None:
         for name in HIDDEN:
             with self.subTest(name):
