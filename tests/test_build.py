@@ -72,9 +72,10 @@ class Forecasts(unittest.TestCase):
     def test_the_file_names_the_crates(self) -> None:
         text = SECONDS.read_text()
         self.assertEqual(text_of(seconds_of(text), text), text)
-        # a crate without a time gets the median; most are to have one
-        named = set(seconds_of(text)) & set(prover.libraries_of())
-        self.assertGreater(len(named), 0.7 * len(prover.libraries_of()))
+        # a crate without a time gets the median: one may wait for the next gate that is measured
+        named, crates = set(seconds_of(text)), set(prover.libraries_of())
+        self.assertLessEqual(named, crates)
+        self.assertLessEqual(len(crates - named), 1)
 
 
 class Build(unittest.TestCase):

@@ -58,6 +58,14 @@ class Theorems(unittest.TestCase):
         self.assertEqual([name for name in libraries if THEOREMS in below(libraries, name)], ["bhs_main"])
 
 
+class Crates(unittest.TestCase):
+    def test_crates_that_are_named_are_there(self) -> None:
+        found = {(path.name, name) for path in documents() if path.name not in MADE
+                 for name in re.findall(r"\bbhs_\w+", path.read_text(encoding="utf-8"))}
+        self.assertGreater(len(found), 50)
+        self.assertEqual(sorted(it for it in found if it[1] not in libraries_of()), [])
+
+
 class Links(unittest.TestCase):
     def test_links_lead_to_files(self) -> None:
         for path in documents():
