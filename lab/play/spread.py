@@ -13,7 +13,7 @@ import signal
 import subprocess
 import sys
 from concurrent.futures.process import BrokenProcessPool
-from typing import Any, Dict, Generator, Iterable, Iterator, List, NamedTuple, Protocol, Sequence
+from typing import Any, Dict, Generator, Iterable, List, NamedTuple, Protocol, Sequence
 
 from lab.play.imports import digest_named, digest_of
 from lab.support.built import TOP

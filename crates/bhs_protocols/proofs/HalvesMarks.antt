@@ -4,19 +4,15 @@ use Rattle.std.specs.Prelude.{◌≢◌}
 use Rattle.std.proofs.lemmas.Bool.{lt-ltb, ltb-true, true≢false, eq-eqb, cond-true, cond-false}
 use Rattle.std.proofs.lemmas.Bool.Decides.{eqb_tells}
 use Rattle.bhs_model.proofs.StepLemmas.{by_cases}
-use Rattle.bhs_protocols.specs.Shuttle.{other_in, text_by}
+use Rattle.bhs_protocols.specs.Shuttle.{text_by}
 use Rattle.bhs_protocols.specs.Halves.{own_in}
 use Rattle.bhs_protocols.proofs.HalvesDues.{mark_at}
-use Rattle.bhs_protocols.proofs.SearchLemmas.{both, read_other, right_of, left_of}
+use Rattle.bhs_protocols.proofs.SearchLemmas.{both, right_of, left_of}
 
 -- ---- marks
 
 pub read_own : (s a b : ℕ) → s < 2 → own_in s (text_by s a b) ≡ a
 read_own s a b below = both (λ (k : ℕ). own_in k (text_by k a b) ≡ a) (right_of a b) (left_of b a) s below
-
--- what was read spells what is shown
-read_back : (s a b : ℕ) → s < 2 → text_by s (own_in s (text_by s a b)) (other_in s (text_by s a b)) ≡ text_by s a b
-read_back s a b below = λ i. text_by s (read_own s a b below i) (read_other s a b below i)
 
 pub mark_before : (mine mark k : ℕ) → k < mine → mark_at mine mark k ≡ 1
 mark_before mine mark k below = cond-true _ _ _ (lt-ltb k mine below)

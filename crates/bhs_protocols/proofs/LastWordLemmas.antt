@@ -80,17 +80,6 @@ reached_later trial picture (agent ∷ schedule) node was =
 abbrev IsHonest : Position → Option (ℕ × ℕ) → Type 0
 IsHonest position accused = (accused ≡ None) ⊎ (position ≡ After)
 
-accused_else : (reply : Reply) (command : Command) (place : Position) → (reply ≡ replies.Noted → ⊥)
-    → accused_by (Some reply) command place None ≡ None
-accused_else (replies.Here ports came board) command place apart = refl
-accused_else replies.Written command place apart = refl
-accused_else (replies.Changed board) command place apart = refl
-accused_else replies.Gone command place apart = refl
-accused_else replies.Noted command place apart = absurd (apart refl)
-accused_else replies.Bye command place apart = refl
-accused_else replies.Over command place apart = refl
-accused_else (replies.No why) command place apart = refl
-
 accused_write : (reply : Reply) (expect put : List ℕ) (place : Position)
     → accused_by (Some reply) (Write expect put) place None ≡ None
 accused_write (replies.Here ports came board) expect put place = refl
