@@ -197,7 +197,7 @@ class Exploring(InExplore):
         self.assertEqual(status, 1, self.said)
         table = self.said.partition("network matches states moves lost seconds\n")[2].split("\n")
         self.assertEqual([row.split()[:5] for row in table[:2]],
-                         [["ring:3", "2", "270", "4", "1"], ["ring:4", "3", "1667", "9", "1"]])
+                         [["ring:3", "2", "184", "4", "1"], ["ring:4", "3", "1183", "9", "1"]])
         self.assertNotIn("torus", "".join(table))
 
     def test_other_sample_agents(self) -> None:
@@ -298,7 +298,7 @@ class Exploring(InExplore):
         self.assertRegex(told.call_args.args[0], r"^the program works for \d+ s and takes \d+ MB$")
 
     def test_it_is_told_how_far_a_long_search_is(self) -> None:
-        game, fixture = self.game("--network", "ring:27", "--hole", "13", "--agent", RING.words)
+        game, fixture = self.game("--network", "ring:40", "--hole", "20", "--agent", RING.words)
         told = mock.Mock()
         with mock.patch("lab.search.asking.PAUSE", 0.01):
             answered = self.answered(fixture, game.agents, said=told)

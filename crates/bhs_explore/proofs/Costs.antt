@@ -26,7 +26,7 @@ abbrev pub gone_of : Option Reply → ℕ
 gone_of (Some Gone) = 1
 gone_of reply = 0
 
-moves_said : (answer : Option Reply) (before : ℕ) → moves_by answer before ≡ before + gone_of answer
+pub moves_said : (answer : Option Reply) (before : ℕ) → moves_by answer before ≡ before + gone_of answer
 moves_said None before = omega arith
 moves_said (Some Gone) before = refl
 moves_said (Some Written) before = omega arith

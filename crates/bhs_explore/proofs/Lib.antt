@@ -8,6 +8,10 @@ pub mod Playing
 pub mod Scenes
 pub mod Leading
 pub mod Waking
+pub mod Departures
+pub mod Leaving
+pub mod Departing
+pub mod Ahead
 pub mod Closing
 pub mod Verdicts
 pub mod Schedules
