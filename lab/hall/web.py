@@ -13,6 +13,7 @@ import threading
 import time
 from typing import Any, Dict, List, NamedTuple
 
+from django.conf import settings
 from gunicorn.workers import gthread
 
 # seconds that a request may take until its head is there, and in all; how many of an address may be on their way
@@ -77,7 +78,9 @@ class Worker(gthread.ThreadWorker):
         with self._own:
             own = [it for it, other in self._asking.items() if other.address == begun.address]
             self._asking[conn] = begun
-        cut(own[:len(own) + 1 - MOST_ASKING] if len(own) >= MOST_ASKING else [])
+        # all that comes through a server that encrypts is of its address, and that server waits for slow requests
+        if len(own) >= MOST_ASKING and not settings.HALL.https:
+            cut(own[:len(own) + 1 - MOST_ASKING], socket.SHUT_RD)
         try:
             return super().handle(conn)
         finally:
@@ -90,6 +93,8 @@ class Worker(gthread.ThreadWorker):
             begun = self._asking.pop(conn, None)
             if begun is not None:
                 self._answering[conn] = begun
+        # Django could not tell X_Forwarded_For from the header that a proxy writes
+        req.headers = [(name, value) for name, value in req.headers if "_" not in name]
         return super().handle_request(req, conn)
 
     def murder_keepalived(self) -> None:
@@ -99,11 +104,12 @@ class Worker(gthread.ThreadWorker):
         with self._own:
             late = [conn for conn, begun in self._asking.items() if now - begun.at > SECONDS_TO_ASK]
             late += [conn for conn, begun in self._answering.items() if now - begun.at > SECONDS_IN_ALL]
-        cut(late)
+        cut(late, socket.SHUT_RDWR)
 
 
-def cut(connections: List[Any]) -> None:
-    """Ends connections; whoever reads or writes there finds that out."""
+def cut(connections: List[Any], how: int) -> None:
+    """Ends connections; whoever reads or writes there finds that out. If only no more is read of them, a request that
+    has come whole is answered."""
     for conn in connections:
         with contextlib.suppress(OSError):
-            conn.sock.shutdown(socket.SHUT_RDWR)
+            conn.sock.shutdown(how)
