@@ -18,6 +18,7 @@ from django.utils import timezone, translation  # noqa: E402
 from lab.hall import keys  # noqa: E402
 from lab.hall.attempts import seen, shown  # noqa: E402
 from lab.hall.attempts.models import Attempt, Match  # noqa: E402
+from lab.hall.handins import taking  # noqa: E402
 from lab.hall.teams import guards  # noqa: E402
 from lab.hall.teams.models import Team  # noqa: E402
 
@@ -29,7 +30,7 @@ class Hall(TestCase):
     """A hall with three teams and their tokens."""
 
     def setUp(self) -> None:
-        for buckets in (guards.asked, guards.tried):
+        for buckets in (guards.asked, guards.tried, taking.sent):
             buckets.clear()
         # numbers of attempts come again in each test
         shown.PARTS = seen.Parts()

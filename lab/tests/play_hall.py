@@ -105,7 +105,8 @@ class Matches(Halls):
         # keys of another match are none here
         self.assertEqual(said(told["host"], told["port"], [{"do": "enter", "key": "ka"}]), [{"no": "key"}])
         self.hall.ask("POST", f"/api/matches/{number}/close", token)
-        self.assertEqual(self.hall.over(token, number)["verdicts"], [{"outcome": "absent", "moves": 0, "lost": 0}])
+        self.assertEqual(self.hall.over(token, number)["verdicts"],
+                         [{"outcome": "absent", "moves": 0, "lost": 0, "trap": False}])
 
     def test_a_match_whose_program_was_killed_is_played_again(self) -> None:
         token = self.tokens["amber"]

@@ -9,7 +9,7 @@ from lab.hall import machine
 from lab.tests.hall_pages import PASSWORD, PLACE, Hall, played
 
 from django.conf import settings
-from django.test import Client
+from django.test import Client, RequestFactory
 from django.utils import timezone
 
 from lab.hall.attempts import draws, shown
@@ -38,6 +38,19 @@ class Logins(Hall):
         answers = [Client().get("/api/matches", HTTP_AUTHORIZATION=f"Bearer x{number}.y").status_code
                    for number in range(guards.TRIES_OF_ADDRESS + 5)]
         self.assertEqual((answers[0], answers[-1]), (401, 429))
+
+    def test_who_asks_is_an_address_or_a_network_of_the_sixth_version(self) -> None:
+        """An address has many spellings, and whoever has one of IPv6 has all of its network."""
+        with mock.patch.object(settings, "HALL", settings.HALL._replace(https=True)):
+            for said, wanted in (("192.0.2.7", "192.0.2.7"), ("10.0.0.1, 192.0.2.7", "192.0.2.7"),
+                                 ("::ffff:192.0.2.7", "192.0.2.7"), ("2001:db8::7", "2001:db8::/64"),
+                                 ("2001:db8::8:7", "2001:db8::/64"), ("2001:db8:0:0:1:2:3:4", "2001:db8::/64"),
+                                 ("2001:db8:0:1::7", "2001:db8:0:1::/64"), ("unknown", "unknown"), ("", "")):
+                request = RequestFactory().get("/", HTTP_X_FORWARDED_FOR=said)
+                with self.subTest(said):
+                    self.assertEqual(guards.address_of(request), wanted)
+        request = RequestFactory().get("/", HTTP_X_FORWARDED_FOR="192.0.2.7", REMOTE_ADDR="127.0.0.1")
+        self.assertEqual(guards.address_of(request), "127.0.0.1")
 
     def test_the_password_is_limited_too(self) -> None:
         for _ in range(guards.TRIES):

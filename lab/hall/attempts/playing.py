@@ -8,6 +8,7 @@ import contextlib
 import os
 import pathlib
 import shutil
+import sys
 import time
 from typing import Dict, Iterator, List, NamedTuple
 
@@ -56,7 +57,15 @@ def play(number: int, holder: str) -> None:
         # another try may find another port, or a machine that has room
         step(attempt, machine.LOSE, "", models.Q(holder=holder), fault=str(fault)[:300])
     except (Fault, OSError) as fault:
-        step(attempt, machine.FAIL, holder, fault=str(fault)[:300])
+        step(attempt, machine.FAIL, holder, fault=told_of(fault, attempt))
+
+
+def told_of(fault: Exception, work: object) -> str:
+    """What a team is told of a fault: those of the machine, which name files, stand in the worker's log."""
+    if isinstance(fault, Fault):
+        return str(fault)[:300]
+    print(f"hall: {type(work).__name__} {work}: {fault}", file=sys.stderr, flush=True)
+    return "the machine has a fault: tell your teacher"
 
 
 class Playing:
@@ -201,7 +210,7 @@ def make_pages(number: int, holder: str) -> None:
                 title = f"{work.attempt.network}, {work.attempt_id}.{match.number}"
                 page.write_page(settings.PLACE.program, match.replay, match.page, None, title)
     except (Fault, OSError) as fault:
-        step(work, machine.FAIL, holder, fault=str(fault)[:300])
+        step(work, machine.FAIL, holder, fault=told_of(fault, work))
         return
     Attempt.objects.filter(pk=work.attempt_id).update(size=size_of(work.attempt.folder))
     step(work, machine.FINISH, holder)

@@ -5,6 +5,7 @@ are left out here, and what is shown does not depend on them. So two matches tha
 byte for byte: an agent that is destroyed looks like one whose link is slow.
 """
 import collections
+import functools
 import json
 import pathlib
 import threading
@@ -115,24 +116,34 @@ class Ended(NamedTuple):
     holes: List[int]
 
 
-def ended(replay: pathlib.Path, most: int = 50) -> Optional[Ended]:
-    """What a replay tells."""
+def ended(replay: pathlib.Path) -> Optional[Ended]:
+    """What a replay tells, if it is there."""
+    try:
+        return kept_ended(replay, replay.stat().st_mtime_ns)
+    except FileNotFoundError:
+        return None
+
+
+@functools.lru_cache(maxsize=MATCHES)
+def kept_ended(replay: pathlib.Path, written: int) -> Ended:
+    """What a replay tells that was written then: it is read once, as it may be long and be asked for often."""
+    return read_ended(replay)
+
+
+def read_ended(replay: pathlib.Path, most: int = 50) -> Ended:
+    """What a replay tells, of refused lines the first."""
     refused: List[Dict[str, Any]] = []
     lost: List[Dict[str, int]] = []
     departed: Dict[int, int] = {}
-    holes: List[int] = []
-    try:
-        with replay.open(encoding="utf-8", newline="\n") as lines:
-            holes = json.loads(next(lines)).get("holes", [])
-            for place, line in enumerate(lines):
-                event = json.loads(line)
-                reply = event.get("reply")
-                if event.get("do") == "depart":
-                    departed[event["agent"]] = event["port"]
-                if event.get("do") == "deliver" and reply is None:
-                    lost.append({"agent": event["agent"], "port": departed.get(event["agent"], 0), "event": place + 1})
-                if isinstance(reply, dict) and "no" in reply and len(refused) < most:
-                    refused.append(shortened({"event": place + 1, **event, "meaning": meaning(reply)}))
-    except FileNotFoundError:
-        return None
+    with replay.open(encoding="utf-8", newline="\n") as lines:
+        holes = json.loads(next(lines)).get("holes", [])
+        for place, line in enumerate(lines):
+            event = json.loads(line)
+            reply = event.get("reply")
+            if event.get("do") == "depart":
+                departed[event["agent"]] = event["port"]
+            if event.get("do") == "deliver" and reply is None:
+                lost.append({"agent": event["agent"], "port": departed.get(event["agent"], 0), "event": place + 1})
+            if isinstance(reply, dict) and "no" in reply and len(refused) < most:
+                refused.append(shortened({"event": place + 1, **event, "meaning": meaning(reply)}))
     return Ended(refused, lost, holes)

@@ -19,6 +19,7 @@ from django.conf import settings
 from django.db import OperationalError, connection, models, transaction
 
 from lab.hall import machine
+from lab.hall.attempts.playing import told_of
 from lab.hall.attempts.servers import bound
 from lab.hall.handins.models import Grading
 from lab.hall.place import SECRET, write_whole
@@ -43,7 +44,7 @@ def grade(number: int, holder: str) -> None:
         if ran(work, holder):
             finish(work, holder)
     except (Fault, OSError) as fault:
-        step(work, machine.FAIL, holder, fault=str(fault)[:300])
+        step(work, machine.FAIL, holder, fault=told_of(fault, work))
 
 
 def prepare(work: Grading) -> None:

@@ -1,6 +1,9 @@
 """Takes hand-ins, within the limits of a team."""
 import datetime
 import hashlib
+import pathlib
+import shutil
+import sys
 from typing import Any, Dict, List, Optional
 
 from django.conf import settings
@@ -14,15 +17,20 @@ from lab.hall.attempts.shown import time_of
 from lab.hall.handins import unpacking
 from lab.hall.handins.grading import FILES
 from lab.hall.handins.models import Grading, HandIn
+from lab.hall.teams.guards import Buckets
 from lab.hall.teams.models import Grant, Team, granted, note, today
 
-# how many of a team may wait to be graded
-MOST_WAITING = 3
+# how many of a team may wait to be graded, and how often a team may send something in a minute, taken or not
+MOST_WAITING, A_MINUTE = 3, 12
+sent = Buckets(60)
 
 
 def take(team: Team, name: str, file: Any) -> HandIn:
     """Takes a file that a team hands in, or refuses it."""
     check(team, file.size)
+    if sent.wait(team.name, A_MINUTE):
+        raise Refused(429, _("your team has handed in %(count)s times this minute: wait for it to pass") % {
+            "count": A_MINUTE})
     try:
         files = unpacking.files_of(file.read(unpacking.MOST_SENT + 1), settings.HALL.hand_ins.file)
     except unpacking.NoHandIn as fault:
@@ -35,10 +43,20 @@ def take(team: Team, name: str, file: Any) -> HandIn:
         check(team, file.size)
         made = HandIn.objects.create(team=team, name=name[:80], size=sum(map(len, files.values())), files=len(files),
                                      digest=digest.hexdigest())
-        unpacking.write(files, made.folder / FILES)
+        write(files, made.folder)
         Grading.objects.create(hand_in=made)
         note(team.name, f"hands in {made.pk}: {made.files} files, {made.size} bytes")
     return made
+
+
+def write(files: Dict[str, bytes], folder: pathlib.Path) -> None:
+    """Writes what was handed in, wholly or not at all: the next hand-in would get the same folder."""
+    try:
+        unpacking.write(files, folder / FILES)
+    except OSError as fault:
+        shutil.rmtree(folder, ignore_errors=True)
+        print(f"hall: {folder}: {fault}", file=sys.stderr, flush=True)
+        raise Refused(503, _("the hall cannot write this now: tell your teacher")) from None
 
 
 def check(team: Team, size: int) -> None:

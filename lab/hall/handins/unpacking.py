@@ -13,6 +13,10 @@ from lab.support.faults import Fault
 # bytes of what is sent
 MOST_SENT = 8 << 20
 PART = re.compile(r"[^/\\\0-\x1f\x7f]{1,100}")
+# bytes of the name of a file or a folder, and of all names that lead to a file: what a disk takes
+MOST_NAME, MOST_PATH = 200, 1_000
+# with what each entry of a zip's list begins
+ENTRY = b"PK\x01\x02"
 PIECE = 64 << 10
 
 
@@ -31,6 +35,9 @@ def files_of(sent: bytes, name: str) -> Dict[str, bytes]:
 
 def unzipped(sent: bytes) -> Dict[str, bytes]:
     """The files of a zip."""
+    # whoever reads the list of a zip makes an object of each entry, also of folders
+    if sent.count(ENTRY) > 2 * MOST_FILES:
+        raise NoHandIn(f"it has more than {MOST_FILES} files")
     try:
         with zipfile.ZipFile(io.BytesIO(sent)) as archive:
             entries = [entry for entry in archive.infolist() if not entry.is_dir()]
@@ -66,6 +73,8 @@ def checked(entry: zipfile.ZipInfo) -> str:
         raise NoHandIn(f"its folders are more than {MOST_DEPTH} deep")
     if any(part in ("", ".", "..") or not PART.fullmatch(part) for part in parts):
         raise NoHandIn(f"the zip has {name[:60]!r}, which is no name of a file inside")
+    if max(map(len, map(str.encode, parts))) > MOST_NAME or len(name.encode()) > MOST_PATH:
+        raise NoHandIn(f"{name[:60]!r} is too long: a name has at most {MOST_NAME} bytes, and a path {MOST_PATH}")
     if (entry.external_attr >> 16) & 0o170000 == 0o120000:
         raise NoHandIn(f"{name[:60]} is a link: hand in what it leads to")
     return name

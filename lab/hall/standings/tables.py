@@ -55,8 +55,9 @@ def of_contest(contest: Contest) -> Table:
 
 
 def ranked(attempts: Any, shown: Dict[str, str], names: List[str]) -> List[Dict[str, Any]]:
-    """The rows of these attempts, best first, with cells for these networks."""
-    found = rules.standings(series_of(attempts), list(shown), settings.HALL.rated)
+    """The rows of these attempts, best first, with cells for these networks. Teams that are not shown change nothing:
+    the fewest moves are those of the others."""
+    found = rules.standings(series_of(attempts.filter(team__name__in=shown)), list(shown), settings.HALL.rated)
     return [row_of(row, shown, names) for row in found]
 
 

@@ -5,6 +5,7 @@ is not known is counted by address, so what strangers try costs no team its requ
 """
 import collections
 import hashlib
+import ipaddress
 import threading
 import time
 from typing import Callable, Dict, Optional, Tuple
@@ -24,6 +25,10 @@ STRANGERS, TRIES, TRIES_OF_ADDRESS = 600, 10, 100
 MOST_SENT, MOST_OF_STRANGERS = (8 << 20) + (64 << 10), 64 << 10
 # what is kept in mind at most
 MOST = 20_000
+# where programs ask, and how they send their token
+REST, BEARER = "/api/", "bearer "
+# the bits of an address of IPv6 that say whose it is
+OF_ONE = 64
 
 
 class Buckets:
@@ -80,22 +85,41 @@ class Known:
                 if len(self._names) > MOST:
                     self._names.popitem(last=False)
 
+    def forget(self, digest: Optional[str]) -> None:
+        """A token that was replaced, or a session that has ended, is nobody's."""
+        with self._lock:
+            self._names.pop(digest or "", None)
+
 
 asked, tried, known = Buckets(60), Buckets(600), Known()
 
 
 def address_of(request: HttpRequest) -> str:
-    """Who asks: the address, as the server before the hall tells it if there is one. Of an address of IPv6 that is the
-    network."""
+    """Who asks: the address, as the server before the hall tells it if there is one; it stands last, behind what a
+    stranger says of himself. Of an address of IPv6 that is the network, whose addresses are all one person's."""
     found = str(request.META.get("REMOTE_ADDR", ""))
     if settings.HALL.https:
         found = str(request.META.get("HTTP_X_FORWARDED_FOR", found)).rpartition(",")[2].strip()
-    return ":".join(found.split(":")[:4]) if ":" in found else found
+    try:
+        address = ipaddress.ip_address(found.partition("%")[0])
+    except ValueError:
+        return found
+    if address.version == 4 or address.ipv4_mapped:
+        return str(getattr(address, "ipv4_mapped", None) or address)
+    return str(ipaddress.ip_network((address, OF_ONE), strict=False))
+
+
+def token_in(request: HttpRequest) -> Optional[str]:
+    """The token that a program sends with a request of REST. Pages read none."""
+    said = str(request.META.get("HTTP_AUTHORIZATION", ""))
+    is_token = request.path.startswith(REST) and said.lower().startswith(BEARER)
+    return said[len(BEARER):].strip() if is_token else None
 
 
 def credential_of(request: HttpRequest) -> Optional[str]:
-    """The digest of the token or of the session by which one asks."""
-    said = request.META.get("HTTP_AUTHORIZATION") or request.COOKIES.get(settings.SESSION_COOKIE_NAME)
+    """The digest of the token or of the session by which one asks: of the one that the hall will look at."""
+    token, session = token_in(request), request.COOKIES.get(settings.SESSION_COOKIE_NAME)
+    said = f"token {token}" if token is not None else f"session {session}" if session else ""
     return hashlib.sha256(said.encode(errors="replace")).hexdigest() if said else None
 
 
@@ -134,7 +158,8 @@ class Guards:
         wait = asked.wait(key, most)
         if wait:
             return too_many(wait)
-        if length_of(request) > (MOST_SENT if name else MOST_OF_STRANGERS):
+        # what comes with a token is read once the token is found right
+        if length_of(request) > (MOST_SENT if name or token_in(request) else MOST_OF_STRANGERS):
             return refusal(413, _("that is too much"))
         if any(word in request.GET for word in ("token", "key", "password")):
             # what stands in an address is kept by browsers, servers and logs

@@ -12,7 +12,6 @@ from rest_framework.permissions import BasePermission
 from lab.hall.teams import guards
 from lab.hall.teams.models import DOT, Team, team_of
 
-BEARER = "bearer "
 WRONG = _("no team has this token")
 WAIT = _("too many wrong tries: wait some minutes")
 SESSION_TEAM, SESSION_GENERATION = "team", "generation"
@@ -55,8 +54,12 @@ class Teams:
 
     def __call__(self, request: Any) -> HttpResponse:
         request.team = team_in(request)
-        if request.team is not None:
-            guards.known.note(guards.credential_of(request), request.team.name)
+        if guards.token_in(request) is None:
+            digest = guards.credential_of(request)
+            if request.team is not None:
+                guards.known.note(digest, request.team.name)
+            else:
+                guards.known.forget(digest)
         return self._answer(request)
 
 
@@ -64,14 +67,14 @@ class ByToken(BaseAuthentication):
     """`Authorization: Bearer TOKEN`, as programs ask."""
 
     def authenticate(self, request: Any) -> Optional[Tuple[Team, None]]:
-        said = request.META.get("HTTP_AUTHORIZATION", "")
-        if not said.lower().startswith(BEARER):
+        token = guards.token_in(request)
+        if token is None:
             return None
         digest = guards.credential_of(request)
-        token = said[len(BEARER):].strip()
         # a token that was right costs no try, and is asked for anew each time
         team = team_of(token) if guards.known.name(digest) else self._tried(request, token)
         if team is None:
+            guards.known.forget(digest)
             raise exceptions.AuthenticationFailed(WRONG)
         guards.known.note(digest, team.name)
         return team, None
