@@ -252,7 +252,7 @@ def furnished(yard: Yard, commands: Iterable[str], packages: Sequence[str]) -> I
             # so that a name which is none is told before the first match
             walls.system_filter(calls.ANY, yard.calls)
         try:
-            folder = held.enter_context(root.copied(commands, packages)) if yard.walls is Walls.ALL else ""
+            folder = held.enter_context(root.copied(commands, packages, yard.tools)) if yard.walls is Walls.ALL else ""
         except root.NoCopy as fault:
             if packages:
                 raise NoCell(f"packages: {fault}") from None

@@ -3,7 +3,8 @@
 The kernel keeps names of files that do not exist, and what it has read of a disk: so a program can leave a note for a
 later one by looking for names, and it sees how much of the disk is free. A file system in memory keeps no such names,
 and nobody writes there. The copy has the files of Debian's packages that own the programs which the commands of a
-course name, of those on which these depend, and of those that the course names as `packages`.
+course name, of those on which these depend, and of those that the course names as `packages`. The folders that it
+names as `tools` are copied too, if there is room.
 """
 import contextlib
 import functools
@@ -12,10 +13,11 @@ import pathlib
 import re
 import shutil
 import subprocess
+import sys
 import tempfile
 from typing import Dict, Iterable, Iterator, List, NamedTuple, Sequence, Set
 
-from lab.course.walls import PATH, SETTINGS
+from lab.course.walls import PATH, SETTINGS, TOOLS
 
 # where file systems in memory are, and how many bytes of them a copy may take
 PLACES, MOST = ("/dev/shm", os.environ.get("XDG_RUNTIME_DIR", "/dev/shm")), 1 << 30
@@ -41,22 +43,40 @@ class Package(NamedTuple):
 
 
 @contextlib.contextmanager
-def copied(commands: Iterable[str], packages: Sequence[str]) -> Iterator[str]:
-    """The folder of a copy for these commands, and these packages besides, as long as it is open."""
+def copied(commands: Iterable[str], packages: Sequence[str], tools: Sequence[str] = ()) -> Iterator[str]:
+    """The folder of a copy for these commands, and these packages and tools besides, as long as it is open."""
     remove_left()
-    paths = files_of(closure([*ALWAYS, *packages, *owners(commands)]))
+    paths = files_of(closure([*ALWAYS, *packages, *owners(commands, tools)]))
     size = sum(os.lstat(path).st_size for path in paths)
     if size > MOST:
         raise NoCopy(f"what the commands need takes {size >> 20} MB, and a copy may take {MOST >> 20}")
-    with tempfile.TemporaryDirectory(prefix=f"{PREFIX}{os.getpid()}-", dir=place_for(size)) as folder:
+    inside = all_in(map(os.path.realpath, tools))
+    more = sum(os.lstat(path).st_size for path in inside if is_plain(path))
+    room = size + more if size + more <= MOST else size
+    with tempfile.TemporaryDirectory(prefix=f"{PREFIX}{os.getpid()}-", dir=place_for(room)) as folder:
         os.chmod(folder, 0o755)
         names = "\0".join(path.lstrip("/") for path in paths).encode(errors="surrogateescape")
-        made = subprocess.run(["tar", "-C", "/", "--no-recursion", "--null", "-T", "-", "-cf", "-"], input=names,
-                              capture_output=True)
-        ran = subprocess.run(["tar", "-C", folder, "--no-same-owner", "-xpf", "-"], input=made.stdout)
-        if made.returncode != 0 or ran.returncode != 0:
-            raise NoCopy(f"the system's files cannot be copied: {made.stderr.decode(errors='replace').strip()[:200]}")
+        copy("/", folder, ["--no-recursion", "--null", "-T", "-"], names)
+        try:
+            if room < size + more:
+                raise NoCopy(f"they take {more >> 20} MB")
+            for number, tool in enumerate(tools):
+                place = f"{folder}/{TOOLS}/{number}"
+                os.makedirs(place)
+                copy(os.path.realpath(tool), place, ["."])
+        except NoCopy as fault:
+            shutil.rmtree(f"{folder}/{TOOLS}", ignore_errors=True)
+            print(f"lab: programs see the tools on the disk, where the kernel keeps names for later ones: {fault}",
+                  file=sys.stderr)
         yield folder
+
+
+def copy(source: str, target: str, chosen: Sequence[str], names: bytes = b"") -> None:
+    """Copies files from a folder to another, as `tar` chooses them by these words and names."""
+    made = subprocess.run(["tar", "-C", source, "-cf", "-", *chosen], input=names, capture_output=True)
+    ran = subprocess.run(["tar", "-C", target, "--no-same-owner", "-xpf", "-"], input=made.stdout)
+    if made.returncode != 0 or ran.returncode != 0:
+        raise NoCopy(f"{source} cannot be copied: {made.stderr.decode(errors='replace').strip()[:200]}")
 
 
 def place_for(size: int) -> str:
@@ -76,11 +96,12 @@ def remove_left() -> None:
             shutil.rmtree(path, ignore_errors=True)
 
 
-def owners(commands: Iterable[str]) -> List[str]:
-    """The packages that own the programs and other files of the system which commands name."""
+def owners(commands: Iterable[str], tools: Sequence[str] = ()) -> List[str]:
+    """The packages that own the programs and other files of the system which commands name, but for those of tools."""
     words = {word for command in commands for word in re.findall(r"[\w.+/-]+", command)}
     files = [word for word in words if word.startswith("/usr/") and os.path.isfile(word)]
-    ways = [way_of(path) for path in {*files, *(shutil.which(word, path=PATH) for word in words)} if path]
+    ways = [way_of(path) for path in {*files, *(shutil.which(word, path=PATH) for word in words)}
+            if path and not path.startswith(tuple(f"{tool}/" for tool in tools))]
     # where the package has put it may be another name for the same folder
     asked = {other for way in ways for path in way for other in (path, path.removeprefix("/usr"))}
     ran = subprocess.run(["dpkg-query", "-S", *sorted(asked)], capture_output=True, text=True) if asked else None

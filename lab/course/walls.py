@@ -22,6 +22,8 @@ SETTINGS = ("alternatives", "fonts", "hosts", "java*", "ld.so.*", "localtime", "
             "os-release", "protocols", "python3*", "services", "ssl/certs", "ssl/openssl.cnf")
 # what it sees of /proc besides its processes: the rest tells how busy the machine is
 PROCESSES = {"self", "thread-self", "mounts", "net", "cpuinfo", "filesystems", "version"}
+# in a copy of the system, where the folders stand that a course names as tools, by their numbers
+TOOLS = "tools"
 # where it can write, in memory, and how many bytes each of these takes
 SPACES, SPACE = (HOME, "/tmp", "/dev/shm"), 64 << 20
 
@@ -41,8 +43,9 @@ def words(tools: Sequence[str], has_proc: bool, root: str = "") -> List[str]:
     found += ["--tmpfs", "/dev/pts", "--remount-ro", "/dev/pts"]
     for path in SPACES:
         found += ["--size", str(SPACE), "--tmpfs", path]
-    for path in tools:
-        found += ["--ro-bind", path, path]
+    for number, path in enumerate(tools):
+        copy = f"{root}/{TOOLS}/{number}"
+        found += ["--ro-bind", copy if root and os.path.isdir(copy) else path, path]
     for path in meeting_places((*(() if root else SEEN), *tools)):
         found += ["--ro-bind", os.devnull, path]
     return [*found, "--remount-ro", "/dev", "--remount-ro", "/", "--chdir", HOME]

@@ -16,7 +16,7 @@ from typing import Any, Dict, Iterator, List
 from unittest import mock
 
 from lab.__main__ import main
-from lab.course import calls, cells, traces, watch
+from lab.course import calls, cells, root, traces, watch
 from lab.course.cells import Walls, Yard
 from lab.course.grading import Graded
 from lab.course.walls import NoCell
@@ -381,6 +381,26 @@ sys.exit(f"{set(said)} {os.path.exists('/usr/share/doc/bash')} {len(os.listdir('
             self.assertEqual(self.said(Walls.ALL, code, root=yard.root), ["{'tmpfs'} False True"])
             self.assertEqual(self.said(Walls.ALL, WAYS, root=yard.root), ["all are shut"])
         self.assertFalse(os.path.exists(yard.root))
+
+    def test_tools_are_seen_in_memory_too(self) -> None:
+        """Also by a command that begins with one of them, which is of no package."""
+        tools = self.folder / "tools"
+        (tools / "bin").mkdir(parents=True)
+        (tools / "bin" / "it").write_text("of the course")
+        os.mkfifo(tools / "pipe")
+        code = f"""import os, subprocess, sys
+kind = subprocess.run(["stat", "-f", "-c", "%T", "{tools}"], capture_output=True, text=True).stdout.strip()
+sys.exit(f"{{kind}} {{open('{tools}/bin/it').read()}} {{os.path.isfile('{tools}/pipe')}}")
+"""
+        for most, kind in ((1 << 30, "tmpfs"), (100 << 20, "")):
+            with open(tools / "large", "wb") as file:
+                file.truncate(0 if kind else 90 << 20)
+            err = io.StringIO()
+            with mock.patch.object(root, "MOST", most), contextlib.redirect_stderr(err), cells.furnished(
+                    Yard(Walls.ALL, (str(tools),)), [EVIL, f"{tools}/bin/it"], []) as yard:
+                said = self.said(Walls.ALL, code, tools=yard.tools, root=yard.root)[0]
+            self.assertEqual((said.startswith("tmpfs"), said.endswith("of the course False")), (bool(kind), True), said)
+            self.assertEqual("they take 90 MB" in err.getvalue(), not kind, err.getvalue())
 
     def test_packages_that_the_course_names_are_seen(self) -> None:
         code = "import os, sys\nsys.exit(str(os.path.exists('/usr/lib/python3/dist-packages/yaml')))"
