@@ -158,4 +158,3 @@ def serve(place: Place, options: Options, seconds: Optional[float] = None) -> No
     finally:
         signal.signal(signal.SIGTERM, signal.SIG_IGN)
         parts.end()
-

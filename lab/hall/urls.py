@@ -38,6 +38,8 @@ class Number(IntConverter):
 
 
 register_converter(Number, "number")
+
+
 def icon(request: Any) -> HttpResponse:
     """Browsers ask for an icon; there is none."""
     return HttpResponse(status=204)

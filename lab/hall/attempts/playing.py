@@ -220,4 +220,3 @@ def forget(attempt: Attempt) -> None:
     """Removes the files of an attempt, and keeps what came of it."""
     shutil.rmtree(attempt.folder, ignore_errors=True)
     Attempt.objects.filter(pk=attempt.pk).update(size=0)
-

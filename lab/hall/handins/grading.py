@@ -140,4 +140,3 @@ def due(waiting: "models.QuerySet[Grading]") -> List[Grading]:
             first.setdefault(work.hand_in.team_id, work)
     return sorted(first.values(), key=lambda it: (last.get(it.hand_in.team_id) is not None,
                                                   last.get(it.hand_in.team_id) or it.asked, it.pk))
-

@@ -190,4 +190,3 @@ def refusal(status: int, text: str, **more: str) -> HttpResponse:
 def too_many(wait: float) -> HttpResponse:
     seconds = str(int(wait) + 1)
     return refusal(429, _("too many requests: wait %(seconds)s seconds") % {"seconds": seconds}, Retry_After=seconds)
-
