@@ -17,6 +17,8 @@ WORD = 8
 FRAME, TOP, SLOTS = 24, 64, 72
 # of a set: how many slots are or were in use, the last slot, the table, and where `pop` looks next
 FILL, MASK, TABLE, FINGER = 16, 32, 40, 56
+# of a list how many items it has
+LENGTH = 16
 # of a dict: its version, its keys; of these, how many may still be added and how many there were
 VERSION, KEYS, USABLE, ENTRIES = 24, 32, 16, 24
 # of an iterator over a dict or a set: how many items there were, and how far it is
@@ -61,6 +63,11 @@ def version_of(variables: Dict[Any, Any]) -> int:
 
 def version_place(variables: Dict[Any, Any]) -> Place:
     return id(variables) + VERSION, WORD
+
+
+def size_place(value: List[Any]) -> Place:
+    """Where a list has how many items there are."""
+    return id(value) + LENGTH, WORD
 
 
 PYTHON_ENDS = word_at(id(_Sample) + ENDS_OBJECTS)
@@ -220,6 +227,11 @@ def dicts_are_right() -> bool:
     return version_of(one) != before and entries == (5, 0) and entries_of(one)[0] == 5 and reached_by(goes) == (4, 2)
 
 
+def lists_are_right() -> bool:
+    one: List[int] = []
+    return is_seen(lambda: one.append(1), lambda: [size_place(one)])
+
+
 def functions_are_right() -> bool:
     def made(it: int = 1, *, two: int = 2) -> int:
         return it + two
@@ -275,5 +287,6 @@ def caches_are_right() -> bool:
 
 
 CHECKS: Dict[str, Callable[[], bool]] = {
-    "frames": frames_are_right, "sets": sets_are_right, "dicts": dicts_are_right, "functions": functions_are_right,
-    "classes": classes_are_right, "cells": cells_are_right, "caches": caches_are_right}
+    "frames": frames_are_right, "sets": sets_are_right, "dicts": dicts_are_right, "lists": lists_are_right,
+    "functions": functions_are_right, "classes": classes_are_right, "cells": cells_are_right,
+    "caches": caches_are_right}

@@ -9,7 +9,8 @@ from importlib.machinery import ModuleSpec, SourceFileLoader
 from typing import Any, Dict, Iterable, Iterator, List, NamedTuple, Optional, Protocol, Set, Tuple
 
 from lab.search.codes import Name, code_name, variables_of
-from lab.search.cpython import NOTHING, function_places, has_attributes, is_made_in_python, slots_of, views_of
+from lab.search.cpython import (NOTHING, Place, function_places, has_attributes, is_made_in_python, size_place,
+                                slots_of, version_place, views_of)
 from lab.search.kinds import (NAMES, Plan, complex_name, exception_name, is_abstract, number_name, parts_name,
                               plan_of)
 from lab.search.live import may_be_read
@@ -74,10 +75,16 @@ class Namer:
         names = NAMES.get(kind)
         if names is not None:
             return names(self, value)
-        return ("typing", repr(value)) if is_alias(value) else self._other(kind, value)
+        return self.alias(value) if is_alias(value) else self._other(kind, value)
 
     def names(self, values: Iterable[Tuple[Any, Any]]) -> Iterator[Name]:
         return ((self.name(key), self.name(value)) for key, value in values)
+
+    def alias(self, value: Any) -> Name:
+        """What `typing` makes, which all programs have together."""
+        if type(getattr(value, "__dict__", None)) is dict:
+            self._known.shared.watch_alias(value)
+        return ("typing", repr(value))
 
     # frames
 
@@ -241,11 +248,35 @@ def is_given(name: str, value: Any) -> bool:
     if name == "__builtins__":
         return value is builtins or value is vars(builtins)
     if name == "__spec__":
-        return type(value) is ModuleSpec and not vars(value).keys() - SPEC
-    return name == "__loader__" and type(value) is SourceFileLoader and not vars(value).keys() - {"name", "path"}
+        return type(value) is ModuleSpec and not vars(value).keys() - SPEC and holds_given(value)
+    return name == "__loader__" and type(value) is SourceFileLoader and not vars(value).keys() - {"name", "path"} and (
+        holds_given(value))
 
 
 SPEC = vars(ModuleSpec("one", None)).keys() | {"_uninitialized_submodules"}
+
+
+def holds_given(value: Any) -> bool:
+    """Whether what Python gives a module holds plain values, a loader and empty lists alone."""
+    return all(type(it) in (str, bool, type(None), SourceFileLoader) or type(it) is list and not it
+               for it in vars(value).values())
+
+
+def given_name(value: Any) -> Name:
+    """A name of what Python gives a module, and holds what it is given with."""
+    if type(value) not in (ModuleSpec, SourceFileLoader):
+        return ()
+    return tuple((it, given_name(part) if type(part) is SourceFileLoader else repr(part))
+                 for it, part in vars(value).items())
+
+
+def given_places(value: Any) -> List[Place]:
+    """What changes when that does: its dict, those of what it holds, and how long the lists in it are."""
+    if type(value) not in (ModuleSpec, SourceFileLoader):
+        return []
+    inside = [place for it in vars(value).values() for place in given_places(it)]
+    lists = [size_place(it) for it in vars(value).values() if type(it) is list]
+    return [version_place(vars(value)), *lists, *inside]
 
 
 def annotation_name(namer: Namer, value: Any) -> Name:

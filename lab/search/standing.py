@@ -14,7 +14,7 @@ from lab.search import uses
 from lab.search.codes import Name, digest_of
 from lab.search.cpython import Place, cell_place, class_places, function_places, version_of, version_place, views_of
 from lab.search.kinds import BUILT_IN, CACHE, GETTER, Plan
-from lab.search.naming import Namer, is_found_in_modules, is_given
+from lab.search.naming import Namer, given_name, given_places, is_found_in_modules, is_given
 from lab.search.still import Shared
 from lab.search.unnamed import Unnamed
 
@@ -167,6 +167,8 @@ class Known:
             found.fault = what
         for name, value in variables.items():
             if is_given(name, value):
+                names.append((name, given_name(value)))
+                places += given_places(value)
                 continue
             namer = StillNamer(self, f"{variables.get('__name__')}.{name}",
                                self._changes[id(variables)] < MOST_CHANGES)

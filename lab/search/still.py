@@ -99,6 +99,10 @@ class Shared:
         if id(dict_of(kind)) not in self._watched:
             self._watch(f"{kind.__module__}.{kind.__qualname__}", kind, dict_of(kind))
 
+    def watch_alias(self, alias: Any) -> None:
+        if id(vars(alias)) not in self._watched:
+            self._watch(repr(alias), alias, vars(alias))
+
     def _watch(self, label: str, owner: Any, variables: Dict[Any, Any]) -> None:
         self._watched[id(variables)] = Watched(label, owner, variables, dict(variables))
         self._look()

@@ -35,6 +35,12 @@ HIDDEN = {
     "an attribute of a class": ("class Bot:\n    memo = ''", "Bot.memo = b", "Bot.memo"),
     "defaults": ("def fn(m=''):\n    return m", "fn.__defaults__ = (b,)", "fn()"),
     "a variable": ("now = ''\ndef put(b):\n    global now\n    now = b", "put(b)", "now"),
+    "what Python gives a module": ("", "globals()['__spec__'].origin = b", "globals()['__spec__'].origin == 'x'"),
+    "its loader": ("", "globals()['__loader__'].path = b", "globals()['__loader__'].path == 'x'"),
+    "the loader behind that": ("", "globals()['__spec__'].loader.name = b", "globals()['__spec__'].loader.name == 'x'"),
+    "a list in it": ("", "globals()['__spec__']._uninitialized_submodules[:] = [b] * len(b)",
+                     "globals()['__spec__']._uninitialized_submodules"),
+    "an alias of typing": ("import typing\nA = typing.Dict[str, bytes]", "A._name = b or None", "A._name == 'x'"),
     "a variable that comes": ("", "globals()['zz'] = b", "zz"),
 }
 # modules that each program needs for itself
