@@ -57,6 +57,13 @@ class Load:
     def attempt(self, name: str, at: float) -> None:
         """An attempt of a team at a time, from the request to its end."""
         time.sleep(max(0.0, at - time.monotonic()))
+        try:
+            self.ask_and_play(name)
+        except (OSError, http.client.HTTPException) as fault:
+            self.outcomes[f"not answered: {fault}"] += 1
+
+    def ask_and_play(self, name: str) -> None:
+        """Asks for an attempt and plays it."""
         began = time.monotonic()
         told = self.request("POST", "/api/matches", name, {"network": "ring of 5"})
         while told["state"] in ("waiting", "held", "running") and not told["matches"]:
