@@ -192,7 +192,7 @@ class Proof(NamedTuple):
         return max((row["lost"] for row in self.rows if row["lost"] is not None), default=None)
 
     def frame(self) -> Any:
-        """The rows as a frame of pandas, or as a list of dicts where there is no pandas."""
+        """The rows as a frame of pandas, or as a list of dicts if pandas is missing."""
         return pandas_or_none().DataFrame(self.rows) if pandas_or_none() else list(self.rows)
 
     def __str__(self) -> str:
