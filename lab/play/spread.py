@@ -12,6 +12,7 @@ import pickle
 import signal
 import subprocess
 import sys
+import time
 from concurrent.futures.process import BrokenProcessPool
 from typing import Any, Dict, Generator, Iterable, List, NamedTuple, Protocol, Sequence
 
@@ -22,6 +23,8 @@ from lab.support.missing import needed
 
 # how many matches a Dask worker takes at a time, and how many seconds its scheduler may take to answer
 BATCH, SECONDS_TO_ANSWER = 20, 20
+# seconds in which a process ends that is asked to
+SECONDS_TO_END = 3.0
 # of Linux: asks for a signal when the parent ends
 PR_SET_PDEATHSIG = 1
 # what a Dask worker runs: the lab, in a process of its own
@@ -105,9 +108,20 @@ def over_processes(job: Job, cases: Sequence[Numbered], workers: int, at_a_time:
     finally:
         # also those that wait in the pipe of a worker, which cannot be cancelled
         over.set()
-        for process in multiprocessing.active_children() if is_cut_short else ():
-            process.terminate()
+        if is_cut_short:
+            end_all(multiprocessing.active_children())
         pool.shutdown(wait=True, cancel_futures=True)
+
+
+def end_all(processes: Sequence[Any]) -> None:
+    """Ends processes. One that waits for what another held when it ended does not end by being asked."""
+    for process in processes:
+        process.terminate()
+    last = time.monotonic() + SECONDS_TO_END
+    for process in processes:
+        process.join(max(0.0, last - time.monotonic()))
+    for process in processes:
+        process.kill()
 
 
 def over_cluster(job: Job, cases: Sequence[Numbered], address: str, at_a_time: int = BATCH
