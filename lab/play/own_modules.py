@@ -14,7 +14,7 @@ LOADING = threading.RLock()
 # all folders out of which agents were loaded
 FOLDERS: Set[str] = set()
 RANDOM = "random"
-# by the files that all agents share, the modules that are none of an agent's own, by their identities
+# for each set of files that all agents share: the modules that no agent owns, by their identities
 FOREIGN: Dict[Tuple[str, ...], Dict[int, ModuleType]] = {}
 FOREIGN_TO: Set[str] = set()
 # of each module the folders that it stands in, as long as there is the module: it is asked at each turn of an agent

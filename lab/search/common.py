@@ -46,7 +46,7 @@ def loaded_once(path: pathlib.Path, knows: Knows) -> Optional[Common]:
     while they are loaded, and if neither draws nor a cache belongs to them."""
     modules, notes = OwnModules(0), outside.Notes()
     known = knows(modules.random)
-    # what a program draws by is its own: a module that has it is none that programs have in common
+    # each agent draws from its own `random`: programs cannot share a module that holds it
     known.labels.clear()
     known.own = modules.own
     try:

@@ -94,7 +94,7 @@ class Autograder(InFolder):
         self.assertEqual(len(found["tests"]), 8)
         self.assertTrue(0 < found["score"] <= 20)
         self.assertEqual({test["status"] for test in found["tests"]}, {"passed"})
-        # a program that is no agent fails its matches, and the autograder still writes results
+        # a program that cannot be loaded fails its matches, and the autograder still writes results
         (self.place / "submission" / "agent.py").write_text("import nosuchmodule\n")
         found = self.results()
         self.assertEqual(found["score"], 0)

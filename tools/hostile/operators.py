@@ -25,7 +25,7 @@ LONG = 1_000_000
 LEAVE, ACCUSE = b'{"do":"leave"}\n', b'{"do":"accuse","port":1}\n'
 # the row of the last of two teams
 LAST_ROW = "  2 "
-# looks at a whiteboard with a text of so many bytes, and the most kilobytes that a server may take more for them
+# how many looks, at a text of how many bytes, and by how many kilobytes a server may grow meanwhile
 LOOKS, BOARD, MOST_GROWN = 3000, 60_000, 20_000
 # how many cases run beside each other
 BESIDE = 12
