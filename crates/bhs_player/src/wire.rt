@@ -20,6 +20,10 @@ impl<R: BufRead + Drop, W: Write + Drop> Connection for Wire<R, W> {
 
     ghost hears = { λ _ _ _. ⊤ };
 
+    ghost cuts = { λ _ _ _. ⊤ };
+
+    ghost loses = { λ _ _. ⊤ };
+
     fn say(&mut self, line: &str) -> Result<(), Lost> {
         let Ok(text) = format!(in self.alloc; "{line}\n") else {
             return Err(Lost);

@@ -185,7 +185,8 @@ fn answer_in(alloc: Global, value: &Value) -> Result<Option<Reply>, Memory>
     }
 }
 
-fn reply_in(alloc: Global, value: &Value) -> Result<Option<Reply>, Memory>
+/// The reply that an object says, if it says one. Other keys of it are not looked at.
+pub fn reply_in(alloc: Global, value: &Value) -> Result<Option<Reply>, Memory>
     ensures { IfOk result (λ reply. reply ≡ reply_in (view value.now)) }
 {
     match text_of(value, "ok") {

@@ -7,7 +7,7 @@ use Rattle.bhs_searcher.specs.declared.holding.Held.{Held}
 use Rattle.bhs_searcher.specs.declared.holding.Protocol.{Protocol}
 use Rattle.bhs_searcher.specs.declared.holding.Protocol.TheVariants.{Halves, Shuttle}
 use Rattle.bhs_searcher.specs.Protocols.{minds_of, held_by, after_in, does_in}
-use Rattle.bhs_searcher.specs.Talks.{Says, Hears, Talks, goes_on}
+use Rattle.bhs_searcher.specs.Talks.{Says, Hears, Talks, goes_on, HearsNone, stuck, BreaksOff, Breaks}
 
 does-held_by : (protocol : Protocol) (n agent : ℕ) (history : History)
     → does_in n (held_by protocol n agent history) ≡ minds_of protocol n agent history
@@ -36,3 +36,23 @@ pub holds_on : (protocol : Protocol) (n agent : ℕ) (history : History) (held n
     → next ≡ held_by protocol n agent (item ∷ history)
 holds_on protocol n agent history held next item holds after =
     after ∙ ap (λ (h : Held). after_in n h item) holds ∙ after-held_by protocol n agent history item
+
+-- it breaks off in what it does by what it holds
+pub breaks_off : {W : Type 0} (says hears cuts : W → List ℕ → W → Type 0) (loses : W → W → Type 0)
+    (protocol : Protocol) (n agent : ℕ) (key : List ℕ) (start here new : W) (history : History) (held : Held)
+    (step : Step)
+    → Talks says hears (minds_of protocol n agent) key start history here → held ≡ held_by protocol n agent history
+    → step ≡ does_in n held → BreaksOff says hears cuts loses key step here new
+    → Breaks says hears cuts loses (minds_of protocol n agent) key start new
+breaks_off says hears cuts loses protocol n agent key start here new history held step talks holds does off = record {
+  history = history;
+  here = here;
+  talks = talks;
+  off = subst (λ (it : Step). BreaksOff says hears cuts loses key it here new)
+      (does ∙ ap (does_in n) holds ∙ does-held_by protocol n agent history) off;
+}
+
+-- a reply that is heard may be one by which it does not go on
+pub stuck_by : {W : Type 0} (hears : W → List ℕ → W → Type 0) (loses : W → W → Type 0) (reply : Reply) (told new : W)
+    → Hears hears reply told new → HearsNone hears loses told new
+stuck_by hears loses reply told new heard = stuck heard.0 new heard.2

@@ -62,9 +62,26 @@ pub record Ends {W : Type 0} (says hears : W → List ℕ → W → Type 0) (min
   pub talks : Talks says hears mind key old (Heard reply ∷ history) new
   pub last : ended_by reply ≡ Some how
 
--- it breaks off: all that it had said and heard until then is what its mind says
-pub record Breaks {W : Type 0} (says hears : W → List ℕ → W → Type 0) (mind : Mind) (key : List ℕ) (old : W)
-    : Type 0 where
+-- A read gave no line, or a line by which the agent does not go on. `loses` says what a read makes of the connection
+-- that gives no line.
+pub data HearsNone {W : Type 0} (hears : W → List ℕ → W → Type 0) (loses : W → W → Type 0) (told : W) : W → Type 0 where
+  lost : (new : W) → loses told new → HearsNone hears loses told new
+  stuck : (line : List ℕ) (new : W) → hears told line new → HearsNone hears loses told new
+
+-- How an agent breaks off that does this next: before it says it, in the line of its command, or when it has said it.
+-- `cuts` says what a line makes of the connection that could not be written whole.
+pub data BreaksOff {W : Type 0} (says hears cuts : W → List ℕ → W → Type 0) (loses : W → W → Type 0) (key : List ℕ)
+    (doing : Step) (here : W) : W → Type 0 where
+  silent : BreaksOff says hears cuts loses key doing here here
+  cut : (command : Command) (line : List ℕ) (new : W) → doing ≡ step.Says command → IsLineOf key command line
+      → cuts here line new → BreaksOff says hears cuts loses key doing here new
+  unheard : (told new : W) → Says says key doing here told → HearsNone hears loses told new
+      → BreaksOff says hears cuts loses key doing here new
+
+-- It breaks off: all that it had said and heard until then is what its mind says, and so is the last that it began.
+pub record Breaks {W : Type 0} (says hears cuts : W → List ℕ → W → Type 0) (loses : W → W → Type 0) (mind : Mind)
+    (key : List ℕ) (old new : W) : Type 0 where
   pub history : History
   pub here : W
   pub talks : Talks says hears mind key old history here
+  pub off : BreaksOff says hears cuts loses key (mind history) here new

@@ -3,7 +3,7 @@
 ghost use Rattle.std.specs.Prelude.{◌≡◌, ℕ, List, ⊤, string_bytes, IfOk, OnOk, OnErr};
 ghost use Rattle.bhs_searcher.specs.declared.playing.PlayFault.{PlayFault};
 ghost use Rattle.bhs_searcher.specs.Protocols.{minds_of};
-ghost use Rattle.bhs_searcher.specs.Talks.{Breaks, Ends, Hears, Says, ended_by};
+ghost use Rattle.bhs_searcher.specs.Talks.{Breaks, BreaksOff, Ends, Hears, HearsNone, Says, ended_by};
 
 use crate::commands::line_of;
 use crate::holding::{HoldFault, Protocol, after, begun, step_of};
@@ -19,14 +19,20 @@ pub trait Connection {
     ghost says: { Self → List ℕ → Self → Type 0 };
     // The same of a line that is read, without its line feed.
     ghost hears: { Self → List ℕ → Self → Type 0 };
+    // The same of a line that could not be written whole.
+    ghost cuts: { Self → List ℕ → Self → Type 0 };
+    // In the first state a read may give no line, and the connection is then in the second state.
+    ghost loses: { Self → Self → Type 0 };
 
     /// Writes a line and a line feed.
     fn say(&mut self, line: &str) -> Result<(), Lost>
-        ensures { OnOk result (says self.old line.now self.new) };
+        ensures said { OnOk result (says self.old line.now self.new) }
+        ensures cut { OnErr result (cuts self.old line.now self.new) };
 
     /// Reads the next line.
     fn hear(&mut self) -> Result<String, Lost>
-        ensures { IfOk result (λ line. hears self.old (string_bytes line) self.new) };
+        ensures heard { IfOk result (λ line. hears self.old (string_bytes line) self.new) }
+        ensures lost { OnErr result (loses self.old self.new) };
 }
 
 /// The connection is lost, or gives no line.
@@ -99,7 +105,7 @@ impl From<HoldFault> for PlayFault {
 /// Plays a protocol until the agent has accused, or is told that its match is over. At most `turns` replies are heard.
 ///
 /// The agent says what the minds of the protocol's theorem say of all that it was told, line by line, and nothing else.
-/// So it is if it breaks off: what it said before is what they say.
+/// If it breaks off, what it had said by then is what they say, and of its last line a front may have been written.
 pub fn play<C: Connection>(
     alloc: Global,
     connection: &mut C,
@@ -109,9 +115,9 @@ pub fn play<C: Connection>(
     ensures ended { IfOk result (λ ended. Ends C.says C.hears
         (minds_of player.entry.protocol player.entry.nodes player.entry.agent) player.entry.key.now
         connection.old ended connection.new) }
-    ensures broken { OnErr result (Breaks C.says C.hears
+    ensures broken { OnErr result (Breaks C.says C.hears C.cuts C.loses
         (minds_of player.entry.protocol player.entry.nodes player.entry.agent) player.entry.key.now
-        connection.old) }
+        connection.old connection.new) }
 {
     let mut held = begun(player.protocol, player.nodes, player.agent);
     for _ in 0..turns {
@@ -136,7 +142,9 @@ fn say<C: Connection>(
     key: &str,
     step: &Step,
 ) -> Result<(), PlayFault>
-    ensures { OnOk result (Says C.says key.now step.now connection.old connection.new) }
+    ensures said { OnOk result (Says C.says key.now step.now connection.old connection.new) }
+    ensures broken { OnErr result (BreaksOff C.says C.hears C.cuts C.loses key.now step.now
+        connection.old connection.new) }
 {
     match step {
         Step::Says(command) => {
@@ -149,7 +157,8 @@ fn say<C: Connection>(
 
 // Hears a reply.
 fn hear<C: Connection>(alloc: Global, connection: &mut C) -> Result<Reply, PlayFault>
-    ensures { IfOk result (λ reply. Hears C.hears reply connection.old connection.new) }
+    ensures heard { IfOk result (λ reply. Hears C.hears reply connection.old connection.new) }
+    ensures broken { OnErr result (HearsNone C.hears C.loses connection.old connection.new) }
 {
     let line = connection.hear()?;
     match reply_of(alloc, line.as_str())? {
