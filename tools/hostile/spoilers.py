@@ -24,7 +24,7 @@ from typing import Callable, Iterator, List, Optional, Sequence, Tuple
 
 from lab.support.ports import free_port
 from tools.hostile.cases import Cases, Wrong
-from tools.hostile.session_lines import HERE, LOOK, NO_FULL, NO_LATE, NO_MEMORY, OVER
+from tools.hostile.session_lines import HERE, LOOK, NO_FULL, NO_LATE, NO_MEMORY, NO_SPENT, OVER
 
 HOST = "127.0.0.1"
 # seconds within which a server answers or ends
@@ -141,6 +141,22 @@ def strangers(program: str, folder: pathlib.Path) -> None:
             wants("an agent that comes after them", answer(client, len(HERE)), HERE)
         status, printed, _ = server.ended()
         wants("the status", status, 0)
+
+
+@case("commands of an agent without quota are answered one a millisecond, and others play on")
+def spent(program: str, folder: pathlib.Path) -> None:
+    quota, more = 1000, 500
+    with serving(program, folder, turns=4000) as server, server.connect(enter("red-0")) as client:
+        wants("the agent", answer(client, len(HERE)), HERE)
+        client.sendall(quota * LOOK)
+        wants("its commands", answer(client, quota * len(HERE)), quota * HERE)
+        begun = time.monotonic()
+        client.sendall(more * LOOK)
+        wants("those without quota", answer(client, more * len(NO_SPENT)), more * NO_SPENT)
+        took = time.monotonic() - begun
+        if took < more / 1000:
+            raise Wrong(f"{more} commands without quota were answered within {took:.3f} s")
+        server.goes_on("commands without quota")
 
 
 @case("wrong keys use up no session")

@@ -8,17 +8,23 @@ use crate::ending::Ending;
 use crate::strays::Strays;
 use crate::unserved::{Unserved, turn_away};
 use crate::watching::Watch;
+use bhs_model::{Reply, Why};
 use bhs_net::Memory;
 use bhs_wire::{Denial, Raw, denial_of};
 use std::alloc::Global;
 use std::cell::{Cell, RefCell};
-use std::io;
 use std::io::{BufReader, Read, Write};
 use std::net::TcpStream;
 use std::sync::{Arc, Wait};
+use std::time::{Clock, Duration};
+use std::{io, thread};
 
 // How many bytes are held back at most.
 const ROOM: usize = 64 * 1024;
+
+// How many milliseconds a session pauses after each command that its agent has no quota for. Such commands are answered
+// under the match's lock, so without a pause a client that sends nothing else would slow the turns of the match.
+const SPENT_PAUSE: u64 = 1;
 
 // How many bytes are taken from a client at once at most.
 const TAKEN: usize = 16 * 1024;
@@ -33,6 +39,9 @@ pub trait SessionHooks {
 
     /// A line of the client was no command.
     fn no_command(&self, line: &Raw<'_>);
+
+    /// A command of the agent was answered so. The client has not been written it yet.
+    fn answered(&self, reply: &Reply);
 
     /// The session is about to wait for an arrival: what it has written so far is to reach its client.
     fn before_waiting(&self);
@@ -145,7 +154,7 @@ impl<'a, R, W> Guest<'a, R, W> {
     }
 }
 
-impl<R: Wait, W: Watch> SessionHooks for Guest<'_, R, W> {
+impl<R: Wait + Clock, W: Watch> SessionHooks for Guest<'_, R, W> {
     fn let_in(&self, game: u32, agent: u16) {
         self.connection.is_in.set(true);
         self.ending.is_in(self.rt, self.session);
@@ -155,6 +164,12 @@ impl<R: Wait, W: Watch> SessionHooks for Guest<'_, R, W> {
     fn no_command(&self, line: &Raw<'_>) {
         if let Ok(mut strays) = self.connection.strays.try_borrow_mut() {
             strays.add(line);
+        }
+    }
+
+    fn answered(&self, reply: &Reply) {
+        if matches!(reply, Reply::No(Why::Spent)) {
+            thread::sleep(self.rt, Duration::from_millis(SPENT_PAUSE));
         }
     }
 

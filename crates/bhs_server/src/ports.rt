@@ -119,6 +119,7 @@ impl<R: Wait, G: Gate, H: SessionHooks> Port for CellPort<'_, R, G, H> {
             return Ok(Reply::Over);
         };
         let answer = cell.submit(self.rt, self.gate, pass, command)?;
+        self.hooks.answered(&answer.reply);
         Ok(agreed(answer.reply))
     }
 
