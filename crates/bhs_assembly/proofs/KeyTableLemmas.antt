@@ -1,5 +1,5 @@
 -- Adding the keys of a tournament one after the other, as loops do.
-use Rattle.std.proofs.Common.{◌≡◌, ℕ, ◌+◌, ◌<◌, Bool, true, false, not, cond, List, [], ◌∷◌, ◌++◌, length, map, drop}
+use Rattle.std.proofs.Common.{◌≡◌, ℕ, ◌+◌, ◌<◌, Bool, true, false, cond, List, [], ◌∷◌, ◌++◌, length, map, drop}
 use Rattle.std.proofs.Common.{get_or, Result, Ok, Err, refl, sym, ap, ◌∙◌}
 use Rattle.std.proofs.lemmas.List.{drop_more}
 use Rattle.bhs_files.specs.declared.fixtures.Fixture.{Fixture}
@@ -7,32 +7,11 @@ use Rattle.bhs_files.specs.declared.faults.FileFault.{FileFault}
 use Rattle.bhs_files.specs.declared.faults.FileFault.TheVariants.{KeyTwice}
 use Rattle.bhs_files.specs.Reading.{◌>>=◌, Fails}
 use Rattle.bhs_files.proofs.Failing.{fails_with}
-use Rattle.bhs_lineup.specs.KeyTable.{Seat, has_key, with_seat}
+use Rattle.bhs_lineup.specs.KeyTable.{Seat, has_key}
 use Rattle.bhs_assembly.specs.KeyTable.{seats_of_match, seats_from, distinct}
 
 abbrev pub key_list : Fixture → List (List ℕ)
 key_list fixture = fixture.keys.items
-
-is_true : (b : Bool) → false ≡ not b → b ≡ true
-is_true true h = refl
-is_true false h = absurd cc
-
-is_false : (b : Bool) → true ≡ not b → b ≡ false
-is_false false h = refl
-is_false true h = absurd cc
-
--- a key that some seat has is refused
-pub refuses : (found : List Seat) (seat : Seat) → false ≡ not (has_key seat.0 found)
-    → distinct found (seat ∷ []) ≡ Err (KeyTwice seat.1.0 seat.1.1)
-refuses found seat h = rw (is_true (has_key seat.0 found) h) refl
-
--- and one that none has goes last
-pub adds : (found all : List Seat) (seat : Seat) → true ≡ not (has_key seat.0 found) → all ≡ with_seat found seat
-    → distinct found (seat ∷ []) ≡ Ok all
-adds found all seat h is =
-    let new : has_key seat.0 found ≡ false = is_false (has_key seat.0 found) h in
-    let last : all ≡ found ++ seat ∷ [] = rw new at is in
-    rw new (ap (λ (s : List Seat). Ok s) (sym last))
 
 -- seats one after the other
 pub distinct-append : (earlier first others : List Seat)

@@ -85,7 +85,7 @@ IsOwn agent (Makes Close) = ⊥
 IsOwn agent Wakes = Unit {0}
 IsOwn agent Rests = Unit {0}
 
-own_at : (held : Held) (naps : ℕ) (position : Position) (woken : ℕ) (step : Step) (agent : ℕ)
+pub own_at : (held : Held) (naps : ℕ) (position : Position) (woken : ℕ) (step : Step) (agent : ℕ)
     → IsOwn agent (deed_at held naps position woken step agent)
 own_at held naps (Bound node port) woken step agent =
     either (IsOwn agent) (held node port) Rests (Makes (Deliver agent)) tt refl
@@ -140,7 +140,7 @@ not_off : (b : Bool) → not b ≡ false → b ≡ true
 not_off true h = refl
 not_off false h = cc
 
-changed_itself : {A : Type 0} (f : ℕ → A) (place : ℕ) (value : A) (other : ℕ) → value ≡ f place
+pub changed_itself : {A : Type 0} (f : ℕ → A) (place : ℕ) (value : A) (other : ℕ) → value ≡ f place
     → changed f place value other ≡ f other
 changed_itself f place value other same = elim (eqb_tells other place) [
   | inl h ↦ rw h.0 (same ∙ ap f (sym h.1))

@@ -1,5 +1,5 @@
 -- What a heard command does to an agent.
-use Rattle.std.proofs.Common.{◌≡◌, ℕ, ◌+◌, ◌*◌, ◌<◌, ◌≤◌, Bool, true, false, Option, refl, arith, nat_lt, if◌then◌else◌}
+use Rattle.std.proofs.Common.{◌≡◌, ℕ, ◌+◌, ◌*◌, ◌<◌, ◌≤◌, Bool, true, false, refl, arith, nat_lt, if◌then◌else◌}
 use Rattle.std.proofs.lemmas.Bool.{ltb-true}
 use Rattle.bhs_model.specs.declared.commands.Command.{Command}
 use Rattle.bhs_model.specs.Views.{Standing, counts}
@@ -39,29 +39,6 @@ pub record Moves (world : World) (is_lost : Bool) (old new : Position) (before a
   pub flight : flight new + before ≤ after + flight old
   pub gone : IsGone world old → IsGone world new
   pub linked : IsLinked old new
-
-light : (is_lost : Bool) (node port : ℕ) → weight (Bound node port) is_lost ≤ 1
-light true node port = omega arith
-light false node port = omega arith
-
-few_flights : (position : Position) → flight position ≤ 1
-few_flights Before = omega arith
-few_flights (At node came) = omega arith
-few_flights (Bound node port) = omega arith
-few_flights After = omega arith
-
--- from a node, by a command that counts
-from_node : (world : World) (is_lost : Bool) (node : ℕ) (came : Option ℕ) (new : Position) (before : ℕ)
-    → Moves world is_lost (At node came) new before (before + 1)
-from_node world is_lost node came new before =
-    let few = few_flights new in
-    record { weight = omega arith; flight = omega arith; gone = λ none. absurd none; linked = tt }
-
--- on a link, by a command that counts
-on_link : (world : World) (is_lost : Bool) (node port : ℕ) (before : ℕ)
-    → Moves world is_lost (Bound node port) (Bound node port) before (before + 1)
-on_link world is_lost node port before = record
-    { weight = omega arith; flight = omega arith; gone = λ gone. gone; linked = refl }
 
 pub moves : (world : World) (is_lost room : Bool) (position : Position) (command : Command) (before : ℕ)
     → accepts (standing_at position) room command ≡ true →

@@ -84,7 +84,7 @@ pub either : {A : Type 0} (P : A → Type 0) (b : Bool) (x y : A) → P x → P 
 either P true x y p q = p
 either P false x y p q = q
 
-all_next : (world : World) (state : State) (event : Event) → AllLegal world state
+pub all_next : (world : World) (state : State) (event : Event) → AllLegal world state
     → AllLegal world (next world state event)
 all_next world state (Tell agent command) legal = either (AllLegal world) (heard world state agent command) _ _
     (all_told world state agent command legal) legal

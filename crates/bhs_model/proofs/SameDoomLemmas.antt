@@ -112,9 +112,6 @@ pub is_named : (node port : ℕ) (end : ℕ × ℕ) → names node port end ≡ 
 is_named node port (v, p) holds = let parts = and_parts (v == node) _ holds in
     ap₂ (λ (a b : ℕ). let pair : ℕ × ℕ = (a, b) in pair) (eqb-true v node parts.0) (eqb-true p port parts.1)
 
-at_end : Network → (ℕ → ℕ → Bool) → (ℕ × ℕ → Bool) → ℕ → ℕ → Bool
-at_end net test other node port = is_lesser_end net test (node, port) && other (node, port)
-
 listed_at : (net : Network) (test : ℕ → ℕ → Bool) (other : ℕ × ℕ → Bool) (node : ℕ) →
     list_any other (links_at net test node) ≡ list_any
     (λ port. is_lesser_end net test (node, port) && other (node, port)) (range_with_len 0 (degree_of net node))

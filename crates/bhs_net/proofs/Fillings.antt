@@ -1,9 +1,9 @@
-use Rattle.std.proofs.Common.{◌≡◌, ◌≢◌, ℕ, ◌+◌, ◌<◌, ◌≤◌, inl, inr, ⊎_elim, Bool, true, false, refl, sym, ap, ◌∙◌}
-use Rattle.std.proofs.Common.{arith, List, [], ◌∷◌, ◌++◌, length, subst, get_or, set, length-append, Vec, Global, Some}
-use Rattle.std.proofs.Math.ListN.{get_or-append, length-set}
+use Rattle.std.proofs.Common.{◌≡◌, ℕ, ◌+◌, ◌<◌, ◌≤◌, inl, inr, ⊎_elim, Bool, refl, sym, ap, ◌∙◌}
+use Rattle.std.proofs.Common.{arith, List, [], ◌∷◌, ◌++◌, length, subst, get_or, length-append, Vec, Global, Some}
+use Rattle.std.proofs.Math.ListN.{get_or-append}
 use Rattle.std.proofs.Math.Seq.{get_or-append_seam}
 use Rattle.std.proofs.lemmas.Option.{slice_get_within}
-use Rattle.std.proofs.lemmas.List.{get_or-set_same, get_or-map, get_or_past}
+use Rattle.std.proofs.lemmas.List.{get_or-map, get_or_past}
 use Rattle.bhs_net.specs.declared.faults.TheConstants.{MIN_NODES, MAX_NODES}
 use Rattle.bhs_net.specs.declared.links.Link.{Link}
 use Rattle.bhs_net.specs.Links.{End, link_at, HasEnd, Joins, AreJoined}
@@ -14,7 +14,6 @@ use Rattle.bhs_net.specs.Filling.{Index, index_of, places_at, place_at, AreIndex
 use Rattle.bhs_net.proofs.Places.{below_or_at, lt_or_ge}
 use Rattle.bhs_net.proofs.Listed.{HasPort-node, AreJoined-back, Joins-loop}
 use Rattle.bhs_net.proofs.Made.{joined_leads, no_fault_listed}
-use Rattle.bhs_net.proofs.Marks.{IsMarked-set}
 
 -- the first ports of a row
 pub record HasPorts (links : List Link) (node ports : ℕ) (row : List End) : Type 0 where
@@ -69,32 +68,6 @@ pub record KnowsHeads (nodes ports : ℕ) (row : List End) (marks : List Bool) :
   pub marked : (port : ℕ) → port < ports → IsMarked marks (get_or row port (0, 0)).0
   pub apart : (port other : ℕ) → port < ports → other < ports → (get_or row port (0, 0)).0 ≡ (get_or row other (0, 0)).0
       → port ≡ other
-
-pub KnowsHeads-more : (nodes ports : ℕ) (row : List End) (marks : List Bool) (node : ℕ)
-    → (get_or row ports (0, 0)).0 ≡ node → node < nodes → get_or marks node false ≡ false
-    → KnowsHeads nodes ports row marks → KnowsHeads nodes (ports + 1) row (set marks node true)
-KnowsHeads-more nodes ports row marks node is lt fresh known =
-    let within : node < length marks = let s = known.size in omega arith in
-    let new : (port : ℕ) → port < ports → (get_or row port (0, 0)).0 ≢ node = λ port h e.
-    let no : true ≡ false = sym (known.marked port h) ∙ (ap (λ k. get_or marks k false) e ∙ fresh) in cc in
-    record {
-      size = length-set marks node true ∙ known.size;
-      marked = λ port h. ⊎_elim
-          (λ below. IsMarked-set marks node _ within (known.marked port below))
-          (λ at. subst (λ k. IsMarked (set marks node true) k) (sym (ap (λ k. (get_or row k (0, 0)).0) at ∙ is))
-          (get_or-set_same marks node true false within))
-          (below_or_at port ports h);
-      apart = λ port other h i e. ⊎_elim
-          (λ below. ⊎_elim
-          (λ below'. known.apart port other below below' e)
-          (λ at'. absurd (new port below (e ∙ (ap (λ k. (get_or row k (0, 0)).0) at' ∙ is))))
-          (below_or_at other ports i))
-          (λ at. ⊎_elim
-          (λ below'. absurd (new other below' (sym e ∙ (ap (λ k. (get_or row k (0, 0)).0) at ∙ is))))
-          (λ at'. at ∙ sym at')
-          (below_or_at other ports i))
-          (below_or_at port ports h);
-    }
 
 -- ---- rows that are filled by an index make a network with port labels
 module _ (links : List Link) (index : Index) (net : Network) (indexed : AreIndexed links index)

@@ -3,11 +3,8 @@ use Rattle.std.proofs.Common.{◌≡◌, refl, sym, subst, List, [], ◌∷◌, 
 use Rattle.bhs_net.specs.Network.{Network}
 use Rattle.bhs_lineup.specs.Fresh.{AreFresh}
 use Rattle.bhs_lineup.specs.declared.lineups.Ready.{Ready}
-use Rattle.bhs_lineup.specs.declared.lineups.Lineup.{Lineup}
-use Rattle.bhs_lineup.specs.Lineups.{Contest, contest}
 use Rattle.bhs_files.specs.Tournaments.{Plan, Planned}
 use Rattle.bhs_assembly.specs.Lineups.{all_ready, network_for, ready_of}
-use Rattle.bhs_orders.specs.BuiltIn.{built_in}
 
 each_fresh : (network : Planned → Network) (matches : List Planned)
     → AreFresh (map (λ planned. ready_of (network planned) planned) matches)
@@ -19,7 +16,3 @@ pub fresh : (plan : Plan) (networks : List Network) (matches : List Ready) → m
     → AreFresh matches
 fresh plan networks matches are =
     subst AreFresh (sym are) (each_fresh (network_for plan.matches networks) plan.matches)
-
--- that of the built-in tournament
-pub fresh_built_in : (lineup : Lineup) → contest lineup ≡ built_in → AreFresh lineup.ready.items
-fresh_built_in lineup is = subst (λ (made : Contest). AreFresh made.matches) (sym is) (refl, tt)

@@ -8,10 +8,7 @@ use Rattle.std.proofs.lemmas.List.{drop_more, take_more}
 use Rattle.bhs_stream.specs.Streams.{Taken}
 use Rattle.bhs_stream.specs.Sending.{PutsAll}
 use Rattle.bhs_match.specs.Matches.{Play}
-use Rattle.bhs_replay.specs.Writing.{Breaks}
 use Rattle.bhs_replay.specs.declared.faults.ReplayFault.TheVariants as replays
-use Rattle.bhs_replay.specs.declared.faults.WritingFault.{WritingFault}
-use Rattle.bhs_replay.specs.declared.faults.WritingFault.TheVariants as writing
 use Rattle.bhs_view.specs.Twins.{twin_fault}
 use Rattle.bhs_view.specs.declared.twins.TwinFault.{TwinFault}
 use Rattle.bhs_view.specs.declared.twins.TwinFault.TheVariants as twins
@@ -21,8 +18,7 @@ use Rattle.bhs_orders.specs.declared.faults.Fault.TheVariants.{Memory, Listen, B
 use Rattle.bhs_orders.specs.declared.faults.Fault.TheVariants.{Exploring, Appeal}
 use Rattle.bhs_orders.specs.declared.appeal_faults.AppealFault.TheVariants as appeals
 use Rattle.bhs_orders.specs.declared.statuses.TheConstants.{DONE, NO_MEMORY}
-use Rattle.bhs_orders.specs.Fault.{of_twin, of_writing, status}
-use Rattle.bhs_orders.specs.Playing.{StopsPlaying}
+use Rattle.bhs_orders.specs.Fault.{of_twin, status}
 use Rattle.bhs_standings.specs.declared.rows.Row.{Row}
 use Rattle.bhs_command_line.specs.declared.orders.Entry.{Entry}
 use Rattle.bhs_orders.specs.Reports.{AreRows, one_more, HasNoTwin, IsReplayed, IsRow, line_at, lines_at}
@@ -104,13 +100,6 @@ module _ {O : Type 0} (Printing : List ℕ → O → O → ℕ → Type 0) (IsRe
   untwinned twins.Same (inr told) is = told_none twins.Same told is
   untwinned (twins.Reached place) (inl e) is = cc
   untwinned (twins.Reached place) (inr told) is = told_none (twins.Reached place) told is
-
--- the fault of a replay that was not written whole
-pub broken : {O : Type 0} (takes : O → List ℕ → Taken → O → Type 0) (text : List ℕ) (output output' : O)
-    (fault : WritingFault)
-    → Breaks takes output text fault output' → StopsPlaying takes text output output' (of_writing fault)
-broken takes text output output' writing.Write breaks = breaks
-broken takes text output output' writing.Memory breaks = breaks
 
 -- the line of the next place, and those of the others
 pub next_line : (play : Play) (places : List ℕ) (index d : ℕ) → index < length places

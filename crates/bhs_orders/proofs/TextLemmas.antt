@@ -1,5 +1,5 @@
 -- What the texts of the built-in tournament say, by computing.
-use Rattle.std.proofs.Common.{◌≡◌, inl, inr, ℕ, List, [], ◌∷◌, ◌∙◌, map, length, refl, sym, ap, Result, Ok, Err, IfOk}
+use Rattle.std.proofs.Common.{◌≡◌, inl, inr, ℕ, List, ◌∙◌, map, length, refl, sym, ap, Result, Ok, Err, IfOk}
 use Rattle.std.proofs.Common.{IfErr, MatchResult}
 use Rattle.std.proofs.lemmas.Simd.{map-map}
 use Rattle.toml.proofs.OnLiterals.{toml_on_literals}
@@ -13,8 +13,7 @@ use Rattle.bhs_files.specs.Names.{first_seen}
 use Rattle.bhs_files.specs.NetworkFiles.{Listing, listing_in, listing_of, IsNetworkOf, RefusesFile}
 use Rattle.bhs_files.specs.Tournaments as tournaments
 use Rattle.bhs_files.specs.Tournaments.{tournament_in, plan_in, matches_in, match_in}
-use Rattle.bhs_assembly.specs.Lineups.{contest_in}
-use Rattle.bhs_orders.specs.BuiltIn.{triangle, plan, built_in}
+use Rattle.bhs_orders.specs.BuiltIn.{triangle, plan}
 use Rattle.bhs_orders.specs.declared.built_in_tournament.TheConstants.{NETWORK, TOURNAMENT}
 use Rattle.bhs_orders.proofs.TriangleLemmas.{links, no_fault, is_triangle}
 
@@ -25,9 +24,6 @@ network_listed = refl
 pub tournament_planned : tournament_in TOURNAMENT.now ≡ Ok plan
 unfolding toml_on_literals hex_on_literals tournament_in plan_in matches_in match_in
 tournament_planned = refl
-
-pub tournament_assembled : contest_in plan (triangle ∷ []) ≡ Ok built_in
-tournament_assembled = refl
 
 -- ---- what is given of them
 

@@ -1,30 +1,17 @@
 -- The text of turns, line by line.
-use Rattle.std.proofs.Common.{◌≡◌, ◌∙◌, ℕ, ◌+◌, ◌<◌, ◌≤◌, ◌^◌, ◌%◌, ◌||◌, Bool, true, false, true≢false}
-use Rattle.std.proofs.Common.{List, [], ◌∷◌, ◌++◌, decimal, refl, sym, ap, subst, arith, ne_eqb, append_assoc}
+use Rattle.std.proofs.Common.{◌≡◌, ◌∙◌, ℕ, ◌<◌, ◌^◌, ◌||◌, Bool, true, false, true≢false}
+use Rattle.std.proofs.Common.{List, [], ◌∷◌, ◌++◌, decimal, refl, sym, ap, subst, arith, append_assoc}
 use Rattle.std.specs.List.{list_any, AllByRecursion}
 use Rattle.std.proofs.lemmas.Bool.{or_parts}
-use Rattle.std.proofs.lemmas.Fmt.{decimal_by_steps}
 use Rattle.std.proofs.lemmas.List.{append-nil}
 use Rattle.bhs_wire.specs.Lines.{is_line_feed}
 use Rattle.bhs_orders.specs.Turns.{IsOfTurns, IsTurn, turn_line, turns_text}
+use Rattle.bhs_replay.proofs.Flat.{decimal_flat}
 
 -- ---- line feeds
 
 abbrev IsFlat : List ℕ → Type 0
 IsFlat bytes = list_any is_line_feed bytes ≡ false
-
-flat_append : (xs ys : List ℕ) → IsFlat xs → IsFlat ys → IsFlat (xs ++ ys)
-flat_append [] ys first second = second
-flat_append (x ∷ xs) ys first second =
-    let parts = or_parts (is_line_feed x) _ first in rw parts.0 (flat_append xs ys parts.1 second)
-
-more_than : (base n : ℕ) → 11 ≤ base → is_line_feed (base + n) ≡ false
-more_than base n large = ne_eqb (base + n) 10 (λ e. omega arith)
-
-decimal_flat : (n : ℕ) → n < 2 ^ 64 → IsFlat (decimal n)
-decimal_flat =
-    decimal_by_steps (λ m ds. IsFlat ds) (λ m small. rw (more_than 48 m (omega arith)) refl)
-    (λ m ds large flat. flat_append ds ((48 + m % 10) ∷ []) flat (rw (more_than 48 (m % 10) (omega arith)) refl))
 
 -- a text with a line feed is not flat
 fed : (xs rest : List ℕ) → list_any is_line_feed (xs ++ 10 ∷ rest) ≡ true

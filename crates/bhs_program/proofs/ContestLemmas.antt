@@ -27,20 +27,6 @@ as_many schedule place (ready ∷ matches) dealers [] fared = absurd fared
 as_many schedule place (ready ∷ matches) dealers (one ∷ settled) (first, others) =
     omega (arith, as_many schedule (place + 1) matches (drop 1 dealers) settled others)
 
--- one match more that settled
-pub one_more_settled : (settled rest others : List (Result Settlement Refused)) (before : List Settlement)
-    (one : Settlement)
-    → settled ≡ map Ok before ++ rest → rest ≡ Ok one ∷ others → settled ≡ map Ok (before ++ one ∷ []) ++ others
-one_more_settled settled rest others before one is next =
-    is ∙ ap (λ (xs : List (Result Settlement Refused)). map Ok before ++ xs) next
-    ∙ sym (append_assoc (map Ok before) (Ok one ∷ []) others)
-    ∙ ap (λ (xs : List (Result Settlement Refused)). xs ++ others) (sym (map-append Ok before (one ∷ [])))
-
--- as many matches settled as there are, if all did
-pub all_counted : (settled : List (Result Settlement Refused)) (settlements : List Settlement) →
-    settled ≡ map Ok settlements → length settled ≡ length settlements
-all_counted settled settlements are = ap length are ∙ length-map settlements Ok
-
 -- the line that says that the program listens
 module _ {O : Type 0} (takes : O → List ℕ → Taken → O → Type 0) (flushes : O → Bool → O → Type 0) (port : ℕ)
     (output output' : O) (code : ℕ) where

@@ -1,5 +1,5 @@
 -- One agent alone fails on each network of a file.
-use Rattle.std.proofs.Common.{ℕ, ◌<◌, ◌≤◌, ◌≡◌, true, false, List, [], length, sym, ap, ◌∙◌, nat_lt, arith}
+use Rattle.std.proofs.Common.{ℕ, ◌<◌, ◌≤◌, ◌≡◌, List, [], length, sym, ap, ◌∙◌, nat_lt, arith}
 use Rattle.std.proofs.Math.ListN.{get_or-eq_default}
 use Rattle.std.proofs.lemmas.Bool.{lt-ltb, ltb-true, true≢false}
 use Rattle.bhs_net.specs.Links.{End}

@@ -1,6 +1,6 @@
 -- The search by halves, in numbers: how far each agent is to explore, what whiteboards show, and how many moves and
 -- turns are still owed.
-use Rattle.std.specs.Prelude.{ℕ, zero, suc, ◌+◌, ◌-◌, ◌*◌, ◌/◌, ◌==◌, Bool, true, false, Option, if◌then◌else◌, nat_lt}
+use Rattle.std.specs.Prelude.{ℕ, zero, suc, ◌+◌, ◌-◌, ◌==◌, Bool, true, false, Option, if◌then◌else◌, nat_lt}
 use Rattle.bhs_model.specs.Runs.{Position}
 use Rattle.bhs_protocols.specs.declared.halves.Memory.{Memory}
 use Rattle.bhs_protocols.specs.declared.halves.Phase.{Phase}

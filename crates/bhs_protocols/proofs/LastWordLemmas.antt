@@ -22,8 +22,6 @@ use Rattle.bhs_referee.specs.declared.verdicts.Outcome.TheVariants.{Solved, Wron
 use Rattle.bhs_referee.specs.declared.verdicts.Verdict.{Verdict}
 use Rattle.bhs_referee.specs.Findings.{accused_by}
 use Rattle.bhs_referee.specs.Verdicts.{passes, accuses, is_right}
-use Rattle.bhs_explore.specs.declared.minds.Step.{Step}
-use Rattle.bhs_explore.specs.declared.minds.Step.TheVariants.{Says, Sleeps, Stops, Fails}
 use Rattle.bhs_explore.specs.Minds.{Minds}
 use Rattle.bhs_explore.specs.Schedules.{Trial, Deed, Makes, Wakes, Rests, deed_at, under}
 use Rattle.bhs_explore.proofs.Turns.{verdict_is, IsOwn}
@@ -32,6 +30,7 @@ use Rattle.bhs_protocols.specs.Pictures.{said_in, arrived_in, delivered_in, done
 use Rattle.bhs_protocols.specs.Pictures.{outcome_in}
 use Rattle.bhs_protocols.specs.LastWord.{searched, SolvesFor, AccusationsComeLast}
 use Rattle.bhs_protocols.proofs.PictureLemmas.{pictures_follow}
+use Rattle.bhs_explore.proofs.Turns.{own_at}
 
 -- ---- what no turn undoes
 
@@ -204,21 +203,6 @@ other_untouched trial picture agent k (Makes (Deliver other)) own apart =
 other_untouched trial picture agent k (Makes Close) own apart = record { position = refl; accused = refl }
 other_untouched trial picture agent k Wakes own apart = record { position = refl; accused = refl }
 other_untouched trial picture agent k Rests own apart = record { position = refl; accused = refl }
-
--- whose deed it is
-own_at : (held : Held) (naps : ℕ) (position : Position) (woken : ℕ) (step : Step) (agent : ℕ)
-    → IsOwn agent (deed_at held naps position woken step agent)
-own_at held naps (Bound node port) woken step agent =
-    either (IsOwn agent) (held node port) Rests (Makes (Deliver agent)) tt refl
-own_at held naps After woken step agent = tt
-own_at held naps Before woken (Says command) agent = refl
-own_at held naps Before woken Sleeps agent = either (IsOwn agent) (nat_lt naps woken) Rests Wakes tt tt
-own_at held naps Before woken Stops agent = tt
-own_at held naps Before woken Fails agent = tt
-own_at held naps (At node came) woken (Says command) agent = refl
-own_at held naps (At node came) woken Sleeps agent = either (IsOwn agent) (nat_lt naps woken) Rests Wakes tt tt
-own_at held naps (At node came) woken Stops agent = tt
-own_at held naps (At node came) woken Fails agent = tt
 
 pub own_in : (trial : Trial) (picture : Picture) (agent : ℕ) → IsOwn agent (deed_in trial picture agent)
 own_in trial picture agent =

@@ -1,8 +1,7 @@
 -- What a turn makes of a match is what it makes of its picture.
 use Rattle.std.proofs.Common.{ℕ, ◌≡◌, Bool, true, false, not, ◌&&◌, ◌==◌, Option, Some, None, List, [], ◌∷◌, ◌++◌}
-use Rattle.std.proofs.Common.{refl, sym, ap, ◌∙◌, subst, if◌then◌else◌, nat_lt, inl, inr}
+use Rattle.std.proofs.Common.{refl, sym, ap, ◌∙◌, subst, if◌then◌else◌, nat_lt}
 use Rattle.std.proofs.lemmas.Bool.{cond-true, cond-false, true≢false}
-use Rattle.std.proofs.lemmas.Bool.Decides.{eqb_tells}
 use Rattle.bhs_model.specs.declared.commands.Command.{Command}
 use Rattle.bhs_model.specs.declared.commands.Command.TheVariants.{Enter, Look, Write, Depart, Accuse, Leave, Bad}
 use Rattle.bhs_model.specs.declared.events.Event.{Event}
@@ -33,6 +32,7 @@ use Rattle.bhs_explore.proofs.Turns.{run_more, found_more, IsOwn, own_deed, face
 use Rattle.bhs_protocols.specs.Pictures.{Picture, picture_of, blank, deed_in, can_move_in, shown_in, faces_alike}
 use Rattle.bhs_protocols.specs.Pictures.{is_heard, answer_at, shown_after, told_in, refused_in, said_in, arrived_in}
 use Rattle.bhs_protocols.specs.Pictures.{delivered_in, done_in, turn_in, turns_in}
+use Rattle.bhs_explore.proofs.Turns.{changed_itself}
 
 -- ---- the answer
 
@@ -166,13 +166,6 @@ told_picture world state found history woken agent command said is i =
 kept_if : (n : ℕ) (same : Bool) → same ≡ true → (if same then n else 0) ≡ n
 kept_if n true h = refl
 kept_if n false h = cc
-
-changed_itself : {A : Type 0} (f : ℕ → A) (place : ℕ) (value : A) (other : ℕ) → value ≡ f place
-    → changed f place value other ≡ f other
-changed_itself f place value other same = elim (eqb_tells other place) [
-  | inl h ↦ rw h.0 (same ∙ ap f (sym h.1))
-  | inr h ↦ rw h.0 refl
-]
 
 refused_picture : (world : World) (state : State) (found : Findings) (history : ℕ → History) (woken : ℕ → ℕ)
     (agent : ℕ) (command : Command) →

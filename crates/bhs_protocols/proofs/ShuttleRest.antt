@@ -18,7 +18,6 @@ use Rattle.bhs_protocols.specs.declared.shuttle.Phase.{Phase}
 use Rattle.bhs_protocols.specs.declared.shuttle.Phase.TheVariants.{Begins, GoesOut, Leaves, ComesBack, Returns, Writes}
 use Rattle.bhs_protocols.specs.declared.shuttle.Phase.TheVariants.{Ends}
 use Rattle.bhs_protocols.specs.Shuttle.{text_by, is_one_left, does_in}
-use Rattle.bhs_protocols.proofs.ShuttleCosts.{ended}
 use Rattle.bhs_protocols.proofs.ShuttleState.{Game, Onward, Turn, agents_two, distance, doomed_is, mem, placed_as}
 use Rattle.bhs_protocols.proofs.ShuttleState.{safe_before, trial as trial_of, within_n}
 use Rattle.bhs_protocols.proofs.ShuttleTurns.{back_turn, begin_turn, out_turn, write_turn}

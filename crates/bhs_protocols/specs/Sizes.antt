@@ -1,5 +1,5 @@
 -- An agent that does not know how many nodes a ring has cannot search it.
-use Rattle.std.specs.Prelude.{ℕ, ◌+◌, ◌==◌, ◌≡◌, ◌≢◌, ◌<◌, ◌≤◌, [], ◌∷◌, if◌then◌else◌}
+use Rattle.std.specs.Prelude.{ℕ, ◌+◌, ◌==◌, ◌<◌, ◌≤◌, [], ◌∷◌, if◌then◌else◌}
 use Rattle.bhs_model.specs.Worlds.{Network}
 use Rattle.bhs_model.specs.Examples.{none_held}
 use Rattle.bhs_explore.specs.Minds.{Minds}

@@ -1,5 +1,5 @@
 -- A walk over a log follows the definitions: after each event it has found what they say of the events so far.
-use Rattle.std.proofs.Common.{◌≡◌, ℕ, ◌+◌, ◌<◌, ◌≤◌, Bool, true, false, Option, Some, None, List, [], ◌∷◌}
+use Rattle.std.proofs.Common.{◌≡◌, ℕ, ◌<◌, ◌≤◌, Bool, true, false, Option, Some, None, List, [], ◌∷◌}
 use Rattle.std.proofs.Common.{length, map, zero, suc, refl, sym, ap, ◌∙◌, subst, arith, length-set, nat_lt, ◌==◌}
 use Rattle.std.specs.Prelude.{slice_index_or, replicate, IfSome}
 use Rattle.std.specs.List.{All}
@@ -29,17 +29,6 @@ use Rattle.bhs_referee.specs.Findings.{Findings, nothing_found, accused_by, move
 use Rattle.bhs_referee.specs.Findings.{found_from, findings}
 use Rattle.bhs_referee.specs.Walks.{accused_at, accused_told, moves_told, walk_delivered, walk_by, walk_after}
 use Rattle.bhs_referee.specs.Walks.{walk_from, start}
-
-few_moves : (mark : Option Mark) (moves : ℕ) → moves_told mark moves ≤ moves + 1
-few_moves mark moves = grind arith
-
-few_by : (walk : Walk) (event : Event) (mark : Option Mark) (site : Option ℕ)
-    → (walk_by walk event mark site).moves ≤ walk.moves + 1
-few_by walk event mark site = grind arith
-
--- an event is at most one move
-pub after_few : (walk : Walk) (kept : Kept) (site : Option ℕ) → (walk_after walk kept site).moves ≤ walk.moves + 1
-after_few walk kept site = few_by walk kept.event kept.mark site
 
 -- what a walk has found is what the definitions say
 pub record Follows (walk : Walk) (found : Findings) : Type 0 where

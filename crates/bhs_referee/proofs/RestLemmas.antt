@@ -1,9 +1,9 @@
 -- Once each agent has ended or is lost, the verdict stands.
-use Rattle.std.proofs.Common.{ℕ, ◌≡◌, ◌<◌, ◌⊎◌, inl, inr, Bool, true, false, not, ◌&&◌, ◌||◌}
+use Rattle.std.proofs.Common.{ℕ, ◌≡◌, ◌<◌, ◌⊎◌, inl, inr, Bool, true, false, not, ◌&&◌}
 use Rattle.std.proofs.Common.{Option, Some, None, List, []}
 use Rattle.std.proofs.Common.{◌∷◌, ◌++◌, ◌==◌, nat_lt, if◌then◌else◌, refl, sym, ap, ap₂, ◌∙◌, subst, count_by}
 use Rattle.std.specs.List.{list_any, range_with_len}
-use Rattle.std.proofs.lemmas.Bool.{and_parts, not-true, not-false, false≢true, true≢false, cond_both, cond-true, lt-ltb}
+use Rattle.std.proofs.lemmas.Bool.{and_parts, not-true, false≢true, true≢false, cond_both}
 use Rattle.std.proofs.lemmas.Bool.{ltb-true, eqb-true, and_from}
 use Rattle.std.proofs.lemmas.Bool.Decides.{eqb_tells}
 use Rattle.bhs_model.specs.declared.commands.Command.{Command}
@@ -13,18 +13,18 @@ use Rattle.bhs_model.specs.declared.events.Event.TheVariants.{Tell, Deliver, Clo
 use Rattle.bhs_model.specs.declared.replies.Reply.{Reply}
 use Rattle.bhs_model.specs.declared.replies.Reply.TheVariants.{Here, Written, Changed, Gone, Noted, Bye, Over, No}
 use Rattle.bhs_model.specs.Worlds.{World, doomed}
-use Rattle.bhs_model.specs.Views.{View, Glance, Standing, Outside, Present, Away, Ended, standing, used, ports, Told}
+use Rattle.bhs_model.specs.Views.{View, Glance, Standing, Outside, Present, Away, Ended, standing, used, ports}
 use Rattle.bhs_model.specs.Replying.{accepts, hears, answer, rep}
 use Rattle.bhs_model.specs.Standings.{standing_at}
 use Rattle.bhs_model.specs.Runs.{Position, Before, At, Bound, After, State, initial, changed, position_after}
 use Rattle.bhs_model.specs.Runs.{heard, arrives}
 use Rattle.bhs_model.specs.Runs.{is_doomed, is_let_through, told, delivered, next, run, run_from, reply, glance}
 use Rattle.bhs_model.specs.Kept.{destroys, lost_after, lost_from, lost, nobody}
-use Rattle.bhs_model.proofs.StepLemmas.{by_cases, next_heard, next_unheard, next_no_arrival, next_arrived, changed_same}
+use Rattle.bhs_model.proofs.StepLemmas.{by_cases, next_no_arrival, changed_same}
 use Rattle.bhs_model.proofs.StepLemmas.{no_arrival_no_reply, answered_by_past}
 use Rattle.bhs_model.proofs.KeptLemmas.{changed_to_itself}
 use Rattle.bhs_model.proofs.AddLemmas.{run-append, lost-append}
-use Rattle.bhs_model.proofs.LegalLemmas.{IsLegal, AllLegal, legal_told, either, all_run}
+use Rattle.bhs_model.proofs.LegalLemmas.{IsLegal, AllLegal, all_run}
 use Rattle.bhs_referee.specs.declared.verdicts.Verdict.{Verdict}
 use Rattle.bhs_referee.specs.Findings.{Findings, nothing_found, accused_by, moves_by, reached_by}
 use Rattle.bhs_referee.specs.Findings.{found_after, found_from}
@@ -34,34 +34,10 @@ use Rattle.bhs_referee.specs.Verdicts.{is_over_dark, first_unreached}
 use Rattle.bhs_match.specs.Decided.{is_done_at}
 use Rattle.bhs_match.specs.Matches.{world_in}
 use Rattle.bhs_model.specs.Marks.{events_of}
-use Rattle.bhs_referee.specs.Rest.{verdict_after, IsDone, AreDone, DecidedMatchesAreDone, VerdictsStand}
+use Rattle.bhs_referee.specs.Rest.{DecidedMatchesAreDone, VerdictsStand}
+use Rattle.bhs_model.proofs.LegalLemmas.{all_next}
 
 -- ---- an event leaves each agent legal
-
-all_told : (world : World) (state : State) (agent : ℕ) (command : Command) → AllLegal world state
-    → AllLegal world (told world state agent command)
-all_told world state agent command legal other = elim (eqb_tells other agent) [
-  | inl h ↦ rw h.0 (legal_told world state (state.past agent) (state.position agent) command (legal agent))
-  | inr h ↦ rw h.0 (legal other)
-]
-
-all_delivered : (world : World) (state : State) (agent : ℕ) (position : Position) → AllLegal world state
-    → AllLegal world (delivered world state agent position)
-all_delivered world state agent Before legal other = legal other
-all_delivered world state agent (At node came) legal other = legal other
-all_delivered world state agent (Bound node port) legal other = elim (eqb_tells other agent) [
-  | inl h ↦ rw h.0 (record { standing = refl; ports = refl })
-  | inr h ↦ rw h.0 (legal other)
-]
-all_delivered world state agent After legal other = legal other
-
-all_next : (world : World) (state : State) (event : Event) → AllLegal world state
-    → AllLegal world (next world state event)
-all_next world state (Tell agent command) legal = either (AllLegal world) (heard world state agent command) _ _
-    (all_told world state agent command legal) legal
-all_next world state (Deliver agent) legal = either (AllLegal world) (arrives world state agent) _ _
-    (all_delivered world state agent (state.position agent) legal) legal
-all_next world state Close legal = legal
 
 -- ---- what holds of each agent at any time
 

@@ -34,18 +34,6 @@ differs (x ∷ front) [] rest more long not = absurd (omega arith)
 differs (x ∷ front) (y ∷ part) rest more long not =
     step (nat_eq x y) (bytes_eq front part) _ not (λ other. differs front part rest more (omega arith) other)
 
--- nor is one that is shorter than the part
-pub too_short : (line part more : List ℕ) → length line < length part → bytes_eq line (part ++ more) ≡ false
-too_short [] [] more less = absurd (omega arith)
-too_short [] (y ∷ part) more less = refl
-too_short (x ∷ line) [] more less = absurd (omega arith)
-too_short (x ∷ line) (y ∷ part) more less =
-    step (nat_eq x y) false _ (never (nat_eq x y)) (λ other. too_short line part more (omega arith))
-  where
-    never : (same : Bool) → (same && false) ≡ false
-    never true = refl
-    never false = refl
-
 -- ---- a line that is cut behind as many bytes as a part has
 
 module _ (line part front rest more : List ℕ) (at : front ≡ take (length part) line)
@@ -83,15 +71,6 @@ here_line ports came board more =
     (append_assoc (quoted_text board) (codes ",\"from\":" ++ (label came ++ (ok ++ last))) more
     ∙ ap (λ text. quoted_text board ++ (codes ",\"from\":" ++ text)) (append_assoc (label came) (ok ++ last) more
     ∙ ap (λ text. label came ++ (ok ++ text)) (append_assoc (decimal ports) (codes "}") more)))
-
-pub changed_line : (board more : List ℕ) → line (Changed board) ++ more
-    ≡ codes "{\"board\":" ++ (quoted_text board ++ (codes ",\"ok\":\"changed\"}" ++ more))
-changed_line board more = ap (λ text. codes "{\"board\":" ++ text)
-    (append_assoc (quoted_text board) (codes ",\"ok\":\"changed\"}") more)
-
-pub refusal_line : (why : Why) (more : List ℕ) → line (No why) ++ more
-    ≡ codes "{\"no\":\"" ++ (word why ++ (codes "\"}" ++ more))
-refusal_line why more = ap (λ text. codes "{\"no\":\"" ++ text) (append_assoc (word why) (codes "\"}") more)
 
 -- ---- texts without escapes
 

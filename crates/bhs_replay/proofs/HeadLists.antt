@@ -16,18 +16,3 @@ rest_tokens items = items_tokens (items_outline (items_of items))
 pub record IsWritingOn (old new : Written) (all rest : List Data) : Type 0 where
   pub tokens : new.tokens ++ rest_tokens rest ≡ old.tokens ++ rest_tokens all
   pub before : new.before ≡ old.before
-
-pub goes_on : (old mid new : Written) (all rest : List Data) (item : Data) → IsWritingOn old mid all (item ∷ rest)
-    → new.tokens ≡ mid.tokens ++ data_tokens item → new.before ≡ mid.before
-    → IsWritingOn old new all rest
-goes_on old mid new all rest item so_far tokens before = record {
-  tokens = ap (λ ts. ts ++ rest_tokens rest) tokens ∙ append_assoc mid.tokens (data_tokens item) (rest_tokens rest)
-      ∙ so_far.tokens;
-  before = before ∙ so_far.before;
-}
-
--- the list is written, behind what was written before it
-pub has_written : (start old new : List Token) (all : List Data) (name : List Token) → old ≡ start ++ name
-    → new ≡ old ++ rest_tokens all → new ≡ start ++ (name ++ rest_tokens all)
-has_written start old new all name was is = is ∙ ap (λ ts. ts ++ rest_tokens all) was
-    ∙ append_assoc start name (rest_tokens all)

@@ -18,10 +18,6 @@ rest_lines rest = option_map_or (λ text. lines_of text.now) rest []
 abbrev pub bytes_left : Option (Bor (List ℕ)) → ℕ
 bytes_left rest = option_map_or (λ text. length text.now + 1) rest 0
 
-pub with_front-none : (others : Result (List Instruction) ℕ) → with_front [] others ≡ others
-with_front-none (Ok others) = refl
-with_front-none (Err line) = refl
-
 pub with_front-before : (front : List Instruction) (one : Instruction) (others : Result (List Instruction) ℕ)
     → with_front front (before one others) ≡ with_front (front ++ one ∷ []) others
 with_front-before front one (Ok others) = ap (λ (all : List Instruction). Ok all)

@@ -10,9 +10,6 @@ pub record HaveGrown (old now : List Known) (place : ℕ) : Type 0 where
   pub done : take place now ≡ map older (take place old)
   pub left : drop place now ≡ drop place old
 
-pub none_grown : (clients : List Known) → HaveGrown clients clients 0
-none_grown clients = record { done = refl; left = refl }
-
 -- one more
 pub one_grown : (old now : List Known) (place : ℕ) (d : Known) → place < length now → length now ≡ length old →
     HaveGrown old now place → HaveGrown old (slice_set now place (older (get_or now place d))) (suc place)
@@ -36,25 +33,6 @@ one_grown (first ∷ old) (one ∷ now) (suc place) d within same grown =
       done = ap₂ (λ (some : Known) (others : List Known). some ∷ others) (heads grown.done) before.done;
       left = before.left;
     }
-  where
-    heads : one ∷ take place now ≡ older first ∷ map older (take place old) → one ≡ older first
-    heads e = cc
-
-    tails : one ∷ take place now ≡ older first ∷ map older (take place old) →
-        take place now ≡ map older (take place old)
-    tails e = cc
-
--- all
-pub all_grown : (old now : List Known) (place : ℕ) → length now ≤ place → length now ≡ length old →
-    HaveGrown old now place → now ≡ map older old
-all_grown [] [] place past same grown = refl
-all_grown (first ∷ old) [] place past same grown = absurd (omega (arith, same))
-all_grown [] (one ∷ now) place past same grown = absurd (omega (arith, same))
-all_grown (first ∷ old) (one ∷ now) zero past same grown = absurd (omega (arith, past))
-all_grown (first ∷ old) (one ∷ now) (suc place) past same grown =
-    ap₂ (λ (some : Known) (others : List Known). some ∷ others) (heads grown.done)
-    (all_grown old now place (omega (arith, past)) (omega (arith, same))
-    (record { done = tails grown.done; left = grown.left }))
   where
     heads : one ∷ take place now ≡ older first ∷ map older (take place old) → one ≡ older first
     heads e = cc

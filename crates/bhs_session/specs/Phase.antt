@@ -113,10 +113,6 @@ abbrev pub phase_of : Stop → Phase
 phase_of (stops.Finished ended) = Finished ended
 phase_of (stops.Leaves ended) = Leaves ended
 
-abbrev pub cause_of : Stop → Ended
-cause_of (stops.Finished ended) = ended
-cause_of (stops.Leaves ended) = ended
-
 -- where a call leaves a session that goes on in this phase unless it stops
 abbrev pub reached : {T : Type 0} → Phase → Result T Stop → Phase
 reached next (Ok value) = next

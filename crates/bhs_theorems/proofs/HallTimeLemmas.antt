@@ -53,6 +53,7 @@ use Rattle.bhs_lock.proofs.ToldLemmas.{same_play}
 use Rattle.bhs_lock.proofs.DrawLemmas.{length_told, length_turned}
 use Rattle.bhs_lock.proofs.TallyLemmas.{has_agreed, is_some_if}
 use Rattle.bhs_theorems.proofs.CuttingLemmas.{cond_alike}
+use Rattle.bhs_time.proofs.TimedLogLemmas.{arrived_turn}
 
 -- ---- the state after an event
 
@@ -238,10 +239,6 @@ module _ (first : Play) (held : Held) (schedule : Schedule) (timed : TimedState)
       (told_by hall' call.pass call.pass' command call.answer call.agreed call.heard)
 
 -- ---- a turn
-
-arrived_turn : (world : World) (timed : TimedState) (agent : ℕ) (position : Position) →
-    (arrived_then world timed agent position).turn ≡ timed.turn
-arrived_turn world timed agent position = grind arith
 
 happened_turn : (world : World) (timed : TimedState) (event : Option Event) →
     (happened_if world timed event).turn ≡ timed.turn

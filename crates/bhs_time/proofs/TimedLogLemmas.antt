@@ -22,7 +22,7 @@ use Rattle.bhs_time.specs.TimedLogs.{TimedLogsMayBeCut}
 -- ---- what an event leaves as it was
 
 -- an event happens within a turn
-arrived_turn : (world : World) (timed : TimedState) (agent : ℕ) (position : Position) →
+pub arrived_turn : (world : World) (timed : TimedState) (agent : ℕ) (position : Position) →
     (arrived_then world timed agent position).turn ≡ timed.turn
 arrived_turn world timed agent position = grind arith
 

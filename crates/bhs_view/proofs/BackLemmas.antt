@@ -2,12 +2,11 @@
 use Rattle.std.proofs.Common.{ℕ, zero, suc, ◌<◌, ◌≡◌, Bool, true, false, ◌&&◌, ◌||◌, Option, Some, None, List, [], ◌∷◌}
 use Rattle.std.proofs.Common.{◌++◌, length, drop, get_or, refl, sym, ap, ◌∙◌, subst, arith, inl, inr, get_or-set_same}
 use Rattle.std.proofs.Common.{get_or-set_other}
-use Rattle.std.specs.Prelude.{slice_index_or, IfSome, reverse, replicate}
+use Rattle.std.specs.Prelude.{slice_index_or, IfSome, reverse}
 use Rattle.std.specs.List.{list_any, AllByRecursion}
 use Rattle.std.proofs.lemmas.Bool.{cond-true, cond-false}
-use Rattle.std.proofs.lemmas.Bool.Decides.{eqb_tells, leb_tells}
-use Rattle.std.proofs.lemmas.List.{length-set, length-replicate, get_or-replicate, get_or_default, drop_all}
-use Rattle.std.proofs.Math.ListN.{get_or-eq_default}
+use Rattle.std.proofs.lemmas.Bool.Decides.{eqb_tells}
+use Rattle.std.proofs.lemmas.List.{length-set, get_or_default, drop_all}
 use Rattle.std.proofs.lemmas.Grind.{reverse_onto}
 use Rattle.bhs_model.specs.declared.events.Event.{Event}
 use Rattle.bhs_model.specs.declared.events.Event.TheVariants.{Tell, Deliver, Close}
@@ -140,26 +139,6 @@ needed_more needed own chosen footprint are_needed = record {
       (length_marks needed.nodes footprint.seen) within in
       marks_more needed.nodes footprint.seen node old
       ∙ ap (λ (b : Bool). meet footprint.seen (Some node) || b) (are_needed.nodes node old);
-  any = refl;
-}
-
-pub unmarked : (n k : ℕ) → slice_index_or (replicate n false) k false ≡ false
-unmarked n k = elim (leb_tells n k) [
-  | inl h ↦ get_or-eq_default (replicate n false) false (let len = length-replicate n false in omega arith)
-  | inr h ↦ get_or-replicate n k false false h.1
-]
-
--- at first nothing but the agent's own places is needed
-pub needed_own : (agents nodes agent : ℕ) → AreNeeded
-    (record { agents = marks_with (replicate agents false) (Some agent); nodes = replicate nodes false; any = false })
-    (Some agent) []
-needed_own agents nodes agent = record {
-  agents = λ other within.
-      let old : other < length (replicate agents false) =
-      subst (λ (n : ℕ). other < n) (length_marks (replicate agents false) (Some agent)) within in
-      marks_more (replicate agents false) (Some agent) other old
-      ∙ ap (λ (b : Bool). meet (Some agent) (Some other) || b) (unmarked agents other);
-  nodes = λ node within. unmarked nodes node;
   any = refl;
 }
 

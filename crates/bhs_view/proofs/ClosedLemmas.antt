@@ -14,22 +14,15 @@ use Rattle.bhs_view.specs.Places.{misplaced}
 use Rattle.bhs_view.specs.Restrictions.{unclosed_from, fault_of, first_fault}
 use Rattle.bhs_view.proofs.CutLemmas.{IsKnown}
 use Rattle.bhs_view.proofs.SetLemmas.{IsSetOf, set_same}
-use Rattle.bhs_view.specs.Walks.{seen_by, footprint_at, footprints_at, Needed, nothing_needed, is_needed, needed_after}
+use Rattle.bhs_view.specs.Walks.{seen_by, footprint_at, footprints_at, Needed, is_needed, needed_after}
 use Rattle.bhs_view.specs.Walks.{IsInRange, AreNeeded}
-use Rattle.bhs_view.proofs.BackLemmas.{needed_same, needed_more, unmarked, length_footprints_at, IsThere}
+use Rattle.bhs_view.proofs.BackLemmas.{needed_same, needed_more, length_footprints_at, IsThere}
 
 -- how the walk back stands that has come down to a place, with these footprints and this part of the set from there on
 pub record IsJudged (needed : Needed) (place : ℕ) (footprints : List Footprint) (set : List Bool)
     (lacking : Option ℕ) : Type 0 where
   pub are_needed : AreNeeded needed None (at_places footprints set)
   pub least : lacking ≡ unclosed_from place footprints set
-
-pub needed_none : (agents nodes : ℕ) → AreNeeded (nothing_needed agents nodes) None []
-needed_none agents nodes = record {
-  agents = λ agent within. unmarked agents agent;
-  nodes = λ node within. unmarked nodes node;
-  any = refl;
-}
 
 pub judged_at_first : (log : List Kept) (sites : List (Option ℕ)) (set : List Bool) (needed : Needed) (place : ℕ)
     → length sites ≡ length log → length set ≡ length log → place ≡ length log → AreNeeded needed None [] →

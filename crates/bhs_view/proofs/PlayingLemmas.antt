@@ -42,10 +42,6 @@ plays_on start old new events event mark played grown same = record {
   setup = same.1 ∙ played.setup;
 }
 
-pub plays_none : (start : Play) (log : List Kept) (set : List Bool) → start.log ≡ []
-    → HasPlayed start (at_places (take 0 (events_of log)) set) start
-plays_none start log set fresh = record { log = sym (ap events_of fresh); net = refl; setup = refl }
-
 -- the chosen ones of one place more
 chosen_more : (events : List Event) (set : List Bool) (place : ℕ) (event : Event) → place < length events
     → place < length set → get_or events place event ≡ event →

@@ -11,9 +11,6 @@ pub one_more : (is_ok : Bool) (old new : List Raw) (line : Raw) → new ≡ (if 
 one_more true old new line is = (seen line ∷ [], ap (map seen) is ∙ map-append seen old (line ∷ []))
 one_more false old new line is = ([], ap (map seen) is ∙ sym (append-nil (map seen old)))
 
-pub no_more : (old : List Line) → (more : List Line) × (old ≡ old ++ more)
-no_more old = ([], sym (append-nil old))
-
 pub more_on : (old next new : List Line) → (more : List Line) × (next ≡ old ++ more)
     → (more : List Line) × (new ≡ next ++ more) → (more : List Line) × (new ≡ old ++ more)
 more_on old next new first then_more = (

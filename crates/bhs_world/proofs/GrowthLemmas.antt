@@ -69,12 +69,6 @@ events_more (first ∷ log) kept = ap (λ rest. first.event ∷ rest) (events_mo
 
 -- what stands in a list stands in a longer one
 
-pub slice_get_more : {A : Type 0} (xs : List A) (i : ℕ) (x y : A) → slice_get xs i ≡ Some x
-    → slice_get (xs ++ y ∷ []) i ≡ Some x
-slice_get_more [] i x y found = cc
-slice_get_more (first ∷ xs) zero x y found = found
-slice_get_more (first ∷ xs) (suc i) x y found = slice_get_more xs i x y found
-
 pub slice_get_end : {A : Type 0} (xs : List A) (y : A) → slice_get (xs ++ y ∷ []) (length xs) ≡ Some y
 slice_get_end [] y = refl
 slice_get_end (first ∷ xs) y = slice_get_end xs y

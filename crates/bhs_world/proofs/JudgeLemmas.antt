@@ -11,7 +11,7 @@ use Rattle.bhs_model.specs.declared.limits.TheConstants.{MAX_AGENTS, MAX_QUOTA, 
 use Rattle.bhs_model.specs.declared.setups.Setup.{Setup}
 use Rattle.bhs_model.specs.Worlds.{is_hole, names, is_dark}
 use Rattle.bhs_model.specs.Setups.{normal, IsNormal, nodes_where, links_where}
-use Rattle.bhs_model.specs.Dooms.{Signs, is_marked, AreSignsOf}
+use Rattle.bhs_model.specs.Dooms.{Signs, AreSignsOf}
 use Rattle.bhs_model.specs.PortMarks.{mark_at}
 use Rattle.bhs_model.proofs.SameDoomLemmas.{same_holes, same_dark, is_named}
 use Rattle.bhs_agent.specs.Agents.{Course, newcomer}
@@ -39,13 +39,6 @@ hole_passes nodes home holes i whole within fit new is =
     fit new
     ∙ ap (λ before. are_holes_fit nodes home before (drop (i + 1) holes)) (sym (take_more holes i 0 within))
 
-pub hole_fails : (nodes home : ℕ) (holes : List ℕ) (i : ℕ) (whole : Bool) → i < length holes
-    → (is_hole_fit nodes home (get_or holes i 0) && not (is_hole (take i holes) (get_or holes i 0))) ≡ false →
-    whole ≡ are_holes_fit nodes home (take i holes) (drop i holes) → whole ≡ false
-hole_fails nodes home holes i whole within unfit is =
-    is ∙ ap (λ rest. are_holes_fit nodes home (take i holes) rest) (one_less holes i 0 within)
-    ∙ ap (λ a. a && are_holes_fit nodes home (take i holes ++ get_or holes i 0 ∷ []) (drop (i + 1) holes)) unfit
-
 pub link_passes : (net : Network) (ends : List (ℕ × ℕ)) (i : ℕ) (whole : Bool) → i < length ends
     → is_port_of net (get_or ends i (0, 0)) ≡ true → is_dark (far_of net) (take i ends) (get_or ends i (0, 0)).0
     (get_or ends i (0, 0)).1 ≡ false →
@@ -56,14 +49,6 @@ link_passes net ends i whole within fit new is =
     ∙ ap₂ (λ a b. (a && not b) && are_links_fit net (take i ends ++ get_or ends i (0, 0) ∷ []) (drop (i + 1) ends)) fit
     new
     ∙ ap (λ before. are_links_fit net before (drop (i + 1) ends)) (sym (take_more ends i (0, 0) within))
-
-pub link_fails : (net : Network) (ends : List (ℕ × ℕ)) (i : ℕ) (whole : Bool) → i < length ends
-    → (is_port_of net (get_or ends i (0, 0)) && not
-    (is_dark (far_of net) (take i ends) (get_or ends i (0, 0)).0 (get_or ends i (0, 0)).1)) ≡ false →
-    whole ≡ are_links_fit net (take i ends) (drop i ends) → whole ≡ false
-link_fails net ends i whole within unfit is =
-    is ∙ ap (λ rest. are_links_fit net (take i ends) rest) (one_less ends i (0, 0) within)
-    ∙ ap (λ a. a && are_links_fit net (take i ends ++ get_or ends i (0, 0) ∷ []) (drop (i + 1) ends)) unfit
 
 -- what fits is within the limits
 
@@ -147,16 +132,6 @@ normal_signs net setup signs labelled within are = record {
   rows = are.rows;
   marked_nodes = λ node. are.marked_nodes node ∙ sym (normal_holes net setup within node);
   marked_ports = λ node port. are.marked_ports node port ∙ sym (normal_dark net setup labelled within node port);
-}
-
--- the normal form, read off the marks
-pub in_order : (net : Network) (setup : Setup) (signs : Signs) (holes : List ℕ) (dark : List (ℕ × ℕ))
-    → AreSignsOf net setup.holes setup.dark signs → holes ≡ nodes_where net (is_marked signs)
-    → dark ≡ links_where net (mark_at signs.ports) →
-    record setup { holes = holes; dark = dark } ≡ normal net setup
-in_order net setup signs holes dark are is_holes is_dark i = record setup {
-  holes = (is_holes ∙ (λ j. nodes_where net (λ node. are.marked_nodes node j))) i;
-  dark = (is_dark ∙ (λ j. links_where net (λ node port. are.marked_ports node port j))) i;
 }
 
 -- the same, for marks and lists as the code goes about them

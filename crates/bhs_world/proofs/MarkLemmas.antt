@@ -43,7 +43,7 @@ here_reads world state log boards node came shows =
     ap (λ (shown : List ℕ). replies.Here (world.net.degree node) came shown) (text_shown log _ _ (shows node))
 
 -- by the two tests of a write
-swap_reads : (log : List Kept) (last : Option ℕ) (fits same : Bool) →
+pub swap_reads : (log : List Kept) (last : Option ℕ) (fits same : Bool) →
     read log (mark_of_swap (if fits then (if same then Took else Differs) else Long) last) ≡ (if
     fits then (if same then replies.Written else replies.Changed (text_at log last)) else replies.No whys.Long)
 swap_reads log last true true = refl
@@ -58,7 +58,7 @@ write_reads limit shown log board expect put limited shows =
     ∙ ap (λ (limit : ℕ). write_answer limit (text_at log board.last) expect put) limited
     ∙ ap (λ (shown : List ℕ). write_answer limit shown expect put) (text_shown log board.last shown shows)
 
-port_reads : (log : List Kept) (below : Bool) (mark : Mark)
+pub port_reads : (log : List Kept) (below : Bool) (mark : Mark)
     → read log (if below then mark else marks.No whys.Port) ≡ (if below then read log mark else replies.No whys.Port)
 port_reads log true mark = refl
 port_reads log false mark = refl

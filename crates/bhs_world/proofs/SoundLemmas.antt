@@ -1,10 +1,10 @@
 -- A step keeps a table sound.
-use Rattle.std.proofs.Common.{◌≡◌, ℕ, ◌<◌, ◌≤◌, List, [], ◌++◌, length, take, drop, refl, sym, ap, ◌∙◌, subst, inl, inr}
+use Rattle.std.proofs.Common.{◌≡◌, ℕ, ◌<◌, List, ◌++◌, length, take, drop, refl, sym, ap, ◌∙◌, subst, inl, inr}
 use Rattle.std.proofs.Common.{arith, length-set}
 use Rattle.std.specs.Prelude.{slice_set, slice_index_or}
-use Rattle.std.proofs.lemmas.List.{get_or_past, get_or_read}
+use Rattle.std.proofs.lemmas.List.{get_or_read}
 use Rattle.std.proofs.Math.Seq.{take-append_seam}
-use Rattle.bhs_net.specs.Network.{Network, nodes_of, degree_of, far_of, HasPort, IsPortLabelled}
+use Rattle.bhs_net.specs.Network.{Network, nodes_of, degree_of}
 use Rattle.bhs_model.specs.declared.setups.Setup.{Setup}
 use Rattle.bhs_model.specs.declared.commands.Command.{Command}
 use Rattle.bhs_model.specs.declared.commands.Command.TheVariants.{Enter, Look, Write, Depart, Accuse, Leave, Bad}
@@ -106,18 +106,6 @@ sound_heard table log agent command sound within =
           (placed_after table.net table.setup position command sound.within.home (sound.places agent))
           (λ k _. sound.places k);
     }
-
--- the far end of a link is a node
-pub far_placed : (net : Network) (node port : ℕ) → IsPortLabelled net → port < degree_of net node
-    → (far_of net node port).0 < nodes_of net
-far_placed net node port labelled lt = elim (lt_tells (far_of net node port).0 (nodes_of net)) [
-  | inl h ↦ h.1
-  | inr h ↦ absurd (no_ports _ _ h.1 (labelled.within node port lt))
-]
-  where
-    no_ports : (k label : ℕ) → nodes_of net ≤ k → HasPort net (k, label) → ⊥
-    no_ports k label past has = let none : slice_index_or net k [] ≡ [] = get_or_past net k [] past in
-        absurd (omega (arith, ap length none, has))
 
 -- the same, for lists that are those of the table that was heard
 pub sound_told : (table : Table) (log : List Kept) (agent : ℕ) (command : Command) (agents : List Course)

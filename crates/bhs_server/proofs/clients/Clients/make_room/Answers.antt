@@ -1,4 +1,4 @@
-use Rattle.std.proofs.Common.{rules, arith, ◌≡◌, ◌<◌, ◌≤◌, Some, List, length, ap, sym, ◌∙◌, slice_set}
+use Rattle.std.proofs.Common.{rules, ◌≡◌, ◌<◌, ◌≤◌, Some, List, length, ap, sym, ◌∙◌, slice_set}
 use Rattle.bhs_server.specs.declared.waiting.Known.{Known}
 use Rattle.bhs_server.specs.declared.waiting.Stand.TheVariants.{IsCut}
 use Rattle.bhs_server.specs.Waiting.{cut_at}
