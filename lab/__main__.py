@@ -39,6 +39,8 @@ COMMANDS = {
     "hunt": Command("lab.commands.hunt", "look for a schedule after which the team fails, or moves most",
                     PLAYS + PAGES + ("hypothesis",)),
     "explore": Command("lab.commands.explore", "try every schedule of a small network", PLAYS + PAGES),
+    "invariant": Command("lab.commands.invariant", "try a candidate invariant on every picture of small networks",
+                         PLAYS + PAGES),
     "replay": Command("lab.commands.replay", "play a schedule again, and compare every byte", PLAYS + PAGES),
     "mutants": Command("lab.commands.mutants", "try whether the lab finds out wrong versions of the sample agents",
                        PLAYS + ("networkx", "hypothesis")),

@@ -19,7 +19,7 @@ from lab.tests.playing import program
 README = TOP / "lab" / "README.md"
 LAB = "$ python3 -m lab "
 # commands that play nothing
-NO_PROGRAM = ("network", "tournament")
+NO_PROGRAM = ("network", "tournament", "invariant")
 
 
 def examples() -> Iterator[Tuple[str, List[str]]]:

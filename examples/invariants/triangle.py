@@ -1,0 +1,49 @@
+"""What holds of `examples/agents/triangle.py` at each time, as `Inv` of crates/bhs_triangle says it.
+
+    python3 -m lab invariant examples/invariants/triangle.py --network ring:3 --agent "examples/agents/triangle.py 0" \
+        --agent "examples/agents/triangle.py 1"
+"""
+from lab.search.pictures import After, At, Before, Bound, Bounds, Picture, Position, World
+
+# what an agent has made of its six turns is how much has happened to it
+TURNS = 6
+
+
+def place(world: World, side: int, turns: int) -> Position:
+    """Where the agent of a side is after this number of its turns."""
+    target, label = world.far(world.home, side)
+    return [Before(), At(world.home, None), Bound(world.home, side), At(target, label), Bound(target, label),
+            At(world.home, side), After()][turns]
+
+
+def is_fit(world: World, picture: Picture, side: int) -> bool:
+    """What holds of one agent."""
+    turns = len(picture.history[side])
+    is_lost = world.doomed(world.home, side)
+    return (turns <= (2 if is_lost else TURNS) and picture.position[side] == place(world, side, turns)
+            and picture.used[side] == commands(turns)
+            and picture.accused[side] == ((world.home, 1 - side) if turns == TURNS else None)
+            and (turns < 3 or world.far(world.home, side)[0] in picture.reached))
+
+
+def commands(turns: int) -> int:
+    """How many commands an agent has used after this number of its turns: entering and arriving cost none."""
+    return [0, 0, 1, 1, 2, 2, 3][turns]
+
+
+def moves(turns: int) -> int:
+    """How many moves an agent has made after this number of its turns."""
+    return [0, 0, 1, 1, 2, 2, 2][turns]
+
+
+def holds(world: World, picture: Picture) -> bool:
+    return (all(is_fit(world, picture, side) for side in (0, 1))
+            and picture.moves == sum(moves(len(picture.history[side])) for side in (0, 1)))
+
+
+def left(world: World, picture: Picture) -> int:
+    return 8 - sum(map(len, picture.history))
+
+
+def bounds(world: World) -> Bounds:
+    return Bounds(moves=3, lost=1, commands=3, turns=8)
