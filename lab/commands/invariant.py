@@ -4,8 +4,8 @@
         --agent "examples/agents/shuttle.py {nodes} 0" --agent "examples/agents/shuttle.py {nodes} 1"
 
 A proof that a team solves every network of a kind needs an invariant: a test that all pictures of a match meet, with a
-number that falls with each turn (docs/PROTOCOLS.md, "How to prove a protocol"). Before you prove one, write it in
-Python and try it: a wrong one fails in seconds, and the command shows where. A candidate is a file with
+number that falls with each turn (docs/PROVING.md). Before you prove one, write it in Python and try it: a wrong one
+fails in seconds, and the command shows where. A candidate is a file with
 
     holds(world, picture) -> bool      the test
     left(world, picture) -> int        how many turns are left at most; it is to fall with each turn (may be missing)

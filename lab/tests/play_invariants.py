@@ -4,6 +4,7 @@ import contextlib
 import io
 import pathlib
 import random
+import re
 import unittest
 from types import SimpleNamespace
 from typing import Any, List, NamedTuple, Sequence, Set, Tuple
@@ -152,6 +153,19 @@ class Invariants(InFolder):
                 self.assertIn(f"after {mistake.turns} turns: {mistake.why}", self.said)
                 self.assertEqual(len(read(self.folder / "find" / "schedule.txt").choices), mistake.turns)
                 self.assertEqual(self.replayed("--engine", "model"), 0)
+
+    def test_the_page_on_proofs_shows_what_is_told_of_a_wrong_candidate(self) -> None:
+        path = self.folder / "wrong.py"
+        text = (INVARIANTS / "triangle.py").read_text(encoding="utf-8")
+        self.assertEqual(text.count("turns < 3"), 1)
+        path.write_text(text.replace("turns < 3", "turns < 2"), encoding="utf-8")
+        self.assertEqual(self.command(path, TRIANGLE, "--network", "ring:3"), 1)
+        page = (TOP / "docs" / "PROVING.md").read_text(encoding="utf-8")
+        shown = re.search(r"(?:^    .*\n)*^    .* does not hold.*\n(?:^    .*\n)*", page, re.MULTILINE)
+        assert shown is not None
+        for line in shown[0].splitlines():
+            parts = [re.escape(part) for part in line.strip().split("..")]
+            self.assertRegex(self.said, re.compile("^" + ".*".join(parts) + "$", re.MULTILINE))
 
     def test_the_schedule_that_is_told_leads_to_the_picture(self) -> None:
         for name, mistake in MISTAKES.items():

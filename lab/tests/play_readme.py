@@ -1,4 +1,4 @@
-"""The commands of lab/README.md say what stands below them."""
+"""The commands of lab/README.md and docs/PROVING.md say what stands below them."""
 import contextlib
 import io
 import os
@@ -17,15 +17,16 @@ from lab.support import built
 from lab.tests.playing import program
 
 README = TOP / "lab" / "README.md"
+PAGES = (README, TOP / "docs" / "PROVING.md")
 LAB = "$ python3 -m lab "
 # commands that play nothing
 NO_PROGRAM = ("network", "tournament", "invariant")
 
 
 def examples() -> Iterator[Tuple[str, List[str]]]:
-    """Each command of the page, and the lines below it."""
+    """Each command of the pages, and the lines below it."""
     command, said = "", []
-    for line in README.read_text(encoding="utf-8").replace("\\\n", "").splitlines():
+    for line in "\n".join(page.read_text(encoding="utf-8") for page in PAGES).replace("\\\n", "").splitlines():
         text = line.strip()
         if command and (not line.startswith("    ") or text.startswith("$")):
             yield command, said

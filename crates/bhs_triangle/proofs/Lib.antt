@@ -1,0 +1,3 @@
+pub mod MovingLemmas
+pub mod VerdictLemmas
+pub mod TriangleLemmas
