@@ -15,14 +15,14 @@ A picture has `position`, `history`, `woken`, `used` and `accused` of each agent
 set `reached`, and `moves`. A world has `nodes`, `degree(node)`, `far(node, port)`, `home`, `holes`, `dark`,
 `doomed(node, port)`, `agents`, `quota` and `board`. A position is Before(), At(node, came), Bound(node, port) or
 After(); these and Bounds are imported from lab.search.pictures. A history has the replies of an agent, the newest
-first.
+first, and None where it woke; `held_after` there folds what an agent holds out of it.
 
 If you name neither a black hole nor a dark link, each node but the home base is the black hole in turn. All orders of
-turns are tried, the shortest first, up to the first picture at which the candidate is wrong: the test does not hold, or
-`left` does not fall or begins above the bound on turns, a bound is passed, an agent has failed, or nothing more can
-happen and the match is not solved with few agents lost. The command prints the schedule that leads there, what the
-picture shows, and writes it to a folder: `lab replay` plays it again, and its script.txt is one for `arena rehearse`.
-The exit status is 1 then.
+turns are tried, the shortest schedules first, up to the first picture at which the candidate is wrong: the test does
+not hold, or `left` does not fall or begins above the bound on turns, a bound is passed, an agent has failed, or nothing
+more can happen and the match is not solved with few agents lost. The command prints the schedule that leads there, what
+the picture shows, and writes it to a folder: `lab replay` plays it again, and its script.txt is one for `arena
+rehearse`. The exit status is 1 then.
 
 What it does not show: only pictures that some schedule reaches are tried, on these networks, with agents that do what
 these programs do, by the Python model, of which nothing is proved. An invariant has to be kept by each turn from every

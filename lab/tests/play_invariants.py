@@ -7,21 +7,24 @@ import random
 import re
 import unittest
 from types import SimpleNamespace
-from typing import Any, List, NamedTuple, Sequence, Set, Tuple
+from typing import Any, List, NamedTuple, Optional, Sequence, Set, Tuple
 
 from lab.__main__ import main
 from lab.play import schedulers
 from lab.play.matches import play
+from lab.play.players import Team
 from lab.play.schedules import read
 from lab.play.teams import INSIDE, AgentWords, Together
 from lab.rules.engines import TOP
 from lab.rules.fixtures import Fixture, fixture_of
-from lab.rules.model import AWAY, OUTSIDE, PRESENT, AgentState, Match, Setup, judge
+from lab.rules.model import AWAY, OUTSIDE, PRESENT, AgentState, Match, Object, Setup, command_of, judge, text_of
 from lab.rules.networks import flipped_ring, ring
 from lab.rules.rehearsal import Rehearsal
-from lab.search.invariants import Candidate, Walked, walked
+from lab.search.explore import TooMany
+from lab.search.invariants import Candidate, Walk, Walked, walked
+from lab.search.pasts import State
 from lab.search.pictures import After, At, Before, Bound, Bounds, Picture, Position, World
-from lab.tests.playing import AGENTS, InFolder, program
+from lab.tests.playing import AGENTS, FAULTY, MAP, InFolder, program
 
 INVARIANTS = TOP / "examples" / "invariants"
 SHOWN = SimpleNamespace(update=lambda count: None, clear=lambda: None)
@@ -77,6 +80,69 @@ def shown_by(picture: Picture) -> Tuple[Any, ...]:
     return picture.position, picture.used, picture.shown, picture.reached, picture.moves
 
 
+FAILURES = {
+    "raises": "agent 0 raises KeyError: 'west'",
+    "sleeps": "nothing more can happen, and agent 0 sleeps",
+    "crashes_when_it_is_over 0": "when the match is over, agent 0 raises AttributeError: nothing was seen",
+}
+
+
+def changed(values: Sequence[Any], place: int, value: Any) -> Tuple[Any, ...]:
+    return (*values[:place], value, *values[place + 1:])
+
+
+def sight(world: World, position: Position, shown: Sequence[str]) -> Optional[Tuple[int, str]]:
+    """The whiteboard that an agent has in front of it, and what it shows."""
+    if isinstance(position, (Bound, After)):
+        return None
+    node = position.node if isinstance(position, At) else world.home
+    return node, shown[node]
+
+
+def turned(world: World, old: Picture, agent: int, command: Optional[Object]) -> Picture:
+    """What the turn of an agent that moves makes of a picture, as `turn_in` of crates/bhs_protocols/specs/Pictures.antt
+    says it: it says this command, or arrives, or wakes."""
+    place = old.position[agent]
+    if isinstance(place, Bound):
+        node, label = world.far(place.node, place.port)
+        here = {"ok": "here", "ports": world.degree(node), "from": label, "board": old.shown[node]}
+        new = old._replace(position=changed(old.position, agent, At(node, label)), reached=old.reached | {node})
+        return told(world, old, new, agent, here)
+    if command is None:
+        return old._replace(history=changed(old.history, agent, (None, *old.history[agent])),
+                            woken=changed(old.woken, agent, old.woken[agent] + 1))
+    return said(world, old, agent, command)
+
+
+def said(world: World, old: Picture, agent: int, command: Object) -> Picture:
+    """What a command makes of a picture that is heard of an agent at a node, or of one that enters."""
+    place, do = old.position[agent], command["do"]
+    node = place.node if isinstance(place, At) else world.home
+    came = place.came if isinstance(place, At) else None
+    reply = {"ok": "here", "ports": world.degree(node), "from": came, "board": old.shown[node]}
+    new = old if do == "enter" else old._replace(used=changed(old.used, agent, old.used[agent] + 1))
+    if do == "enter":
+        new = new._replace(position=changed(old.position, agent, At(node, None)))
+    elif do == "write" and old.shown[node] == command["expect"]:
+        reply, new = {"ok": "written"}, new._replace(shown=changed(old.shown, node, command["put"]))
+    elif do == "write":
+        reply = {"ok": "changed", "board": old.shown[node]}
+    elif do == "depart":
+        reply = {"ok": "gone"}
+        new = new._replace(position=changed(old.position, agent, Bound(node, command["port"])), moves=old.moves + 1)
+    elif do == "accuse":
+        reply, accused = {"ok": "noted"}, changed(old.accused, agent, (node, command["port"]))
+        new = new._replace(position=changed(old.position, agent, After()), accused=accused)
+    return told(world, old, new, agent, reply)
+
+
+def told(world: World, old: Picture, new: Picture, agent: int, reply: Object) -> Picture:
+    """A picture in which an agent has heard a reply. Who faces another sight than before has not woken since."""
+    woken = tuple(times if sight(world, before, old.shown) == sight(world, after, new.shown) else 0
+                  for times, before, after in zip(old.woken, old.position, new.position))
+    return new._replace(history=changed(old.history, agent, (reply, *old.history[agent])), woken=woken)
+
+
 class Noting:
     """A candidate that holds everywhere, and notes what it was asked of."""
 
@@ -92,6 +158,24 @@ class Noting:
 
     def bounds(self, world: World) -> Bounds:
         return Bounds()
+
+
+class Following(Walk):
+    """A search that compares what each turn makes of a picture with what the definitions make of it."""
+
+    def __init__(self, *given: Any) -> None:
+        super().__init__(*given)
+        self.differ: List[Tuple[Picture, int]] = []
+        self.met: Set[str] = set()
+
+    def _after(self, state: State, agent: int) -> State:
+        after, picture = super()._after(state, agent), self._pictures.of(state)
+        past = state.pasts[agent]
+        command = None if past.line is None else command_of(text_of(past.line))
+        self.met.add(command["do"] if command else past.state)
+        if self._pictures.of(after) != turned(self._world, picture, agent, command):
+            self.differ.append((picture, agent))
+        return after
 
 
 class Invariants(InFolder):
@@ -122,9 +206,9 @@ class Invariants(InFolder):
     def walked(self, fixture: Fixture, agents: Sequence[AgentWords], candidate: Any) -> Walked:
         return walked(fixture, agents, candidate, SHOWN, 100_000, 5)
 
-    def fixture(self, nodes: int, hole: int, labels: int) -> Fixture:
+    def fixture(self, nodes: int, hole: int, labels: int, agents: int = 2, board: int = 4) -> Fixture:
         network = flipped_ring(nodes, random.Random(labels)) if labels else ring(nodes)
-        return fixture_of(Setup(nodes, network.links, 0, [hole], 2, 1000, 4))
+        return fixture_of(Setup(nodes, network.links, 0, [hole], agents, 1000, board))
 
     def test_the_shuttle_keeps_its_invariant_on_small_rings(self) -> None:
         self.assertEqual(self.command(INVARIANTS / "shuttle.py", SHUTTLE, "--network", "ring:3..5"), 0, self.said)
@@ -203,6 +287,40 @@ class Invariants(InFolder):
         self.assertEqual(self.command(path, reads_once, "--network", "ring:4", "--hole", "2"), 1)
         self.assertIn("nothing more can happen, and the match is not solved: silent", self.said)
         self.assertEqual(self.replayed("--program", program()), 0)
+
+    def test_agents_that_fail_are_told_whatever_the_candidate(self) -> None:
+        (self.folder / "faulty.py").write_text(FAULTY, encoding="utf-8")
+        path = self.folder / "always.py"
+        path.write_text("def holds(world, picture):\n    return True\n", encoding="utf-8")
+        for words, said in FAILURES.items():
+            with self.subTest(words):
+                agent = AgentWords(INSIDE, f"{self.folder / 'faulty.py'}:{words}")
+                self.assertEqual(self.command(path, [agent], "--network", "ring:3", "--hole", "1"), 1, self.said)
+                self.assertIn(said, self.said)
+
+    def test_what_is_left_at_the_start_is_within_the_bound(self) -> None:
+        path = self.folder / "wrong.py"
+        text = (INVARIANTS / "triangle.py").read_text(encoding="utf-8")
+        path.write_text(text.replace("turns=8", "turns=7"), encoding="utf-8")
+        self.assertEqual(self.command(path, TRIANGLE, "--network", "ring:3"), 1)
+        self.assertIn("1 picture, at the start: left is 8 at the start, and bounds says at most 7 turns", self.said)
+
+    def test_a_turn_makes_of_a_picture_what_the_definitions_say(self) -> None:
+        met: Set[str] = set()
+        for agents, board in ((SHUTTLE, 4), ([MAP] * 3, 4096), (TRIANGLE, 0)):
+            with self.subTest(agents[0].words):
+                fixture = self.fixture(3, 1, 1, len(agents), board)._replace(naps=1)
+                team = Team(fixture.keys, {}, 5)
+                team.start()
+                walk = Following(fixture, team, [agent.script(fixture.setup) for agent in agents], 20_000, Noting())
+                with contextlib.suppress(TooMany):
+                    for _ in walk.explore():
+                        pass
+                team.stop()
+                self.assertIsNone(walk.breach)
+                self.assertEqual(walk.differ, [])
+                met |= walk.met
+        self.assertEqual(met, {"enter", "depart", "travels", "write", "look", "sleeps", "accuse"})
 
     def test_a_search_that_is_stopped_says_so(self) -> None:
         self.assertEqual(self.command(INVARIANTS / "shuttle.py", SHUTTLE, "--network", "ring:4", "--states", 50), 130)
