@@ -28,6 +28,8 @@ HEADLINES = {
     "replies to agents: `equal_pasts` of `bhs_model`": ("bhs_model", "Laws", "EqualPasts"),
     "a search of rings by halves: `laws::the_halves_solve_all_rings` of `bhs_protocols`":
         ("bhs_protocols", "HalvesLaws", "HalvesSolveAllRings"),
+    "a search of networks with a map: `laws::two_agents_with_a_map_solve` of `bhs_mapped`":
+        ("bhs_mapped", "MapLaws", "TwoAgentsWithAMapSolve"),
 }
 WORD = re.compile(r"[^\W\d][\w'-]*(?:\.[^\W\d][\w'-]*)*")
 BEGINS = re.compile(r"(\s*)(?:abbrev |pub |data |record )+([^\W\d][\w'-]*)")

@@ -22,7 +22,7 @@ use Rattle.bhs_protocols.specs.Halves.{after_in, halves, halves_trial}
 use Rattle.bhs_protocols.proofs.HalvesDues.{Seat, owing, paces, miss, mark_at, beside, come, last, part, told}
 use Rattle.bhs_protocols.specs.Halving.{most_turns}
 use Rattle.bhs_protocols.proofs.SearchLemmas as lemmas
-use Rattle.bhs_protocols.proofs.SearchLemmas.{both, opposite, Pair, apart_from}
+use Rattle.bhs_protocols.proofs.SearchLemmas.{both, opposite, Pair, apart_from, sides}
 use Rattle.bhs_protocols.proofs.TurnLemmas.{Becomes}
 
 -- a match that the theorem speaks of
@@ -52,26 +52,26 @@ module _ (game : Game) where
   -- ---- the ring
 
   abbrev pub distance : ℕ → ℕ
-  distance = lemmas.distance world n right left ways search
+  distance = lemmas.distance world n right left ways.node (sides search)
 
   pub sum_is : (s o : ℕ) → Pair s o → distance s + distance o ≡ n
-  sum_is = lemmas.sum_is world n right left ways search
+  sum_is = lemmas.sum_is world n right left ways.node (sides search)
 
   pub positive : (s : ℕ) → s < 2 → 0 < distance s
-  positive = lemmas.positive world n right left ways search
+  positive = lemmas.positive world n right left ways.node (sides search)
 
   pub within_n : (s : ℕ) → s < 2 → distance s < n
-  within_n = lemmas.within_n world n right left ways search
+  within_n = lemmas.within_n world n right left ways.node (sides search)
 
   pub doomed_is : (node port target label : ℕ) → world.net.far node port ≡ (target, label)
       → doomed world node port ≡ (ways.node 0 right == target)
-  doomed_is = lemmas.doomed_is world n right left ways search
+  doomed_is = lemmas.doomed_is world n right left ways.node (sides search)
 
   pub hole_at : (s : ℕ) → s < 2 → ways.node s (distance s) ≡ ways.node 0 right
-  hole_at = lemmas.hole_at world n right left ways search
+  hole_at = lemmas.hole_at world n right left ways.node (sides search)
 
   pub safe_before : (s steps : ℕ) → s < 2 → steps < distance s → (ways.node 0 right == ways.node s steps) ≡ false
-  safe_before = lemmas.safe_before world n right left ways search
+  safe_before = lemmas.safe_before world n right left ways.node (sides search)
 
   -- ---- where agents are
 

@@ -1,6 +1,6 @@
 -- The search by halves: once nothing more can happen, the match is solved.
 use Rattle.std.proofs.Common.{ℕ, ◌+◌, ◌-◌, ◌<◌, ◌≤◌, ◌≡◌, ◌⊎◌, Bool, true, false, not, ◌||◌, ◌==◌, Some, None, refl, ap}
-use Rattle.std.proofs.Common.{◌∙◌, subst, if◌then◌else◌, inl, inr, arith}
+use Rattle.std.proofs.Common.{◌∙◌, subst, inl, inr, arith}
 use Rattle.std.specs.List.{list_any}
 use Rattle.std.proofs.lemmas.Bool.{eq-eqb}
 use Rattle.bhs_model.specs.Runs.{After}
@@ -15,8 +15,9 @@ use Rattle.bhs_protocols.specs.declared.halves.Phase.TheVariants.{Writes, GoesHo
 use Rattle.bhs_protocols.specs.declared.halves.Phase.TheVariants.{ComesHome, NearsBack, Ends}
 use Rattle.bhs_protocols.proofs.HalvesDues.{come, part}
 use Rattle.bhs_protocols.proofs.SearchLemmas as lemmas
-use Rattle.bhs_protocols.proofs.SearchLemmas.{both, opposite, Pair, swapped_pair}
+use Rattle.bhs_protocols.proofs.SearchLemmas.{both, opposite, Pair, swapped_pair, sides}
 use Rattle.bhs_protocols.proofs.HalvesState.{Game, Inv, at_turn, distance, mem, sum_is, swapped, trial as trial_of}
+use Rattle.bhs_protocols.proofs.HalvesState.{within_n}
 use Rattle.bhs_protocols.proofs.HalvesTurns.{part_more, placed_as}
 use Rattle.bhs_protocols.proofs.HalvesRest.{IsLost, resting}
 
@@ -30,47 +31,51 @@ module _ (game : Game) where
 
   edge_far : (s mine : ℕ) → s < 2 → mine + 1 ≡ distance game s
       → world.net.far (ways.node s mine) (ways.ahead s mine) ≡ (ways.node s (mine + 1), 1 - ways.ahead s (mine + 1))
-  edge_far = lemmas.edge_far world n right left ways search
+  edge_far s mine below edge =
+      let within : distance game s < n = within_n game s below in
+      search.ring.out s mine below (omega (arith, edge, within))
 
   edge_hole : (s mine : ℕ) → s < 2 → mine + 1 ≡ distance game s → ways.node 0 right ≡ ways.node s (mine + 1)
-  edge_hole = lemmas.edge_hole world n right left ways search
+  edge_hole = lemmas.edge_hole world n right left ways.node (sides search)
 
   edge_right : (s mine : ℕ) → s < 2 → mine + 1 ≡ distance game s
       → is_right world (ways.node s mine, ways.ahead s mine) ≡ true
-  edge_right = lemmas.edge_right world n right left ways search
+  edge_right s mine below edge =
+      lemmas.edge_right world n right left ways.node (sides search) s mine (ways.node s mine) (ways.ahead s mine)
+      (1 - ways.ahead s (mine + 1)) below edge (edge_far s mine below edge)
 
   accuses_by : (picture : Picture) (test : ℕ × ℕ → Bool) (s : ℕ) → s < 2 → passes test (picture.accused s) ≡ true
       → accuses world (found_in picture) test ≡ true
-  accuses_by = lemmas.accuses_by world n right left ways search
+  accuses_by = lemmas.accuses_by world n right left ways.node (sides search)
 
   accuses_none : (picture : Picture) (test : ℕ × ℕ → Bool)
       → ((s : ℕ) → s < 2 → passes test (picture.accused s) ≡ false)
       → accuses world (found_in picture) test ≡ false
-  accuses_none = lemmas.accuses_none world n right left ways search
+  accuses_none = lemmas.accuses_none world n right left ways.node (sides search)
 
   unfinished_none : (picture : Picture) → ((s : ℕ) → s < 2 → is_present (picture.position s) ≡ false)
       → is_unfinished world picture.position ≡ false
-  unfinished_none = lemmas.unfinished_none world n right left ways search
+  unfinished_none = lemmas.unfinished_none world n right left ways.node (sides search)
 
   solved_by : (picture : Picture) → accuses world (found_in picture) (λ link. not (is_right world link)) ≡ false
       → is_silent world (found_in picture) ≡ false → is_unfinished world picture.position ≡ false
       → first_unreached world (found_in picture) ≡ None → outcome_in world picture ≡ Solved
-  solved_by = lemmas.solved_by world n right left ways search
+  solved_by = lemmas.solved_by world n right left ways.node (sides search)
 
   abbrev pub IsAllKnown : Picture → Type 0
-  IsAllKnown = lemmas.IsAllKnown world n right left ways search
+  IsAllKnown = lemmas.IsAllKnown world n right left ways.node (sides search)
 
   reached_all : (picture : Picture) → IsAllKnown picture → first_unreached world (found_in picture) ≡ None
-  reached_all = lemmas.reached_all world n right left ways search
+  reached_all = lemmas.reached_all world n right left ways.node (sides search)
 
   few_doomed : (picture : Picture) (s : ℕ) → s < 2 → picture.position s ≡ After → doomed_in world picture ≤ 1
-  few_doomed = lemmas.few_doomed world n right left ways search
+  few_doomed = lemmas.few_doomed world n right left ways.node (sides search)
 
   each : (s o : ℕ) → Pair s o → (P : ℕ → Type 0) → P s → P o → (k : ℕ) → k < 2 → P k
-  each = lemmas.each world n right left ways search
+  each = lemmas.each world n right left ways.node (sides search)
 
   pub zero_one : Pair 0 1
-  zero_one = lemmas.zero_one world n right left ways search
+  zero_one = lemmas.zero_one world n right left ways.node (sides search)
 
   -- what an agent has accused, if it has, is right
   pub record IsAccuser (s : ℕ) (picture : Picture) : Type 0 where

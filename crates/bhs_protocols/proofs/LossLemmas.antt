@@ -222,7 +222,7 @@ module _ (world : World) (held : Held) (naps : ℕ) (minds : Minds) (hole node :
 
   -- ---- where another node is the black hole, it is reached
 
-  unreached_unsolved : (picture : Picture) → node < world.net.nodes → node ≢ world.home → hole ≢ node
+  pub unreached_unsolved : (picture : Picture) → node < world.net.nodes → node ≢ world.home → hole ≢ node
       → picture.reached node ≡ false → outcome_in one.world picture ≢ Solved
   unreached_unsolved picture below not_home apart never =
       let w : World = one.world in

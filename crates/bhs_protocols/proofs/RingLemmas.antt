@@ -17,7 +17,7 @@ use Rattle.bhs_model.specs.declared.setups.Setup.{Setup}
 use Rattle.bhs_model.specs.Setups.{world_of}
 use Rattle.bhs_model.proofs.StepLemmas.{by_cases}
 use Rattle.bhs_protocols.specs.Rings.{IsRing}
-use Rattle.bhs_protocols.specs.Shuttle.{round_trips}
+use Rattle.bhs_protocols.specs.Shuttle.{round_trips, commands_on}
 use Rattle.bhs_explore.specs.Schedules.{Trial}
 use Rattle.bhs_protocols.specs.Invariants.{Bounds, IsSolved}
 use Rattle.bhs_protocols.specs.Laws.{shuttle_trial, shuttle_bounds}
@@ -429,7 +429,7 @@ trips_last n two =
     trips_are (n - 2) ∙ ap (λ (k : ℕ). (n - 2) * k) next
 
 -- what is solved within bounds is solved within greater ones
-within_more : (trial : Trial) (bounds more : Bounds) → bounds.moves ≤ more.moves → bounds.lost ≤ more.lost
+pub within_more : (trial : Trial) (bounds more : Bounds) → bounds.moves ≤ more.moves → bounds.lost ≤ more.lost
     → ((agent : ℕ) → bounds.commands agent ≤ more.commands agent) → bounds.turns ≤ more.turns
     → IsSolved trial bounds → IsSolved trial more
 within_more trial bounds more moves lost commands turns it = record {
@@ -477,6 +477,24 @@ square n two =
     one_more : (k : ℕ) → k * (k + 1) + (k + 1) ≡ (k + 1) * (k + 1)
     one_more k = grind arith
 
+-- what costs as much as the shuttle, with the black hole at these distances, costs as much as the shuttle at most
+pub solved_wherever : (trial : Trial) (n one other : ℕ) → one + other ≡ n → 0 < one → 0 < other
+    → IsSolved trial (shuttle_bounds n one other) → IsSolved trial (ring_bounds n)
+solved_wherever trial n one other sum some some_too =
+    let trips : round_trips (one - 1) + round_trips (other - 1) ≤ (n - 2) * (n - 1) =
+    all_trips n one other sum some some_too in
+    within_more trial (shuttle_bounds n one other) (ring_bounds n)
+    (omega (arith, trips, sum, square n (omega (arith, sum, some, some_too)))) (omega arith)
+    (commands_within n one other sum some some_too) (omega (arith, trips, sum))
+
+-- and so does its quota
+pub quota_enough : (n one other quota : ℕ) → one + other ≡ n → 0 < one → 0 < other
+    → (n - 2) * (n - 1) + 2 * n ≤ quota → (commands_on n one ≤ quota) × (commands_on n other ≤ quota)
+quota_enough n one other quota sum some some_too enough =
+    let trips : round_trips (one - 1) + round_trips (other - 1) ≤ (n - 2) * (n - 1) =
+    all_trips n one other sum some some_too in
+    (omega (arith, trips, sum, enough), omega (arith, trips, sum, enough))
+
 pub shuttle_solves_all_rings : ShuttleSolvesAllRings
 shuttle_solves_all_rings net setup hole naps is room enough =
     let away : IsAway net setup hole = is_away net setup hole is in
@@ -484,11 +502,7 @@ shuttle_solves_all_rings net setup hole naps is room enough =
     let sum : away.one + away.other ≡ n = away.search.sum in
     let some : 0 < away.one = away.search.not_home in
     let some_too : 0 < away.other = away.search.nor_around in
-    let trips : round_trips (away.one - 1) + round_trips (away.other - 1) ≤ (n - 2) * (n - 1) =
-    all_trips n away.one away.other sum some some_too in
-    within_more (shuttle_trial (world_of net setup) naps n) (shuttle_bounds n away.one away.other) (ring_bounds n)
-    (omega (arith, trips, sum, square n (omega (arith, sum, some, some_too)))) (omega arith)
-    (commands_within n away.one away.other sum some some_too)
-    (omega (arith, trips, sum))
+    let both_enough = quota_enough n away.one away.other setup.quota sum some some_too enough in
+    solved_wherever (shuttle_trial (world_of net setup) naps n) n away.one away.other sum some some_too
     (shuttle_solves (world_of net setup) n away.one away.other naps (ways_of net setup.home)
-    away.search room (omega (arith, trips, sum, enough)) (omega (arith, trips, sum, enough)))
+    away.search room both_enough.0 both_enough.1)

@@ -1,4 +1,5 @@
--- Searches of a ring by two agents: their whiteboards, where the black hole is, and when a match is solved.
+-- Searches by two agents that have the nodes in an order and in its opposite: their whiteboards, where the black hole
+-- is, and when a match is solved.
 use Rattle.std.proofs.Common.{ℕ, zero, suc, ◌+◌, ◌-◌, ◌*◌, ◌/◌, ◌%◌, ◌<◌, ◌≤◌, ◌≡◌, ◌⊎◌, Bool, true, false, not, ◌&&◌}
 use Rattle.std.proofs.Common.{◌||◌}
 use Rattle.std.proofs.Common.{◌==◌, None, List, [], ◌∷◌, length, refl, sym, ap, ◌∙◌, subst, if◌then◌else◌}
@@ -97,8 +98,43 @@ bytes_other s a b c below other = by_cases (bytes_eq (text_by s a b) (text_by s 
     ∙ ap (other_in s) ((bytes_eq-Decides (text_by s a b) (text_by s a c)).0 yes) ∙ read_other s a c below)))
     (λ none. none)
 
-module _ (world : World) (n right left : ℕ) (ways : Ways) (search : IsSearch world n right left ways) where
-  -- how many steps from the home base the black hole is on each side
+-- ---- where the black hole is
+
+-- Two agents search a world of n nodes with one black hole. Each has an order of the nodes from the home base, which is
+-- the other's turned round, and the black hole has these numbers in the two orders.
+pub record IsTwoSided (world : World) (n right left : ℕ) (node_at : (side place : ℕ) → ℕ) : Type 0 where
+  pub size : world.net.nodes ≡ n
+  pub home : (side : ℕ) → node_at side 0 ≡ world.home
+  pub around : (place rest : ℕ) → place + rest ≡ n → 0 < place → 0 < rest → node_at 1 place ≡ node_at 0 rest
+  pub apart : (one other : ℕ) → one < n → other < n → node_at 0 one ≡ node_at 0 other → one ≡ other
+  pub all : (it : ℕ) → it < n → (place : ℕ) × (place < n) × (node_at 0 place ≡ it)
+  pub sum : right + left ≡ n
+  pub not_home : 0 < right
+  pub nor_around : 0 < left
+  pub hole : world.holes ≡ node_at 0 right ∷ []
+  pub none_dark : world.dark ≡ []
+  pub agents : world.agents ≡ 2
+
+-- on a ring
+pub sides : {world : World} {n right left : ℕ} {ways : Ways} → IsSearch world n right left ways
+    → IsTwoSided world n right left ways.node
+sides search = record {
+  size = search.ring.size;
+  home = search.ring.home;
+  around = search.ring.around;
+  apart = search.ring.apart;
+  all = search.ring.all;
+  sum = search.sum;
+  not_home = search.not_home;
+  nor_around = search.nor_around;
+  hole = search.hole;
+  none_dark = search.none_dark;
+  agents = search.agents;
+}
+
+module _ (world : World) (n right left : ℕ) (node_at : (side place : ℕ) → ℕ)
+    (search : IsTwoSided world n right left node_at) where
+  -- the number of the black hole on each side
   abbrev pub distance : ℕ → ℕ
   distance zero = right
   distance (suc k) = left
@@ -118,73 +154,67 @@ module _ (world : World) (n right left : ℕ) (ways : Ways) (search : IsSearch w
       let second : 0 < left = search.nor_around in
       both (λ (k : ℕ). distance k < n) (omega (arith, sum, first, second)) (omega (arith, sum, first, second)) s below
 
-  -- ---- the ring
+  -- ---- the links
 
   -- what a link destroys by, where this node is at its far end
   pub doomed_is : (node port target label : ℕ) → world.net.far node port ≡ (target, label)
-      → doomed world node port ≡ (ways.node 0 right == target)
+      → doomed world node port ≡ (node_at 0 right == target)
   doomed_is node port target label far =
       (λ i. is_hole (search.hole i) (far i).0 || is_dark world.net.far (search.none_dark i) node port)
-      ∙ or_none (ways.node 0 right == target)
+      ∙ or_none (node_at 0 right == target)
     where
       or_none : (b : Bool) → ((b || false) || false) ≡ b
       or_none true = refl
       or_none false = refl
 
-  pub hole_at : (s : ℕ) → s < 2 → ways.node s (distance s) ≡ ways.node 0 right
+  pub hole_at : (s : ℕ) → s < 2 → node_at s (distance s) ≡ node_at 0 right
   hole_at s below =
       let sum : right + left ≡ n = search.sum in
-      both (λ (k : ℕ). ways.node k (distance k) ≡ ways.node 0 right) refl
-      (search.ring.around left right (omega (arith, sum)) search.nor_around search.not_home) s below
+      both (λ (k : ℕ). node_at k (distance k) ≡ node_at 0 right) refl
+      (search.around left right (omega (arith, sum)) search.nor_around search.not_home) s below
 
   -- before the black hole there is none
-  pub safe_right : (steps : ℕ) → steps < right → (ways.node 0 right == ways.node 0 steps) ≡ false
-  safe_right steps before = elim (eqb_tells (ways.node 0 right) (ways.node 0 steps)) [
+  pub safe_right : (steps : ℕ) → steps < right → (node_at 0 right == node_at 0 steps) ≡ false
+  safe_right steps before = elim (eqb_tells (node_at 0 right) (node_at 0 steps)) [
     | inl h ↦
         let below : right < n = within_n 0 (omega arith) in
-        let same : right ≡ steps = search.ring.apart right steps below (omega (arith, before, below)) h.1 in
+        let same : right ≡ steps = search.apart right steps below (omega (arith, before, below)) h.1 in
         absurd (omega (arith, same, before))
     | inr h ↦ h.0
   ]
 
-  pub safe_left : (steps : ℕ) → steps < left → (ways.node 0 right == ways.node 1 steps) ≡ false
+  pub safe_left : (steps : ℕ) → steps < left → (node_at 0 right == node_at 1 steps) ≡ false
   safe_left zero before =
-      subst (λ (k : ℕ). (ways.node 0 right == k) ≡ false) (search.ring.home 0 ∙ sym (search.ring.home 1))
+      subst (λ (k : ℕ). (node_at 0 right == k) ≡ false) (search.home 0 ∙ sym (search.home 1))
       (safe_right 0 search.not_home)
-  safe_left (suc steps) before = elim (eqb_tells (ways.node 0 right) (ways.node 1 (suc steps))) [
+  safe_left (suc steps) before = elim (eqb_tells (node_at 0 right) (node_at 1 (suc steps))) [
     | inl h ↦
         let sum : right + left ≡ n = search.sum in
         let first : 0 < right = search.not_home in
-        let same : right ≡ n - suc steps = search.ring.apart right (n - suc steps) (omega (arith, sum, before))
+        let same : right ≡ n - suc steps = search.apart right (n - suc steps) (omega (arith, sum, before))
         (omega (arith, sum, before)) (h.1
-        ∙ search.ring.around (suc steps) (n - suc steps) (omega (arith, sum, before)) (omega arith)
+        ∙ search.around (suc steps) (n - suc steps) (omega (arith, sum, before)) (omega arith)
         (omega (arith, sum, before))) in
         absurd (omega (arith, same, sum, before))
     | inr h ↦ h.0
   ]
 
-  pub safe_before : (s steps : ℕ) → s < 2 → steps < distance s → (ways.node 0 right == ways.node s steps) ≡ false
+  pub safe_before : (s steps : ℕ) → s < 2 → steps < distance s → (node_at 0 right == node_at s steps) ≡ false
   safe_before zero steps below before = safe_right steps before
   safe_before (suc zero) steps below before = safe_left steps before
   safe_before (suc (suc k)) steps below before = absurd (omega (arith, below))
 
   -- ---- the verdict
 
-  pub edge_far : (s mine : ℕ) → s < 2 → mine + 1 ≡ distance s
-      → world.net.far (ways.node s mine) (ways.ahead s mine) ≡ (ways.node s (mine + 1), 1 - ways.ahead s (mine + 1))
-  edge_far s mine below edge =
-      let within : distance s < n = within_n s below in
-      search.ring.out s mine below (omega (arith, edge, within))
+  pub edge_hole : (s mine : ℕ) → s < 2 → mine + 1 ≡ distance s → node_at 0 right ≡ node_at s (mine + 1)
+  edge_hole s mine below edge = sym (hole_at s below) ∙ ap (node_at s) (sym edge)
 
-  pub edge_hole : (s mine : ℕ) → s < 2 → mine + 1 ≡ distance s → ways.node 0 right ≡ ways.node s (mine + 1)
-  edge_hole s mine below edge = sym (hole_at s below) ∙ ap (ways.node s) (sym edge)
-
-  pub edge_right : (s mine : ℕ) → s < 2 → mine + 1 ≡ distance s
-      → is_right world (ways.node s mine, ways.ahead s mine) ≡ true
-  edge_right s mine below edge =
-      doomed_is (ways.node s mine) (ways.ahead s mine) (ways.node s (mine + 1)) (1 - ways.ahead s (mine + 1))
-      (edge_far s mine below edge)
-      ∙ eq-eqb (ways.node 0 right) (ways.node s (mine + 1)) (edge_hole s mine below edge)
+  -- a link to the black hole is right to accuse
+  pub edge_right : (s mine start port label : ℕ) → s < 2 → mine + 1 ≡ distance s
+      → world.net.far start port ≡ (node_at s (mine + 1), label) → is_right world (start, port) ≡ true
+  edge_right s mine start port label below edge far =
+      doomed_is start port (node_at s (mine + 1)) label far
+      ∙ eq-eqb (node_at 0 right) (node_at s (mine + 1)) (edge_hole s mine below edge)
 
   pub or_true : (b : Bool) → (b || true) ≡ true
   or_true true = refl
@@ -240,13 +270,13 @@ module _ (world : World) (n right left : ℕ) (ways : Ways) (search : IsSearch w
 
   -- all nodes of both sides but the black hole are known to be safe
   pub record IsAllKnown (picture : Picture) : Type 0 where
-    pub known : (s k : ℕ) → s < 2 → 0 < k → k < distance s → picture.reached (ways.node s k) ≡ true
+    pub known : (s k : ℕ) → s < 2 → 0 < k → k < distance s → picture.reached (node_at s k) ≡ true
 
   pub reached_all : (picture : Picture) → IsAllKnown picture → first_unreached world (found_in picture) ≡ None
   reached_all picture all =
-      ap (λ (k : ℕ). find (is_unreached world (found_in picture)) (range_with_len 0 k)) search.ring.size
+      ap (λ (k : ℕ). find (is_unreached world (found_in picture)) (range_with_len 0 k)) search.size
       ∙ find_none (is_unreached world (found_in picture)) 0 n (λ node after before.
-      let it = search.ring.all node (omega (arith, before)) in
+      let it = search.all node (omega (arith, before)) in
       subst (λ (k : ℕ). is_unreached world (found_in picture) k ≡ false) it.2 (by_steps it.0 it.1))
     where
       none_by_home : (a b c : Bool) → a ≡ true → (not a && (not b && not c)) ≡ false
@@ -264,25 +294,25 @@ module _ (world : World) (n right left : ℕ) (ways : Ways) (search : IsSearch w
       or_false : (b : Bool) → b ≡ true → (b || false) ≡ true
       or_false b h = ap (λ (x : Bool). x || false) h
 
-      by_steps : (steps : ℕ) → steps < n → is_unreached world (found_in picture) (ways.node 0 steps) ≡ false
-      by_steps zero within = none_by_home (ways.node 0 zero == world.home) _ _
-          (eq-eqb (ways.node 0 zero) world.home (search.ring.home 0))
+      by_steps : (steps : ℕ) → steps < n → is_unreached world (found_in picture) (node_at 0 steps) ≡ false
+      by_steps zero within = none_by_home (node_at 0 zero == world.home) _ _
+          (eq-eqb (node_at 0 zero) world.home (search.home 0))
       by_steps (suc k) within = elim (eqb_tells (suc k) right) [
-        | inl h ↦ none_by_hole (ways.node 0 (suc k) == world.home) (is_hole world.holes (ways.node 0 (suc k)))
-            (picture.reached (ways.node 0 (suc k)))
-            (ap (λ (holes : List ℕ). is_hole holes (ways.node 0 (suc k))) search.hole
-            ∙ or_false (ways.node 0 right == ways.node 0 (suc k))
-            (eq-eqb (ways.node 0 right) (ways.node 0 (suc k)) (ap (ways.node 0) (sym h.1))))
-        | inr h ↦ none_by_arrival (ways.node 0 (suc k) == world.home) (is_hole world.holes (ways.node 0 (suc k)))
-            (picture.reached (ways.node 0 (suc k)))
-            (by_cases (nat_lt (suc k) right) (picture.reached (ways.node 0 (suc k)) ≡ true)
+        | inl h ↦ none_by_hole (node_at 0 (suc k) == world.home) (is_hole world.holes (node_at 0 (suc k)))
+            (picture.reached (node_at 0 (suc k)))
+            (ap (λ (holes : List ℕ). is_hole holes (node_at 0 (suc k))) search.hole
+            ∙ or_false (node_at 0 right == node_at 0 (suc k))
+            (eq-eqb (node_at 0 right) (node_at 0 (suc k)) (ap (node_at 0) (sym h.1))))
+        | inr h ↦ none_by_arrival (node_at 0 (suc k) == world.home) (is_hole world.holes (node_at 0 (suc k)))
+            (picture.reached (node_at 0 (suc k)))
+            (by_cases (nat_lt (suc k) right) (picture.reached (node_at 0 (suc k)) ≡ true)
             (λ yes. all.known 0 (suc k) (omega arith) (omega arith) (ltb-true (suc k) right yes))
             (λ none.
             let sum : right + left ≡ n = search.sum in
             let first : 0 < right = search.not_home in
             let not_below : (suc k < right) → ⊥ = λ b. true≢false (sym (lt-ltb (suc k) right b) ∙ none) in
             let above : right < suc k = omega (arith, not_below, h.1) in
-            ap picture.reached (sym (search.ring.around (n - suc k) (suc k) (omega (arith, within))
+            ap picture.reached (sym (search.around (n - suc k) (suc k) (omega (arith, within))
             (omega (arith, within)) (omega arith)))
             ∙ all.known 1 (n - suc k) (omega arith) (omega (arith, within)) (omega (arith, sum, above, within))))
       ]

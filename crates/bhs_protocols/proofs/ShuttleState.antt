@@ -1,5 +1,5 @@
 -- The shuttle: what holds of it at each time, and what a turn has to keep.
-use Rattle.std.proofs.Common.{ℕ, ◌+◌, ◌-◌, ◌*◌, ◌<◌, ◌≤◌, ◌≡◌, ◌⊎◌, Bool, true, false, not, ◌==◌, Option, Some, None}
+use Rattle.std.proofs.Common.{ℕ, ◌+◌, ◌-◌, ◌*◌, ◌<◌, ◌≤◌, ◌≡◌, ◌⊎◌, Bool, true, false, ◌==◌, Option, Some, None}
 use Rattle.std.proofs.Common.{List, sym, ap, ◌∙◌, subst, inl, inr, arith}
 use Rattle.std.proofs.lemmas.Bool.Decides.{eqb_tells}
 use Rattle.bhs_model.specs.Worlds.{World, doomed}
@@ -16,7 +16,7 @@ use Rattle.bhs_protocols.specs.declared.shuttle.Phase.TheVariants.{Ends}
 use Rattle.bhs_protocols.specs.Shuttle.{text_by, after_in, shuttle, round_trips, commands_on}
 use Rattle.bhs_protocols.specs.Laws.{shuttle_trial}
 use Rattle.bhs_protocols.proofs.SearchLemmas as lemmas
-use Rattle.bhs_protocols.proofs.SearchLemmas.{both, Pair, apart_from, text_other}
+use Rattle.bhs_protocols.proofs.SearchLemmas.{both, Pair, apart_from, text_other, sides}
 use Rattle.bhs_protocols.proofs.TurnLemmas.{Becomes}
 use Rattle.bhs_protocols.proofs.ShuttleCosts.{cost, ended, progress, spent, trip, trips_more, trips_within}
 
@@ -45,26 +45,26 @@ module _ (game : Game) where
   -- ---- the ring
 
   abbrev pub distance : ℕ → ℕ
-  distance = lemmas.distance world n right left ways search
+  distance = lemmas.distance world n right left ways.node (sides search)
 
   pub sum_is : (s o : ℕ) → Pair s o → distance s + distance o ≡ n
-  sum_is = lemmas.sum_is world n right left ways search
+  sum_is = lemmas.sum_is world n right left ways.node (sides search)
 
   pub positive : (s : ℕ) → s < 2 → 0 < distance s
-  positive = lemmas.positive world n right left ways search
+  positive = lemmas.positive world n right left ways.node (sides search)
 
   pub within_n : (s : ℕ) → s < 2 → distance s < n
-  within_n = lemmas.within_n world n right left ways search
+  within_n = lemmas.within_n world n right left ways.node (sides search)
 
   pub doomed_is : (node port target label : ℕ) → world.net.far node port ≡ (target, label)
       → doomed world node port ≡ (ways.node 0 right == target)
-  doomed_is = lemmas.doomed_is world n right left ways search
+  doomed_is = lemmas.doomed_is world n right left ways.node (sides search)
 
   pub hole_at : (s : ℕ) → s < 2 → ways.node s (distance s) ≡ ways.node 0 right
-  hole_at = lemmas.hole_at world n right left ways search
+  hole_at = lemmas.hole_at world n right left ways.node (sides search)
 
   pub safe_before : (s steps : ℕ) → s < 2 → steps < distance s → (ways.node 0 right == ways.node s steps) ≡ false
-  safe_before = lemmas.safe_before world n right left ways search
+  safe_before = lemmas.safe_before world n right left ways.node (sides search)
 
   pub quota_of : (s : ℕ) → s < 2 → commands_on n (distance s) ≤ world.quota
   quota_of s below = both (λ (k : ℕ). commands_on n (distance k) ≤ world.quota) enough enough_too s below

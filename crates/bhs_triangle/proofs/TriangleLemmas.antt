@@ -25,7 +25,7 @@ use Rattle.bhs_protocols.specs.AllRings.{IsAway, ways_of}
 use Rattle.bhs_protocols.proofs.Principle.{invariants_solve}
 use Rattle.bhs_protocols.proofs.RingLemmas.{rings_are_rings}
 use Rattle.bhs_protocols.proofs.SearchLemmas as lemmas
-use Rattle.bhs_protocols.proofs.SearchLemmas.{both, Pair, apart_from, swapped_pair, opposite}
+use Rattle.bhs_protocols.proofs.SearchLemmas.{both, Pair, apart_from, swapped_pair, opposite, sides}
 use Rattle.bhs_protocols.proofs.TurnLemmas.{Becomes, enters, departs, accuses}
 use Rattle.bhs_triangle.specs.Triangle.{Phase, Begins, Departs, Goes, Turns, ComesBack, Accuses, Ends}
 use Rattle.bhs_triangle.specs.Triangle.{does_in, next_phase, phase_after, triangle_trial, triangle_bounds}
@@ -63,13 +63,13 @@ module _ (world : World) (n right left naps : ℕ) (ways : Ways) (search : IsSea
 
   -- how far the black hole is on a side: one step on the one side, and two on the other
   abbrev distance : ℕ → ℕ
-  distance = lemmas.distance world n right left ways search
+  distance = lemmas.distance world n right left ways.node (sides search)
 
   sum_is : (s o : ℕ) → Pair s o → distance s + distance o ≡ 3
-  sum_is s o pair = lemmas.sum_is world n right left ways search s o pair ∙ three
+  sum_is s o pair = lemmas.sum_is world n right left ways.node (sides search) s o pair ∙ three
 
   positive : (s : ℕ) → s < 2 → 0 < distance s
-  positive = lemmas.positive world n right left ways search
+  positive = lemmas.positive world n right left ways.node (sides search)
 
   near_or_far : (s o : ℕ) → Pair s o → (distance s ≡ 1) ⊎ (distance s ≡ 2)
   near_or_far s o pair = elim (eqb_tells (distance s) 1) [
@@ -79,23 +79,24 @@ module _ (world : World) (n right left naps : ℕ) (ways : Ways) (search : IsSea
 
   -- which links destroy
   out_doomed : (s : ℕ) → s < 2 → doomed world world.home s ≡ (ways.node 0 right == next s)
-  out_doomed s below = lemmas.doomed_is world n right left ways search world.home s (next s) (label s) (out s below)
+  out_doomed s below =
+      lemmas.doomed_is world n right left ways.node (sides search) world.home s (next s) (label s) (out s below)
 
   near_doomed : (s : ℕ) → s < 2 → distance s ≡ 1 → doomed world world.home s ≡ true
   near_doomed s below near =
       out_doomed s below
       ∙ eq-eqb (ways.node 0 right) (next s)
-      (sym (lemmas.hole_at world n right left ways search s below) ∙ ap (ways.node s) near)
+      (sym (lemmas.hole_at world n right left ways.node (sides search) s below) ∙ ap (ways.node s) near)
 
   far_safe : (s : ℕ) → s < 2 → distance s ≡ 2 → doomed world world.home s ≡ false
   far_safe s below far =
-      out_doomed s below ∙ lemmas.safe_before world n right left ways search s 1 below (omega (arith, far))
+      out_doomed s below ∙ lemmas.safe_before world n right left ways.node (sides search) s 1 below (omega (arith, far))
 
   back_safe : (s : ℕ) → s < 2 → doomed world (next s) (label s) ≡ false
   back_safe s below =
-      lemmas.doomed_is world n right left ways search (next s) (label s) world.home s (back s below)
+      lemmas.doomed_is world n right left ways.node (sides search) (next s) (label s) world.home s (back s below)
       ∙ ap (λ (k : ℕ). ways.node 0 right == k) (sym (search.ring.home s))
-      ∙ lemmas.safe_before world n right left ways search s 0 below (positive s below)
+      ∙ lemmas.safe_before world n right left ways.node (sides search) s 0 below (positive s below)
 
   -- ---- the invariant: by what an agent is about,
 
@@ -371,7 +372,7 @@ module _ (world : World) (n right left naps : ℕ) (ways : Ways) (search : IsSea
           others_none = inv.other.blames ∙ ap (accusation o) goes;
           others_away = ap is_present (inv.other.at ∙ ap (place o) goes);
           known = λ k steps below some short.
-              lemmas.each world n right left ways search s o pair
+              lemmas.each world n right left ways.node (sides search) s o pair
               (λ (m : ℕ). steps < distance m → old.reached (ways.node m steps) ≡ true)
               (λ before.
               let one : steps ≡ 1 = omega (arith, some, before, known.0) in
@@ -382,7 +383,7 @@ module _ (world : World) (n right left naps : ℕ) (ways : Ways) (search : IsSea
   -- ---- all together
 
   abbrev zero_one : Pair 0 1
-  zero_one = lemmas.zero_one world n right left ways search
+  zero_one = lemmas.zero_one world n right left ways.node (sides search)
 
   abbrev one_zero : Pair 1 0
   one_zero = swapped_pair 0 1 zero_one

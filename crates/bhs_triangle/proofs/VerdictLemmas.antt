@@ -1,6 +1,7 @@
 -- When a match of two agents on a ring is solved: one of them has accused the link into the black hole, and the other
 -- has not accused and is at no node. This does for any such search.
-use Rattle.std.proofs.Common.{ℕ, ◌+◌, ◌<◌, ◌≤◌, ◌≡◌, Bool, true, false, not, ◌||◌, ◌==◌, Some, None, ap, ◌∙◌}
+use Rattle.std.proofs.Common.{ℕ, ◌+◌, ◌-◌, ◌<◌, ◌≤◌, ◌≡◌, Bool, true, false, not, ◌||◌, ◌==◌, Some, None}
+use Rattle.std.proofs.Common.{ap, ◌∙◌, arith}
 use Rattle.std.specs.List.{list_any}
 use Rattle.std.proofs.lemmas.Bool.{eq-eqb}
 use Rattle.bhs_model.specs.Worlds.{World}
@@ -11,11 +12,17 @@ use Rattle.bhs_referee.specs.Verdicts.{is_silent}
 use Rattle.bhs_protocols.specs.Pictures.{Picture, found_in, outcome_in, doomed_in}
 use Rattle.bhs_protocols.specs.Rings.{Ways, IsSearch}
 use Rattle.bhs_protocols.proofs.SearchLemmas as lemmas
-use Rattle.bhs_protocols.proofs.SearchLemmas.{Pair}
+use Rattle.bhs_protocols.proofs.SearchLemmas.{Pair, sides}
 
 module _ (world : World) (n right left : ℕ) (ways : Ways) (search : IsSearch world n right left ways) where
   abbrev distance : ℕ → ℕ
-  distance = lemmas.distance world n right left ways search
+  distance = lemmas.distance world n right left ways.node (sides search)
+
+  edge_far : (s mine : ℕ) → s < 2 → mine + 1 ≡ distance s
+      → world.net.far (ways.node s mine) (ways.ahead s mine) ≡ (ways.node s (mine + 1), 1 - ways.ahead s (mine + 1))
+  edge_far s mine below edge =
+      let within : distance s < n = lemmas.within_n world n right left ways.node (sides search) s below in
+      search.ring.out s mine below (omega (arith, edge, within))
 
   -- agent s has accused the link ahead of the last safe node of a side, which is this number of steps from the home
   -- base; agent o has accused nothing and is at no node, and each node but the black hole was reached
@@ -33,28 +40,31 @@ module _ (world : World) (n right left : ℕ) (ways : Ways) (search : IsSearch w
   module _ (s o : ℕ) (pair : Pair s o) (picture : Picture) (it : IsFound s o picture) where
     -- what holds of both agents
     each : (P : ℕ → Type 0) → P s → P o → (k : ℕ) → k < 2 → P k
-    each = lemmas.each world n right left ways search s o pair
+    each = lemmas.each world n right left ways.node (sides search) s o pair
 
     none_wrong : accuses world (found_in picture) (λ link. not (is_right world link)) ≡ false
     none_wrong =
-        lemmas.accuses_none world n right left ways search picture (λ link. not (is_right world link))
+        lemmas.accuses_none world n right left ways.node (sides search) picture (λ link. not (is_right world link))
         (each (λ k. passes (λ link. not (is_right world link)) (picture.accused k) ≡ false)
         (ap (passes (λ link. not (is_right world link))) it.blames
-        ∙ ap not (lemmas.edge_right world n right left ways search it.side it.steps it.below it.edge))
+        ∙ ap not (lemmas.edge_right world n right left ways.node (sides search) it.side it.steps
+        (ways.node it.side it.steps) (ways.ahead it.side it.steps) (1 - ways.ahead it.side (it.steps + 1)) it.below
+        it.edge (edge_far it.side it.steps it.below it.edge)))
         (ap (passes (λ link. not (is_right world link))) it.others_none))
 
     not_silent : is_silent world (found_in picture) ≡ false
     not_silent =
         let some : accuses world (found_in picture) (λ link. true) ≡ true =
-        lemmas.accuses_by world n right left ways search picture (λ link. true) s pair.own
+        lemmas.accuses_by world n right left ways.node (sides search) picture (λ link. true) s pair.own
         (ap (passes (λ link. true)) it.blames) in
         let at_hole : ℕ × ℕ → Bool = λ link. ways.node 0 right == (world.net.far link.0 link.1).0 in
         let hole : is_hole_accused world (found_in picture) (ways.node 0 right) ≡ true =
-        lemmas.accuses_by world n right left ways search picture at_hole s pair.own (ap (passes at_hole) it.blames
+        lemmas.accuses_by world n right left ways.node (sides search) picture at_hole s pair.own
+        (ap (passes at_hole) it.blames
         ∙ ap (λ (f : ℕ × ℕ). ways.node 0 right == f.0)
-        (lemmas.edge_far world n right left ways search it.side it.steps it.below it.edge)
+        (edge_far it.side it.steps it.below it.edge)
         ∙ eq-eqb (ways.node 0 right) (ways.node it.side (it.steps + 1))
-        (lemmas.edge_hole world n right left ways search it.side it.steps it.below it.edge)) in
+        (lemmas.edge_hole world n right left ways.node (sides search) it.side it.steps it.below it.edge)) in
         (λ i. not (accuses world (found_in picture) (λ link. true))
         || list_any (λ h. not (is_hole_accused world (found_in picture) h)) (search.hole i)
         || list_any (λ e. not (is_dark_accused world (found_in picture) e)) (search.none_dark i))
@@ -62,9 +72,9 @@ module _ (world : World) (n right left : ℕ) (ways : Ways) (search : IsSearch w
 
     pub found_is_solved : (outcome_in world picture ≡ Solved) × (doomed_in world picture ≤ 1)
     found_is_solved = (
-      lemmas.solved_by world n right left ways search picture none_wrong not_silent
-          (lemmas.unfinished_none world n right left ways search picture
+      lemmas.solved_by world n right left ways.node (sides search) picture none_wrong not_silent
+          (lemmas.unfinished_none world n right left ways.node (sides search) picture
           (each (λ k. is_present (picture.position k) ≡ false) (ap is_present it.ended) it.others_away))
-          (lemmas.reached_all world n right left ways search picture (record { known = it.known })),
-      lemmas.few_doomed world n right left ways search picture s pair.own it.ended,
+          (lemmas.reached_all world n right left ways.node (sides search) picture (record { known = it.known })),
+      lemmas.few_doomed world n right left ways.node (sides search) picture s pair.own it.ended,
     )

@@ -1,0 +1,320 @@
+-- Two agents that explore by a guide: turns of an agent on a link.
+use Rattle.std.proofs.Common.{ℕ, suc, ◌+◌, ◌-◌, ◌*◌, ◌<◌, ◌≤◌, ◌≡◌, Bool, true, false, not, ◌==◌, Some, refl, sym}
+use Rattle.std.proofs.Common.{ap, ◌∙◌, subst, if◌then◌else◌, nat_lt, inl, inr, arith}
+use Rattle.std.proofs.lemmas.Bool.{lt-ltb, true≢false, eq-eqb, cond-true, cond-false}
+use Rattle.std.proofs.lemmas.Bool.Decides.{eqb_tells}
+use Rattle.bhs_model.specs.declared.replies.Reply.TheVariants.{Here}
+use Rattle.bhs_model.specs.Worlds.{doomed}
+use Rattle.bhs_model.specs.Runs.{At, Bound, changed}
+use Rattle.bhs_model.specs.Examples.{none_held}
+use Rattle.bhs_model.proofs.StepLemmas.{changed_same}
+use Rattle.bhs_explore.specs.Minds.{Item, Heard}
+use Rattle.bhs_explore.specs.Schedules.{Trial, Rests, deed_at, is_move}
+use Rattle.bhs_protocols.specs.Pictures.{can_move_in, turn_in}
+use Rattle.bhs_protocols.specs.Shuttle.{other_in}
+use Rattle.bhs_protocols.proofs.SearchLemmas.{read_other}
+use Rattle.bhs_protocols.proofs.TurnLemmas.{Becomes, arrives}
+use Rattle.bhs_mapped.specs.Guides.{Route}
+use Rattle.bhs_mapped.specs.Exploring.{Memory, Phase, GoesOut, Leaves, ComesBack, Returns, Writes}
+use Rattle.bhs_mapped.specs.Exploring.{came_out, came_back, after_in}
+use Rattle.bhs_mapped.proofs.Costs.{ended, paces, trip}
+use Rattle.bhs_mapped.proofs.State.{Game, Onward, Turn, agents_two, all as all_of, along as along_of, assembled, come}
+use Rattle.bhs_mapped.proofs.State.{cost, distance, doomed_is, hole_at, mem, placed_as, safe_before, trial as trial_of}
+use Rattle.bhs_mapped.proofs.State.{way as way_from}
+use Rattle.bhs_mapped.proofs.Turns.{at_home, is_way, own_way}
+
+module _ {game : Game} (on : Turn game) where
+  open game use {world, n, right, naps, guide, search}
+  open on use {s, o, picture, pair, inv}
+
+  abbrev trial : Trial
+  trial = trial_of game
+
+  abbrev M : Memory
+  M = mem game picture s
+
+  abbrev O : Memory
+  O = mem game picture o
+
+  abbrev all : ℕ
+  all = all_of game s M
+
+  abbrev along : (step : ℕ) → ℕ
+  along = along_of game s M
+
+  abbrev way : Route
+  way = way_from game s M
+
+  -- ---- on a link
+
+  pub bound_moves : (node port : ℕ) → picture.position s ≡ Bound node port
+      → can_move_in trial picture s ≡ not (doomed world node port)
+  bound_moves node port at =
+      (λ i. is_move world (at i) (if nat_lt s world.agents
+      then deed_at none_held naps (at i) (picture.woken s) (trial.minds s (picture.history s)) s else Rests))
+      ∙ ap (λ (b : Bool). is_move world (Bound node port) (if b
+      then deed_at none_held naps (Bound node port) (picture.woken s) (trial.minds s (picture.history s)) s
+      else Rests)) (lt-ltb s world.agents (agents_two game s pair.own))
+
+  arrives_at : (node port target label : ℕ) → picture.position s ≡ Bound node port
+      → world.net.far node port ≡ (target, label) → doomed world node port ≡ false →
+      Becomes picture (turn_in trial picture s) s (At target (Some label))
+      (Heard (Here (world.net.degree target) (Some label) (picture.shown target))) 0 0 (picture.accused s)
+      picture.shown (changed picture.reached target true)
+  arrives_at node port target label at far safe =
+      subst (λ (f : ℕ × ℕ). Becomes picture (turn_in trial picture s) s (At f.0 (Some f.1))
+      (Heard (Here (world.net.degree f.0) (Some f.1) (picture.shown f.0))) 0 0 (picture.accused s) picture.shown
+      (changed picture.reached f.0 true)) far
+      (arrives trial picture s (agents_two game s pair.own) node port at refl safe)
+
+  grows_by : (target k : ℕ) → picture.reached k ≡ true → changed picture.reached target true k ≡ true
+  grows_by target k was = elim (eqb_tells k target) [
+    | inl h ↦ rw h.0 refl
+    | inr h ↦ rw h.0 was
+  ]
+
+  -- ---- out
+
+  -- the last step of its way is at the new node
+  pub new_node : (step : ℕ) → step ≡ all → along step ≡ guide.node s (M.mine + 1)
+  new_node step last = ap (λ (k : ℕ). along k) last ∙ ap (guide.node s) (is_way on).last
+
+  pub ahead_doomed : (step : ℕ) → step < all
+      → doomed world (along step) (way.ahead step) ≡ (guide.node 0 right == along (step + 1))
+  ahead_doomed step before =
+      doomed_is game (along step) (way.ahead step) (along (step + 1)) (way.behind (step + 1))
+      ((is_way on).out step before)
+
+  -- before the last step no link destroys
+  pub ahead_safe : (step : ℕ) → step + 1 < all → doomed world (along step) (way.ahead step) ≡ false
+  ahead_safe step before =
+      let early : way.place (step + 1) < M.mine + 1 = (is_way on).early (step + 1) before in
+      let safe : M.mine < distance game s = inv.own.safe in
+      ahead_doomed step (omega (arith, before))
+      ∙ safe_before game s (way.place (step + 1)) pair.own (omega (arith, early, safe))
+
+  -- nor at the last step, unless the new node is the black hole
+  pub last_safe : (step : ℕ) → step + 1 ≡ all → M.mine + 1 < distance game s
+      → doomed world (along step) (way.ahead step) ≡ false
+  last_safe step last before =
+      ahead_doomed step (omega (arith, last))
+      ∙ ap (λ (k : ℕ). guide.node 0 right == k) (new_node (step + 1) last)
+      ∙ safe_before game s (M.mine + 1) pair.own before
+
+  pub last_doomed : (step : ℕ) → step + 1 ≡ all → M.mine + 1 ≡ distance game s
+      → doomed world (along step) (way.ahead step) ≡ true
+  last_doomed step last edge =
+      let there : guide.node 0 right ≡ along (step + 1) =
+      sym (hole_at game s pair.own) ∙ ap (guide.node s) (sym edge) ∙ sym (new_node (step + 1) last) in
+      ahead_doomed step (omega (arith, last)) ∙ eq-eqb (guide.node 0 right) (along (step + 1)) there
+
+  holds_out : (step : ℕ) (news : Item) → M.phase ≡ Leaves step
+      → after_in guide M (Leaves step) news ≡ came_out guide M (step + 1) → after_in guide M M.phase news
+      ≡ (if step + 1 == all then record M { phase = ComesBack (step + 1) }
+      else record M { phase = GoesOut (step + 1) })
+  holds_out step news is comes =
+      ap (λ (ph : Phase). after_in guide M ph news) is ∙ comes
+      ∙ (λ i. if step + 1 == (own_way on i).steps then record M { phase = ComesBack (step + 1) }
+      else record M { phase = GoesOut (step + 1) })
+
+  pub leave_turn : (step : ℕ) → M.phase ≡ Leaves step → can_move_in trial picture s ≡ true
+      → Onward game s o picture (turn_in trial picture s)
+  leave_turn step is moves =
+      let placed = placed_as game s picture (Leaves step) is inv.own in
+      let before : step < all = placed.0 in
+      let at : picture.position s ≡ Bound (along step) (way.ahead step) = placed.2 in
+      let t : trip all M.phase ≡ step + 1 = ap (trip all) is in
+      let e : ended M.phase ≡ 0 = ap ended is in
+      let p : paces all M.phase ≡ 2 + 2 * step = ap (paces all) is in
+      let c : come game M.mine M.phase ≡ M.mine = ap (come game M.mine) is in
+      let used : picture.used s ≤ cost game s M = inv.own.used in
+      let safe : M.mine < distance game s = inv.own.safe in
+      let target : ℕ = along (step + 1) in
+      let label : ℕ = way.behind (step + 1) in
+      let far : world.net.far (along step) (way.ahead step) ≡ (target, label) = (is_way on).out step before in
+      let news : Item = Heard (Here (world.net.degree target) (Some label) (picture.shown target)) in
+      elim (eqb_tells (step + 1) all) [
+        | inl new ↦ elim (eqb_tells (M.mine + 1) (distance game s)) [
+          | inl edge ↦ absurd (true≢false (sym moves ∙ bound_moves (along step) (way.ahead step) at
+              ∙ ap not (last_doomed step new.1 edge.1)))
+          | inr short ↦
+              let next : M.mine + 1 < distance game s = omega (arith, safe, short.1) in
+              assembled game s o picture (turn_in trial picture s) (record M { phase = ComesBack (step + 1) })
+              (At target (Some label)) news 0 0
+              (picture.accused s) picture.shown (changed picture.reached target true) pair inv
+              (arrives_at (along step) (way.ahead step) target label at far (last_safe step new.1 next))
+              (holds_out step news is refl ∙ cond-true _ _ _ new.0)
+              (record {
+                fit = record {
+                  side = inv.own.side;
+                  placed = (
+                    omega arith,
+                    omega (arith, new.1),
+                    next,
+                    record { came = Some label; at = refl },
+                    placed.3,
+                  );
+                  safe = inv.own.safe;
+                  used = omega (arith, used, t, e, new.1);
+                  reached = λ k some last. elim (eqb_tells k (M.mine + 1)) [
+                    | inl it ↦ subst (λ (j : ℕ). changed picture.reached target true j ≡ true)
+                        (new_node (step + 1) new.1 ∙ ap (guide.node s) (sym it.1))
+                        (changed_same picture.reached target true)
+                    | inr it ↦ grows_by target (guide.node s k)
+                        (inv.own.reached k some (omega (arith, last, c, it.1)))
+                  ];
+                };
+                grows = grows_by target;
+                known = inv.known;
+                known_too = inv.known_too;
+                fresh = inv.fresh;
+                board = inv.board;
+                spends = omega (arith, t, new.1);
+                more = omega (arith, p, new.1);
+              })
+        ]
+        | inr old ↦
+            let onward : step + 1 < all = omega (arith, before, old.1) in
+            assembled game s o picture (turn_in trial picture s) (record M { phase = GoesOut (step + 1) })
+            (At target (Some label)) news 0 0
+            (picture.accused s) picture.shown (changed picture.reached target true) pair inv
+            (arrives_at (along step) (way.ahead step) target label at far (ahead_safe step onward))
+            (holds_out step news is refl ∙ cond-false _ _ _ old.0)
+            (record {
+              fit = record {
+                side = inv.own.side;
+                placed = (onward, record { came = Some label; at = refl }, placed.3);
+                safe = inv.own.safe;
+                used = omega (arith, used, t, e);
+                reached = λ k some last. grows_by target (guide.node s k)
+                    (inv.own.reached k some (omega (arith, last, c)));
+              };
+              grows = grows_by target;
+              known = inv.known;
+              known_too = inv.known_too;
+              fresh = inv.fresh;
+              board = inv.board;
+              spends = omega (arith, t);
+              more = omega (arith, p);
+            })
+      ]
+
+  -- ---- back
+
+  -- it comes back to this step of its way
+  pub record ComesTo (left_over : ℕ) : Type 0 where
+    pub becomes : Becomes picture (turn_in trial picture s) s (At (along left_over) (Some (way.ahead left_over)))
+        (Heard (Here (world.net.degree (along left_over)) (Some (way.ahead left_over))
+        (picture.shown (along left_over)))) 0 0 (picture.accused s) picture.shown
+        (changed picture.reached (along left_over) true)
+    pub holds : after_in guide M M.phase (Heard (Here (world.net.degree (along left_over))
+        (Some (way.ahead left_over)) (picture.shown (along left_over))))
+        ≡ came_back M left_over (picture.shown (along left_over))
+    pub moves : can_move_in trial picture s ≡ true
+
+  pub comes_to : (left_over step : ℕ) → step ≡ left_over + 1 → M.phase ≡ Returns step → ComesTo left_over
+  comes_to left_over step one_more is =
+      let placed = placed_as game s picture (Returns step) is inv.own in
+      let few : step ≤ all = placed.1 in
+      let next : M.mine + 1 < distance game s = placed.2 in
+      let below : left_over < all = omega (arith, few, one_more) in
+      let start : ℕ = along (left_over + 1) in
+      let port : ℕ = way.behind (left_over + 1) in
+      let at : picture.position s ≡ Bound start port =
+      placed.3 ∙ ap (λ (k : ℕ). Bound (along k) (way.behind k)) one_more in
+      let target : ℕ = along left_over in
+      let label : ℕ = way.ahead left_over in
+      let far : world.net.far start port ≡ (target, label) = (is_way on).back left_over below in
+      let early : way.place left_over < M.mine + 1 = (is_way on).early left_over below in
+      let spared : doomed world start port ≡ false =
+      doomed_is game start port target label far
+      ∙ safe_before game s (way.place left_over) pair.own (omega (arith, early, next)) in
+      let less : step - 1 ≡ left_over = omega (arith, one_more) in
+      record {
+        becomes = arrives_at start port target label at far spared;
+        holds = ap (λ (ph : Phase). after_in guide M ph
+            (Heard (Here (world.net.degree target) (Some label) (picture.shown target)))) is
+            ∙ ap (λ (k : ℕ). came_back M k (picture.shown target)) less;
+        moves = bound_moves start port at ∙ ap not spared;
+      }
+
+  pub home_turn : (step : ℕ) → step ≡ 1 → M.phase ≡ Returns step → Onward game s o picture (turn_in trial picture s)
+  home_turn step last is =
+      let placed = placed_as game s picture (Returns step) is inv.own in
+      let it : ComesTo 0 = comes_to 0 step (omega (arith, last)) is in
+      let few : step ≤ all = placed.1 in
+      let t : trip all M.phase ≡ 2 * all + 1 - step = ap (trip all) is in
+      let e : ended M.phase ≡ 0 = ap ended is in
+      let p : paces all M.phase ≡ 2 + 2 * (2 * all - step) = ap (paces all) is in
+      let c : come game M.mine M.phase ≡ M.mine + 1 = ap (come game M.mine) is in
+      let used : picture.used s ≤ cost game s M = inv.own.used in
+      let known : M.theirs ≤ O.mine = inv.known in
+      let home : along 0 ≡ world.home = at_home game s M pair.own inv.own.safe in
+      let read : other_in M.side (picture.shown (along 0)) ≡ O.mine =
+      (λ i. other_in (inv.own.side i) ((ap picture.shown home ∙ inv.board) i))
+      ∙ read_other s M.mine O.mine pair.own in
+      assembled game s o picture (turn_in trial picture s) (record M { phase = Writes; theirs = O.mine })
+      (At (along 0) (Some (way.ahead 0)))
+      (Heard (Here (world.net.degree (along 0)) (Some (way.ahead 0)) (picture.shown (along 0)))) 0 0
+      (picture.accused s) picture.shown (changed picture.reached (along 0) true) pair inv it.becomes
+      (it.holds ∙ (λ i. record M { phase = Writes; theirs = read i }))
+      (record {
+        fit = record {
+          side = inv.own.side;
+          placed = (
+            placed.2,
+            record { came = Some (way.ahead 0); at = ap (λ (k : ℕ). At k (Some (way.ahead 0))) home },
+            placed.4,
+          );
+          safe = inv.own.safe;
+          used = omega (arith, used, t, e, known, last, few);
+          reached = λ k some far. grows_by (along 0) (guide.node s k)
+              (inv.own.reached k some (omega (arith, far, c)));
+        };
+        grows = grows_by (along 0);
+        known = omega arith;
+        known_too = inv.known_too;
+        fresh = inl refl;
+        board = inv.board;
+        spends = omega (arith, t, last, few);
+        more = omega (arith, p, known, last, few);
+      })
+
+  pub return_turn : (left_over step : ℕ) → step ≡ suc left_over + 1 → M.phase ≡ Returns step
+      → Onward game s o picture (turn_in trial picture s)
+  return_turn left_over step one_more is =
+      let placed = placed_as game s picture (Returns step) is inv.own in
+      let few : step ≤ all = placed.1 in
+      let it : ComesTo (suc left_over) = comes_to (suc left_over) step one_more is in
+      let t : trip all M.phase ≡ 2 * all + 1 - step = ap (trip all) is in
+      let e : ended M.phase ≡ 0 = ap ended is in
+      let p : paces all M.phase ≡ 2 + 2 * (2 * all - step) = ap (paces all) is in
+      let c : come game M.mine M.phase ≡ M.mine + 1 = ap (come game M.mine) is in
+      let used : picture.used s ≤ cost game s M = inv.own.used in
+      let target : ℕ = along (suc left_over) in
+      let label : ℕ = way.ahead (suc left_over) in
+      assembled game s o picture (turn_in trial picture s) (record M { phase = ComesBack (suc left_over) })
+      (At target (Some label)) (Heard (Here (world.net.degree target) (Some label) (picture.shown target))) 0 0
+      (picture.accused s) picture.shown (changed picture.reached target true) pair inv it.becomes it.holds
+      (record {
+        fit = record {
+          side = inv.own.side;
+          placed = (
+            omega arith,
+            omega (arith, few, one_more),
+            placed.2,
+            record { came = Some label; at = refl },
+            placed.4,
+          );
+          safe = inv.own.safe;
+          used = omega (arith, used, t, e, few, one_more);
+          reached = λ k some far. grows_by target (guide.node s k) (inv.own.reached k some (omega (arith, far, c)));
+        };
+        grows = grows_by target;
+        known = inv.known;
+        known_too = inv.known_too;
+        fresh = inv.fresh;
+        board = inv.board;
+        spends = omega (arith, t, few, one_more);
+        more = omega (arith, p, few, one_more);
+      })

@@ -1,0 +1,188 @@
+-- No agent passes a black hole that cuts a network in two.
+use Rattle.std.proofs.Common.{ℕ, ◌<◌, ◌≡◌, ◌⊎◌, true, false, List, [], ◌∷◌, refl, sym, ap}
+use Rattle.std.proofs.Common.{◌∙◌, subst, nat_lt, inl, inr}
+use Rattle.std.specs.Prelude.{◌≢◌}
+use Rattle.std.proofs.lemmas.Bool.{ltb-true, true≢false, eq-eqb, cond-true, cond-false}
+use Rattle.std.proofs.lemmas.Bool.Decides.{eqb_tells}
+use Rattle.bhs_net.specs.Paths.{IsPath, Without}
+use Rattle.bhs_net.specs.Network.{Network, IsPortLabelled, Leads, nodes_of, degree_of, far_of}
+use Rattle.bhs_net.specs.Search.{IsCutIn}
+use Rattle.bhs_net.proofs.Walks as walks
+use Rattle.bhs_model.specs.declared.commands.Command.{Command}
+use Rattle.bhs_model.specs.declared.commands.Command.TheVariants.{Enter, Look, Write, Depart, Accuse, Leave, Bad}
+use Rattle.bhs_model.specs.declared.events.Event.TheVariants.{Tell, Deliver, Close}
+use Rattle.bhs_model.specs.declared.setups.Setup.{Setup}
+use Rattle.bhs_model.specs.Setups.{world_of}
+use Rattle.bhs_model.specs.Worlds.{doomed}
+use Rattle.bhs_model.specs.Draws.{Held}
+use Rattle.bhs_model.specs.Runs.{Position, Before, At, Bound, After, changed, position_after}
+use Rattle.bhs_model.proofs.StepLemmas.{by_cases}
+use Rattle.bhs_referee.specs.declared.verdicts.Outcome.TheVariants.{Solved}
+use Rattle.bhs_referee.specs.declared.verdicts.Verdict.{Verdict}
+use Rattle.bhs_explore.specs.Minds.{Minds}
+use Rattle.bhs_explore.specs.Schedules.{Trial, under, Deed, Makes, Wakes, Rests}
+use Rattle.bhs_explore.proofs.Turns.{verdict_is}
+use Rattle.bhs_protocols.specs.Pictures.{Picture, blank, deed_in, is_heard, told_at, refused_in, arrived_in}
+use Rattle.bhs_protocols.specs.Pictures.{said_in, delivered_in, done_in, turn_in, turns_in, outcome_in}
+use Rattle.bhs_protocols.specs.LastWord.{searched}
+use Rattle.bhs_protocols.proofs.PictureLemmas.{pictures_follow}
+use Rattle.bhs_protocols.proofs.LastWordLemmas as last_word
+use Rattle.bhs_protocols.proofs.LossLemmas as losses
+use Rattle.bhs_mapped.specs.Cuts.{NoTeamPassesACut}
+
+module _ (net : Network) (setup : Setup) (held : Held) (naps : ℕ) (minds : Minds) (cut : ℕ)
+    (labelled : IsPortLabelled net) (apart : setup.home ≢ cut) where
+  abbrev trial : Trial
+  trial = searched (world_of net setup) held naps minds cut
+
+  abbrev Step : ℕ → ℕ → Type 0
+  Step = Without cut (Leads net)
+
+  -- a path leads from the home base to this node that keeps off the black hole
+  abbrev IsNear : ℕ → Type 0
+  IsNear node = (node ≢ cut) × IsPath Step setup.home node
+
+  near_home : IsNear setup.home
+  near_home = (apart, walks.IsPath-none Step setup.home)
+
+  -- ---- agents stay on such nodes and their links
+
+  abbrev IsInsideAt : Position → Type 0
+  IsInsideAt Before = Unit
+  IsInsideAt (At node came) = IsNear node
+  IsInsideAt (Bound node port) = IsNear node × (port < degree_of net node)
+  IsInsideAt After = Unit
+
+  record IsInside (picture : Picture) : Type 0 where
+    places : (agent : ℕ) → IsInsideAt (picture.position agent)
+    reached : (node : ℕ) → picture.reached node ≡ true → IsNear node
+
+  moved : (position : Position) (command : Command) → IsInsideAt position
+      → IsInsideAt (position_after trial.world position command)
+  moved position Enter inside = near_home
+  moved position Leave inside = tt
+  moved position Look inside = inside
+  moved position (Write expect put) inside = inside
+  moved position Bad inside = inside
+  moved (At node came) (Depart port) inside =
+      by_cases (nat_lt port (degree_of net node)) (IsInsideAt (position_after trial.world (At node came) (Depart port)))
+      (λ yes. subst IsInsideAt (sym (cond-true _ (Bound node port) (At node came) yes))
+      (inside, ltb-true port (degree_of net node) yes))
+      (λ none. subst IsInsideAt (sym (cond-false _ (Bound node port) (At node came) none)) inside)
+  moved Before (Depart port) inside = inside
+  moved (Bound node way) (Depart port) inside = inside
+  moved After (Depart port) inside = inside
+  moved (At node came) (Accuse port) inside =
+      by_cases (nat_lt port (degree_of net node)) (IsInsideAt (position_after trial.world (At node came) (Accuse port)))
+      (λ yes. subst IsInsideAt (sym (cond-true _ After (At node came) yes)) tt)
+      (λ none. subst IsInsideAt (sym (cond-false _ After (At node came) none)) inside)
+  moved Before (Accuse port) inside = inside
+  moved (Bound node way) (Accuse port) inside = inside
+  moved After (Accuse port) inside = inside
+
+  changed_inside : (position : ℕ → Position) (agent : ℕ) (place : Position)
+      → ((k : ℕ) → IsInsideAt (position k)) → IsInsideAt place → (k : ℕ) → IsInsideAt (changed position agent place k)
+  changed_inside position agent place all inside k = elim (eqb_tells k agent) [
+    | inl h ↦ rw h.0 inside
+    | inr h ↦ rw h.0 (all k)
+  ]
+
+  told_inside : (picture : Picture) (agent : ℕ) (command : Command) → IsInside picture
+      → IsInside (said_in trial.world picture agent command)
+  told_inside picture agent command is = by_cases (is_heard trial.world picture agent command)
+      (IsInside (said_in trial.world picture agent command))
+      (λ yes. subst IsInside (sym (cond-true _ (told_at trial.world picture agent (picture.position agent) command)
+      (refused_in picture agent command) yes)) (record {
+        places = changed_inside picture.position agent _ is.places
+            (moved (picture.position agent) command (is.places agent));
+        reached = is.reached;
+      }))
+      (λ none. subst IsInside (sym (cond-false _ (told_at trial.world picture agent (picture.position agent) command)
+      (refused_in picture agent command) none)) (record { places = is.places; reached = is.reached }))
+
+  -- who arrives has gone a link that leads to another node than the black hole
+  arrival : (node port : ℕ) → IsNear node → port < degree_of net node → doomed trial.world node port ≡ false
+      → IsNear (far_of net node port).0
+  arrival node port near has safe =
+      let target : ℕ = (far_of net node port).0 in
+      let off : target ≢ cut = λ same. true≢false (sym (eq-eqb cut target (sym same))
+      ∙ sym (last_word.doomed_is (world_of net setup) held naps minds cut target cut node port) ∙ safe) in
+      (off, walks.IsPath-more Step setup.home node target near.1 ((port, has, refl), near.0, off))
+
+  delivered_inside : (picture : Picture) (agent : ℕ) (position : Position) → IsInsideAt position → IsInside picture
+      → IsInside (delivered_in trial.world picture agent position)
+  delivered_inside picture agent (Bound node port) inside is =
+      let target : ℕ = (far_of net node port).0 in
+      let new : Picture = arrived_in trial.world picture agent target (far_of net node port).1 in
+      by_cases (doomed trial.world node port) (IsInside (delivered_in trial.world picture agent (Bound node port)))
+      (λ yes. subst IsInside (sym (cond-true _ picture new yes)) is)
+      (λ none.
+      let near : IsNear target = arrival node port inside.0 inside.1 none in
+      subst IsInside (sym (cond-false _ picture new none)) (record {
+        places = changed_inside picture.position agent _ is.places near;
+        reached = λ k was. elim (eqb_tells k target) [
+          | inl h ↦ subst IsNear (sym h.1) near
+          | inr h ↦ is.reached k (rw h.0 at was)
+        ];
+      }))
+  delivered_inside picture agent Before inside is = is
+  delivered_inside picture agent (At node came) inside is = is
+  delivered_inside picture agent After inside is = is
+
+  done_inside : (picture : Picture) (agent : ℕ) (deed : Deed) → IsInside picture
+      → IsInside (done_in trial picture agent deed)
+  done_inside picture agent (Makes (Tell other command)) is = told_inside picture other command is
+  done_inside picture agent (Makes (Deliver other)) is =
+      delivered_inside picture other (picture.position other) (is.places other) is
+  done_inside picture agent (Makes Close) is = is
+  done_inside picture agent Wakes is = record { places = is.places; reached = is.reached }
+  done_inside picture agent Rests is = is
+
+  always_inside : (picture : Picture) (schedule : List ℕ) → IsInside picture
+      → IsInside (turns_in trial picture schedule)
+  always_inside picture [] is = is
+  always_inside picture (agent ∷ schedule) is = always_inside (turn_in trial picture agent) schedule
+      (done_inside picture agent (deed_in trial picture agent) is)
+
+  inside : (schedule : List ℕ) → IsInside (turns_in trial blank schedule)
+  inside schedule = always_inside blank schedule (record {
+    places = λ agent. tt;
+    reached = λ node was. absurd (true≢false (sym was));
+  })
+
+  -- ---- so the match is not solved
+
+  unsolved : (picture : Picture) (node : ℕ) → node < nodes_of net → node ≢ cut → node ≢ setup.home
+      → picture.reached node ≡ false → outcome_in trial.world picture ≢ Solved
+  unsolved picture node below off not_home never =
+      losses.unreached_unsolved (world_of net setup) held naps minds cut node picture below not_home
+      (λ same. off (sym same)) never
+
+  -- a node to which such a path leads, or the match is not solved
+  near_or : (picture : Picture) → IsInside picture → (node : ℕ) → node < nodes_of net → node ≢ cut
+      → IsPath Step setup.home node ⊎ (outcome_in trial.world picture ≢ Solved)
+  near_or picture is node below off = elim (eqb_tells node setup.home) [
+    | inl h ↦ inl (subst (λ (k : ℕ). IsPath Step setup.home k) (sym h.1) near_home.1)
+    | inr h ↦ by_cases (picture.reached node) (IsPath Step setup.home node ⊎ (outcome_in trial.world picture ≢ Solved))
+        (λ yes. inl (is.reached node yes).1)
+        (λ none. inr (unsolved picture node below off h.1 none))
+  ]
+
+  never_solved : IsCutIn net cut → (picture : Picture) → IsInside picture → outcome_in trial.world picture ≢ Solved
+  never_solved is picture all =
+      let two = is.1 in
+      elim (near_or picture all two.0 two.2 two.4) [
+        | inr h ↦ h
+        | inl one ↦ elim (near_or picture all two.1 two.3 two.5) [
+          | inr h ↦ h
+          | inl other ↦ absurd (two.6 (walks.joined net labelled cut setup.home two.0 two.1 one other))
+        ]
+      ]
+
+pub no_team_passes_a_cut : NoTeamPassesACut
+no_team_passes_a_cut net setup held naps minds cut labelled here apart is schedule solved =
+    let it : Trial = searched (world_of net setup) held naps minds cut in
+    never_solved net setup held naps minds cut labelled apart is (turns_in it blank schedule)
+    (inside net setup held naps minds cut labelled apart schedule)
+    (ap (outcome_in it.world) (sym (pictures_follow it schedule))
+    ∙ sym (ap (λ (v : Verdict). v.outcome) (verdict_is it (under it schedule))) ∙ solved)

@@ -1,0 +1,131 @@
+-- Two agents that explore by a guide: any turn of an agent, and where it stands if it cannot move.
+use Rattle.std.proofs.Common.{ℕ, zero, suc, ◌+◌, ◌-◌, ◌<◌, ◌≡◌, ◌⊎◌, Bool, true, false, not, ◌&&◌, ◌==◌, refl, sym}
+use Rattle.std.proofs.Common.{ap, ◌∙◌, if◌then◌else◌, nat_lt, inl, inr, arith}
+use Rattle.std.proofs.lemmas.Bool.{lt-ltb, true≢false, cond-true, cond-false}
+use Rattle.std.proofs.lemmas.Bool.Decides.{eqb_tells}
+use Rattle.bhs_model.specs.declared.commands.Command.{Command}
+use Rattle.bhs_model.specs.declared.commands.Command.TheVariants.{Enter, Write, Depart, Accuse}
+use Rattle.bhs_model.specs.declared.events.Event.TheVariants.{Tell}
+use Rattle.bhs_model.specs.Runs.{Position, Before, At, After}
+use Rattle.bhs_model.specs.Examples.{none_held}
+use Rattle.bhs_model.proofs.StepLemmas.{by_cases}
+use Rattle.bhs_explore.specs.declared.minds.Step.TheVariants.{Says}
+use Rattle.bhs_explore.specs.Schedules.{Trial, Makes, Rests, deed_at, is_move}
+use Rattle.bhs_protocols.specs.Pictures.{can_move_in, turn_in}
+use Rattle.bhs_protocols.specs.Shuttle.{text_by}
+use Rattle.bhs_mapped.specs.Guides.{Route}
+use Rattle.bhs_mapped.specs.Exploring.{Memory, Phase, Begins, GoesOut, Leaves, ComesBack, Returns, Writes, Ends}
+use Rattle.bhs_mapped.specs.Exploring.{is_one_left, does_in}
+use Rattle.bhs_mapped.proofs.State.{Game, Onward, Turn, agents_two, all as all_of, along as along_of, distance, mem}
+use Rattle.bhs_mapped.proofs.State.{placed_as, trial as trial_of, way as way_from}
+use Rattle.bhs_mapped.proofs.Turns.{back_turn, begin_turn, out_turn, says_back, says_out, write_turn}
+use Rattle.bhs_mapped.proofs.Arrivals.{ahead_safe, bound_moves, comes_to, home_turn, last_safe, leave_turn, return_turn}
+
+module _ {game : Game} (on : Turn game) where
+  open game use {world, n, naps, guide}
+  open on use {s, o, picture, pair, inv}
+
+  abbrev trial : Trial
+  trial = trial_of game
+
+  abbrev M : Memory
+  M = mem game picture s
+
+  abbrev all : ℕ
+  all = all_of game s M
+
+  abbrev along : (step : ℕ) → ℕ
+  along = along_of game s M
+
+  abbrev way : Route
+  way = way_from game s M
+
+  -- ---- any turn
+
+  if_same : {A : Type 0} (b : Bool) (x : A) → (if b then x else x) ≡ x
+  if_same true x = refl
+  if_same false x = refl
+
+  end_still : M.phase ≡ Ends → can_move_in trial picture s ≡ false
+  end_still is =
+      let placed = placed_as game s picture Ends is inv.own in
+      (λ i. is_move world (placed.0 i) (if nat_lt s world.agents
+      then deed_at none_held naps (placed.0 i) (picture.woken s) (trial.minds s (picture.history s)) s else Rests))
+      ∙ ap (is_move world After) (if_same (nat_lt s world.agents) Rests)
+
+  returns_turn : (step : ℕ) → M.phase ≡ Returns step → Onward game s o picture (turn_in trial picture s)
+  returns_turn zero is =
+      let placed = placed_as game s picture (Returns zero) is inv.own in
+      let some : 0 < 0 = placed.0 in absurd (omega (arith, some))
+  returns_turn (suc zero) is = home_turn on (suc zero) refl is
+  returns_turn (suc (suc k)) is = return_turn on k (suc (suc k)) (omega arith) is
+
+  by_phase : (phase : Phase) → M.phase ≡ phase → can_move_in trial picture s ≡ true
+      → Onward game s o picture (turn_in trial picture s)
+  by_phase Begins is moves = begin_turn on is
+  by_phase (GoesOut step) is moves = out_turn on step is
+  by_phase (Leaves step) is moves = leave_turn on step is moves
+  by_phase (ComesBack step) is moves = back_turn on step is
+  by_phase (Returns step) is moves = returns_turn step is
+  by_phase Writes is moves = write_turn on is
+  by_phase Ends is moves = absurd (true≢false (sym moves ∙ end_still is))
+
+  pub any_turn : can_move_in trial picture s ≡ true → Onward game s o picture (turn_in trial picture s)
+  any_turn moves = by_phase M.phase refl moves
+
+  -- ---- at rest
+
+  says_moves : (place : Position) (command : Command) → picture.position s ≡ place
+      → deed_at none_held naps place (picture.woken s) (Says command) s ≡ Makes (Tell s command)
+      → trial.minds s (picture.history s) ≡ Says command → can_move_in trial picture s ≡ true
+  says_moves place command at makes says =
+      (λ i. is_move world (at i) (if lt-ltb s world.agents (agents_two game s pair.own) i
+      then deed_at none_held naps (at i) (picture.woken s) (says i) s else Rests))
+      ∙ ap (is_move world place) makes
+
+  -- an agent that cannot move has ended or is lost
+  pub record IsLost : Type 0 where
+    pub step : ℕ
+    pub phase : M.phase ≡ Leaves step
+    pub last : step + 1 ≡ all
+    pub edge : M.mine + 1 ≡ distance game s
+
+  pub resting : (phase : Phase) → M.phase ≡ phase → can_move_in trial picture s ≡ false → (M.phase ≡ Ends) ⊎ IsLost
+  resting Begins is still =
+      let placed = placed_as game s picture Begins is inv.own in
+      absurd (true≢false (sym (says_moves Before Enter placed.0 refl (ap (does_in n guide M) is)) ∙ still))
+  resting (GoesOut step) is still =
+      let placed = placed_as game s picture (GoesOut step) is inv.own in
+      let place : Position = At (along step) placed.1.came in
+      absurd (by_cases (step + 1 == all && is_one_left n M) ⊥
+      (λ yes. true≢false (sym (says_moves place (Accuse (way.ahead step)) placed.1.at refl
+      (says_out on step is ∙ cond-true _ _ _ yes)) ∙ still))
+      (λ none. true≢false (sym (says_moves place (Depart (way.ahead step)) placed.1.at refl
+      (says_out on step is ∙ cond-false _ _ _ none)) ∙ still)))
+  resting (Leaves step) is still =
+      let placed = placed_as game s picture (Leaves step) is inv.own in
+      let before : step < all = placed.0 in
+      let safe : M.mine < distance game s = inv.own.safe in
+      elim (eqb_tells (step + 1) all) [
+        | inl new ↦ elim (eqb_tells (M.mine + 1) (distance game s)) [
+          | inl edge ↦ inr (record { step = step; phase = is; last = new.1; edge = edge.1 })
+          | inr short ↦ absurd (true≢false (sym (bound_moves on (along step) (way.ahead step) placed.2
+              ∙ ap not (last_safe on step new.1 (omega (arith, safe, short.1)))) ∙ still))
+        ]
+        | inr old ↦ absurd (true≢false (sym (bound_moves on (along step) (way.ahead step) placed.2
+            ∙ ap not (ahead_safe on step (omega (arith, before, old.1)))) ∙ still))
+      ]
+  resting (ComesBack step) is still =
+      let placed = placed_as game s picture (ComesBack step) is inv.own in
+      absurd (true≢false (sym (says_moves (At (along step) placed.3.came) (Depart (way.behind step)) placed.3.at refl
+      (says_back on step is)) ∙ still))
+  resting (Returns step) is still =
+      let placed = placed_as game s picture (Returns step) is inv.own in
+      let some : 0 < step = placed.0 in
+      absurd (true≢false (sym (comes_to on (step - 1) step (omega (arith, some)) is).moves ∙ still))
+  resting Writes is still =
+      let placed = placed_as game s picture Writes is inv.own in
+      absurd (true≢false (sym (says_moves (At world.home placed.1.came)
+      (Write (text_by M.side M.mine M.theirs) (text_by M.side (M.mine + 1) M.theirs)) placed.1.at refl
+      (ap (does_in n guide M) is)) ∙ still))
+  resting Ends is still = inl is

@@ -1,0 +1,371 @@
+-- Two agents that explore by a guide: what holds of them at each time, and what a turn has to keep.
+use Rattle.std.proofs.Common.{ℕ, zero, suc}
+use Rattle.std.proofs.Common.{◌+◌, ◌-◌, ◌*◌, ◌<◌, ◌≤◌, ◌≡◌, ◌⊎◌, Bool, true, false, ◌==◌, Option, Some, None}
+use Rattle.std.proofs.Common.{List, refl, sym, ap, ◌∙◌, subst, inl, inr, arith, add-one}
+use Rattle.std.proofs.lemmas.Bool.Decides.{eqb_tells}
+use Rattle.bhs_model.specs.Worlds.{World, doomed}
+use Rattle.bhs_model.specs.Runs.{Position, Before, At, Bound, After}
+use Rattle.bhs_explore.specs.Minds.{Item, History}
+use Rattle.bhs_explore.specs.Schedules.{Trial}
+use Rattle.bhs_protocols.specs.Pictures.{Picture}
+use Rattle.bhs_protocols.specs.Programs.{held_after}
+use Rattle.bhs_protocols.specs.Shuttle.{text_by}
+use Rattle.bhs_protocols.proofs.SearchLemmas as lemmas
+use Rattle.bhs_protocols.proofs.SearchLemmas.{both, Pair, apart_from, text_other, IsTwoSided}
+use Rattle.bhs_protocols.proofs.TurnLemmas.{Becomes}
+use Rattle.bhs_mapped.specs.Guides.{Route, Guide, IsRoute}
+use Rattle.bhs_mapped.specs.Exploring.{Memory, Phase, Begins, GoesOut, Leaves, ComesBack, Returns, Writes, Ends}
+use Rattle.bhs_mapped.specs.Exploring.{after_in, explorers, round_trips_by, moves_by, commands_by}
+use Rattle.bhs_mapped.specs.MapLaws.{IsGuided, guided_trial}
+use Rattle.bhs_mapped.proofs.Costs.{ended, paces, trip}
+
+-- a match that the theorem speaks of
+pub record Game : Type 0 where
+  pub world : World
+  pub n : ℕ
+  pub right : ℕ
+  pub left : ℕ
+  pub naps : ℕ
+  pub guide : Guide
+  pub search : IsGuided world n right left guide
+  pub room : 4 ≤ world.board
+  pub enough : commands_by guide n 0 right ≤ world.quota
+  pub enough_too : commands_by guide n 1 left ≤ world.quota
+
+module _ (game : Game) where
+  open game use {world, n, right, left, naps, guide, search, enough, enough_too}
+
+  abbrev pub trial : Trial
+  trial = guided_trial world naps n guide
+
+  abbrev pub mem : Picture → (s : ℕ) → Memory
+  mem picture s = held_after (explorers n guide) s (picture.history s)
+
+  -- ---- the two sides
+
+  pub sides : IsTwoSided world n right left guide.node
+  sides = record {
+    size = search.guides.size;
+    home = search.guides.start;
+    around = search.guides.around;
+    apart = search.guides.apart;
+    all = search.guides.all;
+    sum = search.sum;
+    not_home = search.not_home;
+    nor_around = search.nor_around;
+    hole = search.hole;
+    none_dark = search.none_dark;
+    agents = search.agents;
+  }
+
+  -- the number of the black hole on a side
+  abbrev pub distance : ℕ → ℕ
+  distance = lemmas.distance world n right left guide.node sides
+
+  pub sum_is : (s o : ℕ) → Pair s o → distance s + distance o ≡ n
+  sum_is = lemmas.sum_is world n right left guide.node sides
+
+  pub within_n : (s : ℕ) → s < 2 → distance s < n
+  within_n = lemmas.within_n world n right left guide.node sides
+
+  pub doomed_is : (node port target label : ℕ) → world.net.far node port ≡ (target, label)
+      → doomed world node port ≡ (guide.node 0 right == target)
+  doomed_is = lemmas.doomed_is world n right left guide.node sides
+
+  pub hole_at : (s : ℕ) → s < 2 → guide.node s (distance s) ≡ guide.node 0 right
+  hole_at = lemmas.hole_at world n right left guide.node sides
+
+  pub safe_before : (s place : ℕ) → s < 2 → place < distance s → (guide.node 0 right == guide.node s place) ≡ false
+  safe_before = lemmas.safe_before world n right left guide.node sides
+
+  pub quota_of : (s : ℕ) → s < 2 → commands_by guide n s (distance s) ≤ world.quota
+  quota_of s below = both (λ (k : ℕ). commands_by guide n k (distance k) ≤ world.quota) enough enough_too s below
+
+  -- ---- where agents are
+
+  -- the way to the next node of a side
+  abbrev pub way : (s : ℕ) → Memory → Route
+  way s m = guide.route s (m.mine + 1)
+
+  abbrev pub all : (s : ℕ) → Memory → ℕ
+  all s m = (way s m).steps
+
+  -- the node at this step of it
+  abbrev pub along : (s : ℕ) → Memory → (step : ℕ) → ℕ
+  along s m step = guide.node s ((way s m).place step)
+
+  pub way_is : (s : ℕ) (m : Memory) → s < 2 → m.mine < distance s
+      → IsRoute world.net (guide.node s) (m.mine + 1) (way s m)
+  way_is s m below safe =
+      let within : distance s < n = within_n s below in
+      search.guides.routes s (m.mine + 1) below (omega (arith, safe, within))
+
+  -- at this node
+  pub record IsAtNode (node : ℕ) (position : Position) : Type 0 where
+    pub came : Option ℕ
+    pub at : position ≡ At node came
+
+  -- it has accused the link ahead of the last node of its way
+  pub record HasAccused (s : ℕ) (m : Memory) (accused : Option (ℕ × ℕ)) : Type 0 where
+    pub step : ℕ
+    pub last : step + 1 ≡ all s m
+    pub link : accused ≡ Some (along s m step, (way s m).ahead step)
+
+  -- where an agent is, and whom it has accused, by what it is about
+  abbrev pub IsPlaced : (s : ℕ) → Memory → Phase → Position → Option (ℕ × ℕ) → Type 0
+  IsPlaced s m Begins position accused = (position ≡ Before) × (accused ≡ None)
+  IsPlaced s m (GoesOut step) position accused =
+      (step < all s m) × IsAtNode (along s m step) position × (accused ≡ None)
+  IsPlaced s m (Leaves step) position accused =
+      (step < all s m) × (step + 1 ≡ all s m → m.mine + m.theirs + 3 ≤ n)
+      × (position ≡ Bound (along s m step) ((way s m).ahead step)) × (accused ≡ None)
+  IsPlaced s m (ComesBack step) position accused =
+      (0 < step) × (step ≤ all s m) × (m.mine + 1 < distance s) × IsAtNode (along s m step) position
+      × (accused ≡ None)
+  IsPlaced s m (Returns step) position accused =
+      (0 < step) × (step ≤ all s m) × (m.mine + 1 < distance s)
+      × (position ≡ Bound (along s m step) ((way s m).behind step)) × (accused ≡ None)
+  IsPlaced s m Writes position accused =
+      (m.mine + 1 < distance s) × IsAtNode world.home position × (accused ≡ None)
+  IsPlaced s m Ends position accused =
+      (position ≡ After) × (m.mine + 1 ≡ distance s) × HasAccused s m accused × (m.mine + m.theirs + 2 ≡ n)
+
+  -- how many nodes of its side an agent has come to
+  abbrev pub come : (mine : ℕ) → Phase → ℕ
+  come mine (ComesBack step) = mine + 1
+  come mine (Returns step) = mine + 1
+  come mine Writes = mine + 1
+  come mine phase = mine
+
+  -- ---- what it has spent
+
+  abbrev pub trips : (s k : ℕ) → ℕ
+  trips = round_trips_by guide
+
+  abbrev pub most_moves : (s : ℕ) → ℕ
+  most_moves s = moves_by guide s (distance s)
+
+  abbrev pub spent : (s : ℕ) → Memory → ℕ
+  spent s m = trips s m.mine + trip (all s m) m.phase
+
+  abbrev pub cost : (s : ℕ) → Memory → ℕ
+  cost s m = trips s m.mine + trip (all s m) m.phase + m.mine + m.theirs + ended m.phase
+
+  abbrev pub progress : (s : ℕ) → Memory → ℕ
+  progress s m = 2 * trips s m.mine + paces (all s m) m.phase + m.mine + m.theirs
+
+  -- ---- the invariant
+
+  -- what holds of one agent
+  pub record IsFit (s : ℕ) (m : Memory) (position : Position) (accused : Option (ℕ × ℕ)) (spends : ℕ) (seen : ℕ
+      → Bool) :
+      Type 0 where
+    pub side : m.side ≡ s
+    pub placed : IsPlaced s m m.phase position accused
+    pub safe : m.mine < distance s
+    pub used : spends ≤ cost s m
+    pub reached : (k : ℕ) → 0 < k → k ≤ come m.mine m.phase → seen (guide.node s k) ≡ true
+
+  abbrev pub IsFitIn : Picture → (s : ℕ) → Type 0
+  IsFitIn picture s =
+      IsFit s (mem picture s) (picture.position s) (picture.accused s) (picture.used s) picture.reached
+
+  -- what holds of both
+  pub record Inv (s o : ℕ) (picture : Picture) : Type 0 where
+    pub own : IsFitIn picture s
+    pub other : IsFitIn picture o
+    pub known : (mem picture s).theirs ≤ (mem picture o).mine
+    pub known_too : (mem picture o).theirs ≤ (mem picture s).mine
+    pub fresh : ((mem picture s).theirs ≡ (mem picture o).mine) ⊎ ((mem picture o).theirs ≡ (mem picture s).mine)
+    pub board : picture.shown world.home ≡ text_by s (mem picture s).mine (mem picture o).mine
+    pub moves : picture.moves ≡ spent s (mem picture s) + spent o (mem picture o)
+    pub none : (k : ℕ) → 2 ≤ k → picture.used k ≡ 0
+
+  pub swapped : (s o : ℕ) (picture : Picture) → Pair s o → Inv s o picture → Inv o s picture
+  swapped s o picture pair it =
+      let moves : picture.moves ≡ spent s (mem picture s) + spent o (mem picture o) = it.moves in
+      record {
+        own = it.other;
+        other = it.own;
+        known = it.known_too;
+        known_too = it.known;
+        fresh = elim it.fresh [ inl h ↦ inr h | inr h ↦ inl h ];
+        board = it.board ∙ sym (text_other s o (mem picture s).mine (mem picture o).mine pair);
+        moves = omega (arith, moves);
+        none = it.none;
+      }
+
+  -- ---- one turn more
+
+  pub record Onward (s o : ℕ) (old new : Picture) : Type 0 where
+    pub inv : Inv s o new
+    pub more : progress s (mem old s) + 1 ≤ progress s (mem new s)
+    pub same : mem new o ≡ mem old o
+
+  pub fit_other : (old new : Picture) (o : ℕ) → new.history o ≡ old.history o → new.position o ≡ old.position o
+      → new.accused o ≡ old.accused o → new.used o ≡ old.used o
+      → ((k : ℕ) → old.reached k ≡ true → new.reached k ≡ true) → IsFitIn old o → IsFitIn new o
+  fit_other old new o history position accused used grows fit =
+      let m : Memory = mem old o in
+      subst (λ (h : History). IsFit o (held_after (explorers n guide) o h) (new.position o) (new.accused o) (new.used o)
+      new.reached) (sym history)
+      (subst (λ (p : Position). IsFit o m p (new.accused o) (new.used o) new.reached) (sym position)
+      (subst (λ (a : Option (ℕ × ℕ)). IsFit o m (old.position o) a (new.used o) new.reached) (sym accused)
+      (subst (λ (u : ℕ). IsFit o m (old.position o) (old.accused o) u new.reached) (sym used)
+      (record {
+        side = fit.side;
+        placed = fit.placed;
+        safe = fit.safe;
+        used = fit.used;
+        reached = λ k some far. grows (guide.node o k) (fit.reached k some far);
+      }))))
+
+  -- all that a turn of an agent has to keep
+  pub record Keeps (s o : ℕ) (old : Picture) (after : Memory) (place : Position) (costs moved : ℕ)
+      (accused : Option (ℕ × ℕ)) (shown : ℕ → List ℕ) (reached : ℕ → Bool) : Type 0 where
+    pub fit : IsFit s after place accused (old.used s + costs) reached
+    pub grows : (k : ℕ) → old.reached k ≡ true → reached k ≡ true
+    pub known : after.theirs ≤ (mem old o).mine
+    pub known_too : (mem old o).theirs ≤ after.mine
+    pub fresh : (after.theirs ≡ (mem old o).mine) ⊎ ((mem old o).theirs ≡ after.mine)
+    pub board : shown world.home ≡ text_by s after.mine (mem old o).mine
+    pub spends : spent s after ≡ spent s (mem old s) + moved
+    pub more : progress s (mem old s) + 1 ≤ progress s after
+
+  pub assembled : (s o : ℕ) (old new : Picture) (after : Memory) (place : Position) (news : Item) (costs moved : ℕ)
+      (accused : Option (ℕ × ℕ)) (shown : ℕ → List ℕ) (reached : ℕ → Bool) → Pair s o → Inv s o old
+      → Becomes old new s place news costs moved accused shown reached
+      → after_in guide (mem old s) (mem old s).phase news ≡ after
+      → Keeps s o old after place costs moved accused shown reached → Onward s o old new
+  assembled s o old new after place news costs moved accused shown reached pair inv becomes is keeps =
+      let apart : (o == s) ≡ false = apart_from s o pair in
+      let own_mem : mem new s ≡ after = ap (held_after (explorers n guide) s) becomes.news ∙ is in
+      let other_mem : mem new o ≡ mem old o = ap (held_after (explorers n guide) o) (becomes.other_news o apart) in
+      let fit : IsFitIn new s =
+      subst (λ (m : Memory). IsFit s m (new.position s) (new.accused s) (new.used s) new.reached) (sym own_mem)
+      (subst (λ (p : Position). IsFit s after p (new.accused s) (new.used s) new.reached) (sym becomes.place)
+      (subst (λ (a : Option (ℕ × ℕ)). IsFit s after place a (new.used s) new.reached) (sym becomes.accused)
+      (subst (λ (u : ℕ). IsFit s after place accused u new.reached) (sym becomes.used)
+      (subst (λ (r : ℕ → Bool). IsFit s after place accused (old.used s + costs) r) (sym becomes.reached)
+      keeps.fit)))) in
+      let grows : (k : ℕ) → old.reached k ≡ true → new.reached k ≡ true =
+      λ k was. ap (λ (r : ℕ → Bool). r k) becomes.reached ∙ keeps.grows k was in
+      let own_spent : spent s (mem new s) ≡ spent s after = ap (spent s) own_mem in
+      let other_spent : spent o (mem new o) ≡ spent o (mem old o) = ap (spent o) other_mem in
+      let total : new.moves ≡ old.moves + moved = becomes.moves in
+      let spends : spent s after ≡ spent s (mem old s) + moved = keeps.spends in
+      let before : old.moves ≡ spent s (mem old s) + spent o (mem old o) = inv.moves in
+      record {
+        inv = record {
+          own = fit;
+          other = fit_other old new o (becomes.other_news o apart) (becomes.other_place o apart)
+              (becomes.other_accused o apart) (becomes.other_used o apart) grows inv.other;
+          known = subst (λ (m : Memory). m.theirs ≤ (mem new o).mine) (sym own_mem)
+              (subst (λ (m : Memory). after.theirs ≤ m.mine) (sym other_mem) keeps.known);
+          known_too = subst (λ (m : Memory). (mem new o).theirs ≤ m.mine) (sym own_mem)
+              (subst (λ (m : Memory). m.theirs ≤ after.mine) (sym other_mem) keeps.known_too);
+          fresh = subst (λ (m : Memory). (m.theirs ≡ (mem new o).mine) ⊎ ((mem new o).theirs ≡ m.mine)) (sym own_mem)
+              (subst (λ (m : Memory). (after.theirs ≡ m.mine) ⊎ (m.theirs ≡ after.mine)) (sym other_mem) keeps.fresh);
+          board = ap (λ (f : ℕ → List ℕ). f world.home) becomes.shown ∙ keeps.board
+              ∙ (λ i. text_by s (sym own_mem i).mine (sym other_mem i).mine);
+          moves = moved_on new.moves old.moves moved (spent s (mem old s)) (spent s after) (spent s (mem new s))
+              (spent o (mem old o)) (spent o (mem new o)) total before spends own_spent other_spent;
+          none = λ k beyond. becomes.other_used k (beyond_two k beyond) ∙ inv.none k beyond;
+        };
+        more = subst (λ (m : Memory). progress s (mem old s) + 1 ≤ progress s m) (sym own_mem) keeps.more;
+        same = other_mem;
+      }
+    where
+      moved_on : (new old moved a b c d e : ℕ) → new ≡ old + moved → old ≡ a + d → b ≡ a + moved → c ≡ b → e ≡ d
+          → new ≡ c + e
+      moved_on new old moved a b c d e total before spends own other =
+          omega (arith, total, before, spends, own, other)
+
+      beyond_two : (k : ℕ) → 2 ≤ k → (k == s) ≡ false
+      beyond_two k beyond = elim (eqb_tells k s) [
+        | inl h ↦ absurd (omega (arith, h.1, beyond, pair.own))
+        | inr h ↦ h.0
+      ]
+
+  -- ---- the turns of an agent, by what it is about
+
+  pub agents_two : (s : ℕ) → s < 2 → s < world.agents
+  agents_two s below = subst (λ (k : ℕ). s < k) (sym search.agents) below
+
+  pub placed_as : (s : ℕ) (picture : Picture) (phase : Phase) → (mem picture s).phase ≡ phase → IsFitIn picture s
+      → IsPlaced s (mem picture s) phase (picture.position s) (picture.accused s)
+  placed_as s picture phase is fit =
+      subst (λ (p : Phase). IsPlaced s (mem picture s) p (picture.position s) (picture.accused s)) is fit.placed
+
+  -- the two sides are not known to be safe as far as the black hole
+  pub both_safe : (s o : ℕ) (picture : Picture) → Pair s o → Inv s o picture
+      → (mem picture s).mine + (mem picture s).theirs + 2 ≤ n
+  both_safe s o picture pair inv =
+      let sum : distance s + distance o ≡ n = sum_is s o pair in
+      let safe : (mem picture s).mine < distance s = inv.own.safe in
+      let safe_too : (mem picture o).mine < distance o = inv.other.safe in
+      let known : (mem picture s).theirs ≤ (mem picture o).mine = inv.known in
+      omega (arith, sum, safe, safe_too, known)
+
+  -- ---- the costs of a side
+
+  pub trips_more : (s k : ℕ) → trips s (k + 1) ≡ trips s k + 2 * (guide.route s (k + 1)).steps
+  trips_more s k = rw add-one refl
+
+  trips_mono : (s j k : ℕ) → trips s j ≤ trips s (j + k)
+  trips_mono s j zero = let same : trips s (j + 0) ≡ trips s j = ap (trips s) (omega arith) in omega (arith, same)
+  trips_mono s j (suc k) =
+      let rest : trips s j ≤ trips s (j + k) = trips_mono s j k in
+      let more : trips s (j + k + 1) ≡ trips s (j + k) + 2 * (guide.route s (j + k + 1)).steps = trips_more s (j + k) in
+      let index : j + suc k ≡ j + k + 1 = omega arith in
+      let at : trips s (j + suc k) ≡ trips s (j + k + 1) = ap (trips s) index in
+      omega (arith, rest, more, at)
+
+  -- before the black hole is the next node
+  pub below_next : (s mine : ℕ) → mine + 1 < distance s
+      → trips s mine + 2 * (guide.route s (mine + 1)).steps ≤ trips s (distance s - 1)
+  below_next s mine safe =
+      let more : trips s (mine + 1) ≡ trips s mine + 2 * (guide.route s (mine + 1)).steps = trips_more s mine in
+      let gap : ℕ = distance s - 1 - (mine + 1) in
+      let index : mine + 1 + gap ≡ distance s - 1 = omega (arith, safe) in
+      let at : trips s (mine + 1 + gap) ≡ trips s (distance s - 1) = ap (trips s) index in
+      let within : trips s (mine + 1) ≤ trips s (mine + 1 + gap) = trips_mono s (mine + 1) gap in
+      omega (arith, more, within, at)
+
+  -- once it is
+  pub at_last : (s mine : ℕ) → mine + 1 ≡ distance s
+      → trips s mine + (guide.route s (mine + 1)).steps ≡ most_moves s
+  at_last s mine edge =
+      let index : mine ≡ distance s - 1 = omega (arith, edge) in
+      let before : trips s mine ≡ trips s (distance s - 1) = ap (trips s) index in
+      let last : (guide.route s (mine + 1)).steps ≡ (guide.route s (distance s)).steps =
+      ap (λ (k : ℕ). (guide.route s k).steps) edge in
+      omega (arith, before, last)
+
+  pub below_last : (s mine : ℕ) → mine < distance s → trips s mine + (guide.route s (mine + 1)).steps ≤ most_moves s
+  below_last s mine safe = elim (eqb_tells (mine + 1) (distance s)) [
+    | inl h ↦ let same = at_last s mine h.1 in omega (arith, same)
+    | inr h ↦ let next = below_next s mine (omega (arith, safe, h.1)) in omega (arith, next)
+  ]
+
+  -- who has not ended has a command left
+  pub has_room : (s o : ℕ) (picture : Picture) → Pair s o → Inv s o picture
+      → trip (all s (mem picture s)) (mem picture s).phase + ended (mem picture s).phase
+      + trips s (mem picture s).mine ≤ most_moves s
+      → picture.used s < world.quota
+  has_room s o picture pair inv few =
+      let used : picture.used s ≤ cost s (mem picture s) = inv.own.used in
+      let safe : (mem picture s).mine + (mem picture s).theirs + 2 ≤ n = both_safe s o picture pair inv in
+      let quota : commands_by guide n s (distance s) ≤ world.quota = quota_of s pair.own in
+      omega (arith, used, safe, quota, few)
+
+  -- a turn of agent s
+  pub record Turn : Type 0 where
+    pub s : ℕ
+    pub o : ℕ
+    pub picture : Picture
+    pub pair : Pair s o
+    pub inv : Inv s o picture
+
+  abbrev pub at_turn : (s o : ℕ) (picture : Picture) → Pair s o → Inv s o picture → Turn
+  at_turn s o picture pair inv = record { s = s; o = o; picture = picture; pair = pair; inv = inv }

@@ -1,0 +1,363 @@
+-- Two agents that explore by a guide: turns of an agent at a node.
+use Rattle.std.proofs.Common.{ℕ, ◌+◌, ◌-◌, ◌*◌, ◌<◌, ◌≤◌, ◌≡◌, Bool, true, false, ◌&&◌, ◌==◌, Option, Some, None, List}
+use Rattle.std.proofs.Common.{length, refl, sym, ap, ◌∙◌, subst, inl, inr, arith, if◌then◌else◌}
+use Rattle.std.specs.Prelude.{◌≢◌, bytes_eq}
+use Rattle.std.proofs.lemmas.Bool.{true≢false, eq-eqb, cond-true, cond-false}
+use Rattle.std.proofs.lemmas.Bool.Decides.{eqb_tells}
+use Rattle.bhs_model.specs.declared.commands.Command.TheVariants.{Enter, Write, Depart, Accuse}
+use Rattle.bhs_model.specs.declared.replies.Reply.TheVariants.{Here, Written, Changed, Gone, Noted}
+use Rattle.bhs_model.specs.Runs.{At, Bound, After, changed}
+use Rattle.bhs_model.proofs.StepLemmas.{by_cases, changed_same}
+use Rattle.bhs_explore.specs.declared.minds.Step.TheVariants.{Says}
+use Rattle.bhs_explore.specs.Minds.{Heard}
+use Rattle.bhs_explore.specs.Schedules.{Trial}
+use Rattle.bhs_protocols.specs.Pictures.{turn_in}
+use Rattle.bhs_protocols.specs.Shuttle.{other_in, text_by}
+use Rattle.bhs_protocols.proofs.SearchLemmas.{read_other, text_fits, bytes_same, bytes_other}
+use Rattle.bhs_protocols.proofs.TurnLemmas.{enters, departs, accuses as accuses_link, writes, writes_not}
+use Rattle.bhs_mapped.specs.Guides.{Route, IsRoute}
+use Rattle.bhs_mapped.specs.Exploring.{Memory, Phase, Begins, GoesOut, Leaves, ComesBack, Returns, Writes, Ends}
+use Rattle.bhs_mapped.specs.Exploring.{way_of, is_one_left, does_in, after_in}
+use Rattle.bhs_mapped.proofs.Costs.{ended, paces, trip}
+use Rattle.bhs_mapped.proofs.State.{Game, Keeps, Onward, Turn, agents_two, all as all_of, along as along_of}
+use Rattle.bhs_mapped.proofs.State.{assembled, below_last, below_next, both_safe, come, cost, distance, has_room, mem}
+use Rattle.bhs_mapped.proofs.State.{most_moves, placed_as, sum_is, trial as trial_of, trips, trips_more}
+use Rattle.bhs_mapped.proofs.State.{way as way_from, way_is, within_n}
+
+-- a way to another node than the home base has a step
+pub has_steps : (game : Game) (s k : ℕ) → s < 2 → k < game.n → 0 < k → 0 < (game.guide.route s k).steps
+has_steps game s k below within some =
+    let is : IsRoute game.world.net (game.guide.node s) k (game.guide.route s k) =
+    game.search.guides.routes s k below within in
+    by_count (game.guide.route s k).steps (game.guide.route s k).place is.first is.last
+  where
+    by_count : (steps : ℕ) (place : ℕ → ℕ) → place 0 ≡ 0 → place steps ≡ k → 0 < steps
+    by_count steps place first last = elim (eqb_tells steps 0) [
+      | inl h ↦
+          let same : place steps ≡ place 0 = ap place h.1 in
+          absurd (omega (arith, same, first, last, some))
+      | inr h ↦ omega (arith, h.1)
+    ]
+
+pub some_steps : (game : Game) (s : ℕ) (m : Memory) → s < 2 → m.mine < distance game s → 0 < all_of game s m
+some_steps game s m below safe =
+    let within : distance game s < game.n = within_n game s below in
+    has_steps game s (m.mine + 1) below (omega (arith, safe, within)) (omega arith)
+
+-- each begins there
+pub at_home : (game : Game) (s : ℕ) (m : Memory) → s < 2 → m.mine < distance game s
+    → along_of game s m 0 ≡ game.world.home
+at_home game s m below safe =
+    ap (game.guide.node s) (way_is game s m below safe).first ∙ game.search.guides.start s
+
+module _ {game : Game} (on : Turn game) where
+  open game use {world, n, guide, search, room}
+  open on use {s, o, picture, pair, inv}
+
+  abbrev trial : Trial
+  trial = trial_of game
+
+  abbrev pub M : Memory
+  M = mem game picture s
+
+  abbrev pub O : Memory
+  O = mem game picture o
+
+  abbrev all : ℕ
+  all = all_of game s M
+
+  abbrev along : (step : ℕ) → ℕ
+  along = along_of game s M
+
+  abbrev way : Route
+  way = way_from game s M
+
+  -- it goes the way of its side
+  pub own_way : way_of guide M ≡ way
+  own_way i = guide.route (inv.own.side i) (M.mine + 1)
+
+  pub is_way : IsRoute world.net (guide.node s) (M.mine + 1) way
+  is_way = way_is game s M pair.own inv.own.safe
+
+  pub begin_turn : M.phase ≡ Begins → Onward game s o picture (turn_in trial picture s)
+  begin_turn is =
+      let placed = placed_as game s picture Begins is inv.own in
+      let says : trial.minds s (picture.history s) ≡ Says Enter = ap (does_in n guide M) is in
+      let t : trip all M.phase ≡ 0 = ap (trip all) is in
+      let e : ended M.phase ≡ 0 = ap ended is in
+      let p : paces all M.phase ≡ 0 = ap (paces all) is in
+      let c : come game M.mine M.phase ≡ M.mine = ap (come game M.mine) is in
+      let used : picture.used s ≤ cost game s M = inv.own.used in
+      let known : M.theirs ≤ O.mine = inv.known in
+      let read : other_in M.side (picture.shown world.home) ≡ O.mine =
+      (λ i. other_in (inv.own.side i) (inv.board i)) ∙ read_other s M.mine O.mine pair.own in
+      assembled game s o picture (turn_in trial picture s) (record M { theirs = O.mine; phase = GoesOut 0 })
+      (At world.home None)
+      (Heard (Here (world.net.degree world.home) None (picture.shown world.home))) 0 0 (picture.accused s)
+      picture.shown picture.reached pair inv
+      (enters trial picture s (agents_two game s pair.own) placed.0 says)
+      (ap (λ (ph : Phase). after_in guide M ph
+      (Heard (Here (world.net.degree world.home) None (picture.shown world.home)))) is
+      ∙ (λ i. record M { theirs = read i; phase = GoesOut 0 }))
+      (record {
+        fit = record {
+          side = inv.own.side;
+          placed = (
+            some_steps game s M pair.own inv.own.safe,
+            record { came = None; at = ap (λ (k : ℕ). At k None) (sym (at_home game s M pair.own inv.own.safe)) },
+            placed.1,
+          );
+          safe = inv.own.safe;
+          used = omega (arith, used, t, e, known);
+          reached = λ k some far. inv.own.reached k some (omega (arith, far, c));
+        };
+        grows = λ k was. was;
+        known = omega arith;
+        known_too = inv.known_too;
+        fresh = inl refl;
+        board = inv.board;
+        spends = omega (arith, t);
+        more = omega (arith, p, known);
+      })
+
+  -- it goes on by a port
+  goes_turn : (node port : ℕ) (came : Option ℕ) (after : Memory) → after_in guide M M.phase (Heard Gone) ≡ after
+      → trial.minds s (picture.history s) ≡ Says (Depart port) → picture.position s ≡ At node came
+      → picture.used s < world.quota → port < world.net.degree node
+      → Keeps game s o picture after (Bound node port) 1 1 (picture.accused s) picture.shown picture.reached
+      → Onward game s o picture (turn_in trial picture s)
+  goes_turn node port came after is says at room there keeps =
+      assembled game s o picture (turn_in trial picture s) after (Bound node port) (Heard Gone) 1 1 (picture.accused s)
+      picture.shown picture.reached pair inv
+      (departs trial picture s (agents_two game s pair.own) node port came at says room there) is keeps
+
+  pub says_out : (step : ℕ) → M.phase ≡ GoesOut step → trial.minds s (picture.history s)
+      ≡ (if step + 1 == all && is_one_left n M then Says (Accuse (way.ahead step)) else Says (Depart (way.ahead step)))
+  says_out step is =
+      ap (does_in n guide M) is
+      ∙ (λ i. if step + 1 == (own_way i).steps && is_one_left n M then Says (Accuse ((own_way i).ahead step))
+      else Says (Depart ((own_way i).ahead step)))
+
+  pub out_turn : (step : ℕ) → M.phase ≡ GoesOut step → Onward game s o picture (turn_in trial picture s)
+  out_turn step is =
+      let placed = placed_as game s picture (GoesOut step) is inv.own in
+      let before : step < all = placed.0 in
+      let port : ℕ = way.ahead step in
+      let t : trip all M.phase ≡ step = ap (trip all) is in
+      let e : ended M.phase ≡ 0 = ap ended is in
+      let p : paces all M.phase ≡ 1 + 2 * step = ap (paces all) is in
+      let c : come game M.mine M.phase ≡ M.mine = ap (come game M.mine) is in
+      let used : picture.used s ≤ cost game s M = inv.own.used in
+      let safe : M.mine < distance game s = inv.own.safe in
+      let there : port < world.net.degree (along step) = is_way.ahead step before in
+      let rt : trips game s M.mine + all ≤ most_moves game s = below_last game s M.mine safe in
+      let room : picture.used s < world.quota =
+      has_room game s o picture pair inv (omega (arith, t, e, rt, before)) in
+      let two : M.mine + M.theirs + 2 ≤ n = both_safe game s o picture pair inv in
+      by_cases (step + 1 == all && is_one_left n M) (Onward game s o picture (turn_in trial picture s))
+      (λ yes.
+      let tests = both_true (step + 1 == all) (is_one_left n M) yes in
+      let last : step + 1 ≡ all = equal (step + 1) all tests.0 in
+      let left_one : M.mine + M.theirs + 2 ≡ n = equal (M.mine + M.theirs + 2) n tests.1 in
+      let sum : distance game s + distance game o ≡ n = sum_is game s o pair in
+      let safe_too : O.mine < distance game o = inv.other.safe in
+      let known : M.theirs ≤ O.mine = inv.known in
+      let edge : M.mine + 1 ≡ distance game s = omega (arith, sum, safe, safe_too, known, left_one) in
+      let says : trial.minds s (picture.history s) ≡ Says (Accuse port) =
+      says_out step is ∙ cond-true _ _ _ yes in
+      assembled game s o picture (turn_in trial picture s) (record M { phase = Ends }) After (Heard Noted) 1 0
+      (Some (along step, port)) picture.shown picture.reached pair inv
+      (accuses_link trial picture s (agents_two game s pair.own) (along step) port placed.1.came placed.1.at says
+      room there)
+      (ap (λ (ph : Phase). after_in guide M ph (Heard Noted)) is)
+      (record {
+        fit = record {
+          side = inv.own.side;
+          placed = (refl, edge, record { step = step; last = last; link = refl }, left_one);
+          safe = inv.own.safe;
+          used = omega (arith, used, t, e, last);
+          reached = λ k some far. inv.own.reached k some (omega (arith, far, c));
+        };
+        grows = λ k was. was;
+        known = inv.known;
+        known_too = inv.known_too;
+        fresh = inv.fresh;
+        board = inv.board;
+        spends = omega (arith, t, last);
+        more = omega (arith, p, last);
+      }))
+      (λ none.
+      let says : trial.minds s (picture.history s) ≡ Says (Depart port) =
+      says_out step is ∙ cond-false _ _ _ none in
+      goes_turn (along step) port placed.1.came (record M { phase = Leaves step })
+      (ap (λ (ph : Phase). after_in guide M ph (Heard Gone)) is) says placed.1.at room there
+      (record {
+        fit = record {
+          side = inv.own.side;
+          placed = (
+            before,
+            (λ last. more_left M.mine M.theirs (step + 1) all last none two),
+            refl,
+            placed.2,
+          );
+          safe = inv.own.safe;
+          used = omega (arith, used, t, e);
+          reached = λ k some far. inv.own.reached k some (omega (arith, far, c));
+        };
+        grows = λ k was. was;
+        known = inv.known;
+        known_too = inv.known_too;
+        fresh = inv.fresh;
+        board = inv.board;
+        spends = omega (arith, t);
+        more = omega (arith, p);
+      }))
+    where
+      both_true : (a b : Bool) → (a && b) ≡ true → (a ≡ true) × (b ≡ true)
+      both_true true true h = (refl, refl)
+      both_true true false h = cc
+      both_true false b h = cc
+
+      equal : (a b : ℕ) → (a == b) ≡ true → a ≡ b
+      equal a b h = elim (eqb_tells a b) [
+        | inl it ↦ it.1
+        | inr it ↦ absurd (true≢false (sym h ∙ it.0))
+      ]
+
+      more_left : (mine theirs one other : ℕ) → one ≡ other → (one == other && (mine + theirs + 2 == n)) ≡ false
+          → mine + theirs + 2 ≤ n → mine + theirs + 3 ≤ n
+      more_left mine theirs one other last none two = elim (eqb_tells (mine + theirs + 2) n) [
+        | inl it ↦ absurd (true≢false (sym (λ i. eq-eqb one other last i && it.0 i) ∙ none))
+        | inr it ↦ omega (arith, two, it.1)
+      ]
+
+  pub says_back : (step : ℕ) → M.phase ≡ ComesBack step
+      → trial.minds s (picture.history s) ≡ Says (Depart (way.behind step))
+  says_back step is = ap (does_in n guide M) is ∙ (λ i. Says (Depart ((own_way i).behind step)))
+
+  pub back_turn : (step : ℕ) → M.phase ≡ ComesBack step → Onward game s o picture (turn_in trial picture s)
+  back_turn step is =
+      let placed = placed_as game s picture (ComesBack step) is inv.own in
+      let some : 0 < step = placed.0 in
+      let within : step ≤ all = placed.1 in
+      let next : M.mine + 1 < distance game s = placed.2 in
+      let port : ℕ = way.behind step in
+      let t : trip all M.phase ≡ 2 * all - step = ap (trip all) is in
+      let e : ended M.phase ≡ 0 = ap ended is in
+      let p : paces all M.phase ≡ 1 + 2 * (2 * all - step) = ap (paces all) is in
+      let c : come game M.mine M.phase ≡ M.mine + 1 = ap (come game M.mine) is in
+      let used : picture.used s ≤ cost game s M = inv.own.used in
+      let index : step - 1 + 1 ≡ step = omega (arith, some) in
+      let there : port < world.net.degree (along step) =
+      subst (λ (k : ℕ). way.behind k < world.net.degree (along k)) index
+      (is_way.behind (step - 1) (omega (arith, some, within))) in
+      let rt : trips game s M.mine + 2 * all ≤ trips game s (distance game s - 1) = below_next game s M.mine next in
+      let room : picture.used s < world.quota = has_room game s o picture pair inv (omega (arith, t, e, rt)) in
+      goes_turn (along step) port placed.3.came (record M { phase = Returns step })
+      (ap (λ (ph : Phase). after_in guide M ph (Heard Gone)) is) (says_back step is) placed.3.at room there
+      (record {
+        fit = record {
+          side = inv.own.side;
+          placed = (some, within, next, refl, placed.4);
+          safe = inv.own.safe;
+          used = omega (arith, used, t, e, within);
+          reached = λ k some far. inv.own.reached k some (omega (arith, far, c));
+        };
+        grows = λ k was. was;
+        known = inv.known;
+        known_too = inv.known_too;
+        fresh = inv.fresh;
+        board = inv.board;
+        spends = omega (arith, t, within);
+        more = omega (arith, p, within);
+      })
+
+  pub write_turn : M.phase ≡ Writes → Onward game s o picture (turn_in trial picture s)
+  write_turn is =
+      let placed = placed_as game s picture Writes is inv.own in
+      let next : M.mine + 1 < distance game s = placed.0 in
+      let came : Option ℕ = placed.1.came in
+      let on : picture.position s ≡ At world.home came = placed.1.at in
+      let t : trip all M.phase ≡ 2 * all = ap (trip all) is in
+      let e : ended M.phase ≡ 0 = ap ended is in
+      let p : paces all M.phase ≡ 1 + 4 * all = ap (paces all) is in
+      let c : come game M.mine M.phase ≡ M.mine + 1 = ap (come game M.mine) is in
+      let used : picture.used s ≤ cost game s M = inv.own.used in
+      let known : M.theirs ≤ O.mine = inv.known in
+      let known_too : O.theirs ≤ M.mine = inv.known_too in
+      let rt : trips game s M.mine + 2 * all ≤ trips game s (distance game s - 1) = below_next game s M.mine next in
+      let more : trips game s (M.mine + 1) ≡ trips game s M.mine + 2 * all = trips_more game s M.mine in
+      let room_left : picture.used s < world.quota = has_room game s o picture pair inv (omega (arith, t, e, rt)) in
+      let expect : List ℕ = text_by s M.mine M.theirs in
+      let put : List ℕ = text_by s (M.mine + 1) M.theirs in
+      let says : trial.minds s (picture.history s) ≡ Says (Write expect put) =
+      ap (does_in n guide M) is
+      ∙ (λ i. Says (Write (text_by (inv.own.side i) M.mine M.theirs)
+      (text_by (inv.own.side i) (M.mine + 1) M.theirs))) in
+      let length_of : length put ≤ 4 = text_fits s (M.mine + 1) M.theirs pair.own in
+      let fits : length put ≤ world.board = omega (arith, length_of, room) in
+      let after : Memory = record M { mine = M.mine + 1; phase = GoesOut 0 } in
+      elim (eqb_tells M.theirs O.mine) [
+        | inl h ↦
+            let same : bytes_eq (picture.shown world.home) expect ≡ true =
+            (λ i. bytes_eq (inv.board i) (text_by s M.mine (h.1 i))) ∙ bytes_same (text_by s M.mine O.mine) in
+            assembled game s o picture (turn_in trial picture s) (record M { mine = M.mine + 1; phase = GoesOut 0 })
+            (At world.home came) (Heard Written) 1 0 (picture.accused s)
+            (changed picture.shown world.home put) picture.reached pair inv
+            (writes trial picture s (agents_two game s pair.own) world.home came expect put on says room_left fits same)
+            (ap (λ (ph : Phase). after_in guide M ph (Heard Written)) is)
+            (record {
+              fit = record {
+                side = inv.own.side;
+                placed = (
+                  some_steps game s after pair.own next,
+                  record {
+                    came = came;
+                    at = ap (λ (k : ℕ). At k came) (sym (at_home game s after pair.own next));
+                  },
+                  placed.2,
+                );
+                safe = next;
+                used = omega (arith, used, t, e, more);
+                reached = λ k some far. inv.own.reached k some (omega (arith, far, c));
+              };
+              grows = λ k was. was;
+              known = inv.known;
+              known_too = omega (arith, known_too);
+              fresh = inl h.1;
+              board = changed_same picture.shown world.home put ∙ ap (λ (k : ℕ). text_by s (M.mine + 1) k) h.1;
+              spends = omega (arith, t, more);
+              more = omega (arith, p, more);
+            })
+        | inr h ↦
+            let different : O.mine ≢ M.theirs = λ back. h.1 (sym back) in
+            let unlike : bytes_eq (picture.shown world.home) expect ≡ false =
+            ap (λ (xs : List ℕ). bytes_eq xs expect) inv.board
+            ∙ bytes_other s M.mine O.mine M.theirs pair.own different in
+            let fewer : M.theirs < O.mine = omega (arith, known, h.1) in
+            let read : other_in M.side (picture.shown world.home) ≡ O.mine =
+            (λ i. other_in (inv.own.side i) (inv.board i)) ∙ read_other s M.mine O.mine pair.own in
+            assembled game s o picture (turn_in trial picture s) (record M { theirs = O.mine; phase = Writes })
+            (At world.home came) (Heard (Changed (picture.shown world.home))) 1 0 (picture.accused s)
+            picture.shown picture.reached pair inv
+            (writes_not trial picture s (agents_two game s pair.own) world.home came expect put on says room_left fits
+            unlike)
+            (ap (λ (ph : Phase). after_in guide M ph (Heard (Changed (picture.shown world.home)))) is
+            ∙ (λ i. record M { theirs = read i; phase = is i }))
+            (record {
+              fit = record {
+                side = inv.own.side;
+                placed = (next, record { came = came; at = refl }, placed.2);
+                safe = inv.own.safe;
+                used = omega (arith, used, t, e, fewer);
+                reached = λ k some far. inv.own.reached k some (omega (arith, far, c));
+              };
+              grows = λ k was. was;
+              known = omega arith;
+              known_too = inv.known_too;
+              fresh = inl refl;
+              board = inv.board;
+              spends = omega (arith, t);
+              more = omega (arith, p, fewer);
+            })
+      ]

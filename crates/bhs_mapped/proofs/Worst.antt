@@ -1,0 +1,210 @@
+-- Two agents that explore by a guide make all the moves that their bound allows: an agent whose side is known to nobody
+-- takes turns until it is lost, and then the other agent until it has accused.
+use Rattle.std.proofs.Common.{ℕ, zero, suc, ◌+◌, ◌-◌, ◌<◌, ◌≤◌, ◌≡◌, false, not, List, [], ◌∷◌, ◌++◌, refl}
+use Rattle.std.proofs.Common.{sym, ap, ◌∙◌, nat_lt, inl, inr, arith}
+use Rattle.std.proofs.lemmas.Bool.{lt-ltb, ltb-true, true≢false}
+use Rattle.bhs_model.proofs.StepLemmas.{by_cases}
+use Rattle.bhs_explore.specs.Schedules.{Trial}
+use Rattle.bhs_protocols.specs.Pictures.{Picture, blank, can_move_in, turn_in, turns_in}
+use Rattle.bhs_protocols.specs.Attained.{IsAttained}
+use Rattle.bhs_protocols.proofs.AttainedLemmas.{attained_by, two_rest}
+use Rattle.bhs_protocols.proofs.LastWordLemmas.{turns_in_append}
+use Rattle.bhs_protocols.proofs.SearchLemmas.{Pair, swapped_pair}
+use Rattle.bhs_mapped.specs.Exploring.{Memory, Leaves, Ends, commands_by}
+use Rattle.bhs_mapped.specs.MapLaws.{GuidedAgentsAttain}
+use Rattle.bhs_mapped.proofs.Costs.{trip}
+use Rattle.bhs_mapped.proofs.State.{Game, Inv, Onward, all, along, at_last, at_turn, distance, mem, most_moves}
+use Rattle.bhs_mapped.proofs.State.{placed_as, progress, spent, sum_is, swapped, trial as trial_of, trips, way}
+use Rattle.bhs_mapped.proofs.Turns.{some_steps}
+use Rattle.bhs_mapped.proofs.Arrivals.{bound_moves, last_doomed}
+use Rattle.bhs_mapped.proofs.Rest.{IsLost, any_turn, resting}
+use Rattle.bhs_mapped.proofs.Verdict.{not_both, zero_one}
+use Rattle.bhs_mapped.proofs.MapLemmas.{first_inv, spent_in}
+
+module _ (game : Game) where
+  open game use {world, n, right, left, guide, search}
+
+  abbrev trial : Trial
+  trial = trial_of game
+
+  -- where agent s cannot move any more
+  record HasRun (s o : ℕ) (P : Picture → Type 0) (picture : Picture) : Type 0 where
+    schedule : List ℕ
+    inv : Inv game s o (turns_in trial picture schedule)
+    holds : P (turns_in trial picture schedule)
+    still : can_move_in trial (turns_in trial picture schedule) s ≡ false
+
+  abbrev most_progress : (s : ℕ) → ℕ
+  most_progress s = commands_by guide n s (distance game s) + most_moves game s + 1
+
+  runs : (s o : ℕ) (P : Picture → Type 0) → Pair s o
+      → ((picture : Picture) → Inv game s o picture → P picture → Onward game s o picture (turn_in trial picture s)
+      → P (turn_in trial picture s))
+      → (fuel : ℕ) (picture : Picture) → Inv game s o picture → P picture
+      → most_progress s ≤ progress game s (mem game picture s) + fuel → HasRun s o P picture
+  runs s o P pair keeps zero picture inv holds few =
+      by_cases (can_move_in trial picture s) (HasRun s o P picture)
+      (λ moves.
+      let on : Onward game s o picture (turn_in trial picture s) = any_turn (at_turn game s o picture pair inv) moves in
+      let more : progress game s (mem game picture s) + 1 ≤ progress game s (mem game (turn_in trial picture s) s) =
+      on.more in
+      let most : progress game s (mem game (turn_in trial picture s) s) ≤ most_progress s =
+      (spent_in game s o (turn_in trial picture s) pair on.inv).1 in
+      absurd (omega (arith, more, most, few)))
+      (λ rests. record { schedule = []; inv = inv; holds = holds; still = rests })
+  runs s o P pair keeps (suc fuel) picture inv holds few =
+      by_cases (can_move_in trial picture s) (HasRun s o P picture)
+      (λ moves.
+      let on : Onward game s o picture (turn_in trial picture s) = any_turn (at_turn game s o picture pair inv) moves in
+      let more : progress game s (mem game picture s) + 1 ≤ progress game s (mem game (turn_in trial picture s) s) =
+      on.more in
+      let after : HasRun s o P (turn_in trial picture s) =
+      runs s o P pair keeps fuel (turn_in trial picture s) on.inv (keeps picture inv holds on)
+      (omega (arith, more, few)) in
+      record { schedule = s ∷ after.schedule; inv = after.inv; holds = after.holds; still = after.still })
+      (λ rests. record { schedule = []; inv = inv; holds = holds; still = rests })
+
+  -- who is lost stays so
+  lost_still : (s o : ℕ) (picture : Picture) (pair : Pair s o) (inv : Inv game s o picture)
+      → IsLost (at_turn game s o picture pair inv) → can_move_in trial picture s ≡ false
+  lost_still s o picture pair inv gone =
+      let placed = placed_as game s picture (Leaves gone.step) gone.phase inv.own in
+      let m : Memory = mem game picture s in
+      bound_moves (at_turn game s o picture pair inv) (along game s m gone.step) ((way game s m).ahead gone.step)
+      placed.2
+      ∙ ap not (last_doomed (at_turn game s o picture pair inv) gone.step gone.last gone.edge)
+
+  -- Agent s takes turns alone, and knows of no safe node of the other side.
+  record IsAlone (o : ℕ) (picture : Picture) : Type 0 where
+    other : mem game picture o ≡ mem game blank o
+
+  gone_by : (s o : ℕ) (picture : Picture) (pair : Pair s o) (inv : Inv game s o picture) → IsAlone o picture
+      → 2 ≤ distance game o → can_move_in trial picture s ≡ false → IsLost (at_turn game s o picture pair inv)
+  gone_by s o picture pair inv alone far still =
+      elim (resting (at_turn game s o picture pair inv) (mem game picture s).phase refl still) [
+        | inl h ↦
+            let placed = placed_as game s picture Ends h inv.own in
+            let edge : (mem game picture s).mine + 1 ≡ distance game s = placed.1 in
+            let one_left : (mem game picture s).mine + (mem game picture s).theirs + 2 ≡ n = placed.3 in
+            let known : (mem game picture s).theirs ≤ (mem game picture o).mine = inv.known in
+            let none : (mem game picture o).mine ≡ 0 = ap (λ (m : Memory). m.mine) alone.other in
+            let sum : distance game s + distance game o ≡ n = sum_is game s o pair in
+            absurd (omega (arith, edge, one_left, known, none, sum, far))
+        | inr h ↦ h
+      ]
+
+  -- an agent that is on its way to the black hole
+  record IsGone (s step : ℕ) (picture : Picture) : Type 0 where
+    phase : (mem game picture s).phase ≡ Leaves step
+    last : step + 1 ≡ all game s (mem game picture s)
+    edge : (mem game picture s).mine + 1 ≡ distance game s
+
+  -- then the other accuses, and all moves but its last one are made
+  all_made : (s o step : ℕ) (picture : Picture) (pair : Pair s o) (inv : Inv game o s picture) → IsGone s step picture
+      → can_move_in trial picture o ≡ false → picture.moves ≡ most_moves game s + most_moves game o - 1
+  all_made s o step picture pair inv away still =
+      let pair_too : Pair o s = swapped_pair s o pair in
+      let back : Inv game s o picture = swapped game o s picture pair_too inv in
+      let gone : IsLost (at_turn game s o picture pair back) =
+      record { step = step; phase = away.phase; last = away.last; edge = away.edge } in
+      let m : Memory = mem game picture s in
+      let m_too : Memory = mem game picture o in
+      let moves : picture.moves ≡ spent game o m_too + spent game s m = inv.moves in
+      let on_trip : trip (all game s m) m.phase ≡ step + 1 = ap (trip (all game s m)) away.phase in
+      let whole : trips game s m.mine + all game s m ≡ most_moves game s = at_last game s m.mine away.edge in
+      let last : step + 1 ≡ all game s m = away.last in
+      elim (resting (at_turn game o s picture pair_too inv) m_too.phase refl still) [
+        | inl h ↦
+            let placed = placed_as game o picture Ends h inv.own in
+            let edge_too : m_too.mine + 1 ≡ distance game o = placed.1 in
+            let on_trip_too : trip (all game o m_too) m_too.phase ≡ all game o m_too - 1 =
+            ap (trip (all game o m_too)) h in
+            let whole_too : trips game o m_too.mine + all game o m_too ≡ most_moves game o =
+            at_last game o m_too.mine edge_too in
+            let long : 0 < all game o m_too = some_steps game o m_too pair.other inv.own.safe in
+            omega (arith, moves, on_trip, whole, last, on_trip_too, whole_too, long)
+        | inr h ↦ absurd (not_both game s o picture pair back gone pair_too inv h)
+      ]
+
+  record IsWorst (s o : ℕ) : Type 0 where
+    schedule : List ℕ
+    still : can_move_in trial (turns_in trial blank schedule) s ≡ false
+    still_too : can_move_in trial (turns_in trial blank schedule) o ≡ false
+    moves : (turns_in trial blank schedule).moves ≡ most_moves game s + most_moves game o - 1
+
+  first_run : (s o : ℕ) → Pair s o → Inv game s o blank → HasRun s o (IsAlone o) blank
+  first_run s o pair first =
+      runs s o (IsAlone o) pair (λ picture inv alone on. record { other = on.same ∙ alone.other })
+      (most_progress s) blank first (record { other = refl }) (omega arith)
+
+  second_run : (s o step : ℕ) (picture : Picture) → Pair s o → Inv game s o picture → IsGone s step picture
+      → HasRun o s (IsGone s step) picture
+  second_run s o step picture pair inv is =
+      runs o s (IsGone s step) (swapped_pair s o pair)
+      (λ now inv_now away on. record {
+        phase = ap (λ (m : Memory). m.phase) on.same ∙ away.phase;
+        last = away.last ∙ ap (all game s) (sym on.same);
+        edge = ap (λ (m : Memory). m.mine + 1) on.same ∙ away.edge;
+      }) (most_progress o) picture (swapped game s o picture pair inv) is (omega arith)
+
+  worst_of : (s o step : ℕ) → Pair s o → (one : HasRun s o (IsAlone o) blank)
+      → HasRun o s (IsGone s step) (turns_in trial blank one.schedule) → IsWorst s o
+  worst_of s o step pair one two =
+      let end : Picture = turns_in trial (turns_in trial blank one.schedule) two.schedule in
+      let is : turns_in trial blank (one.schedule ++ two.schedule) ≡ end =
+      turns_in_append trial blank one.schedule two.schedule in
+      let back : Inv game s o end = swapped game o s end (swapped_pair s o pair) two.inv in
+      record {
+        schedule = one.schedule ++ two.schedule;
+        still = ap (λ (p : Picture). can_move_in trial p s) is
+            ∙ lost_still s o end pair back
+            (record { step = step; phase = two.holds.phase; last = two.holds.last; edge = two.holds.edge });
+        still_too = ap (λ (p : Picture). can_move_in trial p o) is ∙ two.still;
+        moves = ap (λ (p : Picture). p.moves) is
+            ∙ all_made s o step end pair two.inv two.holds two.still;
+      }
+
+  worst_after : (s o : ℕ) → Pair s o → 2 ≤ distance game o → HasRun s o (IsAlone o) blank → IsWorst s o
+  worst_after s o pair far one =
+      let middle : Picture = turns_in trial blank one.schedule in
+      let gone : IsLost (at_turn game s o middle pair one.inv) =
+      gone_by s o middle pair one.inv one.holds far one.still in
+      worst_of s o gone.step pair one (second_run s o gone.step middle pair one.inv
+      (record { phase = gone.phase; last = gone.last; edge = gone.edge }))
+
+  worst_by : (s o : ℕ) → Pair s o → Inv game s o blank → 2 ≤ distance game o → IsWorst s o
+  worst_by s o pair first far = worst_after s o pair far (first_run s o pair first)
+
+  pub attains : IsAttained trial (most_moves game 0 + most_moves game 1 - 1)
+  attains = by_cases (nat_lt 1 left) (IsAttained trial (most_moves game 0 + most_moves game 1 - 1))
+      (λ yes.
+      let it : IsWorst 0 1 = worst_by 0 1 (zero_one game) (first_inv game) (ltb-true 1 left yes) in
+      attained_by trial it.schedule (most_moves game 0 + most_moves game 1 - 1) (turns_in trial blank it.schedule) refl
+      (two_rest trial (turns_in trial blank it.schedule) search.agents it.still it.still_too) it.moves)
+      (λ none.
+      let near : (1 < left) → ⊥ = λ h. true≢false (sym (lt-ltb 1 left h) ∙ none) in
+      let sum : right + left ≡ n = search.sum in
+      let three : 3 ≤ n = search.guides.three in
+      let far : 2 ≤ right = omega (arith, near, sum, three) in
+      let it : IsWorst 1 0 =
+      worst_by 1 0 (swapped_pair 0 1 (zero_one game)) (swapped game 0 1 blank (zero_one game) (first_inv game)) far in
+      attained_by trial it.schedule (most_moves game 0 + most_moves game 1 - 1) (turns_in trial blank it.schedule) refl
+      (two_rest trial (turns_in trial blank it.schedule) search.agents it.still_too it.still)
+      (it.moves ∙ turned (most_moves game 1) (most_moves game 0)))
+    where
+      turned : (a b : ℕ) → a + b - 1 ≡ b + a - 1
+      turned a b = omega arith
+
+pub guided_agents_attain : GuidedAgentsAttain
+guided_agents_attain world n right left naps guide search room enough enough_too = attains (record {
+  world = world;
+  n = n;
+  right = right;
+  left = left;
+  naps = naps;
+  guide = guide;
+  search = search;
+  room = room;
+  enough = enough;
+  enough_too = enough_too;
+})

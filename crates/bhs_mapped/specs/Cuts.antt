@@ -1,0 +1,20 @@
+-- Why networks of files are those that stay connected without any one node: no team solves another one.
+use Rattle.std.specs.Prelude.{ℕ, ◌≢◌, ◌<◌, List}
+use Rattle.bhs_net.specs.Network.{Network, IsPortLabelled, nodes_of}
+use Rattle.bhs_net.specs.Search.{IsCutIn}
+use Rattle.bhs_model.specs.declared.setups.Setup.{Setup}
+use Rattle.bhs_model.specs.Setups.{world_of}
+use Rattle.bhs_model.specs.Draws.{Held}
+use Rattle.bhs_referee.specs.declared.verdicts.Outcome.TheVariants.{Solved}
+use Rattle.bhs_explore.specs.Minds.{Minds}
+use Rattle.bhs_explore.specs.Schedules.{under, verdict}
+use Rattle.bhs_protocols.specs.LastWord.{searched}
+
+-- Take a node without which some two others are not joined, and any other home base. If that node is the black hole, no
+-- schedule of any team solves the match, whatever the agents know and however many they are: they cannot reach what is
+-- behind it.
+abbrev pub NoTeamPassesACut : Type 0
+NoTeamPassesACut = (net : Network) (setup : Setup) (held : Held) (naps : ℕ) (minds : Minds) (cut : ℕ)
+    → IsPortLabelled net → setup.home < nodes_of net → setup.home ≢ cut → IsCutIn net cut → (schedule : List ℕ)
+    → (verdict (searched (world_of net setup) held naps minds cut)
+    (under (searched (world_of net setup) held naps minds cut) schedule)).outcome ≢ Solved

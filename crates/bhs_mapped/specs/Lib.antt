@@ -1,0 +1,5 @@
+pub mod Guides
+pub mod Exploring
+pub mod MapLaws
+pub mod Diamond
+pub mod Cuts

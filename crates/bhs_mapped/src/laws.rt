@@ -1,0 +1,41 @@
+//! What holds under every schedule of agents that have a map. The functions do nothing: their contracts are laws.
+
+ghost use Rattle.bhs_mapped.specs.Cuts.{NoTeamPassesACut};
+ghost use Rattle.bhs_mapped.specs.Diamond.{TheDiamondIsSolved};
+ghost use Rattle.bhs_mapped.specs.Guides.{NetworksHaveGuides, OnlyNetworksHaveGuides};
+ghost use Rattle.bhs_mapped.specs.MapLaws.{GuidedAgentsAttain, GuidedAgentsSolve, GuidedMovesAreFew};
+ghost use Rattle.bhs_mapped.specs.MapLaws.{OneLossIsNeededAndSuffices, TwoAgentsWithAMapSolve};
+
+/// Each network of a file has a guide from each home base, and only these networks have.
+pub fn networks_have_guides()
+    ensures all { NetworksHaveGuides }
+    ensures only { OnlyNetworksHaveGuides }
+{}
+
+/// Two agents that explore by a guide solve the match wherever the black hole is. They go to each node and back by its
+/// way, and under some schedule they make all these moves, which are no more than those of the shuttle on a ring.
+pub fn guided_agents_solve()
+    ensures solves { GuidedAgentsSolve }
+    ensures attained { GuidedAgentsAttain }
+    ensures few { GuidedMovesAreFew }
+{}
+
+/// Two agents that have a map solve each network of a file, from each home base and with each black hole.
+pub fn two_agents_with_a_map_solve()
+    ensures { TwoAgentsWithAMapSolve }
+{}
+
+/// They solve with every black hole, and so one loss is needed and suffices on each network of a file.
+pub fn one_loss_is_needed_and_suffices()
+    ensures { OneLossIsNeededAndSuffices }
+{}
+
+/// No team solves a network with the black hole at a node without which it falls apart.
+pub fn no_team_passes_a_cut()
+    ensures { NoTeamPassesACut }
+{}
+
+/// A search by a guide, worked out by hand.
+pub fn worked_example()
+    ensures { TheDiamondIsSolved }
+{}
