@@ -11,3 +11,8 @@ pub mod MapLemmas
 pub mod Worst
 pub mod CutLemmas
 pub mod OnlyNetworks
+pub mod Following
+pub mod FollowedTurns
+pub mod Followed
+pub mod TourLemmas
+pub mod DiamondLemmas

@@ -44,7 +44,7 @@ some_steps game s m below safe =
     let within : distance game s < game.n = within_n game s below in
     has_steps game s (m.mine + 1) below (omega (arith, safe, within)) (omega arith)
 
--- each begins there
+-- each way begins at the home base
 pub at_home : (game : Game) (s : ℕ) (m : Memory) → s < 2 → m.mine < distance game s
     → along_of game s m 0 ≡ game.world.home
 at_home game s m below safe =

@@ -1,11 +1,14 @@
--- A search by a guide, worked out: a square with one link across, 0-1, 0-2, 1-2, 1-3 and 2-3.
+-- Searches with a map, worked out: a square with one link across, 0-1, 0-2, 1-2, 1-3 and 2-3.
 use Rattle.std.specs.Prelude.{ℕ, zero, suc, ◌+◌, ◌-◌, ◌*◌, ◌≡◌, List, [], ◌∷◌, ◌++◌, replicate, slice_index_or}
 use Rattle.bhs_model.specs.Setups.{network_of}
 use Rattle.bhs_model.specs.Worlds.{World}
 use Rattle.bhs_referee.specs.declared.verdicts.Outcome.TheVariants.{Solved}
 use Rattle.bhs_explore.specs.Schedules.{Trial, under, verdict}
 use Rattle.bhs_mapped.specs.Guides.{Route, Guide}
+use Rattle.bhs_protocols.specs.Pictures.{blank, turns_in, outcome_in}
+use Rattle.bhs_protocols.specs.Halving.{most_moves}
 use Rattle.bhs_mapped.specs.MapLaws.{guided_trial}
+use Rattle.bhs_mapped.specs.Tours.{Tour, IsTour, toured_trial}
 
 -- Two agents start at node 0, and node 3 is the black hole.
 abbrev pub diamond : World
@@ -51,3 +54,29 @@ diamond_trial = guided_trial diamond 0 4 diamond_guide
 abbrev pub TheDiamondIsSolved : Type 0
 TheDiamondIsSolved = verdict diamond_trial (under diamond_trial (replicate 10 0 ++ replicate 9 1))
     ≡ record { outcome = Solved; moves = 7; lost = 1 }
+
+-- ---- by a tour
+
+-- 0, 1, 3, 2, and back to 0
+abbrev pub diamond_tour : Tour
+diamond_tour = record {
+  node = λ step. slice_index_or (0 ∷ 1 ∷ 3 ∷ 2 ∷ []) step 0;
+  ahead = λ node. slice_index_or (0 ∷ 2 ∷ 0 ∷ 1 ∷ []) node 0;
+  behind = λ node. slice_index_or (1 ∷ 0 ∷ 2 ∷ 0 ∷ []) node 0;
+}
+
+abbrev pub TheDiamondHasATour : Type 0
+TheDiamondHasATour = IsTour diamond.net 0 4 diamond_tour
+
+-- with a greater quota
+abbrev pub wide_diamond : World
+wide_diamond = record diamond { quota = 100 }
+
+-- Two agents that search the ring of the tour by halves make as many moves as they can on a ring of 4 nodes, under the
+-- schedule of `OnFour`.
+abbrev pub TheDiamondIsToured : Type 0
+TheDiamondIsToured =
+    (outcome_in wide_diamond
+    (turns_in (toured_trial wide_diamond 0 4 diamond_tour) blank (replicate 9 0 ++ replicate 13 1)) ≡ Solved)
+    × ((turns_in (toured_trial wide_diamond 0 4 diamond_tour) blank (replicate 9 0 ++ replicate 13 1)).moves
+    ≡ most_moves 4)

@@ -1,5 +1,7 @@
 pub mod Guides
 pub mod Exploring
 pub mod MapLaws
-pub mod Diamond
 pub mod Cuts
+pub mod Parts
+pub mod Tours
+pub mod Diamond

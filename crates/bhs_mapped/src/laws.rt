@@ -1,10 +1,12 @@
 //! What holds under every schedule of agents that have a map. The functions do nothing: their contracts are laws.
 
 ghost use Rattle.bhs_mapped.specs.Cuts.{NoTeamPassesACut};
-ghost use Rattle.bhs_mapped.specs.Diamond.{TheDiamondIsSolved};
+ghost use Rattle.bhs_mapped.specs.Diamond.{TheDiamondHasATour, TheDiamondIsSolved, TheDiamondIsToured};
 ghost use Rattle.bhs_mapped.specs.Guides.{NetworksHaveGuides, OnlyNetworksHaveGuides};
 ghost use Rattle.bhs_mapped.specs.MapLaws.{GuidedAgentsAttain, GuidedAgentsSolve, GuidedMovesAreFew};
 ghost use Rattle.bhs_mapped.specs.MapLaws.{OneLossIsNeededAndSuffices, TwoAgentsWithAMapSolve};
+ghost use Rattle.bhs_mapped.specs.Parts.{PartsAttain, PartsSuffice};
+ghost use Rattle.bhs_mapped.specs.Tours.{HalvesAttainWithATour, HalvesSolveWithATour};
 
 /// Each network of a file has a guide from each home base, and only these networks have.
 pub fn networks_have_guides()
@@ -35,7 +37,18 @@ pub fn no_team_passes_a_cut()
     ensures { NoTeamPassesACut }
 {}
 
-/// A search by a guide, worked out by hand.
-pub fn worked_example()
-    ensures { TheDiamondIsSolved }
+/// What minds do on a part of a network, agents that have a map can do on the network: so two of them search a network
+/// with a tour by halves.
+pub fn tours_suffice()
+    ensures parts { PartsSuffice }
+    ensures moves { PartsAttain }
+    ensures halves { HalvesSolveWithATour }
+    ensures attained { HalvesAttainWithATour }
+{}
+
+/// A search by a guide, and one of a ring in the same network, worked out by hand.
+pub fn worked_examples()
+    ensures guided { TheDiamondIsSolved }
+    ensures tour { TheDiamondHasATour }
+    ensures toured { TheDiamondIsToured }
 {}

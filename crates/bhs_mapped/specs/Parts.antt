@@ -1,0 +1,123 @@
+-- Agents that have a map can do on a network what others do on a part of it that has all its nodes, such as a ring:
+-- they use the links of that part alone.
+use Rattle.std.specs.Prelude.{ℕ, ◌≡◌, ◌<◌, ◌≤◌, Some, List, [], ◌∷◌}
+use Rattle.bhs_model.specs.declared.commands.Command.{Command}
+use Rattle.bhs_model.specs.declared.commands.Command.TheVariants.{Depart, Accuse}
+use Rattle.bhs_model.specs.declared.replies.Reply.{Reply}
+use Rattle.bhs_model.specs.declared.replies.Reply.TheVariants.{Here, No, Over}
+use Rattle.bhs_model.specs.Worlds.{Network, World}
+use Rattle.bhs_model.specs.Runs.{Position, Before, At, Bound, position_after}
+use Rattle.bhs_explore.specs.declared.minds.Step.{Step}
+use Rattle.bhs_explore.specs.declared.minds.Step.TheVariants.{Says}
+use Rattle.bhs_explore.specs.Minds.{Item, Heard, Woke, History, Minds}
+use Rattle.bhs_model.specs.Examples.{none_held}
+use Rattle.bhs_explore.specs.Schedules.{Trial}
+use Rattle.bhs_protocols.specs.Attained.{IsAttained}
+use Rattle.bhs_protocols.specs.Invariants.{Bounds, IsSolved}
+use Rattle.bhs_protocols.specs.Programs.{Program, minds_by}
+
+-- The part has the nodes of the network. A port of a node in the part is one of its ports in the network, by which one
+-- goes to the same node; a number that is no port in the part is none in the network. No link is dark.
+pub record IsPart (world : World) (part : Network) (port : (node port : ℕ) → ℕ) : Type 0 where
+  pub home : world.home < part.nodes
+  pub size : part.nodes ≡ world.net.nodes
+  pub ports : (node it : ℕ) → node < part.nodes → it < part.degree node → port node it < world.net.degree node
+  pub beyond : (node it : ℕ) → node < part.nodes → part.degree node ≤ it → world.net.degree node ≤ port node it
+  pub far : (node it : ℕ) → node < part.nodes → it < part.degree node
+      → (world.net.far node (port node it)).0 ≡ (part.far node it).0
+  pub within : (node it : ℕ) → node < part.nodes → it < part.degree node → (part.far node it).0 < part.nodes
+  pub none_dark : world.dark ≡ []
+
+-- what an agent holds that does what a mind does on the part: what would have happened to it there, and where it would
+-- be
+pub record Follower : Type 0 where
+  pub agent : ℕ
+  pub past : History
+  pub place : Position
+
+-- the part with this home base, for what does not depend on anything else of a world
+abbrev pub bare : Network → (home : ℕ) → World
+bare part home = record { net = part; home = home; holes = []; dark = []; agents = 0; quota = 0; board = 0 }
+
+-- the command in the network for one in the part
+abbrev pub command_of : (port : (node port : ℕ) → ℕ) → Position → Command → Command
+command_of port (At node came) (Depart it) = Depart (port node it)
+command_of port (At node came) (Accuse it) = Accuse (port node it)
+command_of port place command = command
+
+-- what an agent does in the network where the mind would do this in the part
+abbrev pub step_of : (port : (node port : ℕ) → ℕ) → Position → Step → Step
+step_of port place (Says command) = Says (command_of port place command)
+step_of port place step = step
+
+-- what is heard in the part, where this is heard in the network
+abbrev pub reply_at : Network → Position → Reply → Reply
+reply_at part (At node came) (Here ports seen board) = Here (part.degree node) came board
+reply_at part place reply = reply
+
+-- after a reply that leaves the agent where it is
+abbrev pub noted : Follower → Reply → Follower
+noted it reply = record it { past = Heard reply ∷ it.past }
+
+-- After an answer to a command. If the command was not refused, the agent is at this place then.
+abbrev pub answered : Network → Follower → (place : Position) → Reply → Follower
+answered part it place (No why) = noted it (No why)
+answered part it place Over = noted it Over
+answered part it place reply =
+    record { agent = it.agent; past = Heard (reply_at part place reply) ∷ it.past; place = place }
+
+-- after an arrival over a link of the part
+abbrev pub come_by : Network → Follower → (far : ℕ × ℕ) → (board : List ℕ) → Follower
+come_by part it far board = record {
+  agent = it.agent;
+  past = Heard (Here (part.degree far.0) (Some far.1) board) ∷ it.past;
+  place = At far.0 (Some far.1);
+}
+
+-- after a reply to an agent that is at this place, where the mind takes this step
+abbrev pub heard_at : Network → (home : ℕ) → Follower → Position → Step → Reply → Follower
+heard_at part home it (Bound node by) step (Here ports seen board) = come_by part it (part.far node by) board
+heard_at part home it (Bound node by) step reply = noted it reply
+heard_at part home it place (Says command) reply =
+    answered part it (position_after (bare part home) place command) reply
+heard_at part home it place step reply = noted it reply
+
+-- after something has happened
+abbrev pub followed : Network → (home : ℕ) → Minds → Follower → Item → Follower
+followed part home minds it (Heard reply) = heard_at part home it it.place (minds it.agent it.past) reply
+followed part home minds it Woke = record it { past = Woke ∷ it.past }
+
+-- Agents that know the part, its ports in the network and the home base, and do on the network what these minds do on
+-- the part. They do not know where the black hole is.
+abbrev pub followers : (part : Network) (home : ℕ) (port : (node port : ℕ) → ℕ) → Minds → Program Follower
+followers part home port minds = record {
+  start = λ agent. record { agent = agent; past = []; place = Before };
+  after = followed part home minds;
+  does = λ it. step_of port it.place (minds it.agent it.past);
+}
+
+-- a match of these minds on the part alone
+abbrev pub on_part : World → (part : Network) → (naps : ℕ) → Minds → Trial
+on_part world part naps minds =
+    record { world = record world { net = part }; held = none_held; naps = naps; minds = minds }
+
+-- one of agents that do on the network what these minds do on the part
+abbrev pub through_part : World → (part : Network) → (port : (node port : ℕ) → ℕ) → (naps : ℕ) → Minds → Trial
+through_part world part port naps minds = record {
+  world = world;
+  held = none_held;
+  naps = naps;
+  minds = minds_by (followers part world.home port minds);
+}
+
+-- If minds solve the match on a part within bounds, then the others solve it on the network within the same bounds.
+abbrev pub PartsSuffice : Type 0
+PartsSuffice = (world : World) (part : Network) (port : (node port : ℕ) → ℕ) (naps : ℕ) (minds : Minds)
+    → IsPart world part port → (bounds : Bounds) → IsSolved (on_part world part naps minds) bounds
+    → IsSolved (through_part world part port naps minds) bounds
+
+-- And if they make this number of moves on the part under some schedule, so do the others on the network.
+abbrev pub PartsAttain : Type 0
+PartsAttain = (world : World) (part : Network) (port : (node port : ℕ) → ℕ) (naps : ℕ) (minds : Minds)
+    → IsPart world part port → (most : ℕ) → IsAttained (on_part world part naps minds) most
+    → IsAttained (through_part world part port naps minds) most
