@@ -336,7 +336,7 @@ guided_agents_solve world n right left naps guide search room enough enough_too 
 
 -- ---- all networks
 
--- a way costs no more than so many links in a row
+-- the ways to the first k nodes cost no more than on a ring
 trips_few : (net : WorldNetwork) (home n side : ℕ) (guide : Guide) → IsGuide net home n guide → side < 2 → (k : ℕ)
     → k < n → round_trips_by guide side k ≤ round_trips k
 trips_few net home n side guide is below zero within = omega arith

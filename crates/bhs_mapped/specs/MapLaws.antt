@@ -45,8 +45,8 @@ GuidedAgentsAttain = (world : World) (n one other naps : ℕ) (guide : Guide) �
     → 4 ≤ world.board → commands_by guide n 0 one ≤ world.quota → commands_by guide n 1 other ≤ world.quota
     → IsAttained (guided_trial world naps n guide) (moves_by guide 0 one + moves_by guide 1 other - 1)
 
--- These are no more moves than those of the shuttle on a ring, with the black hole so many links from the home base as
--- its numbers say: a way to the k-th node of a side has k steps at most.
+-- These are no more moves than those of the shuttle on a ring where the black hole has its numbers as distances: a way
+-- to the k-th node of a side has k steps at most.
 abbrev pub GuidedMovesAreFew : Type 0
 GuidedMovesAreFew = (net : WorldNetwork) (home n side k : ℕ) (guide : Guide) → IsGuide net home n guide → side < 2
     → k < n → moves_by guide side k ≤ moves_on k

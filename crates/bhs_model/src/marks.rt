@@ -45,7 +45,7 @@ pub struct Kept {
     pub mark: Option<Mark>,
 }
 
-// The text that a whiteboard shows whose last change is the Write at this place of the log; None where there is none.
+// The text that a whiteboard shows whose last change is the Write at this place of the log; None without a place.
 fn put_at(log: &[Kept], board: Option<u32>) -> Option<&Text>
     ensures { unwrap_or (option_map (λ text. text.now) result) [] ≡ text_at log.now board }
 {

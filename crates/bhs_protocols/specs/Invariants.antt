@@ -19,7 +19,7 @@ pub record Bounds : Type 0 where
   pub commands : (agent : ℕ) → ℕ
   pub turns : ℕ
 
--- the match of this picture is solved, at most so many agents are on links that destroy, and none fails now that
+-- the match of this picture is solved, at most this number of agents are on links that destroy, and none fails now that
 -- nothing more happens
 pub record IsSettled (trial : Trial) (lost : ℕ) (picture : Picture) : Type 0 where
   pub outcome : outcome_in trial.world picture ≡ Solved
