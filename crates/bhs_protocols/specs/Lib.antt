@@ -10,7 +10,6 @@ pub mod AllRings
 pub mod LastWord
 pub mod Losses
 pub mod Sizes
-pub mod Open
 pub mod Endless
 pub mod Halving
 pub mod Halves
