@@ -22,17 +22,21 @@ PATIENCE = 60
 
 
 class Command(NamedTuple):
-    """The words of a command, with what stands on its standard input, the file that it reads first, and how its faults
-    name its standard input."""
+    """The words of a command, with what stands on its standard input, the file that it reads first, how its faults name
+    its standard input, and what else they may name."""
     name: str
     words: Sequence[str]
     script: str
     reads: Optional[str]
     given: str = "script"
+    beside: Sequence[str] = ()
 
 
 # a replay of the examples without its last two lines, which each folder gets: what a server that was killed leaves
 PART, WHOLE_OF_PART = "examples/first0.jsonl.part", "examples/first0.jsonl"
+# a contest of one match by its tournament and its prefix, and the files of that match
+CONTEST = ["examples/appeal.toml", "--replay", "examples/appeal"]
+OF_CONTEST = ["examples/appeal0.jsonl", "examples/appeal0.jsonl.part"]
 TRIES = ["explore", "examples/version1.toml", "0"]
 DRAWS = ["--draws", "20", "--seed", "5", "--by", "slow-agents", "--hunt", "moves"]
 # each order of the program but `serve`, for which the tools have runs of their own: tests/test_commands.py compares
@@ -51,6 +55,8 @@ COMMANDS = [
     Command("appeal", ["judge", "examples/appeal0.jsonl", "--turns", "examples/appeal0.turns", "--tournament",
                        "examples/appeal.toml", "--match", "0"], "", "examples/appeal0.jsonl"),
     Command("recover", ["recover", PART], "", PART),
+    Command("contest table", ["table", *CONTEST], "", "examples/appeal.toml", beside=OF_CONTEST),
+    Command("contest recover", ["recover", *CONTEST], "", "examples/appeal.toml", beside=OF_CONTEST),
     Command("explore", TRIES, "examples/triangle.answers", "examples/version1.toml", "host"),
     Command("draw", [*TRIES, *DRAWS], "examples/triangle.answers", "examples/version1.toml", "host"),
 ]

@@ -40,7 +40,7 @@ def no_memory(lab: Lab) -> None:
         for most in range(8, 65):
             found = lab.run(command, limited(resource.RLIMIT_AS, most * MIB))
             places = {"arena", "output", command.given, "twin", "kept", *(f"kept{number}.jsonl" for number in range(4)),
-                      *(word.rpartition("=")[2] for word in command.words[1:])}
+                      *command.beside, *(word.rpartition("=")[2] for word in command.words[1:])}
             places |= {f"examples/{path.name}" for path in (lab.folder / "examples").glob("*.toml")}
             allowed = {f"{place}: memory" for place in places}
             lab.expect(f"{most} MiB of memory", command, found, allowed, NO_MEMORY, seen)

@@ -10,6 +10,9 @@ replays are written. Then of each match:
 - Otherwise `arena recover` makes a replay of the part.
 - It has each event that an agent was answered more than two seconds before the kill.
 
+And `arena recover T --replay P` prints the table of both: it writes the replays that are missing, each the text that
+`arena recover` printed, and leaves those that were there.
+
 By default there are 100 kills, several at the same time, which take a minute or two. For each kill that leaves less a
 line is printed; the last line reads `N passed, M failed`.
 """
@@ -81,21 +84,35 @@ class Client(threading.Thread):
                 time.sleep(0.004)
 
 
-def replay_of(program: str, folder: pathlib.Path, number: int) -> str:
+def replay_of(program: str, folder: pathlib.Path, number: int) -> bytes:
     """The replay that the server has left of a match, or that is made of its part."""
     replay = folder / f"match{number}.jsonl"
-    if not replay.exists():
-        made = subprocess.run([program, "recover", f"{replay}.part"], capture_output=True, timeout=PATIENCE)
-        if made.returncode:
-            raise Wrong(f"recover of match {number}: {made.stderr!r}")
-        replay.write_bytes(made.stdout)
-    judged = subprocess.run([program, "judge", str(replay)], capture_output=True, timeout=PATIENCE)
-    if judged.returncode:
-        raise Wrong(f"match {number}: {judged.stderr!r}")
-    return replay.read_text(encoding="utf-8")
+    if replay.exists():
+        return replay.read_bytes()
+    made = subprocess.run([program, "recover", f"{replay}.part"], capture_output=True, timeout=PATIENCE)
+    if made.returncode:
+        raise Wrong(f"recover of match {number}: {made.stderr!r}")
+    return made.stdout
 
 
-def told_events(replay: str) -> int:
+def finish(program: str, folder: pathlib.Path) -> List[bytes]:
+    """Finishes what the server has left; gives the replays."""
+    replays = [replay_of(program, folder, number) for number in range(len(TEAMS))]
+    recovered = subprocess.run([program, "recover", "cup.toml", "--replay", "match"], cwd=folder, capture_output=True,
+                               timeout=PATIENCE)
+    if recovered.returncode or recovered.stderr:
+        raise Wrong(f"recover: {recovered.stderr!r}")
+    names = [f"match{number}.jsonl" for number in range(len(TEAMS))]
+    if replays != [(folder / name).read_bytes() for name in names]:
+        raise Wrong("recover has written other replays")
+    words = ["table", *(f"{team}={name}" for team, name in zip(TEAMS, names))]
+    if recovered.stdout != subprocess.run([program, *words], cwd=folder, capture_output=True, check=True,
+                                          timeout=PATIENCE).stdout:
+        raise Wrong(f"recover has printed {recovered.stdout!r}")
+    return replays
+
+
+def told_events(replay: bytes) -> int:
     """How many commands stand in a replay."""
     events: List[Dict[str, object]] = [json.loads(line) for line in replay.splitlines()[1:]]
     return sum("agent" in event and event.get("do") not in (None, "deliver") for event in events)
@@ -118,9 +135,10 @@ def try_kill(program: str, kill: Kill, folder: pathlib.Path) -> None:
         time.sleep(kill.after)
         server.kill()
         end = time.monotonic()
-    for number, client in enumerate(clients):
+    for client in clients:
         client.join(PATIENCE)
-        found = told_events(replay_of(program, folder, number))
+    for number, (client, replay) in enumerate(zip(clients, finish(program, folder))):
+        found = told_events(replay)
         old = sum(moment < end - OLD for moment in client.answered)
         if found < old:
             raise Wrong(f"match {number} has {found} commands, and {old} were answered {OLD} s before")

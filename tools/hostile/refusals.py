@@ -13,6 +13,9 @@ A server is run so as well, with a client that enters and looks and one that has
 seconds, by itself. What the clients hear are fronts of what they hear else, and at most one of them hears less if
 the server ends well; the table is that of the replay; and the replay has all that was answered.
 
+A contest of which a part is left is finished so as well. Whatever is refused, the replay is whole or the part is
+there; and the same command, with nothing refused, then finishes it.
+
 TESTS is the program that `tools/play/library_tests.py TESTS` leaves. Its tests of tests/library/memory are run with
 each request for memory refused. They mark the beginning and the end of the calls that they test: if a request between
 two such marks is refused, the test must pass; if another one is, it may want memory itself. One test makes a match,
@@ -76,7 +79,12 @@ OTHERS = [Command("help", ["--help"], "", None), Command("no command", ["rehears
 WANTED = {"check": "first.checked", "rehearse": "first.printed", "built-in": "triangle.printed",
           "explain": "first.explained", "twin": "guess.twin", "recover": "first0.jsonl",
           "explore": "triangle.explored"}
-WANTED_TEXTS = {"judge": b"solved moves 13 lost 1\n", "appeal": b"solved moves 25 lost 1\n", "table": b"""\
+CONTEST_TABLE = b"""\
+  # team             outcome     moves lost
+  1 red              solved         25    1
+"""
+WANTED_TEXTS = {"contest table": CONTEST_TABLE, "contest recover": CONTEST_TABLE,
+                "judge": b"solved moves 13 lost 1\n", "appeal": b"solved moves 25 lost 1\n", "table": b"""\
   # team             outcome     moves lost
   1 red              solved         13    1
   2 blue             guess 1         0    0
@@ -204,13 +212,13 @@ def judged(lab: Lab, text: bytes, *words: str) -> Optional[bytes]:
 
 def wheres(folder: pathlib.Path, command: Command, mode: str) -> Set[str]:
     """What a fault of this kind may name: files that the command reads, files that it writes, or a stream."""
-    named = {word.rpartition("=")[2] for word in command.words}
+    named = {*(word.rpartition("=")[2] for word in command.words), *command.beside}
     files = {name for name in named if (folder / name).is_file()}
     if any(name.endswith(".toml") for name in files):
         files |= {f"examples/{path.name}" for path in (folder / "examples").glob("*.toml")}
     written = {"output", *(f"kept{number}.jsonl" for number in range(4) if "kept" in named)}
     read = files | ({command.given} if command.script else set())
-    made = read | written | {"arena"} | named & {"kept", "twin"}
+    made = read | written | {"arena", *command.beside} | named & {"kept", "twin", "examples/appeal"}
     return {"read": read, "write": written, "memory": made}[kind_of(mode)]
 
 
@@ -285,6 +293,41 @@ def refuse_command(trials: Trials, command: Command) -> None:
         may_name = wheres(lab.folder, command, mode)
         trials.alike(lambda place: outcome(mode, may_name, whole, attempt(trials, command, mode, place), accepts),
                      places(number, trials.most), f"{command.name}, {mode} of {number}", f"{command.name}, {mode}")
+
+
+# what finishes a contest of one match, and the replay that it is to make of the match's part
+RECOVERY, RECOVERED = ["recover", "examples/appeal.toml", "--replay", "kept"], "appeal0.jsonl"
+
+
+def recover_twice(trials: Trials, numbers: Dict[str, int], mode: str = "", place: int = 0) -> str:
+    """Finishes a contest with this call refused, or none: the replay is whole, or the part is there. Then finishes it
+    with nothing refused."""
+    lab = trials.lab
+    whole = (lab.folder / "examples" / RECOVERED).read_bytes()
+    with room_of(lab) as room:
+        replay, part = room / "kept0.jsonl", room / "kept0.jsonl.part"
+        part.write_bytes(b"".join(whole.splitlines(keepends=True)[:-2]))
+        with trials.shim.counting(numbers, mode, place) as variables:
+            first = plain_run(lab, RECOVERY, room, variables=variables)
+        if not (replay.read_bytes() == whole if replay.exists() else part.exists()):
+            raise Otherwise(f"status {first.status}, and the match is lost: {os.listdir(room)}")
+        is_finished = first.printed == CONTEST_TABLE and replay.exists()
+        if not (is_finished if first.status == DONE else first.told):
+            raise Otherwise(f"status {first.status}, printed `{first.printed[-200:]!r}`")
+        again = plain_run(lab, RECOVERY, room)
+        if again != Run(DONE, CONTEST_TABLE, "") or replay.read_bytes() != whole:
+            raise Otherwise(f"once more: status {again.status}, `{again.told.strip()[:200]}`")
+    return "finished at once" if first.status == DONE else "finished once more"
+
+
+def refuse_recovery(trials: Trials) -> None:
+    """Finishes a contest with each call of each kind refused."""
+    numbers: Dict[str, int] = {}
+    recover_twice(trials, numbers)
+    for mode in MODES:
+        number = numbers[kind_of(mode)]
+        trials.alike(lambda place: recover_twice(trials, {}, mode, place), places(number, trials.most),
+                     f"a contest that is finished, {mode} of {number}", f"a contest that is finished, {mode}")
 
 
 class Contest(NamedTuple):
@@ -517,6 +560,7 @@ def main() -> int:
             fault = wanted_fault(lab, command, plain, attempt(trials, command))
             lab.faults += [f"{command.name} with nothing refused: {fault}"] if fault else []
             refuse_command(trials, command)
+        refuse_recovery(trials)
         refuse_server(trials)
         if given.tests:
             refuse_tests(trials, given.tests)

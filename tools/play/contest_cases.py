@@ -325,6 +325,28 @@ def killed(stage: Stage) -> None:
         raise Wrong("the match in which nothing happened is not recovered")
 
 
+@case("a contest that is still served is not recovered, and one that was killed is finished")
+def finished(stage: Stage) -> None:
+    words = ["recover", "cup.toml", "--replay", "match"]
+    with served(stage, turns=LONG) as server:
+        server.hears(enter("ba") + b'{"do":"accuse","port":1}\n')
+        part = stage.folder / "match1.jsonl.part"
+        if not wait_for(lambda: part.read_bytes().count(b"\n") == 3):
+            raise Wrong(f"the part is {part.read_bytes()!r}")
+        expect(stage.run(words), b"", b"match0.jsonl.part: busy\n", FAILED_STREAM)
+        if names(stage) != ["match0.jsonl.part", "match1.jsonl.part"]:
+            raise Wrong(f"there are {names(stage)}")
+        server.child.kill()
+    replay = stage.run(["recover", part.name]).printed
+    ranked = table("  1 blue             guess 1         0    0", "  2 red              silent          0    0")
+    expect(stage.run(words), ranked)
+    if names(stage) != ["match0.jsonl", "match1.jsonl"] or (stage.folder / "match1.jsonl").read_bytes() != replay:
+        raise Wrong(f"there are {names(stage)}")
+    if (stage.folder / "match1.jsonl").stat().st_mode & 0o777 != 0o600:
+        raise Wrong("others may read a replay that was recovered")
+    expect(stage.run(["table", *words[1:]]), ranked)
+
+
 @case("a text that is no part is not recovered")
 def no_part(stage: Stage) -> None:
     for text, told in ((b"", b"head"), (b'{"version"', b"head"), (b"{}\n", b"head")):

@@ -64,6 +64,14 @@ module _ (words : List (Bor Text)) (place : ℕ) (d : Bor Text) (within : place 
         some)
         ∙ (sym (ap (joined done) next_entry) ∙ so_far))
 
+-- a name and what stands behind it, if something is there
+pub both_found : {X N R : Type 0} (first : X → N) (second : X → R) (found : Option X) (name : N) (rest : R)
+    → Some name ≡ option_map first found
+    → Some rest ≡ option_map (λ (one : N × R). one.1) (option_map {U = N × R} (λ one. (first one, second one)) found)
+    → option_map {U = N × R} (λ one. (first one, second one)) found ≡ Some (name, rest)
+both_found first second None name rest named said = absurd cc
+both_found first second (Some one) name rest named said = cc
+
 -- the texts that clap found
 pub texts_found : (found : Found) (id : Text) (texts : Bor (List (Bor Text)))
     → option_map (λ (s : Bor (List (Bor Text))). map (λ v. v.now) s.now) (Some texts) ≡ option_map raw_values

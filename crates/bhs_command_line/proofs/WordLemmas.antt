@@ -17,6 +17,7 @@ use Rattle.bhs_command_line.specs.CommandLine.{number_in, entries_in, order_by}
 use Rattle.bhs_command_line.specs.declared.orders.Order.{Order}
 use Rattle.bhs_command_line.specs.declared.orders.Order.TheVariants.{Check, Explain, Explore, Judge, Recover, Rehearse}
 use Rattle.bhs_command_line.specs.declared.orders.Order.TheVariants.{RehearseInteractively, Serve, Table, Twin}
+use Rattle.bhs_command_line.specs.declared.orders.Order.TheVariants.{ContestTable, RecoverContest}
 use Rattle.bhs_command_line.specs.declared.orders.Order.TheVariants as order
 use Rattle.bhs_command_line.specs.declared.orders.Entry.{Entry}
 use Rattle.bhs_command_line.specs.declared.orders.Exploration.{Exploration}
@@ -229,6 +230,16 @@ recover_named part e =
     order_read recover_enters (part ∷ []) _ _
     (reads_more (read_plain (leaf_of recover) _ 1 idle part e refl) (reads_none (leaf_of recover) _)) refl refl
 
+contest_recovered : (tournament prefix : Text) → is_dashed tournament ≡ false → is_dashed prefix ≡ false
+    → Gives (codes "recover" ∷ tournament ∷ codes "--replay" ∷ prefix ∷ []) (RecoverContest tournament prefix)
+unfolding clap_on_literals
+contest_recovered tournament prefix e f =
+    order_read recover_enters (tournament ∷ codes "--replay" ∷ prefix ∷ []) _ _
+    (reads_more (read_plain (leaf_of recover) _ 1 idle tournament e refl)
+    (reads_more (record { faultless = refl; goes = refl })
+    (reads_more (read_plain (leaf_of recover) _ 2 (option (codes "prefix")) prefix f refl)
+    (reads_none (leaf_of recover) _)))) refl refl
+
 table_enters : Enters (codes "table") (leaf_of table)
 unfolding clap_on_literals
 table_enters = record {
@@ -245,6 +256,16 @@ unfolding clap_on_literals
 table_found word e =
     order_read table_enters (word ∷ []) _ _
     (reads_more (read_plain (leaf_of table) _ 1 idle word e refl) (reads_none (leaf_of table) _)) refl refl
+
+contest_tabled : (tournament prefix : Text) → is_dashed tournament ≡ false → is_dashed prefix ≡ false
+    → Gives (codes "table" ∷ tournament ∷ codes "--replay" ∷ prefix ∷ []) (ContestTable tournament prefix)
+unfolding clap_on_literals
+contest_tabled tournament prefix e f =
+    order_read table_enters (tournament ∷ codes "--replay" ∷ prefix ∷ []) _ _
+    (reads_more (read_plain (leaf_of table) _ 1 idle tournament e refl)
+    (reads_more (record { faultless = refl; goes = refl })
+    (reads_more (read_plain (leaf_of table) _ 1 (option (codes "prefix")) prefix f refl)
+    (reads_none (leaf_of table) _)))) refl refl
 
 explain_enters : Enters (codes "explain") (leaf_of explain)
 unfolding clap_on_literals
@@ -326,6 +347,10 @@ says_gives words (order.Appeal replay appeal) (word, plain, also, third, last, s
           ∙ ap (λ (o : Option ℕ). option_map (order.Appeal replay) (appeal_of appeal.turns appeal.tournament o)) says,
     )
 says_gives words (Recover part) (plain, is) = here words _ _ is (recover_named part plain)
+says_gives words (RecoverContest tournament prefix) (plain, also, is) =
+    here words _ _ is (contest_recovered tournament prefix plain also)
+says_gives words (ContestTable tournament prefix) (plain, also, is) =
+    here words _ _ is (contest_tabled tournament prefix plain also)
 says_gives words (Table entries) (word, plain, says, is) =
     let found = table_found word plain in
     here words _ _ is (found.0, found.1 ∙ ap (λ (o : Option (List Entry)). option_map Table o) says)

@@ -19,6 +19,7 @@ use Rattle.bhs_text.specs.Teams.{is_team}
 use Rattle.bhs_command_line.specs.declared.orders.Order.{Order}
 use Rattle.bhs_command_line.specs.declared.orders.Order.TheVariants.{Rehearse, Check, Judge, Table, Explain, Twin}
 use Rattle.bhs_command_line.specs.declared.orders.Order.TheVariants.{Explore, Recover, Serve, RehearseInteractively}
+use Rattle.bhs_command_line.specs.declared.orders.Order.TheVariants.{ContestTable, RecoverContest}
 use Rattle.bhs_command_line.specs.declared.orders.Order.TheVariants as variants
 use Rattle.bhs_command_line.specs.declared.orders.Appeal.{Appeal}
 use Rattle.bhs_command_line.specs.declared.orders.Entry.{Entry}
@@ -89,7 +90,7 @@ judge = command (codes "judge") (must_have (codes "replay") ∷ behind (codes "t
     ∷ [])
 
 abbrev pub table : Shape
-table = command (codes "table") (entry_words ∷ [])
+table = command (codes "table") (entry_words ∷ behind (codes "replay") (may_have (codes "prefix")) ∷ [])
 
 abbrev pub explain : Shape
 explain = command (codes "explain") (must_have (codes "replay") ∷ must_have (codes "agent") ∷ [])
@@ -98,7 +99,8 @@ abbrev pub twin : Shape
 twin = command (codes "twin") (must_have (codes "replay") ∷ must_have (codes "node") ∷ [])
 
 abbrev pub recover : Shape
-recover = command (codes "recover") (must_have (codes "part") ∷ [])
+recover = command (codes "recover")
+    (must_have (codes "file") ∷ behind (codes "replay") (may_have (codes "prefix")) ∷ [])
 
 -- how many states are visited, and how often agents may nap, where no word says it
 abbrev pub default_states : Text
@@ -344,6 +346,33 @@ abbrev pub judging_by : List Row → Option Order
 judging_by rows = judging_of (text_in (codes "replay") rows) (first_of (codes "turns") rows)
     (first_of (codes "tournament") rows) (first_of (codes "match") rows)
 
+-- whether one word stands where a table has its entries
+abbrev pub is_one_word : List Row → Bool
+is_one_word rows = length (texts_in (codes "entry") rows) == 1
+
+-- the table of a contest with this prefix, if one word alone says its tournament
+abbrev pub contest_table_by : (prefix : Text) → List Row → Option Order
+contest_table_by prefix rows =
+    if is_one_word rows then Some (ContestTable (text_in (codes "entry") rows) prefix) else None
+
+-- the table of entries, or with a prefix that of a contest
+abbrev pub tabling_of : (prefix : Option Text) → List Row → Option Order
+tabling_of None rows = option_map Table (entries_in (texts_in (codes "entry") rows))
+tabling_of (Some prefix) rows = contest_table_by prefix rows
+
+-- the order that the words of `table` give
+abbrev pub tabling_by : List Row → Option Order
+tabling_by rows = tabling_of (first_of (codes "prefix") rows) rows
+
+-- the recovery of the match of a part, or with a prefix that of the contest of a tournament
+abbrev pub recovery_of : (file : Text) → (prefix : Option Text) → Order
+recovery_of file None = Recover file
+recovery_of file (Some prefix) = RecoverContest file prefix
+
+-- the order that the words of `recover` give
+abbrev pub recovery_by : List Row → Order
+recovery_by rows = recovery_of (text_in (codes "file") rows) (first_of (codes "prefix") rows)
+
 -- the order that a command gives
 abbrev pub order_by : Text × List Row → Option Order
 order_by (name, rows) =
@@ -352,12 +381,13 @@ order_by (name, rows) =
     (first_of (codes "prefix") rows))
     else (if bytes_eq name (codes "check") then Some (Check (text_in (codes "tournament") rows))
     else (if bytes_eq name (codes "judge") then judging_by rows
-    else (if bytes_eq name (codes "table") then option_map Table (entries_in (texts_in (codes "entry") rows))
+    else (if bytes_eq name (codes "table") then tabling_by rows
     else (if bytes_eq name (codes "explain")
     then option_map (Explain (text_in (codes "replay") rows)) (number_in (text_in (codes "agent") rows))
     else (if bytes_eq name (codes "twin")
     then option_map (Twin (text_in (codes "replay") rows)) (number_in (text_in (codes "node") rows))
-    else (if bytes_eq name (codes "recover") then Some (Recover (text_in (codes "part") rows))
+    else (if bytes_eq name (codes "recover")
+    then Some (recovery_by rows)
     else (if bytes_eq name (codes "explore")
     then option_map (Explore (text_in (codes "tournament") rows)) (exploration_by rows)
     else (if bytes_eq name (codes "serve")
@@ -406,6 +436,8 @@ Says words (variants.Appeal replay appeal) =
     ∷ codes "--match" ∷ word ∷ [])
 Says words (Table entries) =
     (word : Text) × IsName word × (entries_in (word ∷ []) ≡ Some entries) × (words ≡ codes "table" ∷ word ∷ [])
+Says words (ContestTable tournament prefix) =
+    IsName tournament × IsName prefix × (words ≡ codes "table" ∷ tournament ∷ codes "--replay" ∷ prefix ∷ [])
 Says words (Explain replay agent) =
     (word : Text) × IsName replay × IsName word × (number_in word ≡ Some agent)
     × (words ≡ codes "explain" ∷ replay ∷ word ∷ [])
@@ -413,6 +445,8 @@ Says words (Twin replay node) =
     (word : Text) × IsName replay × IsName word × (number_in word ≡ Some node)
     × (words ≡ codes "twin" ∷ replay ∷ word ∷ [])
 Says words (Recover part) = IsName part × (words ≡ codes "recover" ∷ part ∷ [])
+Says words (RecoverContest tournament prefix) =
+    IsName tournament × IsName prefix × (words ≡ codes "recover" ∷ tournament ∷ codes "--replay" ∷ prefix ∷ [])
 Says words (Explore tournament exploration) =
     (word : Text) × IsName tournament × IsName word × (plain_exploration_in word ≡ Some exploration)
     × (words ≡ codes "explore" ∷ tournament ∷ word ∷ [])
@@ -435,7 +469,8 @@ is_asked _ = false
 abbrev pub AreFaulty : List Text → Type 0
 AreFaulty words = IsTrue (list_any (λ kind. not (is_asked kind)) (faults words))
 
--- the words are a use of the command line, and one of them is no number, or no entry of a table
+-- the words are a use of the command line, and one of them is no number, or no entry of a table, or they do not go
+-- together
 abbrev pub AreUnfit : List Text → Type 0
 AreUnfit words = (faults words ≡ []) × (order_in words ≡ None)
 

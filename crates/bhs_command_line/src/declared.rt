@@ -70,7 +70,7 @@ fn rehearse_command<'a>(alloc: Global) -> Result<Command<'a>, AllocError>
     );
     let command = with(
         command.arg(optional_tournament(alloc)),
-        replay_option(alloc),
+        prefix_option(alloc, help::REHEARSED_REPLAYS),
     );
     with(
         command,
@@ -126,7 +126,10 @@ fn table_command<'a>(alloc: Global) -> Result<Command<'a>, AllocError>
         help::TABLE_AT_LENGTH,
         help::TABLE_EXAMPLE,
     );
-    command.arg(entry_words(alloc))
+    with(
+        command.arg(entry_words(alloc)),
+        prefix_option(alloc, help::TABLED_REPLAYS),
+    )
 }
 
 fn explain_command<'a>(alloc: Global) -> Result<Command<'a>, AllocError>
@@ -176,12 +179,10 @@ fn recover_command<'a>(alloc: Global) -> Result<Command<'a>, AllocError>
         help::RECOVER_AT_LENGTH,
         help::RECOVER_EXAMPLE,
     );
-    command.arg(must_have(
-        alloc,
-        "part",
-        "PART",
-        "The part's file, as a path from the working directory",
-    ))
+    with(
+        command.arg(must_have(alloc, "file", "FILE", help::RECOVERED_FILE)),
+        prefix_option(alloc, help::RECOVERED_REPLAYS),
+    )
 }
 
 fn explore_command<'a>(alloc: Global) -> Result<Command<'a>, AllocError>
@@ -237,7 +238,7 @@ fn serve_command<'a>(alloc: Global) -> Result<Command<'a>, AllocError>
         command,
         default_option(alloc, "pause", "PAUSE", help::PAUSE, "5"),
     );
-    let command = with(command, served_replays_option(alloc));
+    let command = with(command, prefix_option(alloc, help::SERVED_REPLAYS));
     let command = with(
         command,
         default_option(alloc, "grace", "MS", help::GRACE, "10000"),
@@ -324,24 +325,12 @@ fn optional_tournament<'a>(alloc: Global) -> Arg<'a>
     )
 }
 
-fn served_replays_option<'a>(alloc: Global) -> Arg<'a>
+// The option that says with what the names of replays begin.
+fn prefix_option<'a>(alloc: Global, help: &'a str) -> Arg<'a>
     ensures rule { rule_of result ≡ specs.behind (codes "replay") (specs.may_have (codes "prefix")) }
     ensures local { result.global ≡ false }
 {
-    may_have(alloc, "prefix", "PREFIX", help::SERVED_REPLAYS).long("replay")
-}
-
-fn replay_option<'a>(alloc: Global) -> Arg<'a>
-    ensures rule { rule_of result ≡ specs.behind (codes "replay") (specs.may_have (codes "prefix")) }
-    ensures local { result.global ≡ false }
-{
-    may_have(
-        alloc,
-        "prefix",
-        "PREFIX",
-        "Writes the replay of each match M that has ended to the file PREFIXM.jsonl",
-    )
-    .long("replay")
+    may_have(alloc, "prefix", "PREFIX", help).long("replay")
 }
 
 // An option that takes a word and may be left out.
@@ -367,11 +356,5 @@ fn entry_words<'a>(alloc: Global) -> Arg<'a>
     ensures rule { rule_of result ≡ specs.entry_words }
     ensures local { result.global ≡ false }
 {
-    must_have(
-        alloc,
-        "entry",
-        "TEAM=REPLAY",
-        "A team, and the file of the replay of its match; they are split at the first =",
-    )
-    .action(ArgAction::Append)
+    must_have(alloc, "entry", "TEAM=REPLAY", help::ENTRIES).action(ArgAction::Append)
 }

@@ -1,11 +1,12 @@
 //! The order in what clap made of the words.
 
-ghost use Rattle.std.specs.Prelude.{◌≡◌, ◌<◌, ◌^◌, IfOk, option_and_then, option_map, codes};
+ghost use Rattle.std.specs.Prelude.{◌≡◌, ◌<◌, ◌^◌, IfOk, Some, option_and_then, option_map, codes};
 ghost use Rattle.bhs_command_line.specs.CommandLine.{order_by, exploration_by, hosting_by, number_by, entries_in};
 ghost use Rattle.bhs_command_line.specs.CommandLine.{is_given, rehearsal_of, text_in, texts_in};
 ghost use Rattle.bhs_command_line.specs.CommandLine.{drawing_by, drawing_in, drawing_of, hunt_in, hunted_in, pace_in};
 ghost use Rattle.bhs_command_line.specs.CommandLine.{number_within, paced_in, seed_in};
 ghost use Rattle.bhs_command_line.specs.CommandLine.{appeal_of, judging_by, judging_of, number_in};
+ghost use Rattle.bhs_command_line.specs.CommandLine.{contest_table_by, is_one_word, recovery_by, tabling_by};
 ghost use Rattle.clap.specs.Words.{first_of, found_of, rows_of, subcommand_rows_of};
 
 use crate::numbers::{
@@ -49,10 +50,7 @@ fn order_named(
             tournament: text_given(alloc, words, "tournament")?,
         })),
         "judge" => judging_given(alloc, words),
-        "table" => match entries_given(alloc, words)? {
-            Some(entries) => Ok(Some(Order::Table { entries })),
-            None => Ok(None),
-        },
+        "table" => tabling_given(alloc, words),
         "explain" => match short_given(words, &AGENT) {
             Some(agent) => Ok(Some(Order::Explain {
                 replay: text_given(alloc, words, "replay")?,
@@ -67,9 +65,7 @@ fn order_named(
             })),
             None => Ok(None),
         },
-        "recover" => Ok(Some(Order::Recover {
-            part: text_given(alloc, words, "part")?,
-        })),
+        "recover" => recovery_given(alloc, words),
         "explore" => match exploration_given(alloc, words)? {
             Some(exploration) => Ok(Some(Order::Explore {
                 tournament: text_given(alloc, words, "tournament")?,
@@ -140,6 +136,60 @@ fn appealing(replay: Text, turns: Text, tournament: Text, word: &str) -> Option<
         game,
     };
     Some(Order::Appeal { replay, appeal })
+}
+
+// The order that the words of `table` give.
+fn tabling_given(alloc: Global, words: &ArgMatches<'_>) -> Result<Option<Order>, AllocError>
+    ensures { IfOk result (λ order. order ≡ tabling_by (rows_of (found_of words.now))) }
+{
+    if let Some(prefix) = text_if_any(alloc, words, "prefix")? {
+        return contest_table_given(alloc, words, prefix);
+    }
+    match entries_given(alloc, words)? {
+        Some(entries) => Ok(Some(Order::Table { entries })),
+        None => Ok(None),
+    }
+}
+
+// The table of a contest with this prefix, if one word alone says its tournament.
+fn contest_table_given(
+    alloc: Global,
+    words: &ArgMatches<'_>,
+    prefix: Text,
+) -> Result<Option<Order>, AllocError>
+    ensures { IfOk result (λ order. order ≡ contest_table_by prefix (rows_of (found_of words.now))) }
+{
+    if !is_one_word(words) {
+        return Ok(None);
+    }
+    Ok(Some(Order::ContestTable {
+        tournament: text_given(alloc, words, "entry")?,
+        prefix,
+    }))
+}
+
+// Whether one word stands where a table has its entries.
+fn is_one_word(words: &ArgMatches<'_>) -> bool
+    ensures { result ≡ is_one_word (rows_of (found_of words.now)) }
+{
+    match words.get_strs("entry") {
+        Some(texts) => texts.len() == 1,
+        None => false,
+    }
+}
+
+// The order that the words of `recover` give.
+fn recovery_given(alloc: Global, words: &ArgMatches<'_>) -> Result<Option<Order>, AllocError>
+    ensures { IfOk result (λ order. order ≡ Some (recovery_by (rows_of (found_of words.now)))) }
+{
+    let file = text_given(alloc, words, "file")?;
+    match text_if_any(alloc, words, "prefix")? {
+        Some(prefix) => Ok(Some(Order::RecoverContest {
+            tournament: file,
+            prefix,
+        })),
+        None => Ok(Some(Order::Recover { part: file })),
+    }
 }
 
 // Whether an option that takes no word is given.

@@ -217,10 +217,15 @@ pub(crate) const TABLE_AT_LENGTH: &str = "\
 Reads the replays that the words name, one after the other, judges each, and
 prints the table of the teams: the best first, by the outcome, then by fewer
 moves, then by fewer lost agents, then by the team's name. `arena judge --help`
-says what the outcomes are. A team is 1 to 16 of a to z, 0 to 9 and -.";
+says what the outcomes are. A team is 1 to 16 of a to z, 0 to 9 and -.
+
+With --replay the only word is the file of a tournament, and the table is that
+of its contest: the replay of match M is PREFIXM.jsonl, as `arena serve` writes
+it. A match whose replay cannot be read, or is that of another match, is told on
+standard error and left out; the others count.";
 
 pub(crate) const TABLE_EXAMPLE: &str = "\
-Example:
+Examples:
 
   arena table blue=blue0.jsonl red=red0.jsonl
 
@@ -230,12 +235,17 @@ prints
     1 red              solved          1    0
     2 blue             guess 1         0    0
 
+and this prints the table of a contest once more:
+
+  arena table cup.toml --replay cup
+
 Exit status:
 
   0  The table was printed
   2  The command line was refused
-  3  A file is not a replay: head, line or end
-  4  A replay could not have happened: event or differs
+  3  A file is not a replay: head, line or end; or the tournament was refused
+  4  A replay could not have happened: event or differs; or it is not that of
+     its match
   5  Memory ran out
   6  Reading or writing failed";
 
@@ -305,7 +315,7 @@ Exit status:
   5  Memory ran out
   6  Reading or writing failed";
 
-pub(crate) const RECOVER: &str = "Prints the replay of a match whose server was killed";
+pub(crate) const RECOVER: &str = "Saves a match, or a whole contest, whose server was killed";
 
 pub(crate) const RECOVER_AT_LENGTH: &str = "\
 While `arena serve` runs, it writes what happens in match M to the file
@@ -316,20 +326,35 @@ that its server was killed, or that the disk was full.
 This command reads a part, and prints the replay of its match as if the match
 had been closed where the part ends. A last line that is torn counts for
 nothing. The other commands read what it prints. Faults are told as by `arena
-judge`.";
+judge`.
+
+With --replay the file is that of a tournament, and its contest is finished. For
+each match M without a replay PREFIXM.jsonl, but with a part, the replay is
+written, and the part is removed. A replay that is there is never replaced. Then
+the table is printed as `arena table TOURNAMENT --replay PREFIX` prints it. If a
+server still writes the parts, that is told as `busy`, and nothing is written.";
 
 pub(crate) const RECOVER_EXAMPLE: &str = "\
-Example:
+Examples:
 
-  arena recover cup0.jsonl.part > cup0.jsonl
-  arena judge cup0.jsonl
+  arena recover cup.toml --replay cup
+
+writes the replays that are missing, and prints the table.
+
+  arena recover cup0.jsonl.part > match0.jsonl
+  arena judge match0.jsonl
+
+prints the replay of one match, and then says its verdict.
 
 Exit status:
 
-  0  The replay was printed
+  0  The replay was printed; or each match has a replay, and the table was
+     printed
   2  The command line was refused
-  3  The file is not a part of a replay: head, line or end
-  4  The part could not have happened: event or differs
+  3  The file is not a part of a replay: head, line or end; or the tournament
+     was refused
+  4  The part could not have happened: event or differs; or a part or a replay
+     is not that of its match
   5  Memory ran out
   6  Reading or writing failed";
 
@@ -512,14 +537,16 @@ matches stand. A match that is closed so is judged like any other. The end of
 standard input changes nothing.
 
 While a contest goes on, what happens in match M is written to the file
-PREFIXM.jsonl.part, about once a second; `arena recover` reads it, if the server
-is killed. At the end the replay is written to PREFIXM.jsonl, and the part is
-removed. Earlier files of these names are never replaced: before the contest
-begins they get .old behind their names, or .old2 and so on if that is there.
-Then each match is judged, and the table is printed as `arena table` prints it.
-Files that appear meanwhile are not replaced either. The server locks each part,
-so that no other one writes files of these names. Only the owner may read parts
-and replays, since they name the black holes: chmod a+r shows them to others.
+PREFIXM.jsonl.part, about once a second. At the end the replay is written to
+PREFIXM.jsonl, and the part is removed. If the server is killed, `arena recover
+TOURNAMENT --replay PREFIX` writes the replays that are missing by the parts,
+and prints the table. Earlier files of these names are never replaced: before
+the contest begins they get .old behind their names, or .old2 and so on if that
+is there. Then each match is judged, and the table is printed as `arena table`
+prints it. Files that appear meanwhile are not replaced either. The server locks
+each part, so that no other one writes files of these names. Only the owner may
+read parts and replays, since they name the black holes: chmod a+r shows them to
+others.
 
 Memory: until the end the server keeps each command as it came, twice, and each
 answer with the whiteboard that it shows. A line has up to 64 KiB. So a match of
@@ -585,6 +612,22 @@ pub(crate) const EARLY: &str = "Closes a match as soon as each of its agents has
 pub(crate) const ADDRESS: &str = "The address to listen on, of IPv4 or IPv6";
 
 pub(crate) const LOG: &str = "Tells on standard error who plays, and how sessions and matches end";
+
+pub(crate) const REHEARSED_REPLAYS: &str =
+    "Writes the replay of each match M that has ended to the file PREFIXM.jsonl";
+
+pub(crate) const ENTRIES: &str = "\
+A team, and the file of the replay of its match; they are split at the first =. With --replay only one word: the file \
+of the tournament";
+
+pub(crate) const TABLED_REPLAYS: &str = "\
+Prints the table of a contest of this tournament: the replay of match M is the file PREFIXM.jsonl";
+
+pub(crate) const RECOVERED_FILE: &str = "\
+The part's file, or with --replay that of the tournament, as a path from the working directory";
+
+pub(crate) const RECOVERED_REPLAYS: &str = "\
+Finishes a contest of this tournament: writes the replays PREFIXM.jsonl that are missing, and prints the table";
 
 pub(crate) const SERVED_REPLAYS: &str = "\
 Writes the replay of each match M to the file PREFIXM.jsonl; without it the file of the tournament gives PREFIX, the \

@@ -36,6 +36,11 @@ pub enum Order {
     Table {
         entries: Entries,
     },
+    /// Prints the table of the teams of the tournament of this file, by the replays whose names begin with the prefix.
+    ContestTable {
+        tournament: Text,
+        prefix: Text,
+    },
     /// Prints the causal past of this agent in the match of the replay.
     Explain {
         replay: Text,
@@ -49,6 +54,12 @@ pub enum Order {
     /// Prints the replay of the match of a part, which is the file of this name.
     Recover {
         part: Text,
+    },
+    /// Writes the replays that are missing of a contest of the tournament of this file, by the parts whose names begin
+    /// with the prefix, and prints its table.
+    RecoverContest {
+        tournament: Text,
+        prefix: Text,
     },
     /// Tries every schedule, or schedules that are drawn, of a match of the tournament of this file, whose agents a
     /// host plays.

@@ -12,7 +12,7 @@ use std::alloc::{AllocError, Global};
 /// Tells the first word that its command does not take, in the form of clap's own texts.
 pub(crate) fn unfit_text(alloc: Global, matches: &ArgMatches<'_>) -> Result<String, AllocError> {
     match matches.subcommand() {
-        Some(("table", words)) => unfit_entry(alloc, words),
+        Some(("table", words)) => unfit_table(alloc, words),
         Some(("judge", words)) => unfit_appeal(alloc, words),
         Some(("explain", words)) => unfit_number(alloc, words, &[AGENT]),
         Some(("twin", words)) => unfit_number(alloc, words, &[NODE]),
@@ -107,6 +107,18 @@ fn unfit_number(
     format!(in alloc;
         "error: invalid value '{word}' for '{name}': it is no number from {least} to {most}\n\n\
         For more information, try '--help'.\n"
+    )
+}
+
+// Tells that --replay goes with one tournament, or the first word that is no entry.
+fn unfit_table(alloc: Global, words: &ArgMatches<'_>) -> Result<String, AllocError> {
+    if words.get_str("prefix").is_none() {
+        return unfit_entry(alloc, words);
+    }
+    String::from_str(
+        alloc,
+        "error: --replay <PREFIX> goes with one word, which is the file of the tournament\n\n\
+        For more information, try '--help'.\n",
     )
 }
 

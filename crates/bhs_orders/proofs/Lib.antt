@@ -11,3 +11,4 @@ pub mod ListLemmas
 pub mod AnsweredLemmas
 pub mod TurnsLemmas
 pub mod HeldLemmas
+pub mod FoundLemmas

@@ -17,3 +17,5 @@ pub mod Naming
 pub mod Turns
 pub mod HeldLinks
 pub mod Appeals
+pub mod ContestTables
+pub mod Recovery

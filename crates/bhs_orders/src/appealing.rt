@@ -137,8 +137,8 @@ fn late(place: usize, held: Option<usize>) -> AppealFault
     }
 }
 
-// Whether a match that has ended has the head of a match that is ready.
-fn is_same_match(alloc: Global, sealed: &Sealed, ready: &Ready) -> Result<bool, Memory>
+/// Whether a match that has ended has the head of a match that is ready.
+pub(crate) fn is_same_match(alloc: Global, sealed: &Sealed, ready: &Ready) -> Result<bool, Memory>
     ensures { IfOk result (λ same. IsTrue same ↔ (own_head sealed.now.net sealed.now.setup
         ≡ own_head ready.now.game.net ready.now.game.setup)) }
 {

@@ -71,8 +71,8 @@ fn old_name(alloc: Global, name: &str, number: u32) -> Result<String, Memory>
     }
 }
 
-// Whether nothing stands under a name.
-fn is_free<F: Files>(files: &F, name: &str) -> Result<bool, Fault> {
+/// Whether nothing stands under a name.
+pub(crate) fn is_free<F: Files>(files: &F, name: &str) -> Result<bool, Fault> {
     match fs::symlink_metadata(files, name) {
         Ok(_) => Ok(false),
         Err(error) if error.kind() == ErrorKind::NotFound => Ok(true),
@@ -104,7 +104,8 @@ pub fn print_recovered<F: Files, W: Output, E: Write>(
     }
 }
 
-fn match_of_part<F: Files>(alloc: Global, files: &F, name: &str) -> Result<Sealed, Fault>
+/// The match of a part, closed where its whole lines stop.
+pub(crate) fn match_of_part<F: Files>(alloc: Global, files: &F, name: &str) -> Result<Sealed, Fault>
     ensures { IfOk result IsOfPart }
 {
     let mut file = fs::open(files, name)?;

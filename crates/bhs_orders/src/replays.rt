@@ -47,7 +47,8 @@ pub(crate) fn match_of<F: Files, E: Write>(
     }
 }
 
-fn read_match<F: Files>(alloc: Global, files: &F, name: &str) -> Result<Sealed, Fault>
+/// The match of a replay's file.
+pub(crate) fn read_match<F: Files>(alloc: Global, files: &F, name: &str) -> Result<Sealed, Fault>
     ensures { IfOk result IsReplayed }
 {
     let mut file = fs::open(files, name)?;

@@ -1,5 +1,6 @@
 -- The exit statuses of what the program does.
-use Rattle.std.proofs.Common.{◌≡◌, inl, inr, ℕ, List, Option, None, Some, Bool, true, false, Result}
+use Rattle.std.proofs.Common.{◌≡◌, inl, inr, refl, ℕ, List, Option, None, Some, Bool, true, false, Result, Ok, Err}
+use Rattle.bhs_standings.specs.declared.rows.Row.{Row}
 use Rattle.std.specs.Prelude.{◌==◌, if◌then◌else◌}
 use Rattle.bhs_lock.specs.declared.settling.Settlement.{Settlement}
 use Rattle.bhs_server.specs.declared.settling.Refused.{Refused}
@@ -14,6 +15,11 @@ use Rattle.bhs_explore.specs.declared.found.Found.{Found}
 use Rattle.bhs_explore.specs.declared.found.Found.TheVariants as found
 use Rattle.bhs_orders.specs.declared.faults.Fault.TheVariants.{Write, Memory, Twin, Text}
 use Rattle.bhs_orders.specs.Appeals.{Appeals, upholds, rejects, hears_nothing}
+use Rattle.bhs_orders.specs.ContestTables.{IsTableOf, TablesContest, TablesMatches, tables_contest, tables_found}
+use Rattle.bhs_orders.specs.ContestTables.{tables_none, tables_nothing}
+use Rattle.bhs_orders.specs.Recovery.{AreSaved, RecoversContest, all_saved, recovers_contest}
+use Rattle.bhs_orders.specs.Recovery.{recovers_nothing, unsaved_one}
+use Rattle.bhs_orders.specs.ContestTables.{AreFound, found_more, nothing_found, IsFound, status_in}
 use Rattle.bhs_orders.specs.Discoveries.{Explores, ExploresMatch, found_in, found_status}
 use Rattle.bhs_orders.specs.Discoveries.{exploration_done, exploration_ends, explores_nothing, explores_on}
 use Rattle.bhs_orders.specs.Rehearsal.{Rehearses, done, unfiled, ends}
@@ -75,12 +81,48 @@ of_either : (is_done : Bool) (one two : ℕ) → IsStatus one → IsStatus two
 of_either true one two first second = second
 of_either false one two first second = first
 
+-- the exit status of what was found of matches
+of_one : (ready : Ready) (found : Result Row ℕ) → IsFound ready found → IsStatus (status_in found)
+of_one ready (Ok row) is = inl refl
+of_one ready (Err code) is = inr (inr is)
+
+of_all : (matches : List Ready) (rows : List Row) (code : ℕ) → AreFound matches rows code → IsStatus code
+of_all _ _ _ nothing_found = inl refl
+of_all _ _ _ (found_more matches rows code ready found before is) =
+    of_either (code == DONE) code (status_in found) (of_all matches rows code before) (of_one ready found is)
+
+-- the exit status of the table of a contest
+module _ {O : Type 0} (takes : O → List ℕ → Taken → O → Type 0) (flushes : O → Bool → O → Type 0) (output output' : O)
+  where
+    of_matches : (matches : List Ready) (code : ℕ) → TablesMatches takes flushes matches output output' code
+        → IsStatus code
+    of_matches matches code (tables_found rows found printed all_found report is) =
+        rw is (of_either (found == DONE) found printed (of_all matches rows found all_found)
+        (of_text takes flushes output output' printed (IsTableOf rows) report))
+    of_matches matches code (tables_none fault is kept) = inr (inr (fault, is))
+
+    of_contest_table : (code : ℕ) → TablesContest takes flushes output output' code → IsStatus code
+    of_contest_table code (tables_contest lineup assembled tables) = of_matches lineup.ready.items code tables
+    of_contest_table code (tables_nothing fault is kept) = inr (inr (fault, is))
+
 module _ {P O : Type 0} (files : P → List ℕ → Taken → P → Type 0) (takes : O → List ℕ → Taken → O → Type 0)
     (flushes : O → Bool → O → Type 0) where
   of_files : (schedule : ScheduleKind) (settled : List (Result Settlement Refused)) (code : ℕ)
       → Files files schedule settled code → IsStatus code
   of_files schedule settled code (all_filed is filed) = inl is
   of_files schedule settled code (unfiled_one fault is) = inr (inr (fault, is))
+
+  of_saved : (matches : List Ready) (code : ℕ) → AreSaved files matches code → IsStatus code
+  of_saved matches code (all_saved is saved) = inl is
+  of_saved matches code (unsaved_one fault is) = inr (inr (fault, is))
+
+  of_recovery : (output output' : O) (code : ℕ) → RecoversContest files takes flushes output output' code
+      → IsStatus code
+  of_recovery output output' code (recovers_contest lineup assembled recovered) =
+      rw recovered.coded (of_either (recovered.saved == DONE) recovered.saved recovered.printed
+      (of_saved lineup.ready.items recovered.saved recovered.saves)
+      (of_matches takes flushes output output' lineup.ready.items recovered.printed recovered.tables))
+  of_recovery output output' code (recovers_nothing fault is kept) = inr (inr (fault, is))
 
   of_table : (teams : List (List ℕ)) (settled : List (Result Settlement Refused)) (output output' : O) (code : ℕ)
       → Tables takes flushes teams settled output output' code → IsStatus code
@@ -148,12 +190,15 @@ module _ {P I O : Type 0} (files : P → List ℕ → Taken → P → Type 0) (g
   of_deed (order.Judge replay) judged = of_text takes flushes output output' code _ judged.1
   of_deed (order.Appeal replay appeal) appealed = of_appeal takes flushes output output' code _ appealed.1
   of_deed (order.Table entries) table = of_text takes flushes output output' code _ table.1
+  of_deed (order.ContestTable name prefix) table = of_contest_table takes flushes output output' code table.1
   of_deed (order.Explain replay agent) past = of_many takes flushes output output' code _ past.1
   of_deed (order.Twin replay node) twin = elim twin.1 [
     | inl report ↦ of_many takes flushes output output' code _ report
     | inr none ↦ inr (inr (Twin none.fault, none.coded))
   ]
   of_deed (order.Recover name) recovered = of_many takes flushes output output' code _ recovered.1
+  of_deed (order.RecoverContest name prefix) recovered =
+      of_recovery files takes flushes output output' code recovered.1
   of_deed (order.Explore name exploration) explored = of_exploration exploration explored
   of_deed (order.Serve name hosting) served = of_served hosting.port served.1
 

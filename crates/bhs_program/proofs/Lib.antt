@@ -1,4 +1,3 @@
 pub mod ExitLemmas
-pub mod FilingLemmas
 pub mod ContestLemmas
 pub mod RecordingLemmas

@@ -6,11 +6,13 @@ use Rattle.bhs_command_line.specs.CommandLine.{AreRefused, faults, is_asked, ord
 use Rattle.bhs_command_line.specs.declared.orders.Order.{Order}
 use Rattle.bhs_command_line.specs.declared.orders.Order.TheVariants as order
 use Rattle.bhs_orders.specs.Appeals.{Appeals}
+use Rattle.bhs_orders.specs.ContestTables.{TablesContest}
 use Rattle.bhs_orders.specs.Discoveries.{Explores}
 use Rattle.bhs_orders.specs.Fault.{IsOfFault}
 use Rattle.bhs_orders.specs.RehearsedTournaments.{RehearsesEither, Rests}
 use Rattle.bhs_orders.specs.InteractiveTournaments.{InteractsEither}
 use Rattle.bhs_orders.specs.Parts.{IsRecovered}
+use Rattle.bhs_orders.specs.Recovery.{RecoversContest}
 use Rattle.bhs_orders.specs.Reports.{IsJudgement, IsTable, IsPast, IsTwinReplay, HasNoTwin}
 use Rattle.bhs_orders.specs.Showing.{Prints, PrintsByLine, Reports}
 use Rattle.bhs_orders.specs.Summary.{IsSummary}
@@ -43,12 +45,16 @@ module _ {P I O : Type 0} (files : P → List ℕ → Taken → P → Type 0) (g
       (input' ≡ input) × Appeals takes flushes appeal.game output output' code
   Does (order.Table entries) input input' output output' code =
       (input' ≡ input) × Tells (IsTable entries) output output' code
+  Does (order.ContestTable name prefix) input input' output output' code =
+      (input' ≡ input) × TablesContest takes flushes output output' code
   Does (order.Explain replay agent) input input' output output' code =
       (input' ≡ input) × TellsByLine (IsPast agent) output output' code
   Does (order.Twin replay node) input input' output output' code =
       (input' ≡ input) × (TellsByLine (IsTwinReplay node) output output' code ⊎ HasNoTwin node output output' code)
   Does (order.Recover part) input input' output output' code =
       (input' ≡ input) × TellsByLine IsRecovered output output' code
+  Does (order.RecoverContest name prefix) input input' output output' code =
+      (input' ≡ input) × RecoversContest files takes flushes output output' code
   Does (order.Explore name exploration) input input' output output' code =
       Explores takes flushes exploration input input' output output' code
   Does (order.Serve name hosting) input input' output output' code =

@@ -15,6 +15,7 @@ mod operator;
 mod orders;
 mod parts;
 mod recording;
+mod recovering;
 mod serving;
 mod standing;
 mod telling;

@@ -6,12 +6,13 @@ ghost use Rattle.bhs_orders.specs.declared.statuses.TheConstants.{NO_MEMORY, REF
 ghost use Rattle.bhs_program.specs.Program.{IsStatus, Obeys, Runs};
 
 use crate::machines::Machine;
+use crate::recovering::recover_named;
 use crate::serving::serve_named;
 use bhs_command_line::{Order, Parsed, order_of};
 use bhs_orders::{
-    Fault, REFUSED_WORDS, check, explore_named, print_appealed_verdict, print_past,
-    print_recovered, print_table, print_twin, print_verdict, rehearse_interactively_named,
-    rehearse_named, report, show_text,
+    Fault, REFUSED_WORDS, check, explore_named, print_appealed_verdict, print_contest_table,
+    print_past, print_recovered, print_table, print_twin, print_verdict,
+    rehearse_interactively_named, rehearse_named, report, show_text,
 };
 use bhs_stream::{Input, Output, send};
 use bhs_terminal::visible;
@@ -79,6 +80,14 @@ fn obey<
             print_appealed_verdict(alloc, rt, replay.as_str(), &appeal, writer, errors)
         }
         Order::Table { entries } => print_table(alloc, rt, entries.all(), writer, errors),
+        Order::ContestTable { tournament, prefix } => print_contest_table(
+            alloc,
+            rt,
+            tournament.as_str(),
+            prefix.as_str(),
+            writer,
+            errors,
+        ),
         Order::Explain { replay, agent } => {
             print_past(alloc, rt, replay.as_str(), agent, writer, errors)
         }
@@ -86,6 +95,14 @@ fn obey<
             print_twin(alloc, rt, replay.as_str(), node, writer, errors)
         }
         Order::Recover { part } => { print_recovered(alloc, rt, part.as_str(), writer, errors) }
+        Order::RecoverContest { tournament, prefix } => recover_named(
+            alloc,
+            rt,
+            tournament.as_str(),
+            prefix.as_str(),
+            writer,
+            errors,
+        ),
         Order::Explore {
             tournament,
             exploration,

@@ -104,8 +104,8 @@ pub(crate) fn begin_parts<R: Files + Keep, E: Write>(
     })
 }
 
-// Reports why the part of the match of this number cannot be begun. The answer is the exit status.
-fn report_part<E: Write>(
+/// Reports why the part of the match of this number cannot be begun or locked. The answer is the exit status.
+pub(crate) fn report_part<E: Write>(
     alloc: Global,
     prefix: &str,
     number: usize,

@@ -12,8 +12,8 @@ returns c =
     c.default_option-3.ensures.local in
     let pause = c.with-command-4.ensures _ _ _ turns c.default_option-4.ensures.rule
     c.default_option-4.ensures.local in
-    let prefix = c.with-command-5.ensures _ _ _ pause c.served_replays_option.ensures.rule
-    c.served_replays_option.ensures.local in
+    let prefix = c.with-command-5.ensures _ _ _ pause c.prefix_option.ensures.rule
+    c.prefix_option.ensures.local in
     let grace = c.with-command-6.ensures _ _ _ prefix c.default_option-5.ensures.rule
     c.default_option-5.ensures.local in
     let gather = c.with-command-7.ensures _ _ _ grace c.default_option-6.ensures.rule

@@ -26,6 +26,9 @@ returns-in-Appeal g c = rw c.in-Appeal.is (does (refl, c.print_appealed_verdict.
 pub returns-in-Table : goal.returns-in-Table
 returns-in-Table g c = rw c.in-Table.is (does (refl, rw c.all.ensures at c.print_table.ensures))
 
+pub returns-in-ContestTable : goal.returns-in-ContestTable
+returns-in-ContestTable g c = rw c.in-ContestTable.is (does (refl, c.print_contest_table.ensures))
+
 pub returns-in-Explain : goal.returns-in-Explain
 returns-in-Explain g c = rw c.in-Explain.is (does (refl, c.print_past.ensures))
 
@@ -34,6 +37,9 @@ returns-in-Twin g c = rw c.in-Twin.is (does (refl, c.print_twin.ensures))
 
 pub returns-in-Recover : goal.returns-in-Recover
 returns-in-Recover g c = rw c.in-Recover.is (does (refl, c.print_recovered.ensures))
+
+pub returns-in-RecoverContest : goal.returns-in-RecoverContest
+returns-in-RecoverContest g c = rw c.in-RecoverContest.is (does (refl, c.recover_named.ensures))
 
 pub returns-in-Explore : goal.returns-in-Explore
 returns-in-Explore g c = rw c.in-Explore.is (does c.explore_named.ensures)

@@ -1,0 +1,15 @@
+use Rattle.std.proofs.Common.{◌≡◌, ◌⊎◌, drop}
+use Rattle.std.specs.List.{AllByRecursion}
+use Rattle.bhs_stream.specs.Streams.{known_takes}
+use Rattle.bhs_orders.specs.Fault.{IsOfFault}
+use Rattle.bhs_orders.specs.Recovery.{IsSaved}
+use Rattle.bhs_orders.specs.declared.statuses.TheConstants.{DONE}
+use Rattle.bhs_orders.proofs.recovering.save_matches.Given as goal
+
+abbrev pub invariant-loop-number : goal.invariant-loop-number
+invariant-loop-number g l = record {
+  status : (l.status ≡ DONE) ⊎ IsOfFault l.status;
+  saved : l.status ≡ DONE
+      → AllByRecursion (IsSaved (known_takes g.F.File.Write.contents)) (drop l.number l.ready)
+      → AllByRecursion (IsSaved (known_takes g.F.File.Write.contents)) l.ready;
+}
