@@ -29,6 +29,8 @@ from lab.search.machines import Machines
 TOP = pathlib.Path(__file__).resolve().parents[1]
 PROGRAM = os.environ.get("ARENA", str(TOP / "arena"))
 AGENTS = TOP / "examples" / "agents"
+# the numbers that agents want which want others than how many nodes there are
+NUMBERS = {"map": " {nodes} {links}", "known_map": ""}
 # seconds between two looks at the memory of the program
 PAUSE = 0.002
 OWN, CHILDREN = resource.RUSAGE_SELF, resource.RUSAGE_CHILDREN
@@ -102,10 +104,14 @@ def tried(fixture: Fixture, machines: Machines, states: int) -> Taken:
     return Taken(answered.counts["states"], found["moves"], whole, processor, *alone(fixture, answers, states))
 
 
+def words_of(agent: str) -> str:
+    """What plays an agent of this name: its file, and the numbers that it wants."""
+    return f"{AGENTS / agent}.py{NUMBERS.get(agent, ' {nodes}')}"
+
+
 def measured(network: str, agent: str, states: int) -> List[Taken]:
     """What the matches of a network take."""
-    nodes = " {nodes}" if agent.startswith("ring") else ""
-    given = parser().parse_args(["explore", "--network", network, "--agent", f"{AGENTS / agent}.py{nodes}"])
+    given = parser().parse_args(["explore", "--network", network, "--agent", words_of(agent)])
     [game] = games_of(given)
     fixtures = game.fixtures()
     machines, found = Machines(fixtures[0], game.agents, game.limit), []

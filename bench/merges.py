@@ -15,7 +15,7 @@ import time
 from typing import List, NamedTuple, Tuple
 from unittest import mock
 
-from bench.explore import AGENTS, PROGRAM
+from bench.explore import PROGRAM, words_of
 from lab.__main__ import parser
 from lab.commands.words import games_of
 from lab.play.teams import Game
@@ -98,8 +98,7 @@ def main() -> None:
     print("|---" * len(HEAD) + "|")
     for match in words.matches:
         network, _, agent = match.partition("=")
-        numbers = " {nodes}" if agent.startswith("ring") else ""
-        named = ["--network", network, "--agent", f"{AGENTS / agent}.py{numbers}"]
+        named = ["--network", network, "--agent", words_of(agent)]
         hole = ["--hole", words.hole] if words.hole else []
         [game] = games_of(parser().parse_args(["explore", *named, *hole]))
         questions = asked(game)

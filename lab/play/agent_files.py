@@ -17,6 +17,7 @@ import hashlib
 import importlib
 import importlib.util
 import inspect
+import os
 import pathlib
 import random
 import sys
@@ -117,9 +118,15 @@ def numbers_of(words: Sequence[str], setup: Setup) -> List[int]:
 CLIENT = str(AGENTS / "client.py")
 
 
+@functools.lru_cache(maxsize=64)
+def folder_of(path: pathlib.Path, _here: str) -> str:
+    """The folder that a file stands in, by its path from here. It is asked each time that an agent begins."""
+    return str(path.parent.resolve())
+
+
 def loaded_anew(path: pathlib.Path, modules: OwnModules) -> Tuple[ModuleType, ModuleType]:
     """The module in a file, and the client that it imports, among the modules of one agent."""
-    modules.begin([str(path.parent.resolve()), str(AGENTS)], [CLIENT])
+    modules.begin([folder_of(path, os.getcwd()), str(AGENTS)], [CLIENT])
     return modules.kept.get(module_name(path)) or executed(path), importlib.import_module("client")
 
 
@@ -130,9 +137,11 @@ def script_of(words: str, setup: Setup) -> Script:
     path = file_of(file.partition(":")[0])
     numbers = numbers_of(rest, setup)
     asked = asked_behind(words, inspect.signature(member(file, "search")), len(numbers))
+    # one tuple for all agents: it is named once
+    facts: Dict[str, Any] = {"network": tuple(setup.links), "home": setup.home}
 
     def play(lines: Any, key: str, sleep: Sleep) -> None:
-        values: Dict[str, Any] = {"sleep": sleep, "network": tuple(setup.links), "home": setup.home}
+        values: Dict[str, Any] = {"sleep": sleep, **facts}
         given = {word: values[word] for word in asked if word in values}
         module, client = loaded_anew(path, lines.modules)
         try:

@@ -65,10 +65,11 @@ def watch() -> None:
     if IS_WATCHED:
         return
     IS_WATCHED.append(True)
-    current = needed("greenlet").getcurrent
+    current, noted = needed("greenlet").getcurrent, frozenset(("open", "import", *REACHES))
 
     def note(event: str, given: Any) -> None:
-        if event != "open" and event != "import" and event not in REACHES:
+        if event not in noted:
+            # most events are of no interest, and each costs this much
             return
         thread = current()
         if thread.parent is not None:

@@ -1,6 +1,7 @@
 """Modules that one agent inside the lab has for itself, as a program outside has: its file, what it imports from beside
 it, and `random`. They stand in their places while the agent runs, and those of the lab stand there else.
 """
+import operator
 import os
 import random
 import sys
@@ -14,9 +15,13 @@ LOADING = threading.RLock()
 # all folders out of which agents were loaded
 FOLDERS: Set[str] = set()
 RANDOM = "random"
+# what of the module `random` belongs to one generator
+OF_ONE = [name for name, value in vars(random).items() if getattr(value, "__self__", None) is random._inst]
 # for each set of files that all agents share: the modules that no agent owns, by their identities
 FOREIGN: Dict[Tuple[str, ...], Dict[int, ModuleType]] = {}
 FOREIGN_TO: Set[str] = set()
+# for each set of such files: all modules, when none of them was an agent's last
+ALL_FOREIGN: Dict[Tuple[str, ...], Sequence[object]] = {}
 # of each module the folders that it stands in, as long as there is the module: it is asked at each turn of an agent
 STANDS_IN: "weakref.WeakKeyDictionary[ModuleType, FrozenSet[str]]" = weakref.WeakKeyDictionary()
 
@@ -37,10 +42,15 @@ def own_names(folders: Collection[str], shared: Collection[str] = ()) -> List[st
     if folders is FOLDERS and len(FOREIGN_TO) != len(FOLDERS):
         # what stands in none of the folders so far may stand in a new one
         FOREIGN.clear()
+        ALL_FOREIGN.clear()
         FOREIGN_TO.update(FOLDERS)
+    loaded, before = list(sys.modules.values()), ALL_FOREIGN.get(tuple(shared), ())
+    if len(loaded) == len(before) and all(map(operator.is_, loaded, before)):
+        return []
     foreign = FOREIGN.setdefault(tuple(shared), {})
-    unknown = set(map(id, list(sys.modules.values()))).difference(foreign)
+    unknown = set(map(id, loaded)).difference(foreign)
     if not unknown:
+        ALL_FOREIGN[tuple(shared)] = loaded
         return []
     tops, others = set(), {}
     for name, module in [(name, it) for name, it in list(sys.modules.items()) if id(it) in unknown]:
@@ -60,9 +70,8 @@ def random_from(seed: int) -> ModuleType:
     """A module `random` of its own that begins with this seed. It is not loaded anew, since each `random` that is
     loaded stays in memory until the process ends, to be seeded again when it forks."""
     own, made = random.Random(seed), ModuleType(RANDOM, random.__doc__)
-    for name, value in vars(random).items():
-        is_of_one = getattr(value, "__self__", None) is random._inst
-        setattr(made, name, getattr(own, name) if is_of_one else value)
+    vars(made).update(vars(random))
+    vars(made).update({name: getattr(own, name) for name in OF_ONE})
     setattr(made, "_inst", own)
     return made
 

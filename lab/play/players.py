@@ -12,7 +12,7 @@ from lab.play.agent_files import Script
 from lab.play.bounds import LIMIT
 from lab.play.outside import read_by
 from lab.play.own_modules import OwnModules
-from lab.rules.model import LAST, spelled
+from lab.rules.model import GONE, LAST, spelled
 from lab.support.missing import needed
 
 # an answer is due; an arrival is due; it sleeps; nothing more comes
@@ -20,7 +20,11 @@ WAITS, TRAVELS, SLEEPS, DONE = "waits", "travels", "sleeps", "done"
 # what a client is told last
 DENIALS = {spelled({"no": why}) for why in ("enter", "key", "taken")}
 LAST_LINES = DENIALS | {spelled(reply) for reply in LAST}
-
+# behind this the next line is the arrival; and what stands in the place of a line for who sleeps
+DEPARTED, WAKES = spelled(GONE), "wakes"
+# what is never taken from lines ahead
+NEVER_AHEAD = LAST_LINES | {WAKES}
+NOTHING_AHEAD: Deque[str] = deque()
 
 # how many times longer an agent may sleep than compute: a machine with other work lets it wait too
 LONGER = 20
@@ -39,6 +43,9 @@ class Player:
         self.line: Optional[bytes] = None
         self.fault: Optional[str] = None
         self.errors = ""
+        # the line that it was told last, and those ahead of it on a way that it goes once more
+        self.latest = ""
+        self.ahead = NOTHING_AHEAD
         # those that the script loads for this agent alone
         self.modules = OwnModules(number)
         self._team = team
@@ -61,10 +68,13 @@ class Player:
 
     def hear(self, line: str) -> None:
         """Tells the agent a line, and lets it go on."""
-        self.line = None
-        self._heard.append(line)
+        self._take(line)
         self._is_over = self._is_over or line in LAST_LINES
         self.go_on()
+
+    def _take(self, line: str) -> None:
+        self.line, self.latest = None, line
+        self._heard.append(line)
 
     def go_on(self) -> None:
         """Lets the program begin, wake, or read what it heard."""
@@ -89,9 +99,18 @@ class Player:
         self._is_closed = True
 
     def receive(self) -> str:
-        if not self._heard:
+        if not self._heard and not (self.ahead and self._has_taken()):
             self._wait(WAITS if self.line is not None else TRAVELS)
         return self._heard.popleft()
+
+    def _has_taken(self) -> bool:
+        """Takes the next of the lines ahead, if it is one for an agent that waits as this one does. So a way that was
+        gone before is gone again in one turn."""
+        if self.ahead[0] in NEVER_AHEAD or (self.latest == DEPARTED) != (self.line is None):
+            return False
+        self._team.turns += 1
+        self._take(self.ahead.popleft())
+        return True
 
     def sleep(self, _seconds: float) -> None:
         self._wait(SLEEPS)

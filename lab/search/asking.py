@@ -7,10 +7,11 @@ import threading
 import time
 from typing import Any, Callable, Dict, List, NamedTuple, Optional, Tuple
 
+from lab.play.players import WAKES
 from lab.rules.engines import Refused, text_of_fault
 from lab.rules.fixtures import Fixture, write_tournament
 from lab.search.machines import Machines
-from lab.search.seats import SAYS, SLEEP, WAKES
+from lab.search.seats import SAYS, SLEEP
 
 SOLVES, COMES, FAILS, BREAKS, ENDLESS, EXCEEDS = "solves", "comes", "fails", "breaks", "endless", "exceeds"
 TOO_MANY = "states"

@@ -7,12 +7,13 @@ import ctypes
 import functools
 import gc
 import sys
+import threading
 import types
 from typing import Any, Callable, Dict, List, NamedTuple, Tuple
 
 from lab.search.unnamed import Unnamed
 
-WORD = 8
+WORD, NUMBER = 8, 4
 # of a frame object its frame; of that, how high its stack is, and its slots
 FRAME, TOP, SLOTS = 24, 64, 72
 # of a set: how many slots are or were in use, the last slot, the table, and where `pop` looks next
@@ -43,8 +44,25 @@ class _Sample:
     pass
 
 
-def word_at(address: int) -> int:
-    return ctypes.c_size_t.from_address(address).value
+class Reader(threading.local):
+    """Reads any place of memory as words, small numbers or objects, once its address is written down. Python tells the
+    audit hook of each object that is made of an address, which costs more than to read: these are made once."""
+
+    def __init__(self) -> None:
+        address, pointer = ctypes.c_size_t(), ctypes.POINTER
+        kinds: Tuple[Any, ...] = ctypes.c_size_t, ctypes.c_int, ctypes.py_object
+        words, numbers, objects = (pointer(kind).from_buffer(address) for kind in kinds)
+        self.parts: Tuple[Any, Any, Any, Any] = address, words, numbers, objects
+
+
+READER = Reader()
+
+
+def word_at(place: int) -> int:
+    address, words, _, _ = READER.parts
+    address.value = place
+    found: int = words[0]
+    return found
 
 
 def number_at(address: int) -> int:
@@ -161,25 +179,19 @@ def slots_of(frame: types.FrameType) -> List[Any]:
     said = fault()
     if said:
         raise Unnamed(said)
-    at = word_at(id(frame) + FRAME)
-    top = ctypes.c_int.from_address(at + TOP).value
+    address, words, numbers, objects = READER.parts
+    address.value = id(frame) + FRAME
+    address.value = words[0]
+    top = numbers[TOP // NUMBER]
     if top < 0:
         raise Unnamed(f"the stack of {frame.f_code.co_qualname}, which waits inside a function that is not in Python",
                       instead="call the agent in a loop of your own")
-    words, objects = kinds_of_slots(top)
-    values = objects.from_address(at + SLOTS)
-    try:
-        return list(values)
-    except ValueError:
-        # some have no value
-        has_value = words.from_address(at + SLOTS)
-        return [values[place] if has_value[place] else NOTHING for place in range(top)]
-
-
-@functools.lru_cache(maxsize=None)
-def kinds_of_slots(count: int) -> Tuple[Any, Any]:
-    """The types of this many words, and of as many objects."""
-    return ctypes.c_size_t * count, ctypes.py_object * count
+    address.value += SLOTS
+    has_value: List[int] = words[:top]
+    if 0 in has_value:
+        return [objects[place] if word else NOTHING for place, word in enumerate(has_value)]
+    found: List[Any] = objects[:top]
+    return found
 
 
 @functools.lru_cache(maxsize=None)

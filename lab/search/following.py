@@ -4,14 +4,14 @@ import random
 from typing import List
 
 from lab.play.matches import Player, Run
-from lab.play.players import DONE, SLEEPS, WAITS
+from lab.play.players import DONE, SLEEPS, WAITS, WAKES
 from lab.play.teams import AgentWords, Together
 from lab.rules.fixtures import Fixture
 from lab.rules.model import AWAY, ENDED
 from lab.rules.rehearsal import Rehearsal
 from lab.search.machines import Machines
 from lab.search.pasts import NoFunction
-from lab.search.seats import SLEEP, STOP, WAKES, Step
+from lab.search.seats import SLEEP, STOP, Step
 
 
 class Followed:

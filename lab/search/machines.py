@@ -17,13 +17,13 @@ import json
 from typing import Any, ContextManager, Dict, Iterator, List, Optional, OrderedDict, Set, Tuple
 
 from lab.play.outside import watch
-from lab.play.players import Player
+from lab.play.players import WAKES, Player
 from lab.play.teams import INSIDE, AgentWords
 from lab.rules.fixtures import Fixture
 from lab.rules.model import Object, command_of, spelled, text_of
 from lab.search.beside import MERGES, Beside
 from lab.search.pasts import NoFunction
-from lab.search.seats import SAYS, WAKES, Seated, Seats, Step, Way
+from lab.search.seats import SAYS, Seated, Seats, Step, Way
 
 # how many programs are left where they wait, to go on from there: inside the lab, and of their own
 MOST_LEFT, MOST_PROCESSES = 4096, 200
@@ -36,29 +36,29 @@ class Left:
 
     def __init__(self, most: int) -> None:
         self._most, self._count = most, 0
-        self._left: OrderedDict[int, List[Seated]] = collections.OrderedDict()
+        self.programs: OrderedDict[int, List[Seated]] = collections.OrderedDict()
 
     def stop(self) -> None:
-        for left in self._left.values():
+        for left in self.programs.values():
             for one in left:
                 one.player.stop()
 
     def take(self, memory: int) -> Optional[Seated]:
         """A program that was left at this memory, if there is one."""
-        left = self._left.get(memory)
+        left = self.programs.get(memory)
         if not left:
             return None
         self._count -= 1
         one = left.pop()
         if not left:
-            del self._left[memory]
+            del self.programs[memory]
         return one
 
     def put(self, memory: int, one: Seated) -> None:
-        self._left.setdefault(memory, []).append(one)
+        self.programs.setdefault(memory, []).append(one)
         self._count += 1
         if self._count > self._most:
-            _, oldest = self._left.popitem(last=False)
+            _, oldest = self.programs.popitem(last=False)
             self._count -= len(oldest)
             for other in oldest:
                 other.player.stop()
@@ -225,8 +225,7 @@ class Machines:
         if isinstance(one.player, Player):
             modules = one.player.modules
         with modules:
-            for news in all_news:
-                self._seats.tell(one, news)
+            self._seats.tell_all(one, all_news)
         if one.step() != self.steps[memory] and not self._seats.has_changed():
             raise NoFunction(f"agent {one.player.number} does something else when it is played again: explore needs "
                              "agents that are functions of what they are told")
@@ -236,23 +235,30 @@ class Machines:
         """A program, and what it is to be told to come to a memory: one that is left before it, or that begins. As a
         check one of many begins, and each that may share state with others."""
         self._replayed += 1
-        is_left = self._replayed % FROM_START and memory not in self._alone
-        behind: Dict[int, Way] = {memory: (-1, "")}
-        waiting = collections.deque([memory])
-        while waiting and is_left:
-            at = waiting.popleft()
-            one = self._left.take(at)
-            if one is not None:
-                return one, list(news_behind(behind, at))
-            for before, news in self._into[at]:
-                if before >= 0 and before not in behind and before not in self._alone:
-                    behind[before] = at, news
-                    waiting.append(before)
+        if self._replayed % FROM_START and memory not in self._alone:
+            found = self._left_before(memory)
+            if found is not None:
+                return found
         way, all_news = self._short[memory], []
         while way[0] >= 0:
             all_news.append(way[1])
             way = self._short[way[0]]
         return self._seats.begun(-1 - way[0]), all_news[::-1]
+
+    def _left_before(self, memory: int) -> Optional[Tuple[Seated, List[str]]]:
+        """The nearest program that is left before a memory, and what it is to be told to come there."""
+        left, into, alone = self._left.programs, self._into, self._alone
+        behind: Dict[int, Way] = {memory: (-1, "")}
+        nearest = [memory]
+        for at in nearest:
+            if at in left:
+                one = self._left.take(at)
+                return (one, list(news_behind(behind, at))) if one else None
+            for before, news in into[at]:
+                if before not in behind and before >= 0 and before not in alone:
+                    behind[before] = at, news
+                    nearest.append(before)
+        return None
 
     def _number(self, one: Seated, way: Way) -> int:
         """The number of what a program holds, which is left there, or goes on beside the program that was there

@@ -9,11 +9,12 @@ from importlib.machinery import ModuleSpec, SourceFileLoader
 from typing import Any, Dict, Iterable, Iterator, List, NamedTuple, Optional, Protocol, Set, Tuple
 
 from lab.search.codes import Name, code_name, variables_of
-from lab.search.cpython import (NOTHING, Place, function_places, has_attributes, is_made_in_python, size_place,
+from lab.search.cpython import (NOTHING, Place, dict_of, function_places, has_attributes, is_made_in_python, size_place,
                                 slots_of, version_place, views_of)
 from lab.search.kinds import (NAMES, Plan, complex_name, exception_name, is_abstract, number_name, parts_name,
                               plan_of)
 from lab.search.live import may_be_read
+from lab.search.plain import LONG, MOST_BITS
 from lab.search.still import Shared, is_still
 from lab.search.unnamed import Unnamed, an, instead_of
 
@@ -21,7 +22,7 @@ from lab.search.unnamed import Unnamed, an, instead_of
 OF_CLASSES = {"__dict__", "__weakref__", "__module__"}
 # what a class says of itself
 SAYS = {"__doc__", "__annotations__"}
-MOST_BITS = 10_000
+OF_NOTHING = ("nothing",)
 
 
 class Knows(Protocol):
@@ -31,7 +32,7 @@ class Knows(Protocol):
     key: str
     shared: Shared
     caches: Any
-    plans: Dict[int, Plan]
+    plans: Dict[int, "KeptPlan"]
     reflects: bool
 
     def is_own(self, variables: Dict[str, Any]) -> bool: ...
@@ -63,15 +64,25 @@ class Namer:
         if kind is complex:
             return complex_name(value)
         if kind is tuple:
-            return ("tuple", *map(self.name, value))
-        if id(value) in self._labels:
-            return ("known", self._labels[id(value)])
-        if id(value) in self._seen:
-            return ("again", self._seen[id(value)])
-        if value is Ellipsis or value is NotImplemented or value is NOTHING:
+            if len(value) < LONG:
+                return ("tuple", *map(self.name, value))
+            return self._known.shared.plain.name_of(value) or ("tuple", *map(self.name, value))
+        # asked for once: the audit hook is told of it
+        place = id(value)
+        if place in self._labels:
+            return ("known", self._labels[place])
+        if place in self._seen:
+            return ("again", self._seen[place])
+        if value is NOTHING:
+            return OF_NOTHING
+        if value is Ellipsis or value is NotImplemented:
             return ("constant", repr(value))
-        self._seen[id(value)] = len(self._seen)
+        self._seen[place] = len(self._seen)
         self._kept.append(value)
+        if (kind is dict or kind is frozenset) and len(value) >= LONG:
+            found = self._known.shared.plain.name_of(value)
+            if found is not None:
+                return found
         names = NAMES.get(kind)
         if names is not None:
             return names(self, value)
@@ -113,17 +124,18 @@ class Namer:
 
     def globals(self, variables: Dict[str, Any]) -> Name:
         """The variables of a module that is the agent's own, each module once; else the module's name."""
-        if id(variables) in self._others:
-            return self._others[id(variables)]
-        if id(variables) in self._seen:
-            return ("module again", self._seen[id(variables)])
+        place = id(variables)
+        if place in self._others:
+            return self._others[place]
+        if place in self._seen:
+            return ("module again", self._seen[place])
         module = variables.get("__name__")
         is_own = self._known.is_own(variables)
         loaded = sys.modules.get(module) if isinstance(module, str) else None
         if not is_own and loaded is not None and vars(loaded) is variables:
-            found = self._others[id(variables)] = self.module_of(loaded)
+            found = self._others[place] = self.module_of(loaded)
             return found
-        self._seen[id(variables)] = len(self._seen)
+        self._seen[place] = len(self._seen)
         self._kept.append(variables)
         if self._known.draws_by(variables):
             return ("random",)
@@ -154,6 +166,9 @@ class Namer:
 
     def _other(self, kind: type, value: Any) -> Name:
         """What is of no type that is named here: a class, a module, or an object of a class in Python."""
+        plan = self._plan(kind)
+        if plan is not None and not isinstance(value, BaseException):
+            return ("object", self.name(kind), parts_name(self, plan, value))
         if isinstance(value, type):
             return self.kind(value)
         if isinstance(value, types.ModuleType):
@@ -164,12 +179,18 @@ class Namer:
             raise Unnamed(an(kind), not is_still(kind.__module__), instead_of(kind))
         return ("object", self.name(kind), self._parts(kind, value))
 
+    def _plan(self, kind: type) -> Optional[Plan]:
+        """How objects of a class that stands still are named, if one was named before and the class has not changed."""
+        found = self._known.plans.get(id(kind))
+        is_as_before = found is not None and found.mro is kind.__mro__ and b"".join(found.views) == found.says
+        return found.plan if found is not None and is_as_before else None
+
     def _parts(self, kind: type, value: Any) -> Name:
-        plan = self._known.plans.get(id(kind)) if id(kind) in self._labels else None
+        plan = self._plan(kind)
         if plan is None:
             plan = plan_of(kind)
             if id(kind) in self._labels:
-                self._known.plans[id(kind)] = plan
+                self._known.plans[id(kind)] = kept_plan(kind, plan)
         return parts_name(self, plan, value)
 
     def kind(self, value: type) -> Name:
@@ -223,6 +244,22 @@ def is_read_no_more(frame: types.FrameType, place: int) -> bool:
     """Whether the variable at a place of a frame is not read again."""
     names = variables_of(frame.f_code)
     return place < len(names) and not may_be_read(frame.f_code, frame.f_lasti, names[place])
+
+
+class KeptPlan(NamedTuple):
+    """How objects of a class are named, with the classes of which that follows, where their versions lie, and what they
+    were."""
+
+    mro: Tuple[type, ...]
+    views: List[memoryview]
+    says: bytes
+    plan: Plan
+
+
+def kept_plan(kind: type, plan: Plan) -> KeptPlan:
+    """The plan of a class, as its classes are now."""
+    views = views_of([version_place(dict_of(it)) for it in kind.__mro__ if is_made_in_python(it)])
+    return KeptPlan(kind.__mro__, views, b"".join(views), plan)
 
 
 class SharedFunction(NamedTuple):

@@ -4,16 +4,17 @@ import collections
 import hashlib
 import json
 import pathlib
-from typing import Any, Dict, List, Mapping, NamedTuple, Optional, Tuple
+from typing import Any, Deque, Dict, List, Mapping, NamedTuple, Optional, Sequence, Tuple
 
 from lab.play import programs
 from lab.play.agent_files import AGENTS, CLIENT
 from lab.play.matches import STUCK
 from lab.play.outside import notes_of
-from lab.play.players import DONE, SLEEPS, TRAVELS, WAITS, Player, Team
+from lab.play.players import (DEPARTED, DONE, NOTHING_AHEAD, SLEEPS, TRAVELS, WAITS, WAKES, Player,
+                              Team)
 from lab.play.teams import INSIDE, AgentWords
 from lab.rules.fixtures import Fixture
-from lab.rules.model import GONE, LAST, OVER as TOLD_OVER, command_of, denial, spelled, text_of
+from lab.rules.model import LAST, OVER as TOLD_OVER, command_of, denial, spelled, text_of
 from lab.search.caches import Caches
 from lab.search.common import ONE_OF, Common, common_of
 from lab.search.live import may_tell_itself
@@ -23,11 +24,10 @@ from lab.search.standing import Known
 from lab.search.still import Shared
 from lab.search.unnamed import Unnamed
 
-WAKES = "wakes"
 SAYS, SLEEP, STOP, FAIL, LEAVE = "says", "sleeps", "stops", "fails", b'{"do":"leave"}'
 # what an agent is told last, and that after which it sees nothing
 ENDS = {spelled(reply) for reply in LAST}
-OVER, DEPARTED = spelled(TOLD_OVER), spelled(GONE)
+OVER = spelled(TOLD_OVER)
 BLIND = ENDS | {DEPARTED}
 # how a memory was met first: from which memory, or from the start of which agent, and by what
 Way = Tuple[int, str]
@@ -164,25 +164,43 @@ class Seats:
         """Whether a program has modules that others have changed."""
         return one.has_common and self._common[self._agents[one.player.number].words] is None
 
-    def tell(self, one: Seated, news: str) -> None:
-        """Tells a program a line, or wakes it."""
+    def tell_all(self, one: Seated, all_news: Sequence[str]) -> None:
+        """Tells a program what is told on a way that was gone before. One inside the lab takes most of it in one turn:
+        see `Player.receive`."""
+        ahead = collections.deque(all_news)
+        while ahead:
+            self.tell(one, ahead.popleft(), ahead)
+
+    def tell(self, one: Seated, news: str, ahead: Deque[str] = NOTHING_AHEAD) -> None:
+        """Tells a program a line, or wakes it. It may take lines that are ahead."""
         player = one.player
         if player.state == DONE or one.is_denied:
             return
-        if news == WAKES:
-            player.go_on()
-        elif player.state == WAITS and player.line is None:
+        if news != WAKES and player.state == WAITS and player.line is None:
             # its input had ended, so it hears nothing
             player.state = DONE
         else:
-            one.has_entered = True
-            player.hear(news)
+            news = self._heard(one, news, ahead)
         self._deny(one)
         one.has_ended = one.has_ended or news in ENDS
         if news in BLIND and news != OVER:
             self._wake(player)
         if news == DEPARTED and player.state == WAITS and player.line is not None:
             raise NoFunction(EARLY.format(player.number))
+
+    def _heard(self, one: Seated, news: str, ahead: Deque[str]) -> str:
+        """Has a program hear a line or wake; gives what it was told last."""
+        player = one.player
+        if isinstance(player, Player):
+            player.latest, player.ahead = news, ahead
+        if news == WAKES:
+            player.go_on()
+        else:
+            one.has_entered = True
+            player.hear(news)
+        if isinstance(player, Player):
+            news, player.ahead = player.latest, NOTHING_AHEAD
+        return news
 
     def _wake(self, player: Any) -> None:
         """Wakes an agent that sees nothing: what it does then depends on nothing that happens. It wakes as often as it

@@ -12,9 +12,10 @@ from typing import Any, Callable, Dict, List, Mapping, Optional, Set, Tuple
 
 from lab.search import uses
 from lab.search.codes import Name, digest_of
-from lab.search.cpython import Place, cell_place, class_places, function_places, version_of, version_place, views_of
-from lab.search.kinds import BUILT_IN, CACHE, GETTER, Plan
-from lab.search.naming import Namer, given_name, given_places, is_found_in_modules, is_given
+from lab.search.cpython import (Place, cell_place, class_places, function_places, said_at, version_of,
+                                version_place, views_of)
+from lab.search.kinds import BUILT_IN, CACHE, GETTER
+from lab.search.naming import KeptPlan, Namer, given_name, given_places, is_found_in_modules, is_given
 from lab.search.still import Shared
 from lab.search.unnamed import Unnamed
 
@@ -37,7 +38,7 @@ class Standing:
     """The names of what stands still in a module of the agent's own, and the places by which a change is seen."""
 
     def __init__(self, variables: Dict[str, Any]) -> None:
-        self.variables, self.version = variables, version_of(variables)
+        self.variables, self._version = variables, said_at([version_place(variables)])
         self.names = ""
         # variables that are named for each memory, and caches that are
         self.others: List[str] = []
@@ -49,11 +50,11 @@ class Standing:
         self._said = b""
 
     def watch(self, places: List[Place]) -> None:
-        self._views = views_of(places)
-        self._said = b"".join(self._views)
+        self._views = views_of([version_place(self.variables), *places])
+        self._said = self._version + b"".join(self._views[1:])
 
     def is_as_before(self) -> bool:
-        return version_of(self.variables) == self.version and b"".join(self._views) == self._said
+        return b"".join(self._views) == self._said
 
 
 class Known:
@@ -68,8 +69,9 @@ class Known:
         self.reflects, self._count = False, 0
         # the agent's own modules by their names
         self.own: Own = dict
-        # by the identity of a class that stands still
-        self.plans: Dict[int, Plan] = {}
+        # how objects of a class that stands still are named, by its identity: programs that have modules in common have
+        # this in common too, until something changes in them
+        self.plans: Dict[int, KeptPlan] = {}
         self._standing: Dict[int, Standing] = {}
         # how often what stood still in a module has changed after all
         self._changes: Dict[int, int] = collections.Counter()
@@ -88,7 +90,7 @@ class Known:
     def of_program(self, labels: Mapping[int, str], drawing: Any) -> "Known":
         """What is known of another program that has the same modules, but for its module `random`."""
         other = copy.copy(self)
-        other.labels, other.plans, other.cached = {**self.labels, **labels}, dict(self.plans), {}
+        other.labels, other.cached = {**self.labels, **labels}, {}
         other._standing, other._changes = dict(self._standing), collections.Counter(self._changes)
         # what the modules hold is kept by what is known of them
         other.kept = [self]
@@ -110,7 +112,7 @@ class Known:
     def _drop(self, standing: Standing) -> None:
         for label in standing.labels:
             self.labels.pop(label, None)
-            self.plans.pop(label, None)
+        self.plans = {it: plan for it, plan in self.plans.items() if it not in standing.labels}
 
     def apart(self) -> "Known":
         """The same, to name values beside those of a memory: caches in them are passed over."""
@@ -220,18 +222,19 @@ class StillNamer(Namer):
             return value
         if kind in PLAIN:
             return super().name(value)
-        if id(value) in self._labels:
-            return ("known", self._labels[id(value)])
+        place = id(value)
+        if place in self._labels:
+            return ("known", self._labels[place])
         if kind is dict and self._has_dicts:
             self.places.append(version_place(value))
         elif kind in BY_WORDS:
-            self.places.append((id(value) + HEAD, kind.__basicsize__ - HEAD))
+            self.places.append((place + HEAD, kind.__basicsize__ - HEAD))
         elif kind in WRAPPERS or kind is logging.Logger:
             self.places.append(version_place(vars(value)))
         elif not (isinstance(value, type) or kind in STAND_STILL or kind.__module__ == "typing"):
             raise Moves
-        if id(value) not in self._seen:
-            self.labels[id(value)] = f"{self._label}/{len(self.labels)}"
+        if place not in self._seen:
+            self.labels[place] = f"{self._label}/{len(self.labels)}"
         return super().name(value)
 
     def globals(self, variables: Dict[str, Any]) -> Name:

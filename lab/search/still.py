@@ -8,6 +8,7 @@ import types
 from typing import Any, Dict, FrozenSet, Iterator, List, NamedTuple, Optional, Tuple
 
 from lab.search.cpython import dict_of, version_place, views_of
+from lab.search.plain import Plain
 from lab.search.unnamed import Unnamed
 
 # modules whose functions and classes keep nothing that a caller can set and see again
@@ -73,6 +74,7 @@ class Shared:
         self._watched: Dict[int, Watched] = {}
         # functions of modules that are shared, by their identity, with their names
         self.functions: Dict[int, Any] = {}
+        self.plain = Plain()
         self._views: List[memoryview] = []
         self._said = b""
         self._limit, self._drawing = sys.getrecursionlimit(), random.getstate()

@@ -1,11 +1,13 @@
 """Programs of the same words have their modules in common where nothing can change in these but what is watched, and
 each has modules of its own once something has."""
+import contextlib
 import pathlib
 import tempfile
 import unittest
-from typing import List, Optional
+from typing import Iterable, List, Optional, Sequence
 from unittest import mock
 
+from lab.play.players import WAKES, Player
 from lab.play.teams import INSIDE, AgentWords
 from lab.rules.fixtures import Fixture, fixture_of
 from lab.rules.model import Setup, spelled
@@ -13,7 +15,8 @@ from lab.rules.networks import ring
 from lab.search import seats
 from lab.search.common import Common
 from lab.search.machines import Machines
-from lab.search.seats import FAIL
+from lab.search.pasts import NoFunction
+from lab.search.seats import FAIL, SLEEP, Seated
 
 RING = "examples/agents/ring.py {nodes}"
 # what an agent may be told: it enters, it has written, it cannot write, it has departed
@@ -28,6 +31,21 @@ def search(agent, key):
     del b
     agent.look()
     agent.accuse(1 if {kept} else 0)
+"""
+# an agent that sleeps, also on a link, reads by itself, and raises
+SLEEPS = """
+def search(agent, key, sleep):
+    here = agent.enter(key)
+    while not here.board:
+        sleep(1)
+        here = agent.look()
+    agent._lines.send('{"do":"depart","port":0}')
+    if "gone" in agent._lines.receive():
+        sleep(1)
+        agent._lines.receive()
+    agent.write("", "x")
+    agent.look()
+    raise KeyError("x")
 """
 HIDDEN = {
     "a table": ("T = {'a': ''}", "T['a'] = b", "T['a']"),
@@ -64,10 +82,10 @@ class InCommon(unittest.TestCase):
         self.folder = pathlib.Path(folder.name)
 
     def machines(self, words: str) -> Machines:
-        found = Machines(fixture(), [AgentWords(INSIDE, words)] * 2, 5)
-        found.start()
-        self.addCleanup(found.stop)
-        return found
+        self.found = Machines(fixture(), [AgentWords(INSIDE, words)] * 2, 5)
+        self.found.start()
+        self.addCleanup(self.found.stop)
+        return self.found
 
     def hides(self, name: str) -> Machines:
         lines, put, kept = HIDDEN[name]
@@ -105,8 +123,12 @@ class InCommon(unittest.TestCase):
         left, seen = [machines.next(machines.begin(agent), spelled(ENTERED)) for agent in (0, 1)], set()
         while left and len(seen) < 60:
             memory = left.pop()
-            for news in NEWS if memory not in seen and machines.steps[memory].does != FAIL else []:
-                left.append(machines.next(memory, spelled(news)))
+            does = machines.steps[memory].does
+            told: Iterable[str] = [WAKES] if does == SLEEP else [] if does == FAIL else map(spelled, NEWS)
+            for news in told if memory not in seen else ():
+                # who is told that it has departed although it has not may send a line
+                with contextlib.suppress(NoFunction):
+                    left.append(machines.next(memory, news))
             seen.add(memory)
 
     def test_a_program_is_played_again_from_the_nearest_one_that_waits(self) -> None:
@@ -123,6 +145,32 @@ class InCommon(unittest.TestCase):
         # now nobody waits there
         machines.next(written, spelled({"no": "spent"}))
         self.assertEqual(machines._seats._begun, 3)
+
+    def test_a_way_that_is_gone_once_more_leads_to_the_same_in_fewer_turns(self) -> None:
+        (self.folder / "sleeps.py").write_text(SLEEPS)
+        for words in (RING, str(self.folder / "sleeps.py")):
+            machines = self.machines(words)
+            self.walk(machines)
+            self.assertTrue(words == RING or any(step.does == SLEEP for step in machines.steps))
+            fewer = 0
+            for number, name in enumerate(machines.names):
+                agent, way = machines.way_to(number)
+                turns = []
+                for tell in (self.tell_each, machines._seats.tell_all):
+                    one = machines._seats.begun(agent)
+                    with mock.patch.object(Player, "go_on", autospec=True, side_effect=Player.go_on) as goes_on:
+                        tell(one, way)
+                    turns.append(goes_on.call_count)
+                    self.assertEqual(machines.name_of(one, machines.ways[number]), name, way)
+                    one.player.stop()
+                self.assertGreaterEqual(*turns)
+                fewer += turns[0] > turns[1]
+            self.assertGreater(fewer, 10)
+
+    def tell_each(self, one: Seated, way: Sequence[str]) -> None:
+        """Tells a program one line after the other."""
+        for news in way:
+            self.found._seats.tell(one, news)
 
     def test_what_one_program_changes_no_other_sees(self) -> None:
         for name in HIDDEN:

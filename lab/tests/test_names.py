@@ -2,9 +2,11 @@
 import types
 import unittest
 import warnings
-from typing import Any, Tuple
+from typing import Any, List, Tuple
+from unittest import mock
 
 from lab.play.own_modules import random_from
+from lab.search import naming, plain
 from lab.search.caches import Caches
 from lab.search.naming import Namer
 from lab.search.pasts import NoFunction
@@ -34,7 +36,7 @@ class Program:
             self.variables["random"] = drawing
         keeps = eval(f"lambda b: {hides.hides}", self.variables)
         # it is named before the bit is kept too, so that what stands still then is known
-        self._known = known
+        self.known = known
         self.name()
         self.variables["h"] = keeps(b)
         # a program is told that has a module which may keep state: what the value is named by is to be seen here
@@ -45,9 +47,9 @@ class Program:
     def name(self) -> Any:
         """What names it, or None if it has no name."""
         try:
-            self._known.look()
-            found = Namer(self._known).globals(self.variables), self._known.drawn()
-            self._known.shared.check()
+            self.known.look()
+            found = Namer(self.known).globals(self.variables), self.known.drawn()
+            self.known.shared.check()
             return found
         except (Unnamed, NoFunction):
             return None
@@ -80,6 +82,42 @@ class Names(unittest.TestCase):
                     found = Program(ALL[name], b).name()
                     self.assertIsNotNone(found)
                     self.assertEqual(found, Program(ALL[name], b).name())
+
+    def test_long_plain_values_are_named_once_and_as_others_are(self) -> None:
+        changes = {3: "c", 4: (5, 6.5), 5: None, 6: True}
+        values: List[Any] = [(1, "a", None, (2.0, b"b"), True), frozenset("abcd"), frozenset(((1, 2), 3, 4, "x")),
+                             changes, ([], 1, 2, 3), {1: [], 2: 3, 4: 5, 6: 7}]
+        program = Program(Hides("b"), "")
+        for value in values:
+            for number in (3, 8):
+                with self.subTest(value, number=number):
+                    if value is changes:
+                        changes[3] = str(number)
+                    with mock.patch.object(naming, "LONG", 1_000):
+                        wanted = Namer(program.known).name(value)
+                    self.assertEqual([Namer(program.known).name(value) for _ in range(2)], [wanted, wanted])
+        kept = program.known.shared.plain
+        with mock.patch.object(kept, "_named", side_effect=AssertionError):
+            self.assertTrue(all(map(kept.name_of, values[:4])))
+        # what holds more than plain values has no name there
+        self.assertEqual([kept.name_of(it) for it in values[4:]], [None, None])
+        name = kept.name_of(values[0])
+        with mock.patch.object(plain, "MOST", 0), mock.patch.object(kept, "_named", return_value=name) as named:
+            # it begins anew
+            kept.name_of((1, 2, 3, 4))
+            kept.name_of(values[0])
+        self.assertEqual(named.call_count, 2)
+
+    def test_how_objects_of_a_class_are_named_is_kept_until_the_class_changes(self) -> None:
+        for changes in ("C.more = vars(D)['more']", "C.__bases__ = (E,)"):
+            with self.subTest(changes):
+                program = Program(Hides("C()", "class B:\n    pass\nclass E:\n    pass\nclass C(B):\n    pass\n"
+                                        "class D:\n    __slots__ = ('more',)"), "")
+                program.name()
+                kind = program.variables["C"]
+                self.assertIsNotNone(Namer(program.known)._plan(kind))
+                exec(changes, program.variables)
+                self.assertIsNone(Namer(program.known)._plan(kind))
 
 
 if __name__ == "__main__":
