@@ -13,6 +13,13 @@ A row has the verdict of the program on the replay, and the replay's SHA-256. Wi
 plays and judges, which is faster and proves nothing; the rows are the same. If you name a program with it by --program,
 the program plays the runs that are kept once more, and their replays must be the same.
 
+With --explore N the program also tries every schedule of each match of the sweep, as `explore` does: of each network,
+team and choice of black holes. `every.csv` gets a row for each, and the summary and the report say whether every
+schedule solves, and with how many moves and lost agents at most, beside what the runs came to. That is a theorem about
+programs that are functions of what they hold, as they answered, and nap at most twice where nothing has changed. A
+match that has more than N states is said to have too many; the same command with a larger N tries it again. A run that
+does what no schedule does ends the command, and says so.
+
 `made.json` has the SHA-256 of all that rows depend on: the sweep, the files of agents and schedulers with what they
 import, the files that agents inside the lab read while they play, the lab, the program and Python. If one of them is
 another, or a row is not of the run that the sweep has there, the command refuses to go on in the folder. With --verify
@@ -25,6 +32,7 @@ import pathlib
 from lab.commands.words import add_engine, add_workers, at_least_one, program_of
 from lab.play.games import maker_of
 from lab.rules.engines import program_at
+from lab.support.faults import Fault
 from lab.support.missing import check
 from lab.sweep import grid, verify
 from lab.sweep.sweeping import Way, Work, made_of, swept, verified
@@ -41,6 +49,8 @@ def add_words(parser: argparse.ArgumentParser) -> None:
     parser.add_argument("--out", metavar="FOLDER", type=pathlib.Path, required=True, help="write everything there")
     parser.add_argument("--verify", metavar="N", type=at_least_one, nargs="?", const=verify.ALL, help="write nothing: "
                         "play N drawn rows of the folder again, or all, and compare")
+    parser.add_argument("--explore", metavar="N", type=at_least_one, help="try every schedule of each match too, up to "
+                        "N states of each, such as 1000000")
     add_workers(parser)
     parser.add_argument("--cluster", metavar="ADDRESS", help="let the workers of a Dask scheduler play, such as "
                         "tcp://192.0.2.7:8786; each needs this folder at the same path")
@@ -54,7 +64,10 @@ def run(words: argparse.Namespace) -> int:
     for name in spec.schedulers:
         maker_of(name)
     cases = list(spec.cases())
-    made, way = made_of(spec, text, work.program), Way(words.out, words.workers, words.cluster)
+    made, way = made_of(spec, text, work.program), Way(words.out, words.workers, words.cluster, words.explore)
+    if words.explore and (work.program is None or words.verify is not None):
+        raise Fault("--explore needs the program as the engine: leave --engine model out" if work.program is None else
+                    "--verify plays runs again, and tries no schedules: leave --explore out")
     if words.verify is not None:
         return verified(work, cases, made, way, words.verify)
     keeper = work._replace(program=work.program or (program_at(words.program) if words.program else None))

@@ -1,8 +1,8 @@
 """How `explore` checks that agents are the machines for which the lab takes them: the merges of their histories, drawn
 schedules that the agents play, and on small matches the Python model's search, which merges nothing."""
-from typing import Any, NamedTuple, Optional
+from typing import Any, List, NamedTuple, Optional, Protocol
 
-from lab.play.teams import INSIDE, Game
+from lab.play.teams import INSIDE, AgentWords
 from lab.rules.engines import Differs
 from lab.rules.fixtures import Fixture
 from lab.search.asking import BREAKS, COMES, ENDLESS, FAILS, SOLVES, Found
@@ -47,10 +47,20 @@ class Counted(NamedTuple):
         return f"checked, and all agree: {', '.join(said)}"
 
 
+class Matches(Protocol):
+    """Matches that one team plays, such as those of a `Game`."""
+
+    @property
+    def agents(self) -> List[AgentWords]: ...
+    @property
+    def limit(self) -> float: ...
+    def fixtures(self) -> List[Fixture]: ...
+
+
 class Checks:
     """What was checked of a search. `str` says what, and that it agreed."""
 
-    def __init__(self, machines: Machines, game: Game, schedules: int, matches: int) -> None:
+    def __init__(self, machines: Machines, game: Matches, schedules: int, matches: int) -> None:
         """Of this many schedules each match gets its part."""
         self._machines, self._game, self._wanted, self._matches = machines, game, schedules, matches
         self._seen = self._schedules = self._searched = 0

@@ -9,10 +9,10 @@ from typing import Any, Counter, Dict, Iterator, List, NamedTuple, Optional, Seq
 
 from lab.play import spread
 from lab.play.agent_files import digests
-from lab.play.teams import Game, digests_of
+from lab.play.teams import digests_of
 from lab.search.asking import STOPPED, Answered, Draws, asked
 from lab.search.beside import MERGES
-from lab.search.checking import Checks, Counted
+from lab.search.checking import Checks, Counted, Matches
 from lab.search.machines import Machines
 from lab.search.pasts import NoFunction
 from lab.search.proving import After, Tried
@@ -48,7 +48,7 @@ class Done(NamedTuple):
 class Work(NamedTuple):
     """What a process needs to try the matches of a game."""
 
-    game: Game
+    game: Matches
     program: str
     states: int
     check: int

@@ -1,6 +1,6 @@
 """The report of a sweep: its summary, its plots and its page."""
 import io
-from typing import Any, Dict, Iterable, List, NamedTuple, Optional, Sequence, Tuple
+from typing import Any, Dict, List, NamedTuple, Optional, Sequence, Tuple
 
 from lab.pages.parts import as_is, filled
 from lab.support.missing import needed
@@ -9,6 +9,13 @@ from lab.sweep.statistic import Spread, spread_of
 
 HEAD = ("network", "nodes", "team", "agents", "scheduler", "runs", "solved", "mean moves", "confidence 95 %",
         "lower quartile", "median", "upper quartile", "most moves", "its run", "most lost", "bound")
+# what the summary has beside it where the program has tried every schedule, and what the report has of each match
+EVERY = ("every schedule", "its most moves", "its most lost")
+MATCHES = ("network", "team", "black hole", "every schedule", "states", "most moves", "most in runs", "most lost",
+           "most lost in runs")
+# what is said of a match under every schedule; of any other word that one fails
+SAID = {"solves": "solves", "limit": "too many states", "exceeds": "may use more than its quota", "": "not tried"}
+FAILS = "one fails"
 # how many points a curve has
 POINTS = 100
 SIZE = (7.6, 4.8)
@@ -18,6 +25,7 @@ COLOURS = ("#0b6e99", "#c2410c", "#4d7c0f", "#7e22ce", "#a16207", "#be123c")
 FAULTS, MORE = "faults", "more"
 Row = Dict[str, Any]
 Name = Tuple[str, str, str]
+Match = Tuple[str, str, str]
 
 
 class Kept(NamedTuple):
@@ -46,6 +54,8 @@ class Group(NamedTuple):
     worst: Row
     lost: int
     bound: Optional[float]
+    # of its matches, what was found of every schedule
+    every: Sequence[Row] = ()
 
     def cells(self) -> List[str]:
         """The group as a row of the summary."""
@@ -54,23 +64,68 @@ class Group(NamedTuple):
         return [network, str(self.nodes), team, str(self.agents), scheduler, str(self.runs), str(self.solved),
                 f"{self.moves.mean:.1f}", f"{self.moves.confidence:.1f}", f"{self.moves.low:g}",
                 f"{self.moves.median:g}", f"{self.moves.high:g}", self.worst["moves"], self.worst["run"],
-                str(self.lost), bound]
+                str(self.lost), bound, *self.every_cells()]
+
+    def every_cells(self) -> List[str]:
+        """What is known of every schedule of its matches: nothing if none was tried."""
+        if not self.every:
+            return []
+        said = {said_of(row.get("found", "")) for row in self.every}
+        if said == {SAID["solves"]}:
+            return [SAID["solves"], *(str(max(int(row[it]) for row in self.every)) for it in ("moves", "lost"))]
+        return [next(it for it in (FAILS, *list(SAID.values())[::-1]) if it in said), "", ""]
+
+    def has_failed(self) -> bool:
+        """Whether a run failed, or some schedule of a match fails."""
+        return self.solved != self.runs or FAILS in self.every_cells()
 
     def named_cells(self) -> List[Tuple[str, str]]:
         """The cells, each with the name of its column."""
-        return list(zip(HEAD, self.cells()))
+        return list(zip(HEAD + EVERY, self.cells()))
+
+
+def said_of(found: str) -> str:
+    """What is said of a match of which the program found this."""
+    return SAID.get(found, FAILS)
+
+
+def head_of(groups: Sequence[Group]) -> Sequence[str]:
+    """The columns of the summary."""
+    return HEAD + EVERY if any(group.every for group in groups) else HEAD
 
 
 def is_solved(row: Row) -> bool:
     return row["outcome"] == "solved" and not row["fault"]
 
 
-def groups_of(rows: Sequence[Row], spec: Grid) -> List[Group]:
-    """The groups of a sweep, in the order of its file."""
+def groups_of(rows: Sequence[Row], spec: Grid, every: Sequence[Row] = ()) -> List[Group]:
+    """The groups of a sweep, in the order of its file, with what was found of every schedule of their matches."""
     found: Dict[Name, List[Row]] = {}
     for row in rows:
         found.setdefault((row["network"], row["team"], row["scheduler"]), []).append(row)
-    return [group_of(name, members, spec) for name, members in found.items()]
+    by_match = {match_of(row): row for row in every}
+    return [group_of(name, members, spec)._replace(every=every_of(members, by_match) if every else ())
+            for name, members in found.items()]
+
+
+def match_of(row: Row) -> Match:
+    """The match of a row: its network, its team and its black holes."""
+    return row["network"], row["team"], row["hole"]
+
+
+def every_of(rows: Sequence[Row], every: Dict[Match, Row]) -> List[Row]:
+    """What was found of every schedule of the matches of these rows, each once; nothing of one that was not tried."""
+    return [every.get(match, {}) for match in dict.fromkeys(map(match_of, rows))]
+
+
+def matches(rows: Sequence[Row], every: Sequence[Row]) -> List[Sequence[str]]:
+    """What was found of each match, beside the most moves and lost agents of its runs."""
+    found: Dict[Match, List[Row]] = {}
+    for row in rows:
+        found.setdefault(match_of(row), []).append(row)
+    most = {match: [str(max(int(row[it]) for row in of)) for it in ("moves", "lost")] for match, of in found.items()}
+    return [(row["network"], row["team"], row["hole"], said_of(row["found"]), row["states"], row["moves"],
+             most[match_of(row)][0], row["lost"], most[match_of(row)][1]) for row in every]
 
 
 def group_of(name: Name, rows: List[Row], spec: Grid) -> Group:
@@ -81,9 +136,9 @@ def group_of(name: Name, rows: List[Row], spec: Grid) -> Group:
                  BOUNDS[spec.bound](nodes) if spec.bound else None)
 
 
-def summary(groups: Iterable[Group]) -> List[Sequence[str]]:
+def summary(groups: Sequence[Group]) -> List[Sequence[str]]:
     """The summary's rows, with their head."""
-    return [HEAD, *(group.cells() for group in groups)]
+    return [head_of(groups), *(group.cells() for group in groups)]
 
 
 def worst_runs(rows: Sequence[Row]) -> List[Row]:
@@ -198,9 +253,12 @@ def moves_up(axes: Any) -> None:
     axes.legend(frameon=False, fontsize=8, ncols=3, loc="lower left", bbox_to_anchor=(0, 1))
 
 
-def page(spec: Grid, groups: Sequence[Group], kept: Sequence[Kept], engine: str) -> str:
-    """The report as one HTML file. Runs that were kept are linked."""
+def page(spec: Grid, groups: Sequence[Group], kept: Sequence[Kept], engine: str, every: Sequence[Sequence[str]] = ()
+         ) -> str:
+    """The report as one HTML file. Runs that were kept are linked. It has what was found of every schedule of matches,
+    if they were tried."""
     runs, solved = (sum(getattr(group, name) for group in groups) for name in ("runs", "solved"))
     about = f"{runs} runs, played and judged by {engine}: solved {solved}, failed {runs - solved}."
-    return filled("report.html", title=spec.title, about=about, plot=as_is(plot(spec, groups)), head=HEAD,
-                  groups=groups, links={run.row["run"]: run.link for run in kept}, kept=kept)
+    return filled("report.html", title=spec.title, about=about, plot=as_is(plot(spec, groups)),
+                  head=head_of(groups), groups=groups, links={run.row["run"]: run.link for run in kept}, kept=kept,
+                  every_head=MATCHES, every=every, fails=FAILS)

@@ -16,7 +16,7 @@ from lab.play.teams import Together
 from lab.rules.engines import NAMES, Differs, name_of
 from lab.rules.fixtures import Fixture
 from lab.support.progress import along
-from lab.sweep import grid, report, verify
+from lab.sweep import every, grid, report, verify
 from lab.sweep.grid import Case, Grid, NoSweep
 from lab.sweep.tables import (COLUMNS, RUNS, NoTable, cells_in, changed_in, checked, done_in, line_of, made_by,
                               note_read, rows_in)
@@ -99,22 +99,31 @@ def made_of(spec: Grid, text: str, program: Optional[str]) -> Dict[str, Any]:
 
 
 class Way(NamedTuple):
-    """Where a sweep is written, and who plays it: this number of processes, or the workers of a Dask scheduler."""
+    """Where a sweep is written, who plays it: this number of processes, or the workers of a Dask scheduler; and up to
+    how many states of each match every schedule is tried, if it is."""
 
     out: pathlib.Path
     workers: int
     cluster: Optional[str] = None
+    states: Optional[int] = None
 
 
 def swept(work: Work, keeper: Work, cases: List[Case], done: int, way: Way) -> int:
     """Plays the runs that are not done yet, and writes everything. The keeper plays what is kept once more."""
-    check_rows(grid.grid_of(work.text), cases, way.out)
+    spec = grid.grid_of(work.text)
+    check_rows(spec, cases, way.out)
+    rows = every.Rows(way.out, spec)
     try:
         write_rows(noted(results(work, cases[done:], way), way.out), len(cases) - done, way.out)
+        if way.states is not None and work.program is not None:
+            every.try_all(every.Work(work.text, work.program, way.states, LIMIT), rows, way.workers, way.cluster)
     except KeyboardInterrupt:
-        print(f"interrupted; {done_in(way.out / RUNS)} of {len(cases)} runs are done: the same command goes on there")
+        more = f", and {len(rows.rows())} of {len(rows.matches)} matches were tried" if way.states is not None else ""
+        print(f"interrupted; {done_in(way.out / RUNS)} of {len(cases)} runs are done{more}: the same command goes on "
+              "there")
         return 130
-    return told(work, keeper, cases, way.out)
+    status = told(work, keeper, cases, rows, way.out)
+    return max(status, every.told(rows, str(work.program))) if rows.rows() else status
 
 
 def verified(work: Work, cases: List[Case], made: Dict[str, Any], way: Way, wanted: int) -> int:
@@ -160,15 +169,17 @@ def results(work: Work, cases: List[Case], way: Way) -> Iterator[Result]:
     return over_processes(work, cases, way.workers)
 
 
-def told(work: Work, keeper: Work, cases: List[Case], folder: pathlib.Path) -> int:
+def told(work: Work, keeper: Work, cases: List[Case], tried: every.Rows, folder: pathlib.Path) -> int:
     """Writes the summary, the worst runs and the report."""
-    spec, rows = grid.grid_of(work.text), rows_in(folder / RUNS)
-    groups = report.groups_of(rows, spec)
+    spec, rows, matches = grid.grid_of(work.text), rows_in(folder / RUNS), tried.rows()
+    every.check_runs(matches, rows)
+    groups = report.groups_of(rows, spec, matches)
     (folder / SUMMARY).write_text(summary_text(groups), encoding="utf-8")
     pages = [report.Kept(row, kept(keeper, spec, cases[int(row["run"])], row, folder))
              for row in along(report.worst_runs(rows), len(spec.names) * len(spec.teams), "page")]
     engine = name_of(work.program)
-    (folder / REPORT).write_text(report.page(spec, groups, pages, engine), encoding="utf-8")
+    (folder / REPORT).write_text(report.page(spec, groups, pages, engine, report.matches(rows, matches)),
+                                 encoding="utf-8")
     failed = sum(not report.is_solved(row) for row in rows)
     print(f"{len(rows)} runs on {engine}: solved {len(rows) - failed}; failed {failed}")
     print(f"read {folder / REPORT}; the rows are in {folder / RUNS} and {folder / SUMMARY}")
@@ -200,10 +211,10 @@ def summary_text(groups: List[report.Group]) -> str:
 
 def other_texts(spec: Grid, folder: pathlib.Path) -> List[str]:
     """Which of the summary and the report are not what is made of the rows. The report may name any engine."""
-    rows = rows_in(folder / RUNS)
-    groups = report.groups_of(rows, spec)
+    rows, matches = rows_in(folder / RUNS), every.Rows(folder, spec).rows()
+    groups, tried = report.groups_of(rows, spec, matches), report.matches(rows, matches)
     pages = [report.Kept(row, link_to(int(row["run"]), folder)) for row in report.worst_runs(rows)]
-    may_be = {SUMMARY: [summary_text(groups)], REPORT: [report.page(spec, groups, pages, it) for it in NAMES]}
+    may_be = {SUMMARY: [summary_text(groups)], REPORT: [report.page(spec, groups, pages, it, tried) for it in NAMES]}
     return [name for name, texts in may_be.items() if text_in(folder / name) not in texts]
 
 

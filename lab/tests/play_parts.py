@@ -66,8 +66,9 @@ class Escapes(Folder):
         rows = [row(0, "a", 9, "silent", HOSTILE)]
         kept = report.Kept(rows[0], f'a"{HOSTILE}')
         text = parts.filled("report.html", title=TITLE, about="", plot=parts.as_is("<svg></svg>"), head=report.HEAD,
-                            groups=[], links={}, kept=[kept])
-        self.check(text, 2)
+                            groups=[], links={}, kept=[kept], every_head=report.MATCHES, fails=report.FAILS,
+                            every=[[HOSTILE] * len(report.MATCHES)])
+        self.check(text, 2 + len(report.MATCHES))
         self.assertIn("<svg></svg>", text)
 
     def test_whiteboards_of_a_match_end_no_script(self) -> None:
