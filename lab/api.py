@@ -42,6 +42,7 @@ from lab.rules.networks import Network
 from lab.search import asking, explore as exploring, hunt as hunting
 from lab.search.asking import BREAKS, COMES, SOLVES, Draws
 from lab.search.checking import Counted
+from lab.search.fitting import OF_MODEL, OF_PROGRAM, fitting
 from lab.search.machines import Machines
 from lab.search.proving import CHECKED, FOUND, Proving, Tried, choices_of, found_in
 from lab.support.progress import bar
@@ -219,19 +220,21 @@ def pandas_or_none() -> Any:
 
 
 def explore(network: Union[NetworkLike, Sequence[NetworkLike]], agents: Union[AgentLike, Sequence[AgentLike]], *,
-            states: int = exploring.MOST_STATES, engine: str = MODEL, draws: Optional[Draws] = None,
+            states: Optional[int] = None, engine: str = MODEL, draws: Optional[Draws] = None,
             check: int = CHECKED, **more: Any) -> Union[Exploration, Proof]:
     """Tries every schedule on a network, or on several: a list, or a range of sizes such as "ring:3..8". Each node but
     the home base is the black hole unless something that destroys is named. The program proves what it finds, up to the
     first match that fails; with `draws` it draws schedules instead. The engine "model" searches without a proof. Of
-    `check` drawn schedules the agents play on each network, what they do is compared with what they answered."""
+    `check` drawn schedules the agents play on each network, what they do is compared with what they answered. `states`
+    are the most of a match to visit: as many as take half of the memory that is left, unless you name a number."""
     all_asked, path = [game(one, agents, **more) for one in networks_in(network)], path_of(engine)
     if path is not None:
-        return proved(all_asked, path, Wanted(states, draws, check))
+        most = exploring.MOST_STATES if draws is not None else fitting(OF_PROGRAM)
+        return proved(all_asked, path, Wanted(states or most, draws, check))
     if draws is not None:
         raise ValueError("draws need a program: name it by engine, or hunt")
     with bar(None, "state") as shown:
-        by_game = [(one, list(exploring.tried(one, states, shown))) for one in all_asked]
+        by_game = [(one, list(exploring.tried(one, states or fitting(OF_MODEL), shown))) for one in all_asked]
     found = [it for _, of_one in by_game for it in of_one]
     worst, record = max(found, key=exploring.Explored.rank), None
     if worst.explorer.worst:

@@ -67,6 +67,7 @@ from lab.play.teams import Game
 from lab.rules.engines import MODEL, PROGRAM, program_at
 from lab.search.asking import Draws
 from lab.search.explore import MOST_STATES, check_inside, tried
+from lab.search.fitting import OF_MODEL, OF_PROGRAM, fitting
 from lab.search.proving import CHECKED
 from lab.search.spreading import Way
 from lab.support.faults import Fault
@@ -84,8 +85,9 @@ PACES, HUNTS = ("fair", "last-departed", "starved", "slow-agents", "slow-links")
 def add_words(parser: argparse.ArgumentParser) -> None:
     """The words of the command `explore`."""
     add_match(parser, several=True)
-    parser.add_argument("--states", metavar="N", type=at_least_one, default=MOST_STATES, help="the most states of a "
-                        f"match to visit ({MOST_STATES}); a million take about half a gigabyte")
+    parser.add_argument("--states", metavar="N", type=at_least_one, help="the most states of a match to visit (as many "
+                        "as take half of the memory that is left). A million take 20 to 100 megabytes, and by the "
+                        "Python model half a gigabyte to one")
     parser.add_argument("--draws", metavar="N", type=at_least_one, help="draw this many schedules of each match "
                         "instead of trying all; for networks with too many states. --states then bounds the turns of "
                         "each")
@@ -117,13 +119,22 @@ def run(words: argparse.Namespace) -> int:
     check_way(words)
     if (words.search or words.engine) == PROGRAM:
         program, way = engine or program_at(words.program), Way(words.workers, words.cluster)
-        wanted = [trying.Wanted(game, program, engine, words.states, words.check, words.keep, way) for game in games]
+        states = words.states or states_of(words)
+        wanted = [trying.Wanted(game, program, engine, states, words.check, words.keep, way) for game in games]
         if words.out:
             return written(words, wanted)
         return drawing.run(wanted, draws) if draws else trying.run(wanted)
     if draws:
         raise Fault("--draws needs the program's search: give no --search model, or use `lab hunt`")
     return max(searched(words, game) for game in games)
+
+
+def states_of(words: argparse.Namespace) -> int:
+    """How many states of a match are visited at most, if no number is named. Workers elsewhere have other memory, and
+    drawn schedules take none for their turns."""
+    if words.draws is not None or words.cluster:
+        return MOST_STATES
+    return fitting(OF_PROGRAM, words.workers)
 
 
 def check_way(words: argparse.Namespace) -> None:
@@ -165,7 +176,7 @@ def searched(words: argparse.Namespace, game: Game) -> int:
     check_inside(game)
     all_found = []
     with bar(None, "state") as shown:
-        for found in tried(game, words.states, shown):
+        for found in tried(game, words.states or fitting(OF_MODEL), shown):
             shown.clear()
             print(trying.by_model(found), flush=True)
             all_found.append(found)

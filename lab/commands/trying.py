@@ -12,6 +12,7 @@ from lab.rules.fixtures import Fixture
 from lab.rules.model import Verdict
 from lab.search.asking import BREAKS, ENDLESS, EXCEEDS, FAILS, SOLVES, Draws, asked
 from lab.search.explore import Explored, explored
+from lab.search.fitting import OF_MODEL, fitting
 from lab.search.machines import Machines
 from lab.search.pasts import NoFunction
 from lab.search.proving import After, Proving, Tried, bounds_of, choices_of, found_in
@@ -141,7 +142,8 @@ def beside(wanted: Wanted, tried: Tried, shown: Any) -> Tried:
                          "alone")
     print(f"{why}: the Python model's search takes over, of which nothing is proved", flush=True)
     try:
-        return tried._replace(beside=explored(tried.fixture, game.agents, shown, wanted.states, game.limit))
+        states = min(wanted.states, fitting(OF_MODEL))
+        return tried._replace(beside=explored(tried.fixture, game.agents, shown, states, game.limit))
     finally:
         shown.clear()
 
