@@ -22,7 +22,7 @@ from collections import Counter
 from typing import Dict, Iterator, List
 
 from lab.rules.engines import program_at
-from lab.tests.halls import Served, play
+from lab.tests.hall.halls import Served, play
 
 SEED, FLOODS, EVERY = 5, 8, 0.5
 # tests of processes that are killed take workers for gone earlier

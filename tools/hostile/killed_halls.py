@@ -22,8 +22,8 @@ from collections import Counter
 from typing import Any, Dict, List
 
 from lab.rules.model import judge, played
-from lab.tests import halls
-from lab.tests.halls import Served, play
+from lab.tests.hall import halls
+from lab.tests.hall.halls import Served, play
 
 ENDED = ("over", "lost", "cancelled")
 NAMES = ("web", "keeper", "scheduler", "worker 0", "worker 1")

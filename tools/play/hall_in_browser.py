@@ -17,8 +17,8 @@ from selenium import webdriver
 from selenium.webdriver.support.ui import WebDriverWait
 
 from lab.rules.engines import TOP
-from lab.tests import halls
-from lab.tests.test_hall import zipped
+from lab.tests.hall import halls
+from lab.tests.hall.test_hall import zipped
 from tools.play.watch_in_browser import browser
 
 SECONDS = 60

@@ -12,7 +12,7 @@ import tempfile
 from typing import List
 
 from lab.play.kits import KITS
-from lab.tests.kits_played import Played
+from lab.tests.play.kits_played import Played
 from tools.play.packages import install
 
 # Debian's crates that the kit in Rust needs on a machine which reaches no other

@@ -2,9 +2,9 @@
 
     python3 -m tools.play.lab_tests PROGRAM
 
-Installs packages that are missing by apt-get. The tests are those of lab/tests/play_*.py, as many files at a time as
-there are processors, since most tests wait. What a file's tests print comes once they have ended. The last line reads
-`N passed, M failed`, and the exit status is 1 if one failed.
+Installs packages that are missing by apt-get. The tests are those of lab/tests/ROOM/play_*.py, as many files at a time
+as there are processors, since most tests wait. What a file's tests print comes once they have ended. The last line
+reads `N passed, M failed`, and the exit status is 1 if one failed.
 """
 import concurrent.futures
 import os
@@ -66,7 +66,7 @@ def main() -> int:
     program = str(pathlib.Path(sys.argv[1]).resolve())
     install(PACKAGES)
     variables = {**os.environ, "ARENA_PROGRAM": program}
-    names = sorted(path.stem for path in (TOP / "lab" / "tests").glob("play_*.py"))
+    names = sorted(f"{path.parent.name}.{path.stem}" for path in (TOP / "lab" / "tests").glob("*/play_*.py"))
     with concurrent.futures.ThreadPoolExecutor(len(os.sched_getaffinity(0))) as pool:
         found = list(pool.map(lambda name: counts_of(name, variables), names))
     passed, failed = map(sum, zip(*found))

@@ -31,8 +31,8 @@ class Mutant(NamedTuple):
     tests: str
 
 
-MODEL, MATCHES, GRADE, SWEEP = "lab.tests.test_model", "lab.tests.test_schedulers", "lab.tests.test_grade", \
-    "lab.tests.test_sweep"
+MODEL, MATCHES = "lab.tests.rules.test_model", "lab.tests.play.test_schedulers"
+GRADE, SWEEP = "lab.tests.course.test_grade", "lab.tests.sweep.test_sweep"
 MUTANTS = (
     Mutant("lab/rules/model.py", '("solved", "guess", "unfinished",', '("solved", "unfinished", "guess",', MODEL),
     Mutant("lab/rules/model.py", '"silent", "wrong")', '"wrong", "silent")', MODEL),
@@ -43,16 +43,17 @@ MUTANTS = (
     Mutant("lab/play/server.py", "enumerate(ranked, 1)", "enumerate(ranked)", "tests.test_bench"),
     Mutant("lab/play/server.py", "sorted(rows, key=lambda row: rank(row[1], row[0]))", "list(rows)",
            "tests.test_bench"),
-    Mutant("lab/pages/screen.py", "return (len(RANKS),)", "return (-1,)", "lab.tests.test_screen"),
+    Mutant("lab/pages/screen.py", "return (len(RANKS),)", "return (-1,)", "lab.tests.pages.test_screen"),
     Mutant("lab/pages/contest_pages.py", "(len(RANKS), 0, 0, shown.team)", "(0, 0, 0, shown.team)",
-           "lab.tests.play_contest_pages"),
+           "lab.tests.pages.play_contest_pages"),
     Mutant("lab/play/schedulers.py", "paces.setdefault((agent.node, agent.port), chance.choice(PACES))",
            "chance.choice(PACES)", MATCHES),
     Mutant("lab/play/schedulers.py", "if choice.do != ARRIVE:\n            return 1",
            "if choice.do == ARRIVE:\n            return 1", MATCHES),
     Mutant("lab/rules/networks.py", "not {(one, two), (two, one)} & set(pairs)", "(one, two) not in pairs",
-           "lab.tests.test_networks"),
-    Mutant("lab/rules/networks.py", "for v in path[:-1] + path[1:]:", "for v in path[:-1]:", "lab.tests.test_networks"),
+           "lab.tests.rules.test_networks"),
+    Mutant("lab/rules/networks.py", "for v in path[:-1] + path[1:]:", "for v in path[:-1]:",
+           "lab.tests.rules.test_networks"),
     Mutant("lab/course/league.py", "return -self.solved, self.moves, self.lost", "return -self.solved, self.lost, "
            "self.moves", GRADE),
     Mutant("lab/course/league.py", "return -self.solved, self.moves, self.lost", "return -self.solved, self.moves",

@@ -1,0 +1,319 @@
+"""`explore` merges histories by what a program holds. Agents that hide one bit in something have it named, or told: no
+schedule that fails is left out. Each hides in another type, module or place whether a whiteboard said something."""
+import pathlib
+import re
+from typing import Any, Dict, NamedTuple
+from unittest import main as run_tests, mock
+
+from lab.rules import networks
+from lab.search import explore, naming
+from lab.tests.search.exploring import InExplore
+from lab.tests.playing import KNOWN_MAP, RING
+
+
+class Hides(NamedTuple):
+    """Lines of a file, how an agent hides the text `b`, and how it finds it again from what it has kept, `h`."""
+
+    lines: str
+    hides: str
+    finds: str
+
+
+HIDDEN: Dict[str, Hides] = {
+    "a local": Hides("", "b", "h"),
+    "a match of re": Hides("import re", "re.match('.*', b)", "h.group()"),
+    "a pattern of re": Hides("import re", "re.compile('^' + b + '$')", "'x' if h.match('x') else ''"),
+    "an array": Hides("import array", "array.array('u', b)", "''.join(h)"),
+    "an itemgetter": Hides("import operator", "operator.itemgetter(len(b))", "h(['', 'x'])"),
+    "a hash": Hides("import hashlib", "hashlib.sha256(b.encode())",
+                    "'x' if h.digest() == hashlib.sha256(b'x').digest() else ''"),
+    "a struct": Hides("import struct", "struct.Struct('b' if b else 'i')", "'x' if h.size == 1 else ''"),
+    "a lock": Hides("import threading\ndef lock(b):\n    l = threading.Lock()\n    if b: l.acquire()\n    return l",
+                    "lock(b)", "'x' if h.locked() else ''"),
+    "a generator of numbers": Hides("import random", "random.Random(1 if b else 2)",
+                                    "'x' if h.random() == random.Random(1).random() else ''"),
+    "a cache that is not pure": Hides(
+        "import functools\n@functools.lru_cache(None)\ndef cached(node):\n    return [now[0]]\nnow = ['']",
+        "(now.__setitem__(0, b), cached(0), now.__setitem__(0, ''))[2]", "cached(0)[0]"),
+    "lambdas of one line": Hides("", "(lambda: 'x') if b else (lambda: '')", "h()"),
+    "the table of a set": Hides("def table(b):\n    s = set(range(20)) if b else set()\n    [s.discard(i) for i in "
+                                "range(20)]\n    s.add(1)\n    return s", "table(b)",
+                                "(h.add(8), '' if list(h) == [8, 1] else 'x')[1]"),
+    "a variable between underscores": Hides("__count__ = 0\ndef put(b):\n    global __count__\n    __count__ = len(b)",
+                                            "put(b)", "'x' if __count__ else ''"),
+    "a class's call": Hides("def make(b):\n    class C:\n        def __call__(self): return b\n    return C()",
+                            "make(b)", "h()"),
+    "bases of a class": Hides("class A:\n    r = ''\nclass B:\n    r = 'x'", "type('C', (B if b else A,), {})()",
+                              "h.r"),
+    "a text that lies": Hides("class S(str):\n    def __str__(self): return 'S'", "S(b)", "h[:]"),
+    "a slot behind a property": Hides(
+        "class L:\n    __slots__ = ('v',)\n    def __init__(self, v): self.v = v\nclass M(L):\n    __slots__ = ()\n"
+        "    @property\n    def v(self): return 0\n    @v.setter\n    def v(self, w): L.v.__set__(self, w)",
+        "M(b)", "L.v.__get__(h)"),
+    "attributes that lie": Hides(
+        "class G:\n    def __init__(self, v): object.__setattr__(self, 'v', v)\n    def __getattribute__(self, n): "
+        "return {} if n == '__dict__' else object.__getattribute__(self, n)", "G(b)", "h.v"),
+    "an iterator over a dict": Hides("D1 = {1: 0}\nD2 = {1: 0}", "iter(D1 if b else D2)",
+                                     "(D1.__setitem__(2, 0), 'x' if fails(h) else '')[1]"),
+    "the environment": Hides("import os", "(os.environ.__setitem__('ZZ', b), None)[1]", "os.environ['ZZ']"),
+    "a module of the library": Hides("import string", "setattr(string, 'zz', b)", "string.zz"),
+    "the client": Hides("from client import Agent", "setattr(Agent, 'zz', b)", "Agent.zz"),
+    "sys": Hides("import sys", "sys.setrecursionlimit(5000 + len(b))",
+                 "'x' if sys.getrecursionlimit() == 5001 else ''"),
+    "a context of decimal": Hides("import decimal", "setattr(decimal.getcontext(), 'prec', 10 + len(b))",
+                                  "'x' if decimal.getcontext().prec == 11 else ''"),
+    "a file": Hides("P = '{folder}/f'", "(open(P, 'w').write(b), None)[1]", "open(P).read()"),
+    "a database": Hides("import sqlite3\ndef db(b):\n    c = sqlite3.connect(':memory:')\n    c.execute('create table "
+                        "t(x)')\n    if b: c.execute('insert into t values (1)')\n    return c", "db(b)",
+                        "'x' if h.execute('select count(*) from t').fetchone()[0] else ''"),
+    "a decoder": Hides("import json", "json.JSONDecoder(parse_int=(lambda t: 1) if b else (lambda t: 0))",
+                       "'x' if h.decode('7') else ''"),
+    "the agent's lines": Hides("", "setattr(agent._lines, 'memo', b)", "agent._lines.memo"),
+    "an attribute of a function": Hides("def fn(): pass\nfn.memo = ''", "setattr(fn, 'memo', b)", "fn.memo"),
+    "a mutable default": Hides("def fn(x=None, m=['']):\n    if x is not None: m[0] = x\n    return m[0]",
+                               "fn(b) and None", "fn()"),
+    "defaults that are exchanged": Hides("def fn(m=''):\n    return m", "setattr(fn, '__defaults__', (b,))", "fn()"),
+    "a closure": Hides("def make():\n    v = ''\n    def put(x):\n        nonlocal v\n        v = x\n    def get(): "
+                       "return v\n    return put, get\nPUT, GET = make()", "PUT(b)", "GET()"),
+    "a table of a module": Hides("T = {'a': ''}", "T.__setitem__('a', b)", "T['a']"),
+    "an attribute of a class": Hides("class Bot:\n    memo = ''", "setattr(Bot, 'memo', b)", "Bot.memo"),
+}
+TEXT = '''{lines}
+def fails(it):
+    try:
+        next(it)
+        return False
+    except RuntimeError:
+        return True
+def writer(agent, key):
+    agent.enter(key)
+    agent.write('', 'x')
+    agent.leave()
+def reader_alone(agent, key):
+    b = agent.enter(key).board
+    h = {hides}
+    del b
+    agent.depart(1)
+    agent.accuse(1)
+def reader(agent, key):
+    b = agent.enter(key).board
+    h = {hides}
+    del b
+    agent.depart(1)
+    seen = {finds}
+    agent.accuse(1 if seen == {good!r} else 0)
+'''
+HANDLES = '''
+class X(Exception): pass
+class Y(Exception): pass
+def writer(agent, key):
+    agent.enter(key)
+    agent.write('', 'x')
+    agent.leave()
+def reader(agent, key):
+    b = agent.enter(key).board
+    try:
+        try:
+            raise X if b else Y
+        except Exception:
+            del b
+            agent.depart(1)
+            raise
+    except X:
+        agent.accuse(0)
+    except Y:
+        agent.accuse(1)
+'''
+ROLES = '''
+import random
+def by_key(agent, key):
+    agent.enter(key)
+    agent.depart(1)
+    agent.accuse(1 if key.endswith("0") else 0)
+def by_key_later(agent, key):
+    agent.enter(key)
+    agent.depart(1)
+    agent.look()
+    agent.accuse(int(key[-1]))
+def by_random(agent, key):
+    agent.enter(key)
+    agent.depart(1)
+    agent.accuse(1 if random.random() < .5 else 0)
+def by_number(agent, key):
+    agent.enter(key)
+    agent.depart(1)
+    agent.accuse(1 - agent._lines.number)
+def after(agent, key):
+    agent.enter(key)
+    agent.depart(1)
+    agent.accuse(1)
+    agent.look()
+def early(agent, key):
+    agent.enter(key)
+    agent._lines.send('{"do":"depart","port":1}')
+    agent._lines.receive()
+    agent._lines.send('{"do":"look"}')
+    agent._lines.receive()
+    agent._lines.receive()
+    agent.accuse(1)
+def sleeper(agent, key, sleep):
+    sleep(1)
+    agent.enter(key)
+    agent.depart(1)
+    agent.accuse(1)
+def grows(agent, key):
+    ways = {1: agent.enter(key).ports}
+    for way in ways:
+        ways["tried"] = way
+        agent.depart(way)
+        agent.accuse(1)
+        break
+def goes(agent, key):
+    agent.enter(key)
+    agent.depart(0)
+def texts(agent, key):
+    agent.enter(key)
+    agent.depart(1)
+    agent.accuse(1 if list({"north", "east", "south", "west"})[0] == "east" else 0)
+'''
+
+
+class Memories(InExplore):
+    def explored(self, text: str, *words: object) -> int:
+        (self.folder / "hides.py").write_text(text, encoding="utf-8")
+        return self.command("--network", "ring:3", "--hole", 1, *words)
+
+    def test_what_hides_a_bit_is_named_or_told(self) -> None:
+        for name, (lines, hides, finds) in HIDDEN.items():
+            for good in ("", "x"):
+                with self.subTest(name, good=good):
+                    text = TEXT.format(lines=lines.replace("{folder}", str(self.folder)), hides=hides, finds=finds,
+                                       good=good)
+                    file = f"{self.folder}/hides.py"
+                    status = self.explored(text, "--agent", f"{file}:writer", "--agent", f"{file}:reader")
+                    self.assertEqual(status, 1, self.said)
+                    self.assertIn("a schedule fails", self.said)
+
+    def test_the_exception_that_is_handled(self) -> None:
+        file = f"{self.folder}/hides.py"
+        self.assertEqual(self.explored(HANDLES, "--agent", f"{file}:writer", "--agent", f"{file}:reader"), 1, self.said)
+
+    def test_roles(self) -> None:
+        for name in ("by_key", "by_key_later", "by_random", "by_number"):
+            with self.subTest(name):
+                status = self.explored(ROLES, "--agents", 2, "--agent", f"{self.folder}/hides.py:{name}")
+                self.assertEqual(status, 1, self.said)
+
+    def test_lines_after_the_end_and_before_the_arrival(self) -> None:
+        words = ["--agents", 1, "--agent", f"{self.folder}/hides.py:after"]
+        self.assertEqual(self.explored(ROLES, *words), 0, self.said)
+        self.assertEqual(self.explored(ROLES, *words, "--search", "model"), 0, self.said)
+        for more in ((), ("--search", "model")):
+            status = self.explored(ROLES, "--agents", 1, "--agent", f"{self.folder}/hides.py:early", *more)
+            self.assertEqual(status, 2, self.said)
+            self.assertIn("sends a line before it has arrived", self.said)
+
+    def test_who_sleeps_before_it_enters(self) -> None:
+        status = self.explored(ROLES, "--agents", 2, "--agent", f"{self.folder}/hides.py:sleeper")
+        self.assertEqual(status, 0, self.said)
+
+    def test_an_iterator_of_a_dict_that_grew(self) -> None:
+        self.assertEqual(self.explored(ROLES, "--agents", 1, "--agent", f"{self.folder}/hides.py:grows"), 0, self.said)
+
+    def test_a_held_link_that_leads_to_a_black_hole(self) -> None:
+        """How many are lost is a bound then, which `replay` need not come to."""
+        (self.folder / "ring.toml").write_text(networks.text_of(networks.ring(3)), encoding="utf-8")
+        (self.folder / "t.toml").write_text(
+            f'version = 1\nseed = "{"0" * 64}"\n[[match]]\nteam = "red"\nnetwork = "{self.folder}/ring.toml"\n'
+            'home = 0\nhole = 1\nquota = 100\nboard = 100\nkeys = ["k0"]\nheld = [[0, 0]]\n', encoding="utf-8")
+        (self.folder / "hides.py").write_text(ROLES, encoding="utf-8")
+        status = self.command("--tournament", self.folder / "t.toml", "--match", 0, "--agent",
+                              f"{self.folder}/hides.py:goes")
+        self.assertEqual(status, 1, self.said)
+        self.assertIn("silent moves 1 lost at most 1\n", self.said)
+        self.assertIn("the program's verdict: silent moves 1 lost 0", self.said)
+
+    def test_what_all_share_and_no_name_has_is_told_in_the_end(self) -> None:
+        text = TEXT.format(lines="import json", hides="setattr(json.JSONDecoder, 'memo', b)",
+                           finds="json.JSONDecoder.memo", good="x")
+        file = f"{self.folder}/hides.py"
+        status = self.explored(text, "--agent", f"{file}:writer", "--agent", f"{file}:writer", "--agent",
+                               f"{file}:reader_alone")
+        self.assertEqual(status, 2, self.said)
+        self.assertIn("changes json.JSONDecoder, which all programs of this process share", self.said)
+
+    def test_nothing_is_checked_if_nobody_wants_it(self) -> None:
+        words = ["--network", "ring:4", "--hole", 2, "--agent", RING.words]
+        self.assertEqual(self.command(*words, "--check", 0), 0, self.said)
+        self.assertRegex(self.said, "answered here\\).*; nothing was checked: 0 of [1-9]\\d* merges of histories\n")
+
+    def test_the_python_model_searches_small_matches_beside(self) -> None:
+        words = ["--network", "ring:3", "--hole", 2, "--agent", RING.words]
+        self.assertEqual(self.command(*words), 0, self.said)
+        self.assertIn(", the Python model's search of 1 of 1 matches\n", self.said)
+        found = explore.Explorer._end
+
+        def fails(explorer: explore.Explorer, *given: Any) -> bool:
+            found(explorer, *given)
+            assert explorer.worst is not None
+            explorer.worst = explorer.worst._replace(has_failed=True)
+            return True
+        with mock.patch.object(explore.Explorer, "_end", fails):
+            self.assertEqual(self.command(*words), 1, self.said)
+        self.assertIn("no schedule fails by the program, and one by the Python model's search", self.said)
+
+    def test_what_has_no_name_is_told_with_its_variable(self) -> None:
+        text = TEXT.format(lines="import sqlite3", hides="b", finds="h", good="x")
+        file = f"{self.folder}/hides.py"
+        self.explored(text, "--agent", f"{file}:writer", "--agent", f"{file}:reader")
+        self.assertIn("the module lab_agent_hides uses sqlite3, which may keep what nobody sees. Instead, do without",
+                      self.said)
+
+    def test_sample_agents_share_memories_and_merges_are_checked(self) -> None:
+        for words in (["--network", "ring:5", "--hole", 2, "--agent", RING.words],
+                      ["--network", "torus:3x3", "--hole", 4, "--agent", KNOWN_MAP.words]):
+            with self.subTest(words=words):
+                self.assertEqual(self.command(*words), 0, self.said)
+                self.assertNotIn("history stands", self.said)
+                found = re.search(r"checked, and all agree: (\d+) of (\d+) merges of histories, 20 drawn", self.said)
+                assert found is not None, self.said
+                self.assertEqual(found[1], found[2])
+                self.assertGreater(int(found[1]), 20)
+
+    def test_what_students_import_is_no_reason_to_tell_histories_apart(self) -> None:
+        """As many questions as without the imports; of a module that may keep state it is told, and what it costs."""
+        text = RING.words.split()[0]
+        ring, asked = pathlib.Path(text).read_text(encoding="utf-8"), {}
+        before, found = "from typing import", re.compile(r"checked, and all agree: (\d+) of \1 merges")
+        for imports in ("", "import os, sys, json\nDEBUG = os.environ.get('DEBUG')\n", "import networkx as nx\n",
+                        "import logging\nlogging.basicConfig(level=logging.ERROR)\nlog = logging.getLogger(__name__)\n",
+                        "from pathlib import Path\nHERE = Path(__file__).parent\n", "import threading\n"):
+            with self.subTest(imports):
+                self.assertIn(before, ring)
+                (self.folder / "own.py").write_text(ring.replace(before, imports + before, 1), encoding="utf-8")
+                status = self.command("--network", "ring:4", "--hole", 2, "--agent", f"{self.folder}/own.py {{nodes}}")
+                self.assertEqual(status, 0, self.said)
+                told = found.search(self.said)
+                asked[imports] = told and told[1]
+        self.assertIsNotNone(asked[""])
+        self.assertIn("uses threading, which may keep what nobody sees", self.said)
+        self.assertEqual(asked.pop("import threading\n"), "0")
+        # who imports sys may tell by it which agent it is, so agents of the same words share no memory then
+        self.assertNotEqual(asked.pop("import os, sys, json\nDEBUG = os.environ.get('DEBUG')\n"), "0")
+        self.assertEqual(len(set(asked.values())), 1, asked)
+
+    def test_a_merge_that_is_none_is_told(self) -> None:
+        (self.folder / "hides.py").write_text(TEXT.format(lines="", hides="b", finds="h", good="x"), encoding="utf-8")
+        file = f"{self.folder}/hides.py"
+        # a name that leaves texts of one letter out
+        found = naming.Namer.name
+        with mock.patch.object(naming.Namer, "name",
+                               lambda namer, it: "" if it == "x" else found(namer, it)):
+            status = self.command("--network", "ring:3", "--hole", 1, "--agent", f"{file}:writer", "--agent",
+                                  f"{file}:reader")
+        self.assertEqual(status, 2, self.said)
+        self.assertIn("came to one memory in two ways, and goes on in two", self.said)
+
+
+if __name__ == "__main__":
+    run_tests()
