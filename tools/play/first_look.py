@@ -12,7 +12,7 @@ import subprocess
 import sys
 import tarfile
 import tempfile
-from typing import Callable, Dict, List
+from typing import Callable, Dict, List, Sequence
 
 from lab.support.built import SAID, NoProgram
 from tools import version
@@ -20,14 +20,15 @@ from tools.prove import unproved
 
 TOP = pathlib.Path(__file__).resolve().parents[2]
 EXAMPLES = TOP / "examples"
-CONTEST = "examples/contest.py"
+CONTEST, SCRIPT = "examples/contest.py", str(EXAMPLES / "triangle.script")
 TEAMS = 4
 
 
-def ran(words: List[object], folder: pathlib.Path = TOP, **variables: str) -> "subprocess.CompletedProcess[str]":
-    """Runs a command on the script of the triangle."""
-    with open(EXAMPLES / "triangle.script") as script:
-        return subprocess.run([str(word) for word in words], cwd=folder, stdin=script, stdout=subprocess.PIPE,
+def ran(words: Sequence[object], folder: pathlib.Path = TOP, said: str = os.devnull,
+        **variables: str) -> "subprocess.CompletedProcess[str]":
+    """Runs a command on this file as its standard input; it has none if no file is named."""
+    with open(said) as given:
+        return subprocess.run([str(word) for word in words], cwd=folder, stdin=given, stdout=subprocess.PIPE,
                               stderr=subprocess.PIPE, universal_newlines=True, env={**os.environ, **variables})
 
 
@@ -48,7 +49,7 @@ def plays_at_once() -> None:
 
 
 def says_that_it_is_not_proved() -> None:
-    found = ran([sys.executable, "-m", "tools.prove.unproved", "rehearse"])
+    found = ran([sys.executable, "-m", "tools.prove.unproved", "rehearse"], said=SCRIPT)
     printed = (EXAMPLES / "triangle.printed").read_text()
     wants((found.returncode, found.stdout) == (0, printed) and found.stderr.endswith(f"{SAID}\n"), found)
 
@@ -72,7 +73,7 @@ def is_released() -> None:
 
 def says_nothing_of_a_proof(program: str) -> None:
     """The proved program does not say that it is not proved."""
-    found = ran([pathlib.Path(program).resolve(), "rehearse"])
+    found = ran([pathlib.Path(program).resolve(), "rehearse"], said=SCRIPT)
     wants(found.returncode == 0 and SAID not in found.stdout + found.stderr, found)
 
 
