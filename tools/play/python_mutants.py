@@ -68,7 +68,7 @@ MUTANTS = (
            "row[\"moves\"])", SWEEP),
     Mutant("lab/sweep/report.py", 'row["outcome"] == "solved" and not row["fault"]', 'row["outcome"] == "solved"',
            SWEEP),
-    Mutant("lab/sweep/tables.py", "or cells[CHECK] != check_of(cells)", "", SWEEP),
+    Mutant("lab/sweep/tables.py", "or cells[columns.index(COLUMNS[CHECK])] != check_of(cells, columns)", "", SWEEP),
 )
 
 
