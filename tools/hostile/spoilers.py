@@ -24,7 +24,7 @@ from typing import Callable, Iterator, List, Optional, Sequence, Tuple
 
 from lab.support.ports import free_port
 from tools.hostile.cases import Cases, Wrong
-from tools.hostile.session_lines import HERE, LOOK, NO_FULL, NO_LATE, NO_MEMORY, NO_SPENT, OVER
+from tools.hostile.session_lines import HERE, LOOK, NO_FULL, NO_LATE, NO_MEMORY, NO_SPENT, NO_TWICE, OVER
 
 HOST = "127.0.0.1"
 # seconds within which a server answers or ends
@@ -143,20 +143,26 @@ def strangers(program: str, folder: pathlib.Path) -> None:
         wants("the status", status, 0)
 
 
-@case("commands of an agent without quota are answered one a millisecond, and others play on")
-def spent(program: str, folder: pathlib.Path) -> None:
+@case("commands that use up no quota are answered one a millisecond, and others play on")
+def unheard(program: str, folder: pathlib.Path) -> None:
     quota, more = 1000, 500
     with serving(program, folder, turns=4000) as server, server.connect(enter("red-0")) as client:
         wants("the agent", answer(client, len(HERE)), HERE)
+        waits(client, more, enter("red-0"), NO_TWICE)
         client.sendall(quota * LOOK)
         wants("its commands", answer(client, quota * len(HERE)), quota * HERE)
-        begun = time.monotonic()
-        client.sendall(more * LOOK)
-        wants("those without quota", answer(client, more * len(NO_SPENT)), more * NO_SPENT)
-        took = time.monotonic() - begun
-        if took < more / 1000:
-            raise Wrong(f"{more} commands without quota were answered within {took:.3f} s")
-        server.goes_on("commands without quota")
+        waits(client, more, LOOK, NO_SPENT)
+        server.goes_on("commands that use up no quota")
+
+
+def waits(client: socket.socket, count: int, said: bytes, wanted: bytes) -> None:
+    """This number of commands is refused so, and no faster than one a millisecond."""
+    begun = time.monotonic()
+    client.sendall(count * said)
+    wants("commands that use up no quota", answer(client, count * len(wanted)), count * wanted)
+    took = time.monotonic() - begun
+    if took < count / 1000:
+        raise Wrong(f"{count} commands that use up no quota were answered within {took:.3f} s")
 
 
 @case("wrong keys use up no session")

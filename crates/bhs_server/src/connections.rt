@@ -8,7 +8,6 @@ use crate::ending::Ending;
 use crate::strays::Strays;
 use crate::unserved::{Unserved, turn_away};
 use crate::watching::Watch;
-use bhs_model::{Reply, Why};
 use bhs_net::Memory;
 use bhs_wire::{Denial, Raw, denial_of};
 use std::alloc::Global;
@@ -22,9 +21,9 @@ use std::{io, thread};
 // How many bytes are held back at most.
 const ROOM: usize = 64 * 1024;
 
-// How many milliseconds a session pauses after each command that its agent has no quota for. Such commands are answered
-// under the match's lock, so without a pause a client that sends nothing else would slow the turns of the match.
-const SPENT_PAUSE: u64 = 1;
+// How many milliseconds a session pauses after each command that was not heard. Such commands use up no quota and are
+// answered under the match's lock, so without a pause a client that sends nothing else would slow others in its match.
+const UNHEARD_PAUSE: u64 = 1;
 
 // How many bytes are taken from a client at once at most.
 const TAKEN: usize = 16 * 1024;
@@ -40,8 +39,9 @@ pub trait SessionHooks {
     /// A line of the client was no command.
     fn no_command(&self, line: &Raw<'_>);
 
-    /// A command of the agent was answered so. The client has not been written it yet.
-    fn answered(&self, reply: &Reply);
+    /// A command of the agent was answered, and nothing is written to the client yet. A command that was not heard has
+    /// used up no quota.
+    fn answered(&self, is_heard: bool);
 
     /// The session is about to wait for an arrival: what it has written so far is to reach its client.
     fn before_waiting(&self);
@@ -167,9 +167,9 @@ impl<R: Wait + Clock, W: Watch> SessionHooks for Guest<'_, R, W> {
         }
     }
 
-    fn answered(&self, reply: &Reply) {
-        if matches!(reply, Reply::No(Why::Spent)) {
-            thread::sleep(self.rt, Duration::from_millis(SPENT_PAUSE));
+    fn answered(&self, is_heard: bool) {
+        if !is_heard {
+            thread::sleep(self.rt, Duration::from_millis(UNHEARD_PAUSE));
         }
     }
 

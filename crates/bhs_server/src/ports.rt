@@ -119,7 +119,7 @@ impl<R: Wait, G: Gate, H: SessionHooks> Port for CellPort<'_, R, G, H> {
             return Ok(Reply::Over);
         };
         let answer = cell.submit(self.rt, self.gate, pass, command)?;
-        self.hooks.answered(&answer.reply);
+        self.hooks.answered(answer.place.is_some());
         Ok(agreed(answer.reply))
     }
 
