@@ -200,15 +200,22 @@ def explored(fixture: Fixture, agents: Sequence[AgentWords], shown: Any, states:
     try:
         scripts = [agent.script(fixture.setup) for agent in agents]
         explorer = Explorer(fixture, team, scripts, states)
-        is_whole = True
-        try:
-            for count in explorer.explore():
-                shown.update(count)
-                if time.process_time() > until:
-                    raise TooMany
-        except (TooMany, KeyboardInterrupt):
-            is_whole = False
-        explorer.forget()
+        is_whole = is_visited(explorer, shown, until)
         return Explored(explorer, is_whole, time.monotonic() - started)
     finally:
         team.stop()
+
+
+def is_visited(explorer: Explorer, shown: Any, until: float = math.inf) -> bool:
+    """Visits all states, and shows how many; gives whether it came to the end: before these seconds of a processor,
+    with no more states than are allowed, and not interrupted."""
+    try:
+        for count in explorer.explore():
+            shown.update(count)
+            if time.process_time() > until:
+                return False
+    except (TooMany, KeyboardInterrupt):
+        return False
+    finally:
+        explorer.forget()
+    return True
