@@ -1,19 +1,19 @@
 -- Two agents that explore by a guide: turns of an agent on a link.
-use Rattle.std.proofs.Common.{ℕ, suc, ◌+◌, ◌-◌, ◌*◌, ◌<◌, ◌≤◌, ◌≡◌, Bool, true, false, not, ◌==◌, Some, refl, sym}
-use Rattle.std.proofs.Common.{ap, ◌∙◌, subst, if◌then◌else◌, nat_lt, inl, inr, arith}
-use Rattle.std.proofs.lemmas.Bool.{lt-ltb, true≢false, eq-eqb, cond-true, cond-false}
+use Rattle.std.proofs.Common.{ℕ, suc, ◌+◌, ◌-◌, ◌*◌, ◌<◌, ◌≤◌, ◌≡◌, true, false, not, ◌==◌, Some, refl, sym}
+use Rattle.std.proofs.Common.{ap, ◌∙◌, subst, if◌then◌else◌, inl, inr, arith}
+use Rattle.std.proofs.lemmas.Bool.{true≢false, eq-eqb, cond-true, cond-false}
 use Rattle.std.proofs.lemmas.Bool.Decides.{eqb_tells}
 use Rattle.bhs_model.specs.declared.replies.Reply.TheVariants.{Here}
 use Rattle.bhs_model.specs.Worlds.{doomed}
 use Rattle.bhs_model.specs.Runs.{At, Bound, changed}
-use Rattle.bhs_model.specs.Examples.{none_held}
 use Rattle.bhs_model.proofs.StepLemmas.{changed_same}
 use Rattle.bhs_explore.specs.Minds.{Item, Heard}
-use Rattle.bhs_explore.specs.Schedules.{Trial, Rests, deed_at, is_move}
+use Rattle.bhs_explore.specs.Schedules.{Trial}
 use Rattle.bhs_protocols.specs.Pictures.{can_move_in, turn_in}
 use Rattle.bhs_protocols.specs.Shuttle.{other_in}
 use Rattle.bhs_protocols.proofs.SearchLemmas.{read_other}
-use Rattle.bhs_protocols.proofs.TurnLemmas.{Becomes, arrives}
+use Rattle.bhs_protocols.proofs.MovingLemmas as moving
+use Rattle.bhs_protocols.proofs.TurnLemmas.{Becomes}
 use Rattle.bhs_mapped.specs.Guides.{Route}
 use Rattle.bhs_mapped.specs.Exploring.{Memory, Phase, GoesOut, Leaves, ComesBack, Returns, Writes}
 use Rattle.bhs_mapped.specs.Exploring.{came_out, came_back, after_in}
@@ -49,12 +49,10 @@ module _ {game : Game} (on : Turn game) where
 
   pub bound_moves : (node port : ℕ) → picture.position s ≡ Bound node port
       → can_move_in trial picture s ≡ not (doomed world node port)
-  bound_moves node port at =
-      (λ i. is_move world (at i) (if nat_lt s world.agents
-      then deed_at none_held naps (at i) (picture.woken s) (trial.minds s (picture.history s)) s else Rests))
-      ∙ ap (λ (b : Bool). is_move world (Bound node port) (if b
-      then deed_at none_held naps (Bound node port) (picture.woken s) (trial.minds s (picture.history s)) s
-      else Rests)) (lt-ltb s world.agents (agents_two game s pair.own))
+  bound_moves node port at = moving.bound_moves trial picture s (agents_two game s pair.own) node port at refl
+
+  grows_by : (target k : ℕ) → picture.reached k ≡ true → changed picture.reached target true k ≡ true
+  grows_by = moving.grows_by picture.reached
 
   arrives_at : (node port target label : ℕ) → picture.position s ≡ Bound node port
       → world.net.far node port ≡ (target, label) → doomed world node port ≡ false →
@@ -62,16 +60,7 @@ module _ {game : Game} (on : Turn game) where
       (Heard (Here (world.net.degree target) (Some label) (picture.shown target))) 0 0 (picture.accused s)
       picture.shown (changed picture.reached target true)
   arrives_at node port target label at far safe =
-      subst (λ (f : ℕ × ℕ). Becomes picture (turn_in trial picture s) s (At f.0 (Some f.1))
-      (Heard (Here (world.net.degree f.0) (Some f.1) (picture.shown f.0))) 0 0 (picture.accused s) picture.shown
-      (changed picture.reached f.0 true)) far
-      (arrives trial picture s (agents_two game s pair.own) node port at refl safe)
-
-  grows_by : (target k : ℕ) → picture.reached k ≡ true → changed picture.reached target true k ≡ true
-  grows_by target k was = elim (eqb_tells k target) [
-    | inl h ↦ rw h.0 refl
-    | inr h ↦ rw h.0 was
-  ]
+      moving.arrives_at trial picture s (agents_two game s pair.own) node port target label at refl far safe
 
   -- ---- out
 

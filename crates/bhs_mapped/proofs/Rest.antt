@@ -1,18 +1,19 @@
 -- Two agents that explore by a guide: any turn of an agent, and where it stands if it cannot move.
-use Rattle.std.proofs.Common.{ℕ, zero, suc, ◌+◌, ◌-◌, ◌<◌, ◌≡◌, ◌⊎◌, Bool, true, false, not, ◌&&◌, ◌==◌, refl, sym}
-use Rattle.std.proofs.Common.{ap, ◌∙◌, if◌then◌else◌, nat_lt, inl, inr, arith}
-use Rattle.std.proofs.lemmas.Bool.{lt-ltb, true≢false, cond-true, cond-false}
+use Rattle.std.proofs.Common.{ℕ, zero, suc, ◌+◌, ◌-◌, ◌<◌, ◌≡◌, ◌⊎◌, true, false, not, ◌&&◌, ◌==◌, refl, sym}
+use Rattle.std.proofs.Common.{ap, ◌∙◌, inl, inr, arith}
+use Rattle.std.proofs.lemmas.Bool.{true≢false, cond-true, cond-false}
 use Rattle.std.proofs.lemmas.Bool.Decides.{eqb_tells}
 use Rattle.bhs_model.specs.declared.commands.Command.{Command}
 use Rattle.bhs_model.specs.declared.commands.Command.TheVariants.{Enter, Write, Depart, Accuse}
 use Rattle.bhs_model.specs.declared.events.Event.TheVariants.{Tell}
-use Rattle.bhs_model.specs.Runs.{Position, Before, At, After}
+use Rattle.bhs_model.specs.Runs.{Position, Before, At}
 use Rattle.bhs_model.specs.Examples.{none_held}
 use Rattle.bhs_model.proofs.StepLemmas.{by_cases}
 use Rattle.bhs_explore.specs.declared.minds.Step.TheVariants.{Says}
-use Rattle.bhs_explore.specs.Schedules.{Trial, Makes, Rests, deed_at, is_move}
+use Rattle.bhs_explore.specs.Schedules.{Trial, Makes, deed_at}
 use Rattle.bhs_protocols.specs.Pictures.{can_move_in, turn_in}
 use Rattle.bhs_protocols.specs.Shuttle.{text_by}
+use Rattle.bhs_protocols.proofs.MovingLemmas as moving
 use Rattle.bhs_mapped.specs.Guides.{Route}
 use Rattle.bhs_mapped.specs.Exploring.{Memory, Phase, Begins, GoesOut, Leaves, ComesBack, Returns, Writes, Ends}
 use Rattle.bhs_mapped.specs.Exploring.{is_one_left, does_in}
@@ -42,16 +43,9 @@ module _ {game : Game} (on : Turn game) where
 
   -- ---- any turn
 
-  if_same : {A : Type 0} (b : Bool) (x : A) → (if b then x else x) ≡ x
-  if_same true x = refl
-  if_same false x = refl
-
   end_still : M.phase ≡ Ends → can_move_in trial picture s ≡ false
   end_still is =
-      let placed = placed_as game s picture Ends is inv.own in
-      (λ i. is_move world (placed.0 i) (if nat_lt s world.agents
-      then deed_at none_held naps (placed.0 i) (picture.woken s) (trial.minds s (picture.history s)) s else Rests))
-      ∙ ap (is_move world After) (if_same (nat_lt s world.agents) Rests)
+      moving.end_stays trial picture s (agents_two game s pair.own) (placed_as game s picture Ends is inv.own).0
 
   returns_turn : (step : ℕ) → M.phase ≡ Returns step → Onward game s o picture (turn_in trial picture s)
   returns_turn zero is =
@@ -78,10 +72,7 @@ module _ {game : Game} (on : Turn game) where
   says_moves : (place : Position) (command : Command) → picture.position s ≡ place
       → deed_at none_held naps place (picture.woken s) (Says command) s ≡ Makes (Tell s command)
       → trial.minds s (picture.history s) ≡ Says command → can_move_in trial picture s ≡ true
-  says_moves place command at makes says =
-      (λ i. is_move world (at i) (if lt-ltb s world.agents (agents_two game s pair.own) i
-      then deed_at none_held naps (at i) (picture.woken s) (says i) s else Rests))
-      ∙ ap (is_move world place) makes
+  says_moves = moving.says_moves trial picture s (agents_two game s pair.own)
 
   -- an agent that cannot move has ended or is lost
   pub record IsLost : Type 0 where

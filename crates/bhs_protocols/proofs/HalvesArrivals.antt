@@ -1,16 +1,15 @@
 -- The search by halves: turns of an agent on a link, and what it reads where it arrives.
 use Rattle.std.proofs.Common.{ℕ, zero, suc, ◌+◌, ◌-◌, ◌*◌, ◌<◌, ◌≤◌, ◌≡◌, Bool, true, false, not, ◌==◌, Option, Some}
-use Rattle.std.proofs.Common.{None, List, refl, sym, ap, ◌∙◌, subst, if◌then◌else◌, nat_lt, inl, inr, arith}
+use Rattle.std.proofs.Common.{None, List, refl, sym, ap, ◌∙◌, subst, inl, inr, arith}
 use Rattle.std.specs.Prelude.{◌≢◌, bytes_eq}
-use Rattle.std.proofs.lemmas.Bool.{lt-ltb, true≢false, eq-eqb, cond-true, cond-false}
+use Rattle.std.proofs.lemmas.Bool.{true≢false, eq-eqb, cond-true, cond-false}
 use Rattle.std.proofs.lemmas.Bool.Decides.{eqb_tells}
 use Rattle.bhs_model.specs.declared.replies.Reply.TheVariants.{Here}
 use Rattle.bhs_model.specs.Worlds.{doomed}
 use Rattle.bhs_model.specs.Runs.{Position, At, Bound, changed}
-use Rattle.bhs_model.specs.Examples.{none_held}
 use Rattle.bhs_model.proofs.StepLemmas.{by_cases, changed_same}
 use Rattle.bhs_explore.specs.Minds.{Item, Heard}
-use Rattle.bhs_explore.specs.Schedules.{Trial, Rests, deed_at, is_move}
+use Rattle.bhs_explore.specs.Schedules.{Trial}
 use Rattle.bhs_protocols.specs.Pictures.{can_move_in, turn_in}
 use Rattle.bhs_protocols.specs.declared.halves.Memory.{Memory}
 use Rattle.bhs_protocols.specs.declared.halves.Phase.{Phase}
@@ -22,7 +21,8 @@ use Rattle.bhs_protocols.specs.Halving.{walks_at}
 use Rattle.bhs_protocols.specs.Halves.{own_in, target_by, theirs_by, learned, follows, came_near, goes_back, after_in}
 use Rattle.bhs_protocols.proofs.HalvesDues.{owing, paces, miss, mark_at, beside, come, last, part, told}
 use Rattle.bhs_protocols.proofs.SearchLemmas.{both, opposite, text_other, read_other, bytes_same}
-use Rattle.bhs_protocols.proofs.TurnLemmas.{Becomes, arrives}
+use Rattle.bhs_protocols.proofs.MovingLemmas as moving
+use Rattle.bhs_protocols.proofs.TurnLemmas.{Becomes}
 use Rattle.bhs_protocols.proofs.HalvesMarks.{equal, mark_here, read_own}
 use Rattle.bhs_protocols.proofs.HalvesState.{Game, IsDone, Onward, Turn, agents_two, distance, doomed_is, hole_at, mem}
 use Rattle.bhs_protocols.proofs.HalvesState.{nodes_due, positive, rest_of, safe_before, stale, trial as trial_of}
@@ -53,18 +53,10 @@ module _ {game : Game} (on : Turn game) where
 
   pub bound_moves : (node port : ℕ) → picture.position s ≡ Bound node port
       → can_move_in trial picture s ≡ not (doomed world node port)
-  bound_moves node port at =
-      (λ i. is_move world (at i) (if nat_lt s world.agents
-      then deed_at none_held naps (at i) (picture.woken s) (trial.minds s (picture.history s)) s else Rests))
-      ∙ ap (λ (b : Bool). is_move world (Bound node port) (if b
-      then deed_at none_held naps (Bound node port) (picture.woken s) (trial.minds s (picture.history s)) s
-      else Rests)) (lt-ltb s world.agents (agents_two game s pair.own))
+  bound_moves node port at = moving.bound_moves trial picture s (agents_two game s pair.own) node port at refl
 
   grows_by : (target k : ℕ) → picture.reached k ≡ true → changed picture.reached target true k ≡ true
-  grows_by target k was = elim (eqb_tells k target) [
-    | inl h ↦ rw h.0 refl
-    | inr h ↦ rw h.0 was
-  ]
+  grows_by = moving.grows_by picture.reached
 
   abbrev pub come_to : (node label : ℕ) → Item
   come_to node label = Heard (Here (world.net.degree node) (Some label) (picture.shown node))
@@ -74,10 +66,12 @@ module _ {game : Game} (on : Turn game) where
       (picture.accused s) picture.shown (changed picture.reached node true)
 
   arrives_at : (node port target label : ℕ) → picture.position s ≡ Bound node port
-      → world.net.far node port ≡ (target, label) → doomed world node port ≡ false → Arrives target label
+      → world.net.far node port ≡ (target, label) → doomed world node port ≡ false →
+      Becomes picture (turn_in trial picture s) s (At target (Some label))
+      (Heard (Here (world.net.degree target) (Some label) (picture.shown target))) 0 0 (picture.accused s)
+      picture.shown (changed picture.reached target true)
   arrives_at node port target label at far safe =
-      subst (λ (f : ℕ × ℕ). Arrives f.0 f.1) far
-      (arrives trial picture s (agents_two game s pair.own) node port at refl safe)
+      moving.arrives_at trial picture s (agents_two game s pair.own) node port target label at refl far safe
 
   -- outwards, and towards the home base
   out_to : (side steps : ℕ) → side < 2 → steps + 1 < distance game side

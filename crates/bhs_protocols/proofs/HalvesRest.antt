@@ -1,16 +1,16 @@
 -- The search by halves: any turn of an agent, and where it stands if it cannot move.
-use Rattle.std.proofs.Common.{ℕ, zero, suc, ◌+◌, ◌-◌, ◌<◌, ◌≤◌, ◌≡◌, ◌⊎◌, Bool, true, false, not, ◌==◌, Option, refl}
-use Rattle.std.proofs.Common.{sym, ap, ◌∙◌, subst, if◌then◌else◌, nat_lt, inl, inr, arith}
-use Rattle.std.proofs.lemmas.Bool.{lt-ltb, true≢false, cond-true, cond-false}
+use Rattle.std.proofs.Common.{ℕ, zero, suc, ◌+◌, ◌-◌, ◌<◌, ◌≤◌, ◌≡◌, ◌⊎◌, true, false, not, ◌==◌, Option, refl}
+use Rattle.std.proofs.Common.{sym, ap, ◌∙◌, subst, inl, inr, arith}
+use Rattle.std.proofs.lemmas.Bool.{true≢false, cond-true, cond-false}
 use Rattle.std.proofs.lemmas.Bool.Decides.{eqb_tells}
 use Rattle.bhs_model.specs.declared.commands.Command.{Command}
 use Rattle.bhs_model.specs.declared.commands.Command.TheVariants.{Enter, Write, Depart, Accuse}
-use Rattle.bhs_model.specs.Runs.{Position, Before, At, Bound, After}
+use Rattle.bhs_model.specs.Runs.{Position, Before, At, Bound}
 use Rattle.bhs_model.specs.Examples.{none_held}
 use Rattle.bhs_model.proofs.StepLemmas.{by_cases}
 use Rattle.bhs_explore.specs.declared.minds.Step.TheVariants.{Says}
 use Rattle.bhs_model.specs.declared.events.Event.TheVariants.{Tell}
-use Rattle.bhs_explore.specs.Schedules.{Trial, Makes, Rests, deed_at, is_move}
+use Rattle.bhs_explore.specs.Schedules.{Trial, Makes, deed_at}
 use Rattle.bhs_protocols.specs.Pictures.{can_move_in, turn_in}
 use Rattle.bhs_protocols.specs.declared.halves.Memory.{Memory}
 use Rattle.bhs_protocols.specs.declared.halves.Phase.{Phase}
@@ -19,6 +19,7 @@ use Rattle.bhs_protocols.specs.declared.halves.Phase.TheVariants.{Writes, GoesHo
 use Rattle.bhs_protocols.specs.declared.halves.Phase.TheVariants.{ComesHome, NearsBack, Ends}
 use Rattle.bhs_protocols.specs.Shuttle.{text_by}
 use Rattle.bhs_protocols.specs.Halves.{left_by, is_done, does_in}
+use Rattle.bhs_protocols.proofs.MovingLemmas as moving
 use Rattle.bhs_protocols.proofs.SearchLemmas.{opposite}
 use Rattle.bhs_protocols.proofs.HalvesState.{Game, Onward, Turn, agents_two, distance, doomed_is, mem, safe_before}
 use Rattle.bhs_protocols.proofs.HalvesState.{trial as trial_of, within_n}
@@ -44,16 +45,8 @@ module _ {game : Game} (on : Turn game) where
 
   -- ---- any turn
 
-  if_same : {A : Type 0} (b : Bool) (x : A) → (if b then x else x) ≡ x
-  if_same true x = refl
-  if_same false x = refl
-
   end_still : M.phase ≡ Ends → can_move_in trial picture s ≡ false
-  end_still is =
-      let placed = placed_as on Ends is in
-      (λ i. is_move world (placed.0 i) (if nat_lt s world.agents
-      then deed_at none_held naps (placed.0 i) (picture.woken s) (trial.minds s (picture.history s)) s else Rests))
-      ∙ ap (is_move world After) (if_same (nat_lt s world.agents) Rests)
+  end_still is = moving.end_stays trial picture s (agents_two game s pair.own) (placed_as on Ends is).0
 
   near_any : (steps : ℕ) → M.phase ≡ NearsHome steps → Onward game s o v w picture (turn_in trial picture s)
   near_any zero is = let some : 0 < 0 = (placed_as on (NearsHome zero) is).1 in absurd (omega (arith, some))
@@ -89,10 +82,7 @@ module _ {game : Game} (on : Turn game) where
   says_moves : (place : Position) (command : Command) → picture.position s ≡ place
       → deed_at none_held naps place (picture.woken s) (Says command) s ≡ Makes (Tell s command)
       → trial.minds s (picture.history s) ≡ Says command → can_move_in trial picture s ≡ true
-  says_moves place command at makes says =
-      (λ i. is_move world (at i) (if lt-ltb s world.agents (agents_two game s pair.own) i
-      then deed_at none_held naps (at i) (picture.woken s) (says i) s else Rests))
-      ∙ ap (is_move world place) makes
+  says_moves = moving.says_moves trial picture s (agents_two game s pair.own)
 
   at_node_moves : (node : ℕ) (came : Option ℕ) (command : Command) → picture.position s ≡ At node came
       → trial.minds s (picture.history s) ≡ Says command

@@ -1,6 +1,7 @@
 pub mod PictureLemmas
 pub mod Principle
 pub mod TurnLemmas
+pub mod MovingLemmas
 pub mod SearchLemmas
 pub mod ShuttleCosts
 pub mod ShuttleState

@@ -17,6 +17,7 @@ use Rattle.bhs_protocols.specs.declared.shuttle.Phase.{Phase}
 use Rattle.bhs_protocols.specs.declared.shuttle.Phase.TheVariants.{Begins, GoesOut, Leaves, ComesBack, Returns, Writes}
 use Rattle.bhs_protocols.specs.declared.shuttle.Phase.TheVariants.{Ends}
 use Rattle.bhs_protocols.specs.Shuttle.{other_in, text_by, is_one_left, does_in, after_in, round_trips}
+use Rattle.bhs_protocols.proofs.HalvesMarks.{equal}
 use Rattle.bhs_protocols.proofs.SearchLemmas.{read_other, text_fits, bytes_same, bytes_other}
 use Rattle.bhs_protocols.proofs.TurnLemmas.{enters, departs, accuses as accuses_link, writes, writes_not}
 use Rattle.bhs_protocols.proofs.ShuttleCosts.{cost, ended, paces, trip, trips_more}
@@ -183,12 +184,6 @@ module _ {game : Game} (on : Turn game) where
       both_true true true h = (refl, refl)
       both_true true false h = cc
       both_true false b h = cc
-
-      equal : (a b : ℕ) → (a == b) ≡ true → a ≡ b
-      equal a b h = elim (eqb_tells a b) [
-        | inl it ↦ it.1
-        | inr it ↦ absurd (true≢false (sym h ∙ it.0))
-      ]
 
       more_left : (mine theirs steps : ℕ) → steps ≡ mine → (steps == mine && (mine + theirs + 2 == n)) ≡ false
           → mine + theirs + 2 ≤ n → mine + theirs + 3 ≤ n

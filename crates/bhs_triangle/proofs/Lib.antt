@@ -1,3 +1,2 @@
-pub mod MovingLemmas
 pub mod VerdictLemmas
 pub mod TriangleLemmas

@@ -30,7 +30,7 @@ use Rattle.bhs_protocols.proofs.TurnLemmas.{Becomes, enters, departs, accuses}
 use Rattle.bhs_triangle.specs.Triangle.{Phase, Begins, Departs, Goes, Turns, ComesBack, Accuses, Ends}
 use Rattle.bhs_triangle.specs.Triangle.{does_in, next_phase, phase_after, triangle_trial, triangle_bounds}
 use Rattle.bhs_triangle.specs.Triangle.{TriangleIsSolved}
-use Rattle.bhs_triangle.proofs.MovingLemmas.{says_moves, bound_moves, end_stays, arrives_at}
+use Rattle.bhs_protocols.proofs.MovingLemmas.{says_moves, bound_moves, end_stays, arrives_at, grows_by}
 use Rattle.bhs_triangle.proofs.VerdictLemmas.{found_is_solved}
 
 module _ (world : World) (n right left naps : ℕ) (ways : Ways) (search : IsSearch world n right left ways)
@@ -195,12 +195,6 @@ module _ (world : World) (n right left naps : ℕ) (ways : Ways) (search : IsSea
       × (port_in (label s) later ≡ label s)
 
   -- an arrival makes one node more reached
-  grows_by : (reached : ℕ → Bool) (target k : ℕ) → reached k ≡ true → changed reached target true k ≡ true
-  grows_by reached target k was = elim (eqb_tells k target) [
-    | inl h ↦ rw h.0 refl
-    | inr h ↦ rw h.0 was
-  ]
-
   module _ (s o : ℕ) (old : Picture) (pair : Pair s o) (inv : Inv s o old) where
     abbrev phase : Phase
     phase = phase_in old s

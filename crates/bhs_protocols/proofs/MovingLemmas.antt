@@ -1,6 +1,7 @@
 -- Whether a turn of an agent moves, by where the agent is and what its mind says. This does for any search.
-use Rattle.std.proofs.Common.{ℕ, ◌<◌, ◌≡◌, true, false, not, Some, ap, ◌∙◌, subst, if◌then◌else◌}
+use Rattle.std.proofs.Common.{ℕ, ◌<◌, ◌≡◌, Bool, true, false, not, Some, refl, ap, ◌∙◌, subst, if◌then◌else◌, inl, inr}
 use Rattle.std.proofs.lemmas.Bool.{lt-ltb, cond-false}
+use Rattle.std.proofs.lemmas.Bool.Decides.{eqb_tells}
 use Rattle.bhs_model.specs.declared.commands.Command.{Command}
 use Rattle.bhs_model.specs.declared.events.Event.TheVariants.{Tell}
 use Rattle.bhs_model.specs.declared.replies.Reply.TheVariants.{Here}
@@ -50,3 +51,10 @@ module _ (trial : Trial) (picture : Picture) (agent : ℕ) (within : agent < tri
       (Heard (Here (trial.world.net.degree f.0) (Some f.1) (picture.shown f.0))) 0 0 (picture.accused agent)
       picture.shown (changed picture.reached f.0 true)) far
       (arrives trial picture agent within node port at free safe)
+
+-- a node that was reached stays so where another is reached
+pub grows_by : (reached : ℕ → Bool) (target k : ℕ) → reached k ≡ true → changed reached target true k ≡ true
+grows_by reached target k was = elim (eqb_tells k target) [
+  | inl h ↦ rw h.0 refl
+  | inr h ↦ rw h.0 was
+]
